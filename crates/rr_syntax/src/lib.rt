@@ -1,0 +1,13 @@
+//! Spans, tokens and syntax trees of the Verilog profile.
+#![tactic(auto)]
+
+mod site;
+mod token;
+mod tree;
+
+pub use site::{ModulePlace, Site, SiteKind};
+pub use token::{KEYWORDS, Keyword, Kind, MARKS, Mark, Number, Span, Token};
+pub use tree::{
+    Arm, Bounds, Connection, Conns, Dir, Event, Events, Expr, Group, Instance, Item, Module, Named,
+    NetName, Pair, Params, Setting, Source, Stmt,
+};
