@@ -1,1 +1,4 @@
+pub mod Expressions
+pub mod Tree
+pub mod View
 pub mod Words
