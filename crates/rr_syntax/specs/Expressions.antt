@@ -183,20 +183,20 @@ pub record IsFit (n : Number) : Type 0 where
 
 -- each literal of a tree is fit
 unfoldable mutual
-  pub HasFitLiterals : Tree → Type 0
-  HasFitLiterals (Name n s) = Unit {0}
-  HasFitLiterals (Literal n d) = IsFit d
-  HasFitLiterals (Bit n s i) = HasFitLiterals i
-  HasFitLiterals (Part n s l r) = HasFitLiterals l × HasFitLiterals r
-  HasFitLiterals (Indexed n s f w up) = HasFitLiterals f × HasFitLiterals w
-  HasFitLiterals (Unary m t) = HasFitLiterals t
-  HasFitLiterals (Binary m l r) = HasFitLiterals l × HasFitLiterals r
-  HasFitLiterals (Cond a b c) = HasFitLiterals a × HasFitLiterals b × HasFitLiterals c
-  HasFitLiterals (Concat ts) = HaveFitLiterals ts
-  HasFitLiterals (Repeat t ts) = HasFitLiterals t × HaveFitLiterals ts
-  HasFitLiterals (Cast signed t) = HasFitLiterals t
-  HasFitLiterals (Paren t) = HasFitLiterals t
+  pub FitLiterals : Tree → Type 0
+  FitLiterals (Name n s) = Unit {0}
+  FitLiterals (Literal n d) = IsFit d
+  FitLiterals (Bit n s i) = FitLiterals i
+  FitLiterals (Part n s l r) = FitLiterals l × FitLiterals r
+  FitLiterals (Indexed n s f w up) = FitLiterals f × FitLiterals w
+  FitLiterals (Unary m t) = FitLiterals t
+  FitLiterals (Binary m l r) = FitLiterals l × FitLiterals r
+  FitLiterals (Cond a b c) = FitLiterals a × FitLiterals b × FitLiterals c
+  FitLiterals (Concat ts) = FitLiteralsParts ts
+  FitLiterals (Repeat t ts) = FitLiterals t × FitLiteralsParts ts
+  FitLiterals (Cast signed t) = FitLiterals t
+  FitLiterals (Paren t) = FitLiterals t
 
-  pub HaveFitLiterals : Trees → Type 0
-  HaveFitLiterals End = Unit {0}
-  HaveFitLiterals (More t ts) = HasFitLiterals t × HaveFitLiterals ts
+  pub FitLiteralsParts : Trees → Type 0
+  FitLiteralsParts End = Unit {0}
+  FitLiteralsParts (More t ts) = FitLiterals t × FitLiteralsParts ts

@@ -1,4 +1,6 @@
 pub mod Expressions
+pub mod Items
+pub mod Statements
 pub mod Tree
 pub mod View
 pub mod Words

@@ -163,3 +163,114 @@ unfoldable mutual
 -- two trees are equal without token numbers
 abbrev pub IsSame : Tree → Tree → Type 0
 IsSame a b = bare a ≡ bare b
+
+unfoldable pub bare_identifier : Identifier → Identifier
+bare_identifier i = record { token = 0; text = i.text }
+
+unfoldable pub bare_label : Option Identifier → Option Identifier
+bare_label None = None
+bare_label (Some i) = Some (bare_identifier i)
+
+unfoldable mutual
+  pub bare_statement : Statement → Statement
+  bare_statement Null = Null
+  bare_statement (Block label ss) = Block (bare_label label) (bare_statements ss)
+  bare_statement (If t s) = If (bare t) (bare_statement s)
+  bare_statement (IfElse t s u) = IfElse (bare t) (bare_statement s) (bare_statement u)
+  bare_statement (Case kind t arms) = Case kind (bare t) (bare_arms arms)
+  bare_statement (Assign t now v) = Assign (bare t) now (bare v)
+
+  pub bare_statements : Statements → Statements
+  bare_statements Done = Done
+  bare_statements (Then s ss) = Then (bare_statement s) (bare_statements ss)
+
+  pub bare_arm : Arm → Arm
+  bare_arm (CaseItem labels colon s) = CaseItem (bare_parts labels) colon (bare_statement s)
+
+  pub bare_arms : Arms → Arms
+  bare_arms NoArms = NoArms
+  bare_arms (MoreArms a rest) = MoreArms (bare_arm a) (bare_arms rest)
+
+unfoldable pub bare_range : Option Range → Option Range
+bare_range None = None
+bare_range (Some r) = Some (record { left = bare r.left; right = bare r.right })
+
+unfoldable pub bare_port : PortDeclaration → PortDeclaration
+bare_port p = record p { range = bare_range p.range; names = map bare_identifier p.names }
+
+unfoldable pub bare_assignment : ParamAssignment → ParamAssignment
+bare_assignment a = record { token = 0; text = a.text; value = bare a.value }
+
+unfoldable pub bare_parameter : ParameterDeclaration → ParameterDeclaration
+bare_parameter p = record p { range = bare_range p.range; sets = map bare_assignment p.sets }
+
+unfoldable pub bare_value : Option Tree → Option Tree
+bare_value None = None
+bare_value (Some t) = Some (bare t)
+
+unfoldable pub bare_net : NetIdentifier → NetIdentifier
+bare_net n = record { token = 0; text = n.text; value = bare_value n.value }
+
+unfoldable pub bare_pair : NetAssignment → NetAssignment
+bare_pair p = record { target = bare p.target; value = bare p.value }
+
+unfoldable pub bare_edge : EdgeEvent → EdgeEvent
+bare_edge e = record { rising = e.rising; text = e.text; token = 0 }
+
+unfoldable pub bare_events : EventControl → EventControl
+bare_events (Star brackets) = Star brackets
+bare_events (Edges list commas) = Edges (map bare_edge list) commas
+bare_events (Levels list commas) = Levels (bare_parts list) commas
+
+unfoldable pub bare_connection : NamedConnection → NamedConnection
+bare_connection c = record { token = 0; text = c.text; value = bare_value c.value }
+
+unfoldable pub bare_connections : Connections → Connections
+bare_connections (Positions ts) = Positions (bare_parts ts)
+bare_connections (Names cs) = Names (map bare_connection cs)
+
+unfoldable pub bare_overrides : Option Connections → Option Connections
+bare_overrides None = None
+bare_overrides (Some c) = Some (bare_connections c)
+
+unfoldable pub bare_instance : ModuleInstance → ModuleInstance
+bare_instance i = record { token = 0; text = i.text; connections = bare_connections i.connections }
+
+unfoldable pub bare_item : ModuleItem → ModuleItem
+bare_item (Ports p) = Ports (bare_port p)
+bare_item (Nets signed range names) = Nets signed (bare_range range) (map bare_net names)
+bare_item (Variables signed range names) = Variables signed (bare_range range) (map bare_identifier names)
+bare_item (Integers names) = Integers (map bare_identifier names)
+bare_item (Parameters p) = Parameters (bare_parameter p)
+bare_item (Assigns pairs) = Assigns (map bare_pair pairs)
+bare_item (Always events s token) = Always (bare_events events) (bare_statement s) 0
+bare_item (Instances m token overrides list) = Instances m 0 (bare_overrides overrides) (map bare_instance list)
+
+unfoldable pub bare_header : Option (List Identifier) → Option (List Identifier)
+bare_header None = None
+bare_header (Some names) = Some (map bare_identifier names)
+
+unfoldable pub bare_module : ModuleDeclaration → ModuleDeclaration
+bare_module m = record {
+  text = m.text;
+  token = 0;
+  params = map bare_parameter m.params;
+  header = bare_header m.header;
+  groups = map bare_port m.groups;
+  items = map bare_item m.items;
+}
+
+unfoldable pub bare_source : SourceText → SourceText
+bare_source s = record { modules = map bare_module s.modules }
+
+abbrev pub IsSameStatement : Statement → Statement → Type 0
+IsSameStatement a b = bare_statement a ≡ bare_statement b
+
+abbrev pub IsSameItem : ModuleItem → ModuleItem → Type 0
+IsSameItem a b = bare_item a ≡ bare_item b
+
+abbrev pub IsSameModule : ModuleDeclaration → ModuleDeclaration → Type 0
+IsSameModule a b = bare_module a ≡ bare_module b
+
+abbrev pub IsSameSource : SourceText → SourceText → Type 0
+IsSameSource a b = bare_source a ≡ bare_source b

@@ -1,0 +1,3 @@
+pub mod BareExpressions
+pub mod BareStatements
+pub mod Rows
