@@ -19,8 +19,9 @@ level-bare (Cast signed t) = refl
 level-bare (Paren t) = refl
 
 mutual
-  pub spell-bare : (t : Tree) → spell (bare t) ≡ spell t
   unfolding spell bare
+
+  pub spell-bare : (t : Tree) → spell (bare t) ≡ spell t
   spell-bare (Name n s) = refl
   spell-bare (Literal n d) = refl
   spell-bare (Bit n s i) = rw (spell-bare i) refl
@@ -35,18 +36,17 @@ mutual
   spell-bare (Paren t) = rw (spell-bare t) refl
 
   pub spell_parts-bare : (ts : Trees) → spell_parts (bare_parts ts) ≡ spell_parts ts
-  unfolding spell bare
   spell_parts-bare End = refl
   spell_parts-bare (More t ts) = rw (spell-bare t, spell_more-bare ts) refl
 
   pub spell_more-bare : (ts : Trees) → spell_more (bare_parts ts) ≡ spell_more ts
-  unfolding spell bare
   spell_more-bare End = refl
   spell_more-bare (More t ts) = rw (spell-bare t, spell_more-bare ts) refl
 
 mutual
-  pub WellFormed-bare : (t : Tree) → WellFormed (bare t) ≡ WellFormed t
   unfolding WellFormed bare
+
+  pub WellFormed-bare : (t : Tree) → WellFormed (bare t) ≡ WellFormed t
   WellFormed-bare (Name n s) = refl
   WellFormed-bare (Literal n d) = refl
   WellFormed-bare (Bit n s i) = WellFormed-bare i
@@ -61,18 +61,17 @@ mutual
   WellFormed-bare (Paren t) = WellFormed-bare t
 
   pub WellFormedParts-bare : (ts : Trees) → WellFormedParts (bare_parts ts) ≡ WellFormedParts ts
-  unfolding WellFormed bare
   WellFormedParts-bare End = refl
   WellFormedParts-bare (More t ts) = rw (WellFormed-bare t, WellFormedMore-bare ts) refl
 
   pub WellFormedMore-bare : (ts : Trees) → WellFormedMore (bare_parts ts) ≡ WellFormedMore ts
-  unfolding WellFormed bare
   WellFormedMore-bare End = refl
   WellFormedMore-bare (More t ts) = rw (WellFormed-bare t, WellFormedMore-bare ts) refl
 
 mutual
-  pub is_target-bare : (t : Tree) → is_target (bare t) ≡ is_target t
   unfolding is_target bare
+
+  pub is_target-bare : (t : Tree) → is_target (bare t) ≡ is_target t
   is_target-bare (Name n s) = refl
   is_target-bare (Literal n d) = refl
   is_target-bare (Bit n s i) = refl
@@ -87,13 +86,13 @@ mutual
   is_target-bare (Paren t) = refl
 
   pub are_targets-bare : (ts : Trees) → are_targets (bare_parts ts) ≡ are_targets ts
-  unfolding is_target bare
   are_targets-bare End = refl
   are_targets-bare (More t ts) = rw (is_target-bare t, are_targets-bare ts) refl
 
 mutual
-  pub depth-bare : (t : Tree) → depth (bare t) ≡ depth t
   unfolding depth bare
+
+  pub depth-bare : (t : Tree) → depth (bare t) ≡ depth t
   depth-bare (Name n s) = refl
   depth-bare (Literal n d) = refl
   depth-bare (Bit n s i) = rw (depth-bare i) refl
@@ -108,13 +107,13 @@ mutual
   depth-bare (Paren t) = rw (depth-bare t) refl
 
   pub height-bare : (ts : Trees) → height (bare_parts ts) ≡ height ts
-  unfolding depth bare
   height-bare End = refl
   height-bare (More t ts) = rw (depth-bare t, height-bare ts) refl
 
 mutual
-  pub FitLiterals-bare : (t : Tree) → FitLiterals (bare t) ≡ FitLiterals t
   unfolding FitLiterals bare
+
+  pub FitLiterals-bare : (t : Tree) → FitLiterals (bare t) ≡ FitLiterals t
   FitLiterals-bare (Name n s) = refl
   FitLiterals-bare (Literal n d) = refl
   FitLiterals-bare (Bit n s i) = FitLiterals-bare i
@@ -129,13 +128,13 @@ mutual
   FitLiterals-bare (Paren t) = FitLiterals-bare t
 
   pub FitLiteralsParts-bare : (ts : Trees) → FitLiteralsParts (bare_parts ts) ≡ FitLiteralsParts ts
-  unfolding FitLiterals bare
   FitLiteralsParts-bare End = refl
   FitLiteralsParts-bare (More t ts) = rw (FitLiterals-bare t, FitLiteralsParts-bare ts) refl
 
 mutual
-  pub bare-bare : (t : Tree) → bare (bare t) ≡ bare t
   unfolding bare
+
+  pub bare-bare : (t : Tree) → bare (bare t) ≡ bare t
   bare-bare (Name n s) = refl
   bare-bare (Literal n d) = refl
   bare-bare (Bit n s i) = ap (Bit 0 s) (bare-bare i)
@@ -150,6 +149,5 @@ mutual
   bare-bare (Paren t) = ap Paren (bare-bare t)
 
   pub bare_parts-bare : (ts : Trees) → bare_parts (bare_parts ts) ≡ bare_parts ts
-  unfolding bare
   bare_parts-bare End = refl
   bare_parts-bare (More t ts) = rw (bare-bare t, bare_parts-bare ts) refl

@@ -1,3 +1,2 @@
 pub mod BareExpressions
-pub mod BareStatements
 pub mod Rows

@@ -9,7 +9,7 @@ use Rattle.rr_syntax.specs.declared.tree.Named.{Named}
 use Rattle.rr_syntax.specs.declared.tree.Stmt.{Stmt, Row_of-Stmt, end_of-Stmt, more_of-Stmt, items-the_row-Stmt, items_hidden-the_row-Stmt-0, Row_of-Arm, end_of-Arm, more_of-Arm, items-the_row-Arm, items_hidden-the_row-Arm-1}
 use Rattle.rr_syntax.specs.declared.tree.Stmt.TheBlock.{hidden-the_row-Stmt-0, hidden-the_row-Arm-1}
 use Rattle.rr_syntax.specs.declared.tree.Stmt.TheVariants as stmt
-use Rattle.rr_syntax.specs.Tree.{Bit, Part, Indexed, Unary, Binary, Cond, Concat, Repeat, Cast, Paren, More, Block, If, IfElse, Case, Then, MoreArms}
+use Rattle.rr_syntax.specs.Tree.{Bit, Part, Indexed, Unary, Binary, Cond, Concat, Repeat, Cast, Paren, More, Block, If, IfElse, Case, Then, CaseItem, MoreArms}
 use Rattle.rr_syntax.specs.View.{plain, plain_row, plain_list, plain_label, plain_statement, plain_if, plain_statement_row, plain_statements, plain_arm, plain_arm_row, plain_arms}
 use denote.Ref.{Bor}
 
@@ -69,7 +69,7 @@ plain_statement_row_list (more_of-Stmt s rest) = ap (Then (plain_statement s)) (
 pub plain_arm_row_list : {m : _} → (k : Row_of-Arm m) → plain_arm_row k ≡ plain_arms (items-the_row-Arm m k)
 unfolding plain_statement plain_arms plain_arm
 plain_arm_row_list end_of-Arm = refl
-plain_arm_row_list (more_of-Arm labels colon p body rest) = ap (MoreArms _) (plain_arm_row_list rest)
+plain_arm_row_list (more_of-Arm labels colon p body rest) = ap (MoreArms (CaseItem (plain_list labels.now) colon (plain_statement body))) (plain_arm_row_list rest)
 
 pub plain_block : (label : Option Named) (body : Bor (List Stmt)) → plain_statement (stmt.Block label body) ≡ Block (plain_label label) (plain_statements body.now)
 unfolding plain_statement
