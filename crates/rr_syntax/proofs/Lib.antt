@@ -1,2 +1,4 @@
 pub mod BareExpressions
+pub mod BareItems
+pub mod BareStatements
 pub mod Rows
