@@ -21,12 +21,13 @@ use Rattle.rr_syntax.specs.declared.tree.NetName.{NetName}
 use Rattle.rr_syntax.specs.declared.tree.Pair.{Pair}
 use Rattle.rr_syntax.specs.declared.tree.Params.{Params}
 use Rattle.rr_syntax.specs.declared.tree.Setting.{Setting}
+use Rattle.rr_syntax.specs.declared.tree.Source.{Source}
 use Rattle.rr_syntax.specs.declared.tree.Stmt.{Stmt}
 use Rattle.rr_syntax.specs.Tree.{Tree, Trees, End, More, EdgeEvent}
 use Rattle.rr_syntax.specs.Expressions.{spell, spell_parts, spell_more}
 use Rattle.rr_syntax.specs.Statements.{spell_label, spell_labels, spell_statement}
-use Rattle.rr_syntax.specs.Items.{spell_each, spell_separated, spell_all, spell_where, spell_identifier, spell_range, spell_type, spell_dir, spell_port, spell_assignment, spell_parameter, spell_value, spell_net, spell_pair, spell_edge, spell_more_edges, spell_edges, spell_more_levels, spell_levels, rest, spell_events, spell_optional, spell_connection, spell_connections, spell_overrides, spell_instance, spell_item, spell_parameters, spell_ports, spell_module}
-use Rattle.rr_syntax.specs.View.{plain, plain_list, plain_label, plain_identifier, plain_statement, plain_range, plain_port, plain_assignment, plain_parameter, plain_value, plain_net, plain_pair, plain_edge, plain_events, plain_connection, plain_connections, plain_overrides, plain_instance, plain_item, plain_header, plain_module}
+use Rattle.rr_syntax.specs.Items.{spell_each, spell_separated, spell_all, spell_where, spell_identifier, spell_range, spell_type, spell_dir, spell_port, spell_assignment, spell_parameter, spell_value, spell_net, spell_pair, spell_edge, spell_more_edges, spell_edges, spell_more_levels, spell_levels, rest, spell_events, spell_optional, spell_connection, spell_connections, spell_overrides, spell_instance, spell_item, spell_parameters, spell_ports, spell_module, spell_source}
+use Rattle.rr_syntax.specs.View.{plain, plain_list, plain_label, plain_identifier, plain_statement, plain_range, plain_port, plain_assignment, plain_parameter, plain_value, plain_net, plain_pair, plain_edge, plain_events, plain_connection, plain_connections, plain_overrides, plain_instance, plain_item, plain_header, plain_module, plain_source}
 use Rattle.rr_syntax.proofs.Equations.{spellings, statement_spellings}
 use Rattle.rr_syntax.proofs.Lengths.{parts_len}
 use Rattle.rr_syntax.proofs.Sums.{IsSum}
@@ -263,4 +264,24 @@ pub size-module : (m : Module) → length (spell_module (plain_module m)) ≡ 4 
 unfolding spell_module plain_module
 size-module m = simp length-append (omega arith)
 
-pub ruleset item_sizes = (size-Ports, size-Nets, size-Variables, size-Integers, size-Parameters, size-Assigns, size-Always, size-Instances)
+pub source_len : (s : Source) → length (spell_source (plain_source s)) ≡ length (spell_all spell_module (map plain_module s.modules.now))
+unfolding spell_source plain_source
+source_len s = refl
+
+pub ruleset item_sizes = (size-Ports, size-Nets, size-Variables, size-Integers, size-Parameters, size-Assigns, size-Always, size-Instances, separated_len)
+
+pub ruleset connection_sizes = (size-connection-none, size-connection-some)
+
+pub ruleset connections_sizes = (size-positions, size-named, parts_len, separated_len)
+
+pub ruleset events_sizes = (size-star, size-edges, size-levels, parts_len)
+
+pub ruleset net_sizes = (size-net-none, size-net-some)
+
+pub ruleset overrides_sizes = (size-overrides-none, size-overrides-some)
+
+pub ruleset parameter_sizes = (size-parameter, separated_len)
+
+pub ruleset port_sizes = (size-port, port_input, port_input_wire, port_output, port_output_wire, port_output_reg)
+
+pub ruleset module_sizes = (size-module, head_none, head_some, header_none, header_some, separated_len)

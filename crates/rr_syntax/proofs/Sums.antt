@@ -46,3 +46,21 @@ pub greatest_within : {A : Type 0} (F : List A → ℕ) (w : A → ℕ) → IsGr
 greatest_within F w s [] i x h e = absurd (omega arith)
 greatest_within F w s (y ∷ ys) zero x h e = omega (arith, s.more y ys, ap w e)
 greatest_within F w s (y ∷ ys) (suc i) x h e = omega (arith, s.more y ys, greatest_within F w s ys i x (omega arith) e)
+
+get_or_same : {A : Type 0} (xs : List A) (i : ℕ) (d e : A) → i < length xs → get_or xs i d ≡ get_or xs i e
+get_or_same [] i d e h = absurd (omega arith)
+get_or_same (y ∷ ys) zero d e h = refl
+get_or_same (y ∷ ys) (suc i) d e h = get_or_same ys i d e (omega arith)
+
+-- the same for an element that is read with a default d
+pub sum_next_at : {A : Type 0} (F : List A → ℕ) (w : A → ℕ) → IsSum F w → (xs : List A) (i : ℕ) → i < length xs → (d : A) → F (take (i + 1) xs) ≡ F (take i xs) + w (get_or xs i d)
+sum_next_at F w s xs i h d = sum_next F w s xs i (get_or xs i d) h (get_or_same xs i d (get_or xs i d) h)
+
+pub sum_within_at : {A : Type 0} (F : List A → ℕ) (w : A → ℕ) → IsSum F w → (xs : List A) (i : ℕ) → i < length xs → (d : A) → F (take i xs) + w (get_or xs i d) ≤ F xs
+sum_within_at F w s xs i h d = sum_within F w s xs i (get_or xs i d) h (get_or_same xs i d (get_or xs i d) h)
+
+pub greatest_next_at : {A : Type 0} (F : List A → ℕ) (w : A → ℕ) → IsGreatest F w → (xs : List A) (i : ℕ) → i < length xs → (d : A) → F (take (i + 1) xs) ≡ max (F (take i xs)) (w (get_or xs i d))
+greatest_next_at F w s xs i h d = greatest_next F w s xs i (get_or xs i d) h (get_or_same xs i d (get_or xs i d) h)
+
+pub greatest_within_at : {A : Type 0} (F : List A → ℕ) (w : A → ℕ) → IsGreatest F w → (xs : List A) (i : ℕ) → i < length xs → (d : A) → w (get_or xs i d) ≤ F xs
+greatest_within_at F w s xs i h d = greatest_within F w s xs i (get_or xs i d) h (get_or_same xs i d (get_or xs i d) h)

@@ -2,10 +2,12 @@
 #![tactic(auto)]
 
 mod site;
+mod spelling;
 mod token;
 mod tree;
 
 pub use site::{ModulePlace, Site, SiteKind};
+pub use spelling::spell_len;
 pub use token::{KEYWORDS, Keyword, Kind, MARKS, Mark, Number, Span, Token};
 pub use tree::{
     Arm, Bounds, Connection, Conns, Dir, Event, Events, Expr, Group, Instance, Item, Module, Named,
