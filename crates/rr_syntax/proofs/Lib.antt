@@ -1,6 +1,7 @@
 pub mod BareExpressions
 pub mod BareItems
 pub mod BareStatements
+pub mod Depths
 pub mod Equations
 pub mod ItemLengths
 pub mod Lengths

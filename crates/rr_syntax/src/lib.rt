@@ -1,11 +1,13 @@
 //! Spans, tokens and syntax trees of the Verilog profile.
 #![tactic(auto)]
 
+mod nesting;
 mod site;
 mod spelling;
 mod token;
 mod tree;
 
+pub use nesting::depth;
 pub use site::{ModulePlace, Site, SiteKind};
 pub use spelling::spell_len;
 pub use token::{KEYWORDS, Keyword, Kind, MARKS, Mark, Number, Span, Token};
