@@ -2,12 +2,14 @@
 #![tactic(auto)]
 
 mod nesting;
+mod places;
 mod site;
 mod spelling;
 mod token;
 mod tree;
 
 pub use nesting::depth;
+pub use places::token_at;
 pub use site::{ModulePlace, Site, SiteKind};
 pub use spelling::spell_len;
 pub use token::{KEYWORDS, Keyword, Kind, MARKS, Mark, Number, Span, Token};
