@@ -347,3 +347,94 @@ height_module-bare m = ap suc (depth_module-bare m)
 pub depth_source-bare : (s : SourceText) → depth_source (bare_source s) ≡ depth_source s
 unfolding depth_source bare_source
 depth_source-bare s = greatest-map height_module bare_module height_module-bare s.modules
+
+-- bare twice
+bare_identifier-bare : (i : Identifier) → bare_identifier (bare_identifier i) ≡ bare_identifier i
+unfolding bare_identifier
+bare_identifier-bare i = refl
+
+names-twice : (names : List Identifier) → map bare_identifier (map bare_identifier names) ≡ map bare_identifier names
+names-twice names = map-map bare_identifier bare_identifier-bare names
+
+bare_range-bare : (r : Option Range) → bare_range (bare_range r) ≡ bare_range r
+unfolding bare_range
+bare_range-bare None = refl
+bare_range-bare (Some r) = rw (bare-bare r.left, bare-bare r.right) refl
+
+bare_port-bare : (p : PortDeclaration) → bare_port (bare_port p) ≡ bare_port p
+unfolding bare_port
+bare_port-bare p = rw (bare_range-bare p.range, names-twice p.names) refl
+
+bare_assignment-bare : (a : ParamAssignment) → bare_assignment (bare_assignment a) ≡ bare_assignment a
+unfolding bare_assignment
+bare_assignment-bare a = rw (bare-bare a.value) refl
+
+bare_parameter-bare : (p : ParameterDeclaration) → bare_parameter (bare_parameter p) ≡ bare_parameter p
+unfolding bare_parameter
+bare_parameter-bare p = rw (bare_range-bare p.range, map-map bare_assignment bare_assignment-bare p.sets) refl
+
+bare_value-bare : (v : Option Tree) → bare_value (bare_value v) ≡ bare_value v
+unfolding bare_value
+bare_value-bare None = refl
+bare_value-bare (Some t) = rw (bare-bare t) refl
+
+bare_net-bare : (n : NetIdentifier) → bare_net (bare_net n) ≡ bare_net n
+unfolding bare_net
+bare_net-bare n = rw (bare_value-bare n.value) refl
+
+bare_pair-bare : (p : NetAssignment) → bare_pair (bare_pair p) ≡ bare_pair p
+unfolding bare_pair
+bare_pair-bare p = rw (bare-bare p.target, bare-bare p.value) refl
+
+bare_edge-bare : (e : EdgeEvent) → bare_edge (bare_edge e) ≡ bare_edge e
+unfolding bare_edge
+bare_edge-bare e = refl
+
+bare_events-bare : (e : EventControl) → bare_events (bare_events e) ≡ bare_events e
+unfolding bare_events
+bare_events-bare (Star brackets) = refl
+bare_events-bare (Edges list commas) = rw (map-map bare_edge bare_edge-bare list) refl
+bare_events-bare (Levels list commas) = rw (bare_parts-bare list) refl
+
+bare_connection-bare : (c : NamedConnection) → bare_connection (bare_connection c) ≡ bare_connection c
+unfolding bare_connection
+bare_connection-bare c = rw (bare_value-bare c.value) refl
+
+bare_connections-bare : (c : Connections) → bare_connections (bare_connections c) ≡ bare_connections c
+unfolding bare_connections
+bare_connections-bare (Positions ts) = rw (bare_parts-bare ts) refl
+bare_connections-bare (Names cs) = rw (map-map bare_connection bare_connection-bare cs) refl
+
+bare_overrides-bare : (c : Option Connections) → bare_overrides (bare_overrides c) ≡ bare_overrides c
+unfolding bare_overrides
+bare_overrides-bare None = refl
+bare_overrides-bare (Some c) = rw (bare_connections-bare c) refl
+
+bare_instance-bare : (i : ModuleInstance) → bare_instance (bare_instance i) ≡ bare_instance i
+unfolding bare_instance
+bare_instance-bare i = rw (bare_connections-bare i.connections) refl
+
+pub bare_item-bare : (i : ModuleItem) → bare_item (bare_item i) ≡ bare_item i
+unfolding bare_item
+bare_item-bare (Ports p) = rw (bare_port-bare p) refl
+bare_item-bare (Nets signed range names) = rw (bare_range-bare range, map-map bare_net bare_net-bare names) refl
+bare_item-bare (Variables signed range names) = rw (bare_range-bare range, names-twice names) refl
+bare_item-bare (Integers names) = rw (names-twice names) refl
+bare_item-bare (Parameters p) = rw (bare_parameter-bare p) refl
+bare_item-bare (Assigns pairs) = rw (map-map bare_pair bare_pair-bare pairs) refl
+bare_item-bare (Always events s token) = rw (bare_events-bare events, bare_statement-bare s) refl
+bare_item-bare (Instances m token overrides list) = rw (bare_overrides-bare overrides, map-map bare_instance bare_instance-bare list) refl
+
+bare_header-bare : (header : Option (List Identifier)) → bare_header (bare_header header) ≡ bare_header header
+unfolding bare_header
+bare_header-bare None = refl
+bare_header-bare (Some names) = rw (names-twice names) refl
+
+pub bare_module-bare : (m : ModuleDeclaration) → bare_module (bare_module m) ≡ bare_module m
+unfolding bare_module
+bare_module-bare m =
+    rw (map-map bare_parameter bare_parameter-bare m.params, bare_header-bare m.header, map-map bare_port bare_port-bare m.groups, map-map bare_item bare_item-bare m.items) refl
+
+pub bare_source-bare : (s : SourceText) → bare_source (bare_source s) ≡ bare_source s
+unfolding bare_source
+bare_source-bare s = rw (map-map bare_module bare_module-bare s.modules) refl

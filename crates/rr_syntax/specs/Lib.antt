@@ -1,5 +1,6 @@
 pub mod Expressions
 pub mod Items
+pub mod Laws
 pub mod Places
 pub mod Statements
 pub mod Tree

@@ -1,6 +1,7 @@
 //! Spans, tokens and syntax trees of the Verilog profile.
 #![tactic(auto)]
 
+mod laws;
 mod nesting;
 mod places;
 mod site;
@@ -8,6 +9,7 @@ mod spelling;
 mod token;
 mod tree;
 
+pub use laws::{bare_laws, spelling_laws};
 pub use nesting::depth;
 pub use places::token_at;
 pub use site::{ModulePlace, Site, SiteKind};
