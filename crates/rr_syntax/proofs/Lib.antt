@@ -9,3 +9,4 @@ pub mod Lengths
 pub mod Nonempty
 pub mod Rows
 pub mod Sums
+pub mod TablesAgreeing

@@ -3,6 +3,7 @@ pub mod Items
 pub mod Laws
 pub mod Places
 pub mod Statements
+pub mod Tables
 pub mod Tree
 pub mod View
 pub mod Words

@@ -1,6 +1,7 @@
 //! Laws of the trees, as contracts of functions that do nothing.
 
 ghost use Rattle.rr_syntax.specs.Laws.{IsBare, KeepsDepth, KeepsLevel, KeepsRules, KeepsSpelling, SpellsSome};
+ghost use Rattle.rr_syntax.specs.Tables.{TablesAgree};
 
 /// Trees that differ in token numbers alone have the same tokens, rules, levels and depth.
 #[tactic(auto, using(crate::proofs::LawsOfTrees::keeps_spelling, crate::proofs::LawsOfTrees::keeps_rules, crate::proofs::LawsOfTrees::keeps_depth, crate::proofs::LawsOfTrees::keeps_level, crate::proofs::LawsOfTrees::is_bare))]
@@ -16,4 +17,10 @@ pub fn bare_laws()
 #[tactic(auto, using(crate::proofs::LawsOfTrees::spells_some))]
 pub fn spelling_laws()
     ensures some { SpellsSome }
+{}
+
+/// The tables of reserved words and marks agree with the names of their entries.
+#[tactic(auto, using(crate::proofs::TablesAgreeing::tables_agree))]
+pub fn table_laws()
+    ensures agree { TablesAgree }
 {}
