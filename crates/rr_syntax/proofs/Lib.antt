@@ -10,3 +10,4 @@ pub mod Nonempty
 pub mod Rows
 pub mod Sums
 pub mod TablesAgreeing
+pub mod Examples

@@ -1,11 +1,12 @@
 -- The tables of reserved words and marks, and the names of their entries.
-use Rattle.std.specs.Prelude.{ℕ, ◌≡◌, List, [], ◌∷◌, map, get_or, codes}
+use Rattle.std.specs.Prelude.{ℕ, ◌+◌, ◌≡◌, List, [], ◌∷◌, map, get_or, codes, true, sum, length}
 use Rattle.rr_syntax.specs.declared.token.Keyword.{Keyword}
 use Rattle.rr_syntax.specs.declared.token.Mark.{Mark}
 use Rattle.rr_syntax.specs.declared.token.TheConstants.{KEYWORDS, MARKS}
 use Rattle.rr_syntax.specs.declared.token.TheConstants.Keyword as word
 use Rattle.rr_syntax.specs.declared.token.TheConstants.Mark as mark
 use Rattle.rr_syntax.specs.Words.{keywords, marks, keyword_always, keyword_assign, keyword_begin, keyword_case, keyword_casex, keyword_casez, keyword_default, keyword_else, keyword_end, keyword_endcase, keyword_endmodule, keyword_if, keyword_input, keyword_integer, keyword_localparam, keyword_module, keyword_negedge, keyword_or, keyword_output, keyword_parameter, keyword_posedge, keyword_reg, keyword_signed, keyword_wire, mark_open_parenthesis, mark_close_parenthesis, mark_open_bracket, mark_close_bracket, mark_open_brace, mark_close_brace, mark_comma, mark_semicolon, mark_colon, mark_dot, mark_hash, mark_at, mark_question, mark_equals, mark_plus, mark_minus, mark_star, mark_slash, mark_percent, mark_not, mark_tilde, mark_and, mark_or, mark_xor, mark_less, mark_greater, mark_power, mark_equal, mark_not_equal, mark_case_equal, mark_case_not_equal, mark_less_or_equal, mark_greater_or_equal, mark_shift_left, mark_shift_right, mark_signed_shift_left, mark_signed_shift_right, mark_logical_and, mark_logical_or, mark_nand, mark_nor, mark_xnor, mark_xnor_reversed, mark_part_up, mark_part_down}
+use Rattle.rr_syntax.specs.Expressions.{levels, prefixes, infix_level, is_prefix, conditional_level}
 
 -- a place in a table, and the text that is to stand there
 pub record Entry : Type 0 where
@@ -205,3 +206,33 @@ pub record TablesAgree : Type 0 where
   pub texts_of_marks : map (λ t. t.now) MARKS ≡ marks
   pub constants_of_marks : HasEntries marks mark_constants
   pub numbers_of_marks : HasEntries marks mark_numbers
+
+-- the operators between operands, those that bind tightest first (section 5.1.2, table 5-4)
+abbrev pub precedence : List (List ℕ)
+precedence =
+    (mark_power ∷ []) ∷
+    (mark_star ∷ mark_slash ∷ mark_percent ∷ []) ∷
+    (mark_plus ∷ mark_minus ∷ []) ∷
+    (mark_shift_left ∷ mark_shift_right ∷ mark_signed_shift_left ∷ mark_signed_shift_right ∷ []) ∷
+    (mark_less ∷ mark_less_or_equal ∷ mark_greater ∷ mark_greater_or_equal ∷ []) ∷
+    (mark_equal ∷ mark_not_equal ∷ mark_case_equal ∷ mark_case_not_equal ∷ []) ∷
+    (mark_and ∷ []) ∷
+    (mark_xor ∷ mark_xnor_reversed ∷ mark_xnor ∷ []) ∷
+    (mark_or ∷ []) ∷
+    (mark_logical_and ∷ []) ∷
+    (mark_logical_or ∷ []) ∷ []
+
+-- the operators before an operand (section 5.1, annex A.8.6)
+abbrev pub unary_operators : List ℕ
+unary_operators =
+    mark_plus ∷ mark_minus ∷ mark_not ∷ mark_tilde ∷ mark_and ∷ mark_nand ∷ mark_or ∷ mark_nor ∷ mark_xor ∷ mark_xnor ∷ mark_xnor_reversed ∷ []
+
+-- the tables of levels and prefixes hold these operators, at these levels, and no others
+pub record LevelsAgree : Type 0 where
+  pub operators : map (λ ms. map infix_level ms) precedence ≡
+      (12 ∷ []) ∷ (11 ∷ 11 ∷ 11 ∷ []) ∷ (10 ∷ 10 ∷ []) ∷ (9 ∷ 9 ∷ 9 ∷ 9 ∷ []) ∷ (8 ∷ 8 ∷ 8 ∷ 8 ∷ []) ∷ (7 ∷ 7 ∷ 7 ∷ 7 ∷ []) ∷
+      (6 ∷ []) ∷ (5 ∷ 5 ∷ 5 ∷ []) ∷ (4 ∷ []) ∷ (3 ∷ []) ∷ (2 ∷ []) ∷ []
+  pub conditional : infix_level mark_question ≡ conditional_level
+  pub sum_of_levels : sum levels ≡ 12 + 33 + 20 + 36 + 32 + 28 + 6 + 15 + 4 + 3 + 2 + 1
+  pub unary : map is_prefix unary_operators ≡ map (λ (m : ℕ). true) unary_operators
+  pub sum_of_prefixes : sum prefixes ≡ length unary_operators

@@ -1,7 +1,7 @@
 //! Laws of the trees, as contracts of functions that do nothing.
 
 ghost use Rattle.rr_syntax.specs.Laws.{IsBare, KeepsDepth, KeepsLevel, KeepsRules, KeepsSpelling, SpellsSome};
-ghost use Rattle.rr_syntax.specs.Tables.{TablesAgree};
+ghost use Rattle.rr_syntax.specs.Tables.{LevelsAgree, TablesAgree};
 
 /// Trees that differ in token numbers alone have the same tokens, rules, levels and depth.
 #[tactic(auto, using(crate::proofs::LawsOfTrees::keeps_spelling, crate::proofs::LawsOfTrees::keeps_rules, crate::proofs::LawsOfTrees::keeps_depth, crate::proofs::LawsOfTrees::keeps_level, crate::proofs::LawsOfTrees::is_bare))]
@@ -19,8 +19,10 @@ pub fn spelling_laws()
     ensures some { SpellsSome }
 {}
 
-/// The tables of reserved words and marks agree with the names of their entries.
-#[tactic(auto, using(crate::proofs::TablesAgreeing::tables_agree))]
+/// The tables of reserved words and marks agree with the names of their entries, and the levels
+/// of the operators with IEEE 1364-2005 table 5-4.
+#[tactic(auto, using(crate::proofs::TablesAgreeing::tables_agree, crate::proofs::TablesAgreeing::levels_agree))]
 pub fn table_laws()
-    ensures agree { TablesAgree }
+    ensures texts { TablesAgree }
+    ensures levels { LevelsAgree }
 {}
