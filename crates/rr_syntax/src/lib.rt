@@ -19,3 +19,6 @@ pub use tree::{
     Arm, Bounds, Connection, Conns, Dir, Event, Events, Expr, Group, Instance, Item, Module, Named,
     NetName, Pair, Params, Setting, Source, Stmt,
 };
+
+#[cfg(test)]
+mod tests;

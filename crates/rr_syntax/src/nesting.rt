@@ -26,7 +26,7 @@ pub fn depth(source: &Source) -> u32
 
 #[tactic(auto, using(crate::proofs::Depths::depths))]
 #[cycle(expression_depths)]
-fn expression_depth(expr: &Expr) -> u32
+pub(crate) fn expression_depth(expr: &Expr) -> u32
     requires fits { depth_tree (plain expr.now) < 2 ^ 32 }
     ensures { result ≡ depth_tree (plain expr.now) }
 {

@@ -25,7 +25,7 @@ pub fn spell_len(source: &Source) -> u64
 
 #[tactic(auto, using(crate::proofs::Lengths::sizes))]
 #[cycle(expression_lengths)]
-fn expression_len(expr: &Expr) -> u64
+pub(crate) fn expression_len(expr: &Expr) -> u64
     requires fits { length (spell (plain expr.now)) < 2 ^ 64 }
     ensures { result ≡ length (spell (plain expr.now)) }
 {
@@ -123,12 +123,10 @@ fn labels_len(labels: &[Expr], colon: bool) -> u64
     requires fits { length (spell_labels (plain_list labels.now) colon) < 2 ^ 64 }
     ensures { result ≡ length (spell_labels (plain_list labels.now) colon) }
 {
-    if !labels.is_empty() {
-        parts_len(labels) + 1
-    } else if colon {
-        2
+    if labels.is_empty() {
+        1 + u64::from(colon)
     } else {
-        1
+        parts_len(labels) + 1
     }
 }
 
