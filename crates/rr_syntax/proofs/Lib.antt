@@ -6,6 +6,7 @@ pub mod Equations
 pub mod ItemLengths
 pub mod LawsOfTrees
 pub mod Lengths
+pub mod NestingOfNodes
 pub mod Nonempty
 pub mod Rows
 pub mod Sums

@@ -1,6 +1,7 @@
 pub mod Expressions
 pub mod Items
 pub mod Laws
+pub mod Nesting
 pub mod Places
 pub mod Statements
 pub mod Tables

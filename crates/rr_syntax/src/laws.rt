@@ -1,6 +1,7 @@
 //! Laws of the trees, as contracts of functions that do nothing.
 
 ghost use Rattle.rr_syntax.specs.Laws.{IsBare, KeepsDepth, KeepsLevel, KeepsRules, KeepsSpelling, SpellsSome};
+ghost use Rattle.rr_syntax.specs.Nesting.{IsGreatestNesting};
 ghost use Rattle.rr_syntax.specs.Tables.{LevelsAgree, TablesAgree};
 
 /// Trees that differ in token numbers alone have the same tokens, rules, levels and depth.
@@ -25,4 +26,10 @@ pub fn spelling_laws()
 pub fn table_laws()
     ensures texts { TablesAgree }
     ensures levels { LevelsAgree }
+{}
+
+/// The depth of a source is the greatest number of levels that a node stands below it.
+#[tactic(auto, using(crate::proofs::NestingOfNodes::is_greatest_nesting))]
+pub fn depth_laws()
+    ensures nesting { IsGreatestNesting }
 {}

@@ -9,7 +9,7 @@ mod spelling;
 mod token;
 mod tree;
 
-pub use laws::{bare_laws, spelling_laws, table_laws};
+pub use laws::{bare_laws, depth_laws, spelling_laws, table_laws};
 pub use nesting::depth;
 pub use places::token_at;
 pub use site::{ModulePlace, Site, SiteKind};
