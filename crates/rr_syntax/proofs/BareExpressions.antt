@@ -1,5 +1,5 @@
 -- An expression with every token number 0 keeps its spelling, its rules and its measures.
-use Rattle.std.proofs.Common.{◌≡◌, ◌≤◌, ◌<◌, ℕ, max, suc, length, ◌&&◌, List, [], ◌∷◌, ◌++◌, refl, ap, ◌∙◌}
+use Rattle.std.proofs.Common.{◌≡◌, refl, ap}
 use Rattle.rr_syntax.specs.Tree.{Tree, Trees, Name, Literal, Bit, Part, Indexed, Unary, Binary, Cond, Concat, Repeat, Cast, Paren, End, More, bare, bare_parts}
 use Rattle.rr_syntax.specs.Expressions.{level, spell, spell_parts, spell_more, WellFormed, WellFormedParts, WellFormedMore, is_target, are_targets, depth, height, FitLiterals, FitLiteralsParts}
 

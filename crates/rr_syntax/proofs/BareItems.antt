@@ -1,14 +1,13 @@
 -- An item, a module and a source text with every token number 0 keep their spelling, their rules and their measures.
-use Rattle.std.proofs.Common.{◌≡◌, ◌<◌, ◌⊎◌, ◌+◌, ℕ, Bool, true, false, max, suc, length, map, List, [], ◌∷◌, ◌++◌, Option, None, Some, IsNone, refl, ap, ◌∙◌}
+use Rattle.std.proofs.Common.{◌≡◌, ℕ, Bool, true, false, suc, length, map, List, [], ◌∷◌, Option, None, Some, refl, ap}
 use Rattle.std.specs.List.{AllByRecursion}
-use Rattle.rr_syntax.specs.Words.{Word, Marked, Named, mark_comma}
+use Rattle.rr_syntax.specs.Words.{Word}
 use Rattle.rr_syntax.specs.Tree.{Tree, Trees, End, More, Identifier, Range, PortDeclaration, ParamAssignment, ParameterDeclaration, NetIdentifier, NetAssignment, EdgeEvent, EventControl, Star, Edges, Levels, NamedConnection, Connections, Positions, Names, ModuleInstance, ModuleItem, Ports, Nets, Variables, Integers, Parameters, Assigns, Always, Instances, ModuleDeclaration, SourceText, bare, bare_parts, bare_identifier, bare_range, bare_port, bare_assignment, bare_parameter, bare_value, bare_net, bare_pair, bare_edge, bare_events, bare_connection, bare_connections, bare_overrides, bare_instance, bare_item, bare_header, bare_module, bare_source}
-use Rattle.rr_syntax.specs.Items.{spell_each, spell_separated, spell_all, spell_identifier, spell_range, spell_type, spell_port, spell_assignment, spell_parameter, spell_value, spell_net, spell_pair, spell_edge, spell_more_edges, spell_edges, spell_more_levels, spell_levels, separator, rest, spell_events, spell_optional, spell_connection, spell_connections, spell_overrides, spell_instance, spell_item, spell_parameters, spell_ports, spell_module, spell_source}
+use Rattle.rr_syntax.specs.Items.{spell_each, spell_separated, spell_all, spell_identifier, spell_range, spell_type, spell_port, spell_assignment, spell_parameter, spell_value, spell_net, spell_pair, spell_edge, spell_more_edges, spell_edges, spell_more_levels, spell_levels, rest, spell_events, spell_optional, spell_connection, spell_connections, spell_overrides, spell_instance, spell_item, spell_parameters, spell_ports, spell_module, spell_source}
 use Rattle.rr_syntax.specs.Items.{WellFormedRange, WellFormedPort, IsTypedOnce, WellFormedAssignment, WellFormedParameter, WellFormedValue, WellFormedNet, WellFormedPair, count, WellFormedEvents, WellFormedConnection, WellFormedConnections, WellFormedOverrides, WellFormedInstance, WellFormedItem, WellFormedHead, IsHeader, WellFormedModule, WellFormedSource}
 use Rattle.rr_syntax.specs.Items.{greatest, depth_range, depth_port, depth_assignment, depth_parameter, depth_value, depth_net, depth_pair, depth_events, depth_connection, depth_connections, depth_overrides, depth_instance, depth_item, height_item, depth_module, height_module, depth_source}
-use Rattle.rr_syntax.specs.Items.{FitLiteralsRange, FitLiteralsPort, FitLiteralsAssignment, FitLiteralsParameter, FitLiteralsValue, FitLiteralsNet, FitLiteralsPair, FitLiteralsEvents, FitLiteralsConnection, FitLiteralsConnections, FitLiteralsOverrides, FitLiteralsInstance, FitLiteralsItem, FitLiteralsModule, FitLiteralsSource}
-use Rattle.rr_syntax.proofs.BareExpressions.{spell-bare, spell_parts-bare, spell_more-bare, WellFormed-bare, WellFormedMore-bare, is_target-bare, depth-bare, height-bare, FitLiterals-bare, FitLiteralsParts-bare, bare-bare, bare_parts-bare}
-use Rattle.rr_syntax.proofs.BareStatements.{spell_statement-bare, WellFormedStatement-bare, depth_statement-bare, FitLiteralsStatement-bare, bare_statement-bare}
+use Rattle.rr_syntax.proofs.BareExpressions.{spell-bare, spell_parts-bare, WellFormed-bare, WellFormedMore-bare, is_target-bare, depth-bare, height-bare, bare-bare, bare_parts-bare}
+use Rattle.rr_syntax.proofs.BareStatements.{spell_statement-bare, WellFormedStatement-bare, depth_statement-bare, bare_statement-bare}
 
 -- what f gives each element, it gives the changed element
 pub spell_each-map : {A : Type 0} (f : A → List Word) (g : A → A) → ((x : A) → f (g x) ≡ f x) → (xs : List A) → spell_each f (map g xs) ≡ spell_each f xs

@@ -1,9 +1,9 @@
 -- A statement with every token number 0 keeps its spelling, its rules and its measures.
-use Rattle.std.proofs.Common.{◌≡◌, ◌≤◌, ℕ, Bool, max, suc, List, [], ◌∷◌, ◌++◌, Option, None, Some, refl, ap, ◌∙◌}
-use Rattle.rr_syntax.specs.Words.{Reserved, Marked, mark_colon, keyword_default}
+use Rattle.std.proofs.Common.{◌≡◌, ◌≤◌, Bool, suc, [], ◌∷◌, ◌++◌, Option, None, Some, refl, ap}
+use Rattle.rr_syntax.specs.Words.{Marked, mark_colon}
 use Rattle.rr_syntax.specs.Tree.{Trees, End, More, Identifier, Statement, Statements, Arm, Arms, Null, Block, If, IfElse, Case, Assign, Done, Then, CaseItem, NoArms, MoreArms, bare, bare_parts, bare_identifier, bare_label, bare_statement, bare_statements, bare_arm, bare_arms}
 use Rattle.rr_syntax.specs.Statements.{is_open, spell_label, spell_labels, spell_statement, spell_statements, spell_arm, spell_arms, HasColon, defaults, HasArms, WellFormedStatement, WellFormedStatements, WellFormedArm, WellFormedArms, depth_statement, height_statements, depth_arm, height_arms, FitLiteralsStatement, FitLiteralsStatements, FitLiteralsArm, FitLiteralsArms}
-use Rattle.rr_syntax.proofs.BareExpressions.{spell-bare, spell_parts-bare, spell_more-bare, WellFormed-bare, WellFormedMore-bare, is_target-bare, depth-bare, height-bare, FitLiterals-bare, FitLiteralsParts-bare, bare-bare, bare_parts-bare}
+use Rattle.rr_syntax.proofs.BareExpressions.{spell-bare, spell_parts-bare, WellFormed-bare, WellFormedMore-bare, is_target-bare, depth-bare, height-bare, FitLiterals-bare, FitLiteralsParts-bare, bare-bare, bare_parts-bare}
 
 pub is_open-bare : (s : Statement) → is_open (bare_statement s) ≡ is_open s
 unfolding is_open bare_statement

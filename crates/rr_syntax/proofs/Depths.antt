@@ -1,5 +1,5 @@
 -- Depths at nodes of the arena and over slices.
-use Rattle.std.proofs.Common.{◌≡◌, ℕ, Bool, max, suc, ◌+◌, List, [], ◌∷◌, map, Option, None, Some, refl, ap, ◌∙◌, arith}
+use Rattle.std.proofs.Common.{◌≡◌, ℕ, Bool, max, ◌+◌, List, map, Option, None, Some, refl, ap, arith}
 use Rattle.rr_syntax.specs.declared.token.Keyword.{Keyword}
 use Rattle.rr_syntax.specs.declared.token.Mark.{Mark}
 use Rattle.rr_syntax.specs.declared.token.Number.{Number}
@@ -27,7 +27,7 @@ use Rattle.rr_syntax.specs.declared.tree.Source.{Source}
 use Rattle.rr_syntax.specs.declared.tree.Stmt.{Stmt, the_lemmas as stmt_lemmas}
 use Rattle.rr_syntax.specs.declared.tree.Stmt.TheVariants as stmt
 use Rattle.rr_syntax.specs.Expressions.{depth, height}
-use Rattle.rr_syntax.specs.Statements.{depth_statement, height_statements, depth_arm, height_arms}
+use Rattle.rr_syntax.specs.Statements.{depth_statement, height_statements, height_arms}
 use Rattle.rr_syntax.specs.Items.{greatest, depth_range, depth_port, depth_assignment, depth_parameter, depth_value, depth_net, depth_pair, depth_events, depth_connection, depth_connections, depth_overrides, depth_instance, depth_item, height_item, depth_module, height_module, depth_source}
 use Rattle.rr_syntax.specs.View.{plain, plain_list, plain_statement, plain_statements, plain_arm, plain_arms, plain_range, plain_port, plain_assignment, plain_parameter, plain_value, plain_net, plain_pair, plain_events, plain_connection, plain_connections, plain_overrides, plain_instance, plain_item, plain_module, plain_source}
 use Rattle.rr_syntax.proofs.Rows.{plain_concat, plain_repeat, plain_block, plain_case}

@@ -1,7 +1,7 @@
 -- The equations of the spellings, for proofs in which these stay closed.
-use Rattle.std.proofs.Common.{◌≡◌, ℕ, Bool, cond, List, [], ◌∷◌, ◌++◌, codes, Option, None, Some, refl}
+use Rattle.std.proofs.Common.{◌≡◌, ℕ, Bool, cond, List, [], ◌∷◌, ◌++◌, codes, Option, refl}
 use Rattle.rr_syntax.specs.declared.token.Number.{Number}
-use Rattle.rr_syntax.specs.Words.{Word, Named, System, Digits, Reserved, Marked, mark_open_parenthesis, mark_close_parenthesis, mark_open_bracket, mark_close_bracket, mark_open_brace, mark_close_brace, mark_comma, mark_colon, mark_semicolon, mark_equals, mark_less_or_equal, mark_question, mark_part_up, mark_part_down, keyword_begin, keyword_default, keyword_else, keyword_end, keyword_endcase, keyword_if}
+use Rattle.rr_syntax.specs.Words.{Named, System, Digits, Reserved, Marked, mark_open_parenthesis, mark_close_parenthesis, mark_open_bracket, mark_close_bracket, mark_open_brace, mark_close_brace, mark_comma, mark_colon, mark_semicolon, mark_equals, mark_less_or_equal, mark_question, mark_part_up, mark_part_down, keyword_begin, keyword_default, keyword_else, keyword_end, keyword_endcase, keyword_if}
 use Rattle.rr_syntax.specs.Tree.{Tree, Trees, Name, Literal, Bit, Part, Indexed, Unary, Binary, Cond, Concat, Repeat, Cast, Paren, End, More, Identifier, Statement, Statements, Arm, Arms, Null, Block, If, IfElse, Case, Assign, Done, Then, CaseItem, NoArms, MoreArms}
 use Rattle.rr_syntax.specs.Expressions.{spell, spell_parts, spell_more}
 use Rattle.rr_syntax.specs.Statements.{spell_label, spell_labels, spell_statement, spell_statements, spell_arm, spell_arms}

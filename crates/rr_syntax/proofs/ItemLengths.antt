@@ -1,11 +1,10 @@
 -- Lengths of the spellings of items and modules.
-use Rattle.std.proofs.Common.{◌≡◌, ℕ, Bool, true, false, cond, suc, ◌+◌, ◌-◌, ◌*◌, ◌≤◌, ◌<◌, List, [], ◌∷◌, ◌++◌, length, map, Option, None, Some, refl, ap, ◌∙◌, sym, arith, length-append}
+use Rattle.std.proofs.Common.{◌≡◌, ℕ, Bool, true, false, cond, ◌+◌, ◌-◌, ◌*◌, ◌<◌, List, [], ◌∷◌, length, map, Option, None, Some, refl, arith, length-append}
 use Rattle.rr_syntax.specs.Words.{Word, Marked, mark_close_parenthesis, keyword_signed, keyword_integer}
 use Rattle.rr_syntax.specs.declared.tree.Bounds.{Bounds}
 use Rattle.rr_syntax.specs.declared.tree.Connection.{Connection}
 use Rattle.rr_syntax.specs.declared.tree.Conns.{Conns}
 use Rattle.rr_syntax.specs.declared.tree.Conns.TheVariants as conns
-use Rattle.rr_syntax.specs.declared.tree.Dir.{Dir}
 use Rattle.rr_syntax.specs.declared.tree.Dir.TheVariants as dir
 use Rattle.rr_syntax.specs.declared.tree.Event.{Event}
 use Rattle.rr_syntax.specs.declared.tree.Events.{Events}
@@ -13,7 +12,6 @@ use Rattle.rr_syntax.specs.declared.tree.Events.TheVariants as events
 use Rattle.rr_syntax.specs.declared.tree.Expr.{Expr}
 use Rattle.rr_syntax.specs.declared.tree.Group.{Group}
 use Rattle.rr_syntax.specs.declared.tree.Instance.{Instance}
-use Rattle.rr_syntax.specs.declared.tree.Item.{Item}
 use Rattle.rr_syntax.specs.declared.tree.Item.TheVariants as item
 use Rattle.rr_syntax.specs.declared.tree.Module.{Module}
 use Rattle.rr_syntax.specs.declared.tree.Named.{Named as Name}
@@ -23,12 +21,12 @@ use Rattle.rr_syntax.specs.declared.tree.Params.{Params}
 use Rattle.rr_syntax.specs.declared.tree.Setting.{Setting}
 use Rattle.rr_syntax.specs.declared.tree.Source.{Source}
 use Rattle.rr_syntax.specs.declared.tree.Stmt.{Stmt}
-use Rattle.rr_syntax.specs.Tree.{Tree, Trees, End, More, EdgeEvent}
+use Rattle.rr_syntax.specs.Tree.{Trees, End, More}
 use Rattle.rr_syntax.specs.Expressions.{spell, spell_parts, spell_more}
 use Rattle.rr_syntax.specs.Statements.{spell_label, spell_labels, spell_statement}
 use Rattle.rr_syntax.specs.Items.{spell_each, spell_separated, spell_all, spell_where, spell_identifier, spell_range, spell_type, spell_dir, spell_port, spell_assignment, spell_parameter, spell_value, spell_net, spell_pair, spell_edge, spell_more_edges, spell_edges, spell_more_levels, spell_levels, rest, spell_events, spell_optional, spell_connection, spell_connections, spell_overrides, spell_instance, spell_item, spell_parameters, spell_ports, spell_module, spell_source}
 use Rattle.rr_syntax.specs.View.{plain, plain_list, plain_label, plain_identifier, plain_statement, plain_range, plain_port, plain_assignment, plain_parameter, plain_value, plain_net, plain_pair, plain_edge, plain_events, plain_connection, plain_connections, plain_overrides, plain_instance, plain_item, plain_header, plain_module, plain_source}
-use Rattle.rr_syntax.proofs.Equations.{spellings, statement_spellings}
+use Rattle.rr_syntax.proofs.Equations.{statement_spellings}
 use Rattle.rr_syntax.proofs.Lengths.{parts_len}
 use Rattle.rr_syntax.proofs.Sums.{IsSum}
 use denote.Ref.{Bor}

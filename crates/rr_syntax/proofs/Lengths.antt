@@ -1,5 +1,5 @@
 -- Lengths of spellings, at nodes of the arena and over slices.
-use Rattle.std.proofs.Common.{◌≡◌, ℕ, Bool, true, false, cond, suc, ◌+◌, ◌-◌, ◌≤◌, ◌<◌, List, [], ◌∷◌, ◌++◌, length, Option, None, Some, refl, ap, ◌∙◌, sym, arith, length-append}
+use Rattle.std.proofs.Common.{◌≡◌, ℕ, Bool, ◌+◌, ◌-◌, List, length, Option, None, Some, refl, arith, length-append}
 use Rattle.rr_syntax.specs.declared.token.Keyword.{Keyword}
 use Rattle.rr_syntax.specs.declared.token.Mark.{Mark}
 use Rattle.rr_syntax.specs.declared.token.Number.{Number}
@@ -9,9 +9,9 @@ use Rattle.rr_syntax.specs.declared.tree.Expr.TheVariants as expr
 use Rattle.rr_syntax.specs.declared.tree.Named.{Named as Name}
 use Rattle.rr_syntax.specs.declared.tree.Stmt.{Stmt, the_lemmas as stmt_lemmas}
 use Rattle.rr_syntax.specs.declared.tree.Stmt.TheVariants as stmt
-use Rattle.rr_syntax.specs.Tree.{Trees, End, More, Statement, Arm, CaseItem}
+use Rattle.rr_syntax.specs.Tree.{Trees, End, More}
 use Rattle.rr_syntax.specs.Expressions.{spell, spell_parts, spell_more}
-use Rattle.rr_syntax.specs.Statements.{spell_label, spell_labels, spell_statement, spell_statements, spell_arm, spell_arms}
+use Rattle.rr_syntax.specs.Statements.{spell_label, spell_labels, spell_statement, spell_statements, spell_arms}
 use Rattle.rr_syntax.specs.View.{plain, plain_list, plain_label, plain_statement, plain_statements, plain_arm, plain_arms}
 use Rattle.rr_syntax.proofs.Equations.{spellings, statement_spellings}
 use Rattle.rr_syntax.proofs.Rows.{plain_concat, plain_repeat, plain_block, plain_case}

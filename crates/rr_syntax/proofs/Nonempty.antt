@@ -1,13 +1,11 @@
 -- Each tree but a source spells at least one token.
-use Rattle.std.proofs.Common.{◌≡◌, ◌<◌, ◌+◌, ℕ, List, [], ◌∷◌, ◌++◌, length, refl, arith, length-append, lit<}
-use Rattle.rr_syntax.specs.Words.{Word}
+use Rattle.std.proofs.Common.{◌≡◌, ◌<◌, List, [], ◌∷◌, length, refl, arith, length-append}
 use Rattle.rr_syntax.specs.declared.tree.Dir.{Dir}
 use Rattle.rr_syntax.specs.declared.tree.Dir.TheVariants as dir
-use Rattle.rr_syntax.specs.Tree.{Tree, Trees, Name, Literal, Bit, Part, Indexed, Unary, Binary, Cond, Concat, Repeat, Cast, Paren, End, More, Statement, Arm, Null, Block, If, IfElse, Case, Assign, CaseItem, PortDeclaration, ParameterDeclaration, ModuleItem, Ports, Nets, Variables, Integers, Parameters, Assigns, Always, Instances, ModuleDeclaration, SourceText}
+use Rattle.rr_syntax.specs.Tree.{Tree, Name, Literal, Bit, Part, Indexed, Unary, Binary, Cond, Concat, Repeat, Cast, Paren, Statement, Arm, Null, Block, If, IfElse, Case, Assign, CaseItem, PortDeclaration, ParameterDeclaration, ModuleItem, Ports, Nets, Variables, Integers, Parameters, Assigns, Always, Instances, ModuleDeclaration, SourceText}
 use Rattle.rr_syntax.specs.Expressions.{spell}
-use Rattle.rr_syntax.specs.Statements.{spell_labels, spell_statement, spell_arm}
+use Rattle.rr_syntax.specs.Statements.{spell_statement, spell_arm}
 use Rattle.rr_syntax.specs.Items.{spell_all, spell_dir, spell_port, spell_parameter, spell_item, spell_module, spell_source}
-use Rattle.rr_syntax.proofs.Equations.{spellings, statement_spellings}
 
 pub spell-some : (t : Tree) → 0 < length (spell t)
 unfolding spell

@@ -1,5 +1,5 @@
 -- The plain trees of nodes of the arena, as the code sees these: a child behind its reference, a slice as its list.
-use Rattle.std.proofs.Common.{◌≡◌, ℕ, Bool, List, [], ◌∷◌, Option, None, Some, refl, ap, ◌∙◌}
+use Rattle.std.proofs.Common.{◌≡◌, ℕ, Bool, List, Option, None, Some, refl, ap, ◌∙◌}
 use Rattle.rr_syntax.specs.declared.token.Keyword.{Keyword}
 use Rattle.rr_syntax.specs.declared.token.Mark.{Mark}
 use Rattle.rr_syntax.specs.declared.tree.Expr.{Expr, Row_of-Expr, end_of-Expr, more_of-Expr, items-the_row-Expr, items_hidden-the_row-Expr-0}
@@ -10,7 +10,7 @@ use Rattle.rr_syntax.specs.declared.tree.Stmt.{Stmt, Row_of-Stmt, end_of-Stmt, m
 use Rattle.rr_syntax.specs.declared.tree.Stmt.TheBlock.{hidden-the_row-Stmt-0, hidden-the_row-Arm-1}
 use Rattle.rr_syntax.specs.declared.tree.Stmt.TheVariants as stmt
 use Rattle.rr_syntax.specs.Tree.{Bit, Part, Indexed, Unary, Binary, Cond, Concat, Repeat, Cast, Paren, More, Block, If, IfElse, Case, Then, CaseItem, MoreArms}
-use Rattle.rr_syntax.specs.View.{plain, plain_row, plain_list, plain_label, plain_statement, plain_if, plain_statement_row, plain_statements, plain_arm, plain_arm_row, plain_arms}
+use Rattle.rr_syntax.specs.View.{plain, plain_row, plain_list, plain_label, plain_statement, plain_statement_row, plain_statements, plain_arm, plain_arm_row, plain_arms}
 use denote.Ref.{Bor}
 
 pub plain_row_list : {m : _} → (k : Row_of-Expr m) → plain_row k ≡ plain_list (items-the_row-Expr m k)

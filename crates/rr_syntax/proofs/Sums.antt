@@ -1,5 +1,5 @@
 -- Measures of lists that are sums, or greatest numbers, over the elements: at the first elements of a list, and one more.
-use Rattle.std.proofs.Common.{◌≡◌, ℕ, zero, suc, max, ◌+◌, ◌≤◌, ◌<◌, List, [], ◌∷◌, length, get_or, take, refl, ap, ◌∙◌, sym, arith}
+use Rattle.std.proofs.Common.{◌≡◌, ℕ, zero, suc, max, ◌+◌, ◌≤◌, ◌<◌, List, [], ◌∷◌, length, get_or, take, refl, ap, arith}
 use Rattle.std.proofs.lemmas.List.{take_all}
 
 -- F is the sum of w over a list

@@ -1,5 +1,5 @@
 -- What token numbers, and their absence, leave as it is; and which trees spell at least one token.
-use Rattle.std.specs.Prelude.{ℕ, ◌<◌, ◌≡◌, ◌↔◌, length}
+use Rattle.std.specs.Prelude.{◌<◌, ◌≡◌, ◌↔◌, length}
 use Rattle.rr_syntax.specs.Tree.{Tree, Statement, Arm, ModuleItem, ModuleDeclaration, SourceText, bare, bare_statement, bare_arm, bare_item, bare_module, bare_source}
 use Rattle.rr_syntax.specs.Expressions.{level, spell, WellFormed, is_target, depth}
 use Rattle.rr_syntax.specs.Statements.{is_open, spell_statement, spell_arm, WellFormedStatement, WellFormedArm, depth_statement, depth_arm}

@@ -2,7 +2,7 @@
 -- their depth, and the numbers of their tokens.
 use Rattle.std.specs.Prelude.{ℕ, suc, ◌+◌, ◌≤◌, ◌≡◌, max, List, [], ◌∷◌, ◌++◌, length, IsTrue, ◌==◌, ◌||◌, Bool, true, false, cond, Option, None, Some}
 use Rattle.rr_syntax.specs.Words.{Word, Named, Reserved, Marked, keyword_begin, keyword_case, keyword_casex, keyword_casez, keyword_default, keyword_else, keyword_end, keyword_endcase, keyword_if, mark_open_parenthesis, mark_close_parenthesis, mark_colon, mark_semicolon, mark_equals, mark_less_or_equal}
-use Rattle.rr_syntax.specs.Tree.{Tree, Trees, End, More, Identifier, Statement, Statements, Arm, Arms, Null, Block, If, IfElse, Case, Assign, Done, Then, CaseItem, NoArms, MoreArms}
+use Rattle.rr_syntax.specs.Tree.{Trees, End, More, Identifier, Statement, Statements, Arm, Arms, Null, Block, If, IfElse, Case, Assign, Done, Then, CaseItem, NoArms, MoreArms}
 use Rattle.rr_syntax.specs.Expressions.{spell, spell_parts, WellFormed, WellFormedMore, is_target, depth, height, Numbered, NumberedMore, FitLiterals, FitLiteralsParts}
 
 -- an `else` after the statement would belong to it (section 9.4)

@@ -1,7 +1,5 @@
 -- The tables of reserved words and marks, and the names of their entries.
 use Rattle.std.specs.Prelude.{ℕ, ◌+◌, ◌≡◌, List, [], ◌∷◌, map, get_or, codes, true, sum, length}
-use Rattle.rr_syntax.specs.declared.token.Keyword.{Keyword}
-use Rattle.rr_syntax.specs.declared.token.Mark.{Mark}
 use Rattle.rr_syntax.specs.declared.token.TheConstants.{KEYWORDS, MARKS}
 use Rattle.rr_syntax.specs.declared.token.TheConstants.Keyword as word
 use Rattle.rr_syntax.specs.declared.token.TheConstants.Mark as mark

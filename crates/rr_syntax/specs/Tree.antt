@@ -1,6 +1,6 @@
 -- Syntax trees as plain data, without addresses: each leaf and each named part keeps the number of its token.
 -- The names are those of IEEE 1364-2005 annex A.
-use Rattle.std.specs.Prelude.{ℕ, List, [], ◌∷◌, Bool, Option, None, Some, map, ◌≡◌}
+use Rattle.std.specs.Prelude.{ℕ, List, Bool, Option, None, Some, map, ◌≡◌}
 use Rattle.rr_syntax.specs.declared.token.Number.{Number}
 use Rattle.rr_syntax.specs.declared.tree.Dir.{Dir}
 

@@ -1,4 +1,4 @@
-use Rattle.std.proofs.Common.{arith, sym, map}
+use Rattle.std.proofs.Common.{arith, sym}
 use Rattle.rr_syntax.specs.Items.{spell_item}
 use Rattle.rr_syntax.specs.View.{plain_item}
 use Rattle.rr_syntax.proofs.ItemLengths.{all_len, own_len, all_sum}
