@@ -264,14 +264,29 @@ fn words_of(alloc: Global, line: &str) -> Result<Vec<String>, Fail> {
     Ok(words)
 }
 
+fn reads(alloc: Global, line: &str, expected: Option<Command>) -> Result<bool, Fail> {
+    let words = words_of(alloc, line)?;
+    let wanted = expected.ok_or(WordsFault::Usage);
+    Ok(read_words(alloc, words.as_slice()) == wanted)
+}
+
+/// The first line that is answered otherwise.
+fn first_misread<'a>(
+    alloc: Global,
+    lines: &'a [(&'a str, Option<Command<'a>>)],
+) -> Result<Option<&'a str>, Fail> {
+    for (line, expected) in lines {
+        if !reads(alloc, line, *expected)? {
+            return Ok(Some(line));
+        }
+    }
+    Ok(None)
+}
+
 #[test]
 fn reads_lines(rt: HostRuntime) -> Result<(), Fail> {
-    let alloc = rt.alloc();
-    for (line, expected) in LINES.iter() {
-        let words = words_of(alloc, line)?;
-        let wanted = expected.ok_or(WordsFault::Usage);
-        assert!(rt; read_words(alloc, words.as_slice()) == wanted, "{line}");
-    }
+    let misread = first_misread(rt.alloc(), &LINES)?;
+    assert_eq!(rt; misread, None);
     Ok(())
 }
 
