@@ -1,0 +1,4 @@
+pub mod Clauses
+pub mod Codes
+pub mod Partial
+pub mod Dimacs
