@@ -1,0 +1,69 @@
+//! The outside of the program: a shelf that holds files by their names, and sinks that take text.
+#![tactic(auto)]
+
+ghost use Rattle.std.specs.Prelude.{◌≡◌, ℕ, List, Option};
+ghost use Rattle.rr_edge.specs.Held.{Held};
+ghost use Rattle.rr_edge.specs.Shelf.{Reads, Writes, Counts};
+ghost use Rattle.rr_edge.specs.Sink.{Puts, CountsPut};
+
+use std::alloc::Global;
+
+mod file;
+mod memory;
+mod writer;
+#[cfg(test)]
+mod tests;
+
+pub use file::FileShelf;
+pub use memory::{MemoryShelf, MemorySink};
+pub use writer::OutSink;
+
+/// Why a call on a shelf has no result.
+#[derive(Clone, Copy, Debug, PartialEq, Eq)]
+pub enum ShelfFault {
+    /// The shelf failed.
+    Failed,
+    /// Nothing is held under the name.
+    Absent,
+    /// The bytes under the name are more than the limit: so many.
+    TooLong(u64),
+    /// Memory ran out.
+    Memory,
+}
+
+/// A sink that took no more.
+#[derive(Clone, Copy, Debug, PartialEq, Eq)]
+pub struct SinkFault;
+
+/// Holds bytes under names.
+pub trait Shelf {
+    /// The map from names to bytes, where the shelf tells it.
+    ghost told: { Self → Option Held };
+
+    /// How often the shelf has failed. The count stands still at its type's end.
+    ghost faults: { Self → ℕ };
+
+    /// The bytes under a name, at most `limit` of them.
+    fn read(&mut self, alloc: Global, name: &str, limit: u64) -> Result<Vec<u8>, ShelfFault>
+        ensures answer { Reads (told self.old) name.now limit result }
+        ensures same { told self.new ≡ told self.old }
+        ensures count { Counts (faults self.old) (faults self.new) result };
+
+    /// Puts bytes under a name, in place of what it had.
+    fn write(&mut self, name: &str, bytes: &[u8]) -> Result<(), ShelfFault>
+        ensures answer { Writes (told self.old) (told self.new) name.now bytes.now result }
+        ensures count { Counts (faults self.old) (faults self.new) result };
+}
+
+/// Takes text piece by piece.
+pub trait Sink {
+    /// The bytes written so far, where the sink tells them.
+    ghost written: { Self → Option (List ℕ) };
+
+    /// How often the sink has failed. The count stands still at its type's end.
+    ghost faults: { Self → ℕ };
+
+    fn put(&mut self, bytes: &[u8]) -> Result<(), SinkFault>
+        ensures bytes { Puts (written self.old) (written self.new) bytes.now result }
+        ensures count { CountsPut (faults self.old) (faults self.new) result };
+}
