@@ -1,5 +1,5 @@
 -- What the calls of a shelf answer, and what they leave.
-use Rattle.std.specs.Prelude.{◌≡◌, ◌⊎◌, ℕ, take, ◌<◌, ◌≤◌, List, Option, Some, None, ⊤, length, Result, Ok, Err, IfSome, IsSomeAnd, Vec}
+use Rattle.std.specs.Prelude.{◌≡◌, ◌⊎◌, ℕ, ◌+◌, ◌-◌, ◌^◌, min, take, ◌<◌, ◌≤◌, List, Option, Some, None, ⊤, length, Result, Ok, Err, IfSome, IsSomeAnd, Vec}
 use Rattle.std.specs.declared.alloc.Global.{Global}
 use Rattle.rr_edge.specs.declared.ShelfFault.{ShelfFault}
 use Rattle.rr_edge.specs.declared.ShelfFault.TheVariants.{Failed, Absent, TooLong, Memory}
@@ -30,3 +30,11 @@ Counts before now (Err Failed) = Faulted before now
 Counts before now (Err Absent) = now ≡ before
 Counts before now (Err (TooLong n)) = now ≡ before
 Counts before now (Err Memory) = now ≡ before
+
+-- the count after an answer: one more at `Failed`, where it is not at its type's end
+abbrev pub count_after : {T : Type 0} → ℕ → Result T ShelfFault → ℕ
+count_after before (Ok t) = before
+count_after before (Err Failed) = min (before + 1) (2 ^ 64 - 1)
+count_after before (Err Absent) = before
+count_after before (Err (TooLong n)) = before
+count_after before (Err Memory) = before

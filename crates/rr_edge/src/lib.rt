@@ -7,32 +7,41 @@ ghost use Rattle.rr_edge.specs.Shelf.{Reads, Writes, Counts};
 ghost use Rattle.rr_edge.specs.Sink.{Puts, CountsPut};
 
 use std::alloc::Global;
+use thiserror::Error;
 
 mod file;
 mod memory;
+mod reader;
 mod writer;
 #[cfg(test)]
 mod tests;
 
 pub use file::FileShelf;
 pub use memory::{MemoryShelf, MemorySink};
-pub use writer::OutSink;
+pub use reader::{ReadFault, read_front};
+pub use writer::{OutSink, write_front};
 
 /// Why a call on a shelf has no result.
-#[derive(Clone, Copy, Debug, PartialEq, Eq)]
+#[derive(Clone, Copy, Debug, PartialEq, Eq, Error)]
 pub enum ShelfFault {
-    /// The shelf failed.
+    /// The shelf failed, and has counted it.
+    #[error("the shelf failed")]
     Failed,
     /// Nothing is held under the name.
+    #[error("nothing is held under the name")]
     Absent,
-    /// The bytes under the name are more than the limit: so many.
+    /// The bytes under the name are more than the limit: so many, or of a shelf that doesn't tell
+    /// what it holds, at least so many.
+    #[error("{0} bytes or more are held, which is above the limit")]
     TooLong(u64),
     /// Memory ran out.
+    #[error("memory ran out")]
     Memory,
 }
 
-/// A sink that took no more.
-#[derive(Clone, Copy, Debug, PartialEq, Eq)]
+/// A sink that took no more, and has counted it.
+#[derive(Clone, Copy, Debug, PartialEq, Eq, Error)]
+#[error("the sink failed")]
 pub struct SinkFault;
 
 /// Holds bytes under names.

@@ -2,14 +2,15 @@
 ghost use Rattle.std.specs.Prelude.{◌≡◌, ◌≤◌, ◌<◌, ◌↔◌, ◌⊎◌, ◌++◌, List, ℕ, [], None, OnOk, OnErr, IfOk, IsTrue, IsErr, IsErrOf, Contains, length, take, vec_len, vec_capacity};
 ghost use Rattle.std.specs.Option.{option_copied};
 ghost use Rattle.rr_edge.specs.Held.{put};
-ghost use Rattle.rr_edge.specs.Shelf.{Reads, Writes, Counts};
-ghost use Rattle.rr_edge.specs.Sink.{Puts, CountsPut};
+ghost use Rattle.rr_edge.specs.Shelf.{Reads, Writes, Counts, count_after};
+ghost use Rattle.rr_edge.specs.Sink.{Puts, CountsPut, count_after_put};
 
 use crate::{Shelf, ShelfFault, Sink, SinkFault};
 use std::alloc::{AllocError, Global};
 use std::collections::BTreeMap;
 
-/// A shelf in memory. The calls whose numbers, from 0, stand in a list fail.
+/// A shelf in memory, which tells what it holds. The calls whose numbers, from 0, stand in a list
+/// fail, and change nothing held. Calls past number 2^64 - 1 keep that number.
 #[derive(Drop)]
 pub struct MemoryShelf {
     alloc: Global,
@@ -20,11 +21,14 @@ pub struct MemoryShelf {
 }
 
 impl MemoryShelf {
-    ghost use Rattle.rr_edge.specs.Memory.{held_of, CallsNot};
+    ghost use Rattle.rr_edge.specs.Memory.{held_of, fails_of, call_count, fault_count, CallsNot};
 
-    /// An empty shelf whose calls fail by the list.
+    /// An empty shelf whose calls fail by the list, before its first call.
     pub fn new(alloc: Global, fails: Vec<u64>) -> MemoryShelf
-        ensures { (name : List ℕ) → held_of result name ≡ None }
+        ensures empty { (name : List ℕ) → held_of result name ≡ None }
+        ensures fails { fails_of result ≡ fails.items }
+        ensures calls { call_count result ≡ 0 }
+        ensures faults { fault_count result ≡ 0 }
     {
         MemoryShelf {
             alloc,
@@ -35,7 +39,7 @@ impl MemoryShelf {
         }
     }
 
-    /// Puts bytes under a name. It counts as no call.
+    /// Puts bytes under a name. It counts as no call, and raises no fault.
     pub fn place(&mut self, name: &str, bytes: &[u8]) -> Result<(), AllocError>
         ensures ok { OnOk result (held_of self.new ≡ put (held_of self.old) name.now bytes.now) }
         ensures err { OnErr result (held_of self.new ≡ held_of self.old) }
@@ -64,18 +68,24 @@ fn fails_at(fails: &[u64], call: u64) -> bool
 
 impl Shelf for MemoryShelf {
     ghost use Rattle.std.specs.Prelude.{Some};
-    ghost use Rattle.rr_edge.specs.Memory.{held_of, FailsNext, CallsOnce};
+    ghost use Rattle.rr_edge.specs.Memory.{held_of, fault_count, FailsNext, CallsOnce, IsLonger};
 
     ghost told = { λ shelf. Some (held_of shelf) };
 
-    ghost faults = { λ shelf. shelf.faults };
+    ghost faults = { λ shelf. fault_count shelf };
 
     fn read(&mut self, alloc: Global, name: &str, limit: u64) -> Result<Vec<u8>, ShelfFault>
         ensures answer { Reads (Some (held_of self.old)) name.now limit result }
         ensures same { held_of self.new ≡ held_of self.old }
-        ensures count { Counts self.old.faults self.new.faults result }
-        ensures failed { IsErrOf result ShelfFault.Failed ↔ FailsNext self.old }
+        ensures count { Counts (fault_count self.old) (fault_count self.new) result }
+        ensures counted { fault_count self.new ≡ count_after (fault_count self.old) result }
         ensures called { CallsOnce self.old self.new }
+        // Each fault comes exactly here, so that want of memory comes only where the bytes are due.
+        ensures failed { IsErrOf result ShelfFault.Failed ↔ FailsNext self.old }
+        ensures absent { IsErrOf result ShelfFault.Absent
+            ↔ ((FailsNext self.old → ⊥) × (held_of self.old name.now ≡ None)) }
+        ensures long { (n : ℕ) → IsErrOf result (ShelfFault.TooLong n)
+            ↔ ((FailsNext self.old → ⊥) × IsLonger (held_of self.old name.now) limit n) }
     {
         let call = self.calls;
         self.calls = call.saturating_add(1);
@@ -98,9 +108,11 @@ impl Shelf for MemoryShelf {
 
     fn write(&mut self, name: &str, bytes: &[u8]) -> Result<(), ShelfFault>
         ensures answer { Writes (Some (held_of self.old)) (Some (held_of self.new)) name.now bytes.now result }
-        ensures count { Counts self.old.faults self.new.faults result }
-        ensures failed { IsErrOf result ShelfFault.Failed ↔ FailsNext self.old }
+        ensures count { Counts (fault_count self.old) (fault_count self.new) result }
+        ensures counted { fault_count self.new ≡ count_after (fault_count self.old) result }
         ensures called { CallsOnce self.old self.new }
+        ensures failed { IsErrOf result ShelfFault.Failed ↔ FailsNext self.old }
+        ensures kept { OnErr result (held_of self.new ≡ held_of self.old) }
     {
         let call = self.calls;
         self.calls = call.saturating_add(1);
@@ -115,7 +127,10 @@ impl Shelf for MemoryShelf {
     }
 }
 
-/// A sink in memory with a fixed room. The calls whose numbers, from 0, stand in a list fail.
+/// A sink in memory, which tells what it took. Its room, in bytes, is taken when it is made, so that a
+/// put takes no memory. The puts whose numbers, from 0, stand in a list fail and take nothing. A piece
+/// that exceeds the room left is taken as far as it fits, and counts a fault. Puts past number
+/// 2^64 - 1 keep that number.
 #[derive(Drop)]
 pub struct MemorySink {
     written: Vec<u8>,
@@ -128,11 +143,15 @@ pub struct MemorySink {
 }
 
 impl MemorySink {
-    ghost use Rattle.rr_edge.specs.Memory.{text_of};
+    ghost use Rattle.rr_edge.specs.Memory.{text_of, left_of, put_fails_of, put_count, put_fault_count};
 
-    /// An empty sink with this room, whose calls fail by the list.
+    /// An empty sink with this room, whose puts fail by the list, before its first put.
     pub fn new(alloc: Global, room: u64, fails: Vec<u64>) -> Result<MemorySink, AllocError>
-        ensures { IfOk result (λ sink. text_of sink ≡ []) }
+        ensures empty { IfOk result (λ sink. text_of sink ≡ []) }
+        ensures room { IfOk result (λ sink. left_of sink ≡ room) }
+        ensures fails { IfOk result (λ sink. put_fails_of sink ≡ fails.items) }
+        ensures calls { IfOk result (λ sink. put_count sink ≡ 0) }
+        ensures faults { IfOk result (λ sink. put_fault_count sink ≡ 0) }
     {
         let written = Vec::with_capacity(alloc, room as usize)?;
         Ok(MemorySink {
@@ -154,16 +173,19 @@ impl MemorySink {
 
 impl Sink for MemorySink {
     ghost use Rattle.std.specs.Prelude.{Some};
-    ghost use Rattle.rr_edge.specs.Memory.{text_of, left_of, PutFailsNext};
+    ghost use Rattle.rr_edge.specs.Memory.{text_of, left_of, put_fault_count, PutFailsNext, PutsOnce};
 
     ghost written = { λ sink. Some (text_of sink) };
 
-    ghost faults = { λ sink. sink.faults };
+    ghost faults = { λ sink. put_fault_count sink };
 
     fn put(&mut self, bytes: &[u8]) -> Result<(), SinkFault>
         ensures bytes { Puts (Some (text_of self.old)) (Some (text_of self.new)) bytes.now result }
-        ensures count { CountsPut self.old.faults self.new.faults result }
+        ensures count { CountsPut (put_fault_count self.old) (put_fault_count self.new) result }
+        ensures counted { put_fault_count self.new ≡ count_after_put (put_fault_count self.old) result }
+        ensures called { PutsOnce self.old self.new }
         ensures failed { IsErr result ↔ (PutFailsNext self.old ⊎ (left_of self.old < length bytes.now)) }
+        ensures nothing { PutFailsNext self.old → text_of self.new ≡ text_of self.old }
         ensures front { (PutFailsNext self.old → ⊥) → text_of self.new ≡ text_of self.old ++ take (left_of self.old) bytes.now }
     {
         let call = self.calls;

@@ -4,8 +4,9 @@ use Rattle.std.proofs.lemmas.List.{take_rest}
 use Rattle.std.proofs.KnownBytes.{Appends-trans}
 use Rattle.rr_edge.proofs.writer.write_front.Goals as goal
 
--- the bytes so far, and then those that this call took of the rest
+-- the bytes so far, and then those that this write took of the rest
 pub loop-done-preserved : goal.loop-done-preserved
 loop-done-preserved g c =
-    let took = rw take_rest at c.in-Ok.ensures.bytes in
-    (omega (arith, c.in-Ok.ensures.bound), rw take-add (Appends-trans _ _ _ _ _ c.loop-done.invariant.1 took))
+    let write = c.write_retrying-count.ensures in
+    let took = rw take_rest at write.bytes in
+    (omega (arith, write.bound), rw take-add (Appends-trans _ _ _ _ _ c.loop-done.invariant.1 took))
