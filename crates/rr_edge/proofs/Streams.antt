@@ -1,9 +1,9 @@
 -- What reads in place take from a reader's known bytes.
-use Rattle.std.proofs.Common.{◌≡◌, ℕ, ◌+◌, ◌≤◌, List, [], ◌++◌, IfOk, IfSome, length, take, drop, sym, ap, subst, ◌∙◌, None, Some, Result, Ok, Err, arith, drop_at, append-nil, take_all}
+use Rattle.std.proofs.Common.{◌≡◌, ℕ, List, ◌++◌, IfOk, length, take, drop, sym, ap, subst, ◌∙◌, Result, Ok, Err, drop_at}
 use Rattle.std.specs.Prelude.{Option}
 use Rattle.std.proofs.lemmas.List.{take-append-le}
 use Rattle.std.specs.Io.{ReadsAtMost, StartsWith}
-use Rattle.std.specs.Io.KnownBytes.{Consumes, IsAtEnd}
+use Rattle.std.specs.Io.KnownBytes.{Consumes}
 use Rattle.std.proofs.KnownBytes.{Consumes-trans, starts_with_rest}
 
 -- what was read into a part of a buffer stands after the part's front

@@ -1,7 +1,7 @@
 //! A shelf of real files. It tells nothing of what they hold.
 ghost use Rattle.std.specs.Prelude.{◌≡◌, ◌≤◌, ◌^◌, ◌-◌, ℕ, ◌+◌, min, vec_len, IfOk, None, IsErrOf};
 ghost use Rattle.rr_edge.specs.Faults.{Faulted};
-ghost use Rattle.rr_edge.specs.File.{file_fault_count};
+ghost use Rattle.rr_edge.specs.File.{file_fault_count, ReadsFile, WritesFile};
 ghost use Rattle.rr_edge.specs.Shelf.{Reads, Writes, Counts, count_after};
 
 use crate::reader::{ReadFault, read_front};
@@ -11,7 +11,7 @@ use std::alloc::Global;
 use std::fs::{File, OpenFile};
 use std::rt::Files;
 
-/// Files by their paths. A file that isn't there is a fault.
+/// Files by their paths. A file that isn't there, or can't be opened, is a fault.
 #[derive(Drop)]
 pub struct FileShelf<'a, R> {
     rt: &'a R,
@@ -33,19 +33,43 @@ impl<'a, R: Files> FileShelf<'a, R> {
     {
         self.faults = self.faults.saturating_add(1);
     }
+}
 
-    /// The front of the file, up to one byte above the limit.
-    fn read_file(&self, alloc: Global, name: &str, limit: u64) -> Result<Vec<u8>, ReadFault>
-        ensures { IfOk result (λ bytes. vec_len bytes ≤ limit + 1) }
-    {
-        let Ok(mut file) = File::open(self.rt, name) else {
-            return Err(ReadFault::Failed);
-        };
-        let Ok(metadata) = file.metadata() else {
-            return Err(ReadFault::Failed);
-        };
-        read_front(alloc, &mut file, limit, metadata.len())
+/// What a read of the file answers, before a fault is counted.
+fn read_file<R: Files>(rt: &R, alloc: Global, name: &str, limit: u64) -> Result<Vec<u8>, ShelfFault>
+    ensures answer { Reads None name.now limit result }
+    ensures file { ReadsFile R.File.remaining limit result }
+{
+    let Ok(mut file) = File::open(rt, name) else {
+        return Err(ShelfFault::Failed);
+    };
+    let Ok(metadata) = file.metadata() else {
+        return Err(ShelfFault::Failed);
+    };
+    match read_front(alloc, &mut file, limit, metadata.len()) {
+        Ok(bytes) => {
+            let len = bytes.len() as u64;
+            if len > limit {
+                return Err(ShelfFault::TooLong(len));
+            }
+            Ok(bytes)
+        }
+        Err(ReadFault::Memory) => Err(ShelfFault::Memory),
+        Err(ReadFault::Failed) => Err(ShelfFault::Failed),
     }
+}
+
+/// What a write of the file answers, before a fault is counted.
+fn write_file<R: Files>(rt: &R, name: &str, bytes: &[u8]) -> Result<(), ShelfFault>
+    ensures { WritesFile R.File.contents bytes.now result }
+{
+    let Ok(mut file) = File::create(rt, name) else {
+        return Err(ShelfFault::Failed);
+    };
+    if write_front(&mut file, bytes) < bytes.len() {
+        return Err(ShelfFault::Failed);
+    }
+    Ok(())
 }
 
 impl<'a, R: Files> Shelf for FileShelf<'a, R> {
@@ -57,42 +81,25 @@ impl<'a, R: Files> Shelf for FileShelf<'a, R> {
         ensures answer { Reads None name.now limit result }
         ensures count { Counts (file_fault_count self.old) (file_fault_count self.new) result }
         ensures counted { file_fault_count self.new ≡ count_after (file_fault_count self.old) result }
-        // One byte above the limit is the last that is read.
-        ensures over { (n : ℕ) → IsErrOf result (ShelfFault.TooLong n) → n ≡ limit + 1 }
+        ensures file { ReadsFile R.File.remaining limit result }
     {
-        match self.read_file(alloc, name, limit) {
-            Ok(bytes) => {
-                let len = bytes.len() as u64;
-                if len > limit {
-                    Err(ShelfFault::TooLong(len))
-                } else {
-                    Ok(bytes)
-                }
-            }
-            Err(ReadFault::Memory) => Err(ShelfFault::Memory),
-            Err(ReadFault::Failed) => {
-                self.count_fault();
-                Err(ShelfFault::Failed)
-            }
+        let result = read_file(self.rt, alloc, name, limit);
+        if let Err(ShelfFault::Failed) = &result {
+            self.count_fault();
         }
+        result
     }
 
     fn write(&mut self, name: &str, bytes: &[u8]) -> Result<(), ShelfFault>
         ensures answer { Writes None None name.now bytes.now result }
         ensures count { Counts (file_fault_count self.old) (file_fault_count self.new) result }
         ensures counted { file_fault_count self.new ≡ count_after (file_fault_count self.old) result }
-        // It takes no memory.
-        ensures memory { IsErrOf result ShelfFault.Memory → ⊥ }
+        ensures file { WritesFile R.File.contents bytes.now result }
     {
-        let Ok(mut file) = File::create(self.rt, name) else {
+        let result = write_file(self.rt, name, bytes);
+        if result.is_err() {
             self.count_fault();
-            return Err(ShelfFault::Failed);
-        };
-        if write_front(&mut file, bytes) == bytes.len() {
-            Ok(())
-        } else {
-            self.count_fault();
-            Err(ShelfFault::Failed)
         }
+        result
     }
 }

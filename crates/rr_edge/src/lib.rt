@@ -12,14 +12,13 @@ use thiserror::Error;
 mod file;
 mod memory;
 mod reader;
-mod writer;
 #[cfg(test)]
 mod tests;
+mod writer;
 
 pub use file::FileShelf;
 pub use memory::{MemoryShelf, MemorySink};
-pub use reader::{ReadFault, read_front};
-pub use writer::{OutSink, write_front};
+pub use writer::OutSink;
 
 /// Why a call on a shelf has no result.
 #[derive(Clone, Copy, Debug, PartialEq, Eq, Error)]

@@ -5,7 +5,6 @@ ghost use Rattle.std.specs.Io.KnownBytes.{Consumes, IsAtEnd, Keeps};
 
 use std::alloc::Global;
 use std::io::{ErrorKind, Read};
-use thiserror::Error;
 
 /// How often one call of a stream is made, where signals interrupt it, before it counts as failed.
 pub(crate) const MOST_TRIES: u32 = 1000;
@@ -14,13 +13,11 @@ pub(crate) const MOST_TRIES: u32 = 1000;
 const PIECE: usize = 131_072;
 
 /// Why a reader's bytes were not had.
-#[derive(Clone, Copy, Debug, PartialEq, Eq, Error)]
-pub enum ReadFault {
+#[derive(Clone, Copy, Debug, PartialEq, Eq)]
+pub(crate) enum ReadFault {
     /// A read failed.
-    #[error("a read failed")]
     Failed,
     /// Memory ran out.
-    #[error("memory ran out")]
     Memory,
 }
 
@@ -28,7 +25,7 @@ pub enum ReadFault {
 ///
 /// `expected` is how many bytes are likely to come, 0 where that isn't known. Where no more come,
 /// no byte is copied after it was read, and otherwise each once at most.
-pub fn read_front<F: Read>(
+pub(crate) fn read_front<F: Read>(
     alloc: Global,
     reader: &mut F,
     limit: u64,
@@ -36,7 +33,8 @@ pub fn read_front<F: Read>(
 ) -> Result<Vec<u8>, ReadFault>
     ensures bound { IfOk result (λ bytes. vec_len bytes ≤ limit + 1) }
     ensures front { IfOk result (λ bytes. IfSome (F.remaining reader.old) (λ known. bytes.items ≡ take (limit + 1) known)) }
-    ensures rest { IfOk result (λ bytes. Consumes (F.remaining reader.old) (F.remaining reader.new) bytes.items) }
+    ensures read { IfOk result (λ bytes. Consumes (F.remaining reader.old) (F.remaining reader.new) bytes.items) }
+    ensures end { IfOk result (λ bytes. vec_len bytes ≤ limit → IsAtEnd (F.remaining reader.new)) }
 {
     let Ok(mut bytes) = Vec::with_capacity(alloc, first_capacity(limit, expected)) else {
         return Err(ReadFault::Memory);
@@ -54,7 +52,9 @@ pub fn read_front<F: Read>(
 
 /// Room for the expected bytes and the piece that finds the end, and for no more than the limit asks.
 fn first_capacity(limit: u64, expected: u64) -> usize {
-    limit.min(expected.saturating_add(PIECE as u64)).saturating_add(1) as usize
+    limit
+        .min(expected.saturating_add(PIECE as u64))
+        .saturating_add(1) as usize
 }
 
 /// How many bytes the next read may give, where the limit leaves this many, and one more shows that
@@ -82,11 +82,7 @@ fn make_room(bytes: &mut Vec<u8>, room: usize, left: u64) -> Result<(), ReadFaul
 }
 
 /// Reads once, onto the end of the bytes, and answers how many came: none only at the reader's end.
-fn read_onto<F: Read>(
-    reader: &mut F,
-    bytes: &mut Vec<u8>,
-    room: usize,
-) -> Result<usize, ReadFault>
+fn read_onto<F: Read>(reader: &mut F, bytes: &mut Vec<u8>, room: usize) -> Result<usize, ReadFault>
     requires some { 0 < room }
     requires piece { room ≤ 2 ^ 17 }
     ensures bound { IfOk result (λ count. count ≤ room) }
