@@ -43,7 +43,7 @@ pub enum ShelfFault {
 #[error("the sink failed")]
 pub struct SinkFault;
 
-/// Holds bytes under names.
+/// Holds bytes under names, as a folder holds files.
 pub trait Shelf {
     /// The map from names to bytes, where the shelf tells it.
     ghost told: { Self → Option Held };
@@ -51,13 +51,19 @@ pub trait Shelf {
     /// How often the shelf has failed. The count stands still at its type's end.
     ghost faults: { Self → ℕ };
 
-    /// The bytes under a name, at most `limit` of them.
+    /// The bytes under a name, at most `limit` of them. It changes nothing held.
+    ///
+    /// `Absent` and `TooLong` come by what is held, where the shelf tells it; a shelf that tells nothing
+    /// answers `TooLong` with some count above the limit, and never `Absent`. A call that failed answers
+    /// `Failed` in place of both.
     fn read(&mut self, alloc: Global, name: &str, limit: u64) -> Result<Vec<u8>, ShelfFault>
         ensures answer { Reads (told self.old) name.now limit result }
         ensures same { told self.new ≡ told self.old }
         ensures count { Counts (faults self.old) (faults self.new) result };
 
-    /// Puts bytes under a name, in place of what it had.
+    /// Puts bytes under a name, in place of what it had, and changes no other name.
+    ///
+    /// After `Failed` the name has what it had or a front of the bytes. After `Memory` nothing changed.
     fn write(&mut self, name: &str, bytes: &[u8]) -> Result<(), ShelfFault>
         ensures answer { Writes (told self.old) (told self.new) name.now bytes.now result }
         ensures count { Counts (faults self.old) (faults self.new) result };
@@ -71,6 +77,8 @@ pub trait Sink {
     /// How often the sink has failed. The count stands still at its type's end.
     ghost faults: { Self → ℕ };
 
+    /// Puts a piece at the end. After a fault a front of the piece may stand there; a sink that takes
+    /// nothing of a piece that isn't empty has failed.
     fn put(&mut self, bytes: &[u8]) -> Result<(), SinkFault>
         ensures bytes { Puts (written self.old) (written self.new) bytes.now result }
         ensures count { CountsPut (faults self.old) (faults self.new) result };
