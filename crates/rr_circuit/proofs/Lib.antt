@@ -1,0 +1,4 @@
+pub mod Netlists
+pub mod ShareLaws
+pub mod CopyLaws
+pub mod Copies
