@@ -1,13 +1,13 @@
 -- what a builder's calls leave of a netlist, and the values of the wires that they answer
-use Rattle.std.proofs.Common.{◌≡◌, ◌⊎◌, inl, inr, ℕ, suc, ◌+◌, ◌-◌, ◌*◌, ◌/◌, ◌%◌, ◌<◌, ◌≤◌, Bool, true, false, not, ◌&&◌, cond, eqb, List, [], ◌∷◌, ◌++◌, length, get_or, map, take, fold, refl, sym, ◌∙◌, ap, arith, length-append, rules, add-one}
-use Rattle.std.specs.Int.Bits.{bit_xor, bit_and, xor_add_and}
+use Rattle.std.proofs.Common.{◌≡◌, ◌⊎◌, inl, inr, ℕ, ◌+◌, ◌*◌, ◌/◌, ◌%◌, ◌<◌, ◌≤◌, Bool, true, false, not, ◌&&◌, List, [], ◌∷◌, ◌++◌, length, get_or, map, take, fold, refl, sym, ◌∙◌, ap, arith, length-append, add-one}
+use Rattle.std.specs.Int.Bits.{bit_xor, xor_add_and}
 use Rattle.std.specs.List.{range_with_len}
 use Rattle.std.proofs.Math.Bool.{not-not, and-false, and-true, and_self, not-and_self}
-use Rattle.std.proofs.lemmas.Grind.{fold-append, and_numeral, common_steps}
+use Rattle.std.proofs.lemmas.Grind.{fold-append, and_numeral}
 use Rattle.std.proofs.lemmas.List.{get_or_append_left, get_or_push, same_lists, get_or_default, length-take-le, take_all}
 use Rattle.std.proofs.lemmas.List.Elements.{All-weaker, All-head, All-tail, All-push}
 use Rattle.std.proofs.lemmas.List.FromFn.{length-map-range_with_len, get_or-map-range_with_len}
-use Rattle.std.proofs.lemmas.Bool.{eq-eqb, ne_eqb, cond-true, cond-false, cases_eq, cases_lt}
+use Rattle.std.proofs.lemmas.Bool.{cases_eq, cases_lt}
 use Rattle.rr_circuit.specs.declared.Wire.{Wire}
 use Rattle.rr_circuit.specs.declared.Gate.{Gate}
 use Rattle.rr_circuit.specs.Values.{given, Netlist, variables, literal_value, with_gate, input_values, variable_values, wire_value, wire_values, AreWires, IsWire, IsGateAt, IsNetlist, AreOrdered, Extends}
@@ -55,7 +55,7 @@ pub IsWire-gate : (n : Netlist) (g : Gate) (at : ℕ) → at ≡ variables n →
 unfolding IsWire
 IsWire-gate n g at e = let p = length-append n.gates (g ∷ []) in omega arith
 
-literal_value-even : (xs : List Bool) (v : ℕ) → literal_value xs (2 * v) ≡ get_or xs v false
+pub literal_value-even : (xs : List Bool) (v : ℕ) → literal_value xs (2 * v) ≡ get_or xs v false
 literal_value-even xs v =
     let e : (2 * v) / 2 ≡ v = omega arith in
     let z : (2 * v) % 2 ≡ 0 = omega arith in
@@ -108,6 +108,7 @@ literal_value-flip xs w f e = by_cases (cases_eq (w % 2) 1)
   where
     h : f / 2 ≡ w / 2
     h = omega arith
+
     by_cases : ((w % 2 ≡ 1) ⊎ (w % 2 ≡ 1 → ⊥)) → literal_value xs f ≡ not (literal_value xs w)
     by_cases (inl o) = let z : f % 2 ≡ 0 = omega arith in rw (z, o, h) (sym (not-not _))
     by_cases (inr o) = let z : f % 2 ≡ 1 = omega arith in let y : w % 2 ≡ 0 = omega arith in rw (z, y, h)
@@ -168,6 +169,7 @@ IsNetlist-push n left right h low order w = λ k d l. by_cases k d l (cases_lt k
   where
     g : Gate
     g = record { left = left; right = right }
+
     by_cases : (k : ℕ) (d : Gate) → k < length (n.gates ++ g ∷ []) → ((k < length n.gates) ⊎ (length n.gates ≤ k)) → IsGateAt n.inputs k (get_or (n.gates ++ g ∷ []) k d)
     by_cases k d l (inl below) = rw (get_or_append_left n.gates (g ∷ []) d k below) (h k d below)
     by_cases k d l (inr above) =

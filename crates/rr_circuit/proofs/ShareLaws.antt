@@ -1,15 +1,12 @@
 -- shared gates, through look-ups, insertions and growth
-use Rattle.std.proofs.Common.{◌≡◌, ◌⊎◌, inl, inr, ℕ, Bool, true, false, ◌&&◌, eqb, cond, List, [], ◌∷◌, length, ◌*◌, refl, sym, ◌∙◌, ap, subst, arith}
-use Rattle.std.specs.Prelude.{All, Contains, Some}
+use Rattle.std.proofs.Common.{◌≡◌, ◌⊎◌, inl, inr, ℕ, Bool, true, false, ◌&&◌, eqb, List, [], ◌∷◌, ◌*◌, ◌∙◌, ap, subst}
 use Rattle.std.proofs.lemmas.Bool.{and_parts, eqb-true, cases_Bool}
-use Rattle.std.proofs.lemmas.List.Elements.{All-contains, All-cons, All-nil, All-head, All-tail, All-weaker}
-use Rattle.std.proofs.lemmas.Map.Views.{Contains-from_lookup}
+use Rattle.std.proofs.lemmas.List.Elements.{All-cons, All-nil, All-head, All-tail, All-weaker}
 use Rattle.indexmap.specs.IndexMap.{insert_entry}
 use Rattle.rr_circuit.specs.declared.Wire.{Wire}
 use Rattle.rr_circuit.specs.declared.Gate.{Gate}
-use Rattle.rr_circuit.specs.Values.{Netlist, variables, IsWire, wire_value, Extends, Computes, AreKnown}
+use Rattle.rr_circuit.specs.Values.{Netlist, variables, IsWire, Extends, Computes, AreKnown}
 use Rattle.rr_circuit.proofs.Netlists.{plus_gate, Extends-push, IsWire-gate, wire_value-gate}
-
 
 pub same_gate : (g h : Gate) → (eqb g.left.0 h.left.0 && eqb g.right.0 h.right.0) ≡ true → g ≡ h
 same_gate g h e =

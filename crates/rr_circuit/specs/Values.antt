@@ -1,5 +1,5 @@
 -- what the wires of a circuit carry, for given values of the inputs
-use Rattle.std.specs.Prelude.{◌≡◌, ℕ, ◌+◌, ◌-◌, ◌*◌, ◌/◌, ◌%◌, ◌<◌, ◌≤◌, ◌==◌, Bool, true, false, not, ◌&&◌, if◌then◌else◌, List, [], ◌∷◌, ◌++◌, length, map, fold, slice_index_or, All, EachIndex}
+use Rattle.std.specs.Prelude.{◌≡◌, ℕ, ◌+◌, ◌*◌, ◌/◌, ◌%◌, ◌<◌, ◌≤◌, ◌==◌, Bool, true, false, not, ◌&&◌, if◌then◌else◌, List, [], ◌∷◌, ◌++◌, length, map, fold, slice_index_or, All}
 use Rattle.std.specs.List.{range_with_len}
 use Rattle.rr_circuit.specs.declared.Wire.{Wire}
 use Rattle.rr_circuit.specs.declared.Gate.{Gate}
@@ -92,3 +92,21 @@ output_values c env = wire_values c.netlist env c.outputs
 -- the inputs that a list gives
 abbrev pub given : List Bool → ℕ → Bool
 given bits i = slice_index_or bits i false
+
+-- the equations of a circuit's wires (AIGER, "Format"): the constant, the negations, the inputs
+-- and the gates
+pub record IsValuation (n : Netlist) (env : ℕ → Bool) (value : Wire → Bool) : Type 0 where
+  pub constant : value (record { 0 = 0 }) ≡ false
+  pub negation : (v : ℕ) → value (record { 0 = 2 * v + 1 }) ≡ not (value (record { 0 = 2 * v }))
+  pub input : (k : ℕ) → k < n.inputs → value (record { 0 = 2 * (k + 1) }) ≡ env k
+  pub gate : (k : ℕ) (d : Gate) → k < length n.gates →
+      value (record { 0 = 2 * (1 + n.inputs + k) }) ≡ (value (slice_index_or n.gates k d).left && value (slice_index_or n.gates k d).right)
+
+-- for every input, the wires' values solve the equations, and nothing else does
+abbrev pub SolvesItsEquations : Netlist → Type 0
+SolvesItsEquations n = (env : ℕ → Bool) →
+    IsValuation n env (wire_value n env) × ((value : Wire → Bool) → IsValuation n env value → (w : Wire) → IsWire n w → value w ≡ wire_value n env w)
+
+-- the outputs depend on the circuit's inputs alone
+abbrev pub DependsOnInputs : OutputNetlist → Type 0
+DependsOnInputs c = (e f : ℕ → Bool) → ((k : ℕ) → k < c.netlist.inputs → e k ≡ f k) → output_values c e ≡ output_values c f

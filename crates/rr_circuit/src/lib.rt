@@ -1,25 +1,32 @@
-//! Circuits of AND gates over inputs, and a builder that makes them.
+//! Circuits of AND gates over inputs (AIGER, "The AIGER And-Inverter Graph (AIG) Format Version
+//! 20071012"): a builder that makes them, an evaluator, and a copy onto another builder.
 #![tactic(auto)]
 
-ghost use Rattle.std.specs.Prelude.{◌≡◌, ℕ, ◌+◌, ◌*◌, ◌^◌, ◌<◌, ◌≤◌, Bool, true, false, not, ◌&&◌, ◌||◌, cond, if◌then◌else◌, length, slice_get, IfOk, OnErr, IsTrue};
-ghost use Rattle.rr_circuit.specs.Values.{xor, Netlist, OutputNetlist, AreWires, output_values, wire_values, variable_values, literal_value, given, IsWire, wire_value, Extends, IsNetlist, AreOrdered};
+ghost use Rattle.std.specs.Prelude.{◌≡◌, ℕ, ◌+◌, ◌*◌, ◌^◌, ◌<◌, ◌≤◌, Bool, true, false, not, ◌&&◌, ◌||◌, [], if◌then◌else◌, length, slice_get, IfOk, OnOk};
+ghost use Rattle.rr_circuit.specs.Values.{xor, Netlist, OutputNetlist, AreWires, output_values, wire_values, variable_values, literal_value, given, IsWire, wire_value, Extends, IsNetlist, AreOrdered, SolvesItsEquations, DependsOnInputs};
 
 use indexmap::IndexMap;
 use std::alloc::{AllocError, Global};
 use std::marker::Model;
 
-/// An AIGER literal: twice a variable, and one more where it is negated.
+/// A literal of AIGER: twice a variable, and one more where it is negated. Variable 0 is the
+/// constant, so `Wire(0)` is false and `Wire(1)` is true. The variables of the inputs follow from 1,
+/// and after them those of the gates.
 #[derive(Clone, Copy, PartialEq, Eq, Hash, Debug)]
 pub struct Wire(pub u64);
 
-/// The conjunction of two wires.
+/// The conjunction of two wires. In a circuit each of them is an input or an earlier gate, or the
+/// negation of one.
 #[derive(Clone, Copy, PartialEq, Eq, Hash, Debug)]
 pub struct Gate {
     pub left: Wire,
     pub right: Wire,
 }
 
-/// A circuit without outputs that grows by gates. Equal gates are made once.
+/// A circuit that grows by gates and has no outputs yet. Its wires are the two constants, its
+/// inputs, its gates, and the negations of these. No call takes a wire away or changes its value,
+/// whether it succeeds or not. Constants and equal or opposite operands are folded, and equal gates
+/// are made once.
 #[derive(Drop)]
 pub struct Builder {
     inputs: u64,
@@ -46,8 +53,9 @@ impl Model for Builder {
 const LIMIT: u64 = 1 << 62;
 
 impl Builder {
+    /// A builder with so many inputs and no gate.
     pub fn new(alloc: Global, inputs: u32) -> Result<Builder, AllocError>
-        ensures { IfOk result (λ b. (b.inputs ≡ inputs) × (length b.gates ≡ 0)) }
+        ensures { IfOk result (λ b. b ≡ record { inputs = inputs; gates = [] }) }
     {
         Ok(Builder {
             inputs: u64::from(inputs),
@@ -64,25 +72,25 @@ impl Builder {
         if value { Wire(1) } else { Wire(0) }
     }
 
+    /// The wire of an input, counted from 0.
     pub fn input(&self, number: u32) -> Wire
         requires { number < self.now.inputs }
         ensures wire { IsWire self.now result }
         ensures value { (env : ℕ → Bool) → wire_value self.now env result ≡ env number }
     {
-        let _ = &self.gates;
         Wire(2 * (u64::from(number) + 1))
     }
 
+    /// The negation.
     pub fn not(&self, a: Wire) -> Wire
         requires { IsWire self.now a }
         ensures wire { IsWire self.now result }
         ensures value { (env : ℕ → Bool) → wire_value self.now env result ≡ not (wire_value self.now env a) }
     {
-        let _ = &self.gates;
         Wire(a.0 ^ 1)
     }
 
-    // One gate more, of two wires that are no constants, the greater first.
+    // The gate of two wires that are no constants, the greater first. It is made where it is new.
     fn push_gate(&mut self, left: Wire, right: Wire) -> Result<Wire, AllocError>
         requires low { 2 ≤ right.0 }
         requires order { right.0 ≤ left.0 }
@@ -106,6 +114,8 @@ impl Builder {
         Ok(wire)
     }
 
+    /// The conjunction. The error is want of memory, or of numbers: inputs and gates stay below
+    /// 2^62. The wires that were there keep their values after it too, as in the calls below.
     pub fn and(&mut self, a: Wire, b: Wire) -> Result<Wire, AllocError>
         requires a { IsWire self.old a }
         requires b { IsWire self.old b }
@@ -129,6 +139,7 @@ impl Builder {
         self.push_gate(a, b)
     }
 
+    /// The disjunction.
     pub fn or(&mut self, a: Wire, b: Wire) -> Result<Wire, AllocError>
         requires a { IsWire self.old a }
         requires b { IsWire self.old b }
@@ -143,6 +154,7 @@ impl Builder {
         Ok(self.not(neither))
     }
 
+    /// True where exactly one of the two is.
     pub fn xor(&mut self, a: Wire, b: Wire) -> Result<Wire, AllocError>
         requires a { IsWire self.old a }
         requires b { IsWire self.old b }
@@ -157,6 +169,7 @@ impl Builder {
         self.and(any, not_both)
     }
 
+    /// The value of `yes` where `test` is true, and of `no` where it is false.
     pub fn mux(&mut self, test: Wire, yes: Wire, no: Wire) -> Result<Wire, AllocError>
         requires test { IsWire self.old test }
         requires yes { IsWire self.old yes }
@@ -173,8 +186,8 @@ impl Builder {
     }
 }
 
-/// A finished circuit. Its gates name only inputs and earlier gates, the greater first, and its
-/// outputs only inputs, gates and constants.
+/// A finished circuit. Its gates name only inputs and earlier gates, or their negations, and its
+/// outputs moreover constants. Inputs and gates together are fewer than 2^62.
 #[derive(Drop)]
 pub struct Circuit {
     pub inputs: u64,
@@ -196,6 +209,7 @@ impl Model for Circuit {
 }
 
 impl Builder {
+    /// The circuit with these outputs. In each gate `left` is at least `right`.
     pub fn finish(self, outputs: Vec<Wire>) -> Circuit
         requires { AreWires self outputs.items }
         ensures result { result ≡ record { netlist = self; outputs = outputs.items } }
@@ -220,15 +234,21 @@ fn value_of(values: &[bool], wire: Wire) -> bool
 }
 
 impl Circuit {
+    /// The wire of an output, counted from 0; `None` exactly where there is no such output.
     pub fn wire(&self, output: u64) -> Option<Wire>
         ensures { result ≡ slice_get self.now.outputs output }
     {
         self.outputs.get(output as usize).copied()
     }
 
+    /// The values of the outputs for these values of the inputs, in one pass over the gates.
     pub fn eval(&self, alloc: Global, inputs: &[bool]) -> Result<Vec<bool>, AllocError>
         requires { length inputs.now ≡ self.now.netlist.inputs }
-        ensures { IfOk result (λ r. r.items ≡ output_values self.now (given inputs.now)) }
+        ensures outputs { IfOk result (λ r. r.items ≡ output_values self.now (given inputs.now)) }
+        // For every input the wires' values are the one solution of the gates' equations, and the
+        // outputs depend on the inputs alone.
+        ensures equations { OnOk result (SolvesItsEquations self.now.netlist) }
+        ensures inputs_alone { OnOk result (DependsOnInputs self.now) }
     {
         let mut values = Vec::with_capacity(alloc, inputs.len() + self.gates.len() + 1)?;
         values.push(false)?;
@@ -257,7 +277,7 @@ fn literal_copy(b: &Builder, copies: &[Wire], wire: Wire) -> Wire
     if wire.0 % 2 == 1 { b.not(plain) } else { plain }
 }
 
-// The copies of all variables.
+// The copies of all variables, in their order.
 fn gates_copied(
     alloc: Global,
     b: &mut Builder,
@@ -304,5 +324,56 @@ impl Circuit {
             outputs.push(literal_copy(b, copies.as_slice(), *wire))?;
         }
         Ok(outputs)
+    }
+}
+
+#[cfg(test)]
+mod tests {
+    use super::*;
+
+    fn is_shared<T: Send + Sync>(_value: &T) -> bool {
+        true
+    }
+
+    #[test]
+    fn gates_have_their_truth_tables(rt: HostRuntime) -> Result<(), AllocError> {
+        let alloc = rt.alloc();
+        let mut b = Builder::new(alloc, 3)?;
+        let (x, y, z) = (b.input(0), b.input(1), b.input(2));
+        let not_x = b.not(x);
+        let and = b.and(x, y)?;
+        let or = b.or(x, y)?;
+        let xor = b.xor(x, y)?;
+        let mux = b.mux(x, y, z)?;
+        let outputs = vec![in alloc;
+            not_x,
+            and,
+            or,
+            xor,
+            mux,
+            b.constant(true),
+            b.constant(false),
+        ]?;
+        let circuit = b.finish(outputs);
+        assert!(rt; is_shared(&circuit));
+        for number in 0..8 {
+            let (x, y, z) = (
+                number & 1 == 1,
+                (number >> 1) & 1 == 1,
+                (number >> 2) & 1 == 1,
+            );
+            let values = circuit.eval(alloc, &[x, y, z])?;
+            let want = [
+                !x,
+                x && y,
+                x || y,
+                x != y,
+                if x { y } else { z },
+                true,
+                false,
+            ];
+            assert_eq!(rt; values.as_slice(), &want[..]);
+        }
+        Ok(())
     }
 }

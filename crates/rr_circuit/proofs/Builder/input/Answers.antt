@@ -1,4 +1,3 @@
-use Rattle.std.proofs.Common.{arith}
 use Rattle.rr_circuit.proofs.Netlists.{IsWire-input, wire_value-input}
 use Rattle.rr_circuit.proofs.Builder.input.Goals as goal
 

@@ -1,8 +1,8 @@
-use Rattle.std.proofs.Common.{◌≡◌, ◌+◌, length, arith, ap, sym, ◌∙◌, length-append, ◌∷◌, []}
+use Rattle.std.proofs.Common.{arith, sym, ◌∙◌, length-append, ◌∷◌, []}
 use Rattle.std.proofs.lemmas.List.Elements.{All-contains}
 use Rattle.std.proofs.lemmas.Map.Views.{Contains-from_lookup}
 use Rattle.rr_circuit.specs.declared.Gate.{Gate}
-use Rattle.rr_circuit.specs.Values.{Netlist, variables, IsWire, Computes}
+use Rattle.rr_circuit.specs.Values.{Netlist, IsWire, Computes}
 use Rattle.rr_circuit.proofs.Netlists.{Extends-push, IsWire-gate, wire_value-gate, IsNetlist-push, IsWire-less, AreOrdered-push}
 use Rattle.rr_circuit.proofs.ShareLaws.{same_gate, AreKnown-extends, AreKnown-push}
 use Rattle.rr_circuit.proofs.Builder.push_gate.Goals as goal
@@ -30,7 +30,8 @@ invariant_of-self-in_err-insert c =
       IsNetlist-push _ _ _ c.self.invariant.0 c.requires.low c.requires.order (rw c.self.view_is c.requires.wire),
       omega arith,
       AreOrdered-push _ _ _ c.self.invariant.2 c.requires.order,
-      rw c.in_err-insert.ensures.err (AreKnown-extends _ _ _ (Extends-push _ _) c.self.invariant.3))
+      rw c.in_err-insert.ensures.err (AreKnown-extends _ _ _ (Extends-push _ _) c.self.invariant.3),
+    )
 
 pub invariant_of-self-2 : goal.invariant_of-self-2
 invariant_of-self-2 c =
@@ -41,7 +42,8 @@ invariant_of-self-2 c =
       IsNetlist-push _ _ _ c.self.invariant.0 c.requires.low c.requires.order left,
       omega arith,
       AreOrdered-push _ _ _ c.self.invariant.2 c.requires.order,
-      AreKnown-push n _ same_gate c.self.inside.known.entries (record { left = c.args.left; right = c.args.right }) _ c.self.invariant.3 left (IsWire-less n c.args.left c.args.right c.requires.order left) (omega (arith, c.len.ensures)))
+      AreKnown-push n _ same_gate c.self.inside.known.entries (record { left = c.args.left; right = c.args.right }) _ c.self.invariant.3 left (IsWire-less n c.args.left c.args.right c.requires.order left) (omega (arith, c.len.ensures)),
+    )
 
 pub returns-clause-extends : goal.returns-clause-extends
 returns-clause-extends c = rw (c.in_ok-push.ensures.items, ← c.self.view_is) (Extends-push _ _)

@@ -1,8 +1,9 @@
-use Rattle.std.proofs.Common.{refl, ◌<◌, arith, ◌∙◌, sym, ap, ◌++◌, length, get_or}
+use Rattle.std.proofs.Common.{refl, ◌<◌, ◌∙◌, length}
 use Rattle.std.proofs.lemmas.List.{map_more}
 use Rattle.std.proofs.lemmas.List.Elements.{All-get_or}
 use Rattle.rr_circuit.specs.Values.{given, wire_value, IsNetlist, IsWire, AreWires}
-use Rattle.rr_circuit.proofs.Netlists.{input_values-given, length-values_upto, values-all, wire_in_values, wire_value-read, gate_in_values}
+use Rattle.rr_circuit.proofs.Netlists.{input_values-given, values-all, wire_in_values, wire_value-read, gate_in_values}
+use Rattle.rr_circuit.proofs.Valuations.{solves_its_equations, depends_on_inputs}
 use Rattle.rr_circuit.proofs.Circuit.eval.Goals as goal
 
 pub loop-gate-init : goal.loop-gate-init
@@ -48,3 +49,9 @@ loop-wire-preserved c =
       outputs = rw (c.in_ok-push-3.ensures.items, c.loop-wire.invariant.outputs, map_more (wire_value v.netlist (given c.args.inputs.now)) v.outputs c.loop-wire.wire-index (record { 0 = 0 }) k, c.value_of.ensures, c.as_slice-in-loop-wire.ensures.value, c.loop-wire.invariant.values, c.loop-wire.invariant.items, wire_value-read) refl;
       items = c.loop-wire.invariant.items;
     }
+
+pub returns-clause-equations : goal.returns-clause-equations
+returns-clause-equations c = solves_its_equations c.args.self.now.netlist (rw (← c.self.view_is) c.self.invariant.0)
+
+pub returns-clause-inputs_alone : goal.returns-clause-inputs_alone
+returns-clause-inputs_alone c = depends_on_inputs c.args.self.now

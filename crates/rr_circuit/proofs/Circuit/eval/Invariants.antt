@@ -1,5 +1,5 @@
-use Rattle.std.proofs.Common.{◌≡◌, length, take, fold, map}
-use Rattle.rr_circuit.specs.Values.{given, with_gate, input_values, variable_values, wire_values, AreWires, IsNetlist}
+use Rattle.std.proofs.Common.{◌≡◌, take, fold}
+use Rattle.rr_circuit.specs.Values.{given, with_gate, input_values, variable_values, wire_values}
 use Rattle.rr_circuit.proofs.Circuit.eval.Given as goal
 
 abbrev pub invariant-loop-gate : goal.invariant-loop-gate
