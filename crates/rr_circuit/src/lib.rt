@@ -5,6 +5,9 @@
 ghost use Rattle.std.specs.Prelude.{◌≡◌, ℕ, ◌+◌, ◌*◌, ◌^◌, ◌<◌, ◌≤◌, Bool, true, false, not, ◌&&◌, ◌||◌, [], if◌then◌else◌, length, slice_get, IfOk, OnOk};
 ghost use Rattle.rr_circuit.specs.Values.{xor, Netlist, OutputNetlist, AreWires, output_values, wire_values, variable_values, literal_value, given, IsWire, wire_value, Extends, IsNetlist, AreOrdered, SolvesItsEquations, DependsOnInputs};
 
+mod aag;
+
+pub use aag::{AagFault, read_aag, write_aag};
 use indexmap::IndexMap;
 use std::alloc::{AllocError, Global};
 use std::marker::Model;
