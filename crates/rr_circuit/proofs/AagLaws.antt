@@ -1,17 +1,15 @@
 -- texts of circuits, line by line
-use Rattle.std.proofs.Common.{◌≡◌, ◌≢◌, ◌⊎◌, inl, inr, ℕ, zero, suc, ◌+◌, ◌-◌, ◌*◌, ◌^◌, ◌<◌, ◌≤◌, List, [], ◌∷◌, ◌++◌, length, get_or, map, take, drop, refl, sym, ◌∙◌, ap, ap₂, subst, arith, length-append}
-use Rattle.std.specs.Prelude.{codes, ⊤, All}
+use Rattle.std.proofs.Common.{◌≡◌, ◌≢◌, inl, inr, ℕ, ◌+◌, ◌*◌, ◌^◌, ◌<◌, ◌≤◌, List, [], ◌∷◌, ◌++◌, length, refl, sym, ◌∙◌, ap, ap₂, subst, arith, length-append}
+use Rattle.std.specs.Prelude.{codes, ⊤}
 use Rattle.std.specs.Fmt.{decimal}
-use Rattle.std.specs.List.{range_with_len}
 use Rattle.std.specs.Str.Parse.{AllDigits}
-use Rattle.std.proofs.lemmas.List.{append_assoc, append-nil}
+use Rattle.std.proofs.lemmas.List.{append_assoc}
 use Rattle.std.proofs.lemmas.Str.Parse.{digit_from_value}
-use Rattle.std.proofs.lemmas.Fmt.{decimal_injective, digits_decimal}
-use Rattle.rr_circuit.specs.declared.Wire.{Wire}
+use Rattle.std.proofs.lemmas.Fmt.{digits_decimal}
 use Rattle.rr_circuit.specs.declared.Gate.{Gate}
 use Rattle.rr_circuit.specs.declared.aag.Counts.{Counts}
-use Rattle.rr_circuit.specs.Values.{Netlist, OutputNetlist, IsOperandAt, IsGateAt, IsNetlist}
-use Rattle.rr_circuit.specs.Aag.{AreCounts, counts_of, header_line, input_line, output_line, gate_line, input_lines, output_lines, gate_lines, text_of, aag_lines, aag, IsInputLine, IsOutputLine, IsGateLine, IsLine, AreLines, line_count, Begins, IsUnread, IsText, IsBadLine, IsTextOf, IsCircuit, GoesWrong}
+use Rattle.rr_circuit.specs.Values.{IsOperandAt, IsGateAt}
+use Rattle.rr_circuit.specs.Aag.{AreCounts, header_line, gate_line, text_of, IsLine, AreLines, line_count, IsUnread, IsBadLine, GoesWrong}
 use Rattle.rr_circuit.proofs.Numerals.{own, same_head, same_tail, number_unique}
 
 -- ---- lines and their ends

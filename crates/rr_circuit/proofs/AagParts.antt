@@ -1,19 +1,17 @@
 -- the parts of a circuit's text
-use Rattle.std.proofs.Common.{◌≡◌, ◌≢◌, ◌⊎◌, inl, inr, ℕ, zero, suc, ◌+◌, ◌-◌, ◌*◌, ◌^◌, ◌<◌, ◌≤◌, List, [], ◌∷◌, ◌++◌, length, get_or, map, take, drop, refl, sym, ◌∙◌, ap, ap₂, subst, arith, add-one, length-append}
-use Rattle.std.specs.Prelude.{⊤, All}
+use Rattle.std.proofs.Common.{◌≡◌, ◌≢◌, ◌⊎◌, inl, inr, ℕ, zero, suc, ◌+◌, ◌*◌, ◌^◌, ◌<◌, ◌≤◌, List, [], ◌∷◌, ◌++◌, length, get_or, take, refl, sym, ◌∙◌, ap, ap₂, subst, arith, length-append}
+use Rattle.std.specs.Prelude.{All}
 use Rattle.std.specs.Fmt.{decimal}
-use Rattle.std.specs.List.{range_with_len}
 use Rattle.std.proofs.lemmas.Bool.{cases_lt}
-use Rattle.std.proofs.lemmas.List.{append_assoc, append-nil, append_cancel_left, take_more, take_all, map_push, length-map, length-take-le, get_or_append_left, get_or_push}
+use Rattle.std.proofs.lemmas.List.{append_assoc, take_more, take_all, map_push, length-map, length-take-le, get_or_append_left, get_or_push}
 use Rattle.std.proofs.lemmas.List.FromFn.{map-range_with_len_more, length-map-range_with_len}
-use Rattle.std.proofs.lemmas.List.Elements.{All-push, All-head, All-tail, All-weaker, All-get_or}
-use Rattle.std.proofs.lemmas.Fmt.{decimal_injective}
+use Rattle.std.proofs.lemmas.List.Elements.{All-push}
 use Rattle.rr_circuit.specs.declared.Wire.{Wire}
 use Rattle.rr_circuit.specs.declared.Gate.{Gate}
 use Rattle.rr_circuit.specs.declared.aag.Counts.{Counts}
-use Rattle.rr_circuit.specs.Values.{Netlist, OutputNetlist, variables, IsWire, IsOperandAt, IsGateAt, IsNetlist, AreWires}
-use Rattle.rr_circuit.specs.Aag.{AreCounts, counts_of, header_line, input_line, output_line, gate_line, input_lines, output_lines, gate_lines, text_of, aag_lines, aag, IsInputLine, IsOutputLine, IsGateLine, IsLine, AreLines, line_count, Begins, IsUnread, IsText, IsBadLine, IsTextOf, IsCircuit, GoesWrong}
-use Rattle.rr_circuit.proofs.Numerals.{same_head, same_tail, number_unique}
+use Rattle.rr_circuit.specs.Values.{IsGateAt, IsNetlist}
+use Rattle.rr_circuit.specs.Aag.{header_line, input_line, output_line, gate_line, input_lines, output_lines, gate_lines, text_of, IsLine, AreLines, GoesWrong}
+use Rattle.rr_circuit.proofs.Numerals.{number_unique}
 use Rattle.rr_circuit.proofs.AagLaws.{text_of-append, text_grows, AreLines-append, AreLines-push}
 
 no_wire : Wire

@@ -1,8 +1,8 @@
 -- whole texts of circuits
-use Rattle.std.proofs.Common.{◌≡◌, ◌≢◌, ◌⊎◌, inl, inr, ℕ, zero, suc, ◌+◌, ◌-◌, ◌*◌, ◌^◌, ◌<◌, ◌≤◌, List, [], ◌∷◌, ◌++◌, length, get_or, map, refl, sym, ◌∙◌, ap, ap₂, subst, arith, length-append}
-use Rattle.std.specs.Prelude.{⊤, All, Result, Ok, Err, IfOk, IfErr}
+use Rattle.std.proofs.Common.{◌≡◌, inl, ℕ, ◌+◌, ◌*◌, ◌^◌, ◌<◌, ◌≤◌, List, [], ◌∷◌, ◌++◌, length, refl, sym, ◌∙◌, ap, ap₂, arith, length-append}
+use Rattle.std.specs.Prelude.{All, Result, Ok, Err, IfOk, IfErr}
 use Rattle.std.specs.Fmt.{decimal}
-use Rattle.std.proofs.lemmas.List.{append_cancel_left, length-map, append-nil}
+use Rattle.std.proofs.lemmas.List.{append_cancel_left, append-nil}
 use Rattle.std.proofs.lemmas.List.Elements.{All-head, All-tail, All-weaker}
 use Rattle.std.proofs.lemmas.Fmt.{decimal_injective}
 use Rattle.rr_circuit.specs.declared.Wire.{Wire}
@@ -10,9 +10,9 @@ use Rattle.rr_circuit.specs.declared.Gate.{Gate}
 use Rattle.rr_circuit.specs.declared.aag.Counts.{Counts}
 use Rattle.rr_circuit.specs.declared.aag.AagFault.{AagFault}
 use Rattle.rr_circuit.specs.declared.aag.AagFault.TheVariants.{BadCircuit, Memory}
-use Rattle.rr_circuit.specs.Values.{Netlist, OutputNetlist, variables, IsWire, IsOperandAt, IsGateAt, IsNetlist, AreWires}
-use Rattle.rr_circuit.specs.Aag.{AreCounts, counts_of, header_line, output_line, gate_line, input_lines, output_lines, gate_lines, text_of, aag_lines, aag, IsLine, AreLines, line_count, Begins, IsUnread, IsText, IsBadLine, IsTextOf, IsCircuit, IsCause, ReadsAs, GoesWrong, GoesWrongBy}
-use Rattle.rr_circuit.proofs.Numerals.{same_head, same_tail, number_unique}
+use Rattle.rr_circuit.specs.Values.{OutputNetlist, IsWire, IsNetlist, AreWires}
+use Rattle.rr_circuit.specs.Aag.{AreCounts, counts_of, header_line, gate_line, input_lines, output_lines, gate_lines, text_of, aag_lines, AreLines, line_count, IsUnread, IsText, IsBadLine, IsTextOf, IsCircuit, IsCause, ReadsAs, GoesWrong, GoesWrongBy}
+use Rattle.rr_circuit.proofs.Numerals.{same_tail, number_unique}
 use Rattle.rr_circuit.proofs.AagLaws.{text_of-append, first_line, text_joins, bad_line, bad_end, lines_cut, same_counts}
 use Rattle.rr_circuit.proofs.AagParts.{lines_in, length-lines_in, are_lines_in, lines_out, length-lines_out, are_lines_out, lines_all, length-lines_all, are_lines_all}
 
@@ -190,7 +190,7 @@ pub written : (h : Counts) (ws : List Wire) (gs : List Gate) → (((([] ++ text_
 written h ws gs = sym (
     text_of-append (lines_out h ws) (gate_lines (1 + h.inputs) gs)
     ∙ ap (λ z. z ++ text_of (gate_lines (1 + h.inputs) gs)) (text_of-append (lines_in h) (output_lines ws)
-      ∙ ap (λ z. z ++ text_of (output_lines ws)) (text_of-append (header_line h ∷ []) (input_lines h.inputs))))
+    ∙ ap (λ z. z ++ text_of (output_lines ws)) (text_of-append (header_line h ∷ []) (input_lines h.inputs))))
 
 pub reads_back : (bytes : List ℕ) (r : Result OutputNetlist AagFault) → IfOk r (IsTextOf bytes) → IfOk r IsCircuit → IfErr r (IsCause bytes) → (c : OutputNetlist) → IsCircuit c → IsTextOf bytes c → ReadsAs r c
 reads_back bytes (Ok d) t m e c l u = same_circuit bytes d c m l t u

@@ -8,7 +8,7 @@ use Rattle.rr_circuit.specs.declared.Gate.{Gate}
 use Rattle.rr_circuit.specs.declared.aag.Counts.{Counts}
 use Rattle.rr_circuit.specs.declared.aag.AagFault.{AagFault}
 use Rattle.rr_circuit.specs.declared.aag.AagFault.TheVariants.{BadCircuit, Memory}
-use Rattle.rr_circuit.specs.Values.{Netlist, OutputNetlist, IsGateAt, IsNetlist, AreWires}
+use Rattle.rr_circuit.specs.Values.{OutputNetlist, IsGateAt, IsNetlist, AreWires}
 
 -- the greatest variable, M, and the number of outputs, O, are below 2 ^ 62
 abbrev pub AreCounts : Counts → Type 0

@@ -396,29 +396,3 @@ pub fn read_aag(alloc: Global, bytes: &[u8]) -> Result<Circuit, AagFault>
 {
     read_text(alloc, bytes)
 }
-
-#[cfg(test)]
-mod tests {
-    use super::*;
-    use crate::Builder;
-    use std::test::Fail;
-
-    #[test]
-    fn reads_and_writes(rt: HostRuntime) -> Result<(), Fail> {
-        let alloc = rt.alloc();
-        let mut b = Builder::new(alloc, 2)?;
-        let (x, y) = (b.input(0), b.input(1));
-        let one = b.and(x, y)?;
-        let other = b.and(x, y)?;
-        assert_eq!(rt; one, other);
-        let circuit = b.finish(vec![in alloc; one]?);
-        let text = write_aag(alloc, &circuit)?;
-        assert_eq!(rt;
-            text.as_slice(),
-            b"aag 3 2 0 1 1\n2\n4\n6\n6 4 2\n".as_slice()
-        );
-        let again = read_aag(alloc, &text)?;
-        assert_eq!(rt; write_aag(alloc, &again)?, text);
-        Ok(())
-    }
-}

@@ -6,6 +6,8 @@ ghost use Rattle.std.specs.Prelude.{◌≡◌, ℕ, ◌+◌, ◌*◌, ◌^◌, �
 ghost use Rattle.rr_circuit.specs.Values.{xor, Netlist, OutputNetlist, AreWires, output_values, wire_values, variable_values, literal_value, given, IsWire, wire_value, Extends, IsNetlist, AreOrdered, SolvesItsEquations, DependsOnInputs};
 
 mod aag;
+#[cfg(test)]
+mod tests;
 
 pub use aag::{AagFault, read_aag, write_aag};
 use indexmap::IndexMap;
@@ -327,56 +329,5 @@ impl Circuit {
             outputs.push(literal_copy(b, copies.as_slice(), *wire))?;
         }
         Ok(outputs)
-    }
-}
-
-#[cfg(test)]
-mod tests {
-    use super::*;
-
-    fn is_shared<T: Send + Sync>(_value: &T) -> bool {
-        true
-    }
-
-    #[test]
-    fn gates_have_their_truth_tables(rt: HostRuntime) -> Result<(), AllocError> {
-        let alloc = rt.alloc();
-        let mut b = Builder::new(alloc, 3)?;
-        let (x, y, z) = (b.input(0), b.input(1), b.input(2));
-        let not_x = b.not(x);
-        let and = b.and(x, y)?;
-        let or = b.or(x, y)?;
-        let xor = b.xor(x, y)?;
-        let mux = b.mux(x, y, z)?;
-        let outputs = vec![in alloc;
-            not_x,
-            and,
-            or,
-            xor,
-            mux,
-            b.constant(true),
-            b.constant(false),
-        ]?;
-        let circuit = b.finish(outputs);
-        assert!(rt; is_shared(&circuit));
-        for number in 0..8 {
-            let (x, y, z) = (
-                number & 1 == 1,
-                (number >> 1) & 1 == 1,
-                (number >> 2) & 1 == 1,
-            );
-            let values = circuit.eval(alloc, &[x, y, z])?;
-            let want = [
-                !x,
-                x && y,
-                x || y,
-                x != y,
-                if x { y } else { z },
-                true,
-                false,
-            ];
-            assert_eq!(rt; values.as_slice(), &want[..]);
-        }
-        Ok(())
     }
 }

@@ -1,6 +1,5 @@
-use Rattle.std.proofs.Common.{◌≡◌, ◌<◌, ◌≤◌, arith, refl}
 use Rattle.std.proofs.lemmas.Bool.{false≢true}
-use Rattle.rr_circuit.proofs.AagLaws.{gate_no_left, gate_no_right, gate_other, bad_line, bad_end, bad_header}
+use Rattle.rr_circuit.proofs.AagLaws.{gate_no_left, gate_no_right, gate_other}
 use Rattle.rr_circuit.proofs.aag.gate_then.Goals as goal
 
 pub returns-in_err-left-clause-none : goal.returns-in_err-left-clause-none

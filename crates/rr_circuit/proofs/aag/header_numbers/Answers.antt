@@ -1,6 +1,5 @@
-use Rattle.std.proofs.Common.{◌≡◌, ◌<◌, ◌≤◌, arith, refl}
 use Rattle.std.proofs.lemmas.Bool.{false≢true}
-use Rattle.rr_circuit.proofs.HeaderLaws.{no_first, no_second, no_third, no_fourth, no_fifth, header_wrong}
+use Rattle.rr_circuit.proofs.HeaderLaws.{no_second, no_third, no_fourth, no_fifth, header_wrong}
 use Rattle.rr_circuit.proofs.aag.header_numbers.Goals as goal
 
 pub returns-in_err-inputs-clause-none : goal.returns-in_err-inputs-clause-none

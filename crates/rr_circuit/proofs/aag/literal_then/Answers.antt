@@ -1,4 +1,3 @@
-use Rattle.std.proofs.Common.{◌≡◌, ◌<◌, ◌^◌}
 use Rattle.rr_circuit.proofs.AagParts.{other_literal}
 use Rattle.rr_circuit.proofs.aag.literal_then.Goals as goal
 

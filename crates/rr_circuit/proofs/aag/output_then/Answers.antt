@@ -1,4 +1,3 @@
-use Rattle.std.proofs.Common.{◌≡◌, ◌<◌, ◌^◌}
 use Rattle.rr_circuit.proofs.AagParts.{past_bound}
 use Rattle.rr_circuit.proofs.aag.output_then.Goals as goal
 

@@ -1,4 +1,4 @@
-use Rattle.std.proofs.Common.{◌≡◌, ◌∙◌}
+use Rattle.std.proofs.Common.{◌∙◌}
 use Rattle.rr_circuit.proofs.AagParts.{input_pushed}
 use Rattle.rr_circuit.proofs.aag.push_inputs.Goals as goal
 

@@ -1,4 +1,4 @@
-use Rattle.std.proofs.Common.{◌≡◌, ◌∙◌}
+use Rattle.std.proofs.Common.{◌∙◌}
 use Rattle.rr_circuit.proofs.AagParts.{output_pushed}
 use Rattle.rr_circuit.proofs.aag.push_outputs.Goals as goal
 

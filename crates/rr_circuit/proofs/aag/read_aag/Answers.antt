@@ -1,4 +1,3 @@
-use Rattle.std.proofs.Common.{◌≡◌}
 use Rattle.rr_circuit.proofs.AagWhole.{reads_back, reads_text}
 use Rattle.rr_circuit.proofs.aag.read_aag.Goals as goal
 

@@ -1,4 +1,3 @@
-use Rattle.std.proofs.Common.{◌≡◌, ◌∙◌}
 use Rattle.rr_circuit.proofs.AagParts.{GatesRead-more, gates_wrong}
 use Rattle.rr_circuit.proofs.aag.read_gates.Goals as goal
 

@@ -1,4 +1,4 @@
-use Rattle.std.proofs.Common.{◌≡◌, ◌∙◌, ◌++◌, ap, sym, refl}
+use Rattle.std.proofs.Common.{◌∙◌, ◌++◌, ap, sym}
 use Rattle.rr_circuit.specs.Aag.{text_of}
 use Rattle.rr_circuit.proofs.AagLaws.{text_grows}
 use Rattle.rr_circuit.proofs.AagParts.{inputs_wrong, input_lines-more}

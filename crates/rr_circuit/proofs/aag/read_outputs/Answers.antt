@@ -1,4 +1,3 @@
-use Rattle.std.proofs.Common.{◌≡◌, ◌∙◌}
 use Rattle.rr_circuit.proofs.AagParts.{OutputsRead-more, outputs_wrong}
 use Rattle.rr_circuit.proofs.aag.read_outputs.Goals as goal
 

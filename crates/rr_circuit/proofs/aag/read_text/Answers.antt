@@ -1,4 +1,4 @@
-use Rattle.std.proofs.Common.{◌≡◌, ◌∙◌, ◌+◌, ◌<◌, ◌^◌, refl, arith}
+use Rattle.std.proofs.Common.{refl, arith}
 use Rattle.std.proofs.lemmas.Bool.{false≢true}
 use Rattle.rr_circuit.proofs.AagLaws.{bad_header}
 use Rattle.rr_circuit.proofs.AagWhole.{after_inputs, after_outputs, after_gates, inputs_cause, outputs_cause, gates_cause, end_cause, is_text_of, are_wires, is_circuit}

@@ -1,4 +1,4 @@
-use Rattle.std.proofs.Common.{◌≡◌, ◌∙◌, ◌+◌, ◌<◌, ◌^◌, length, sym, arith}
+use Rattle.std.proofs.Common.{◌≡◌, ◌<◌, ◌^◌, length, arith}
 use Rattle.rr_circuit.proofs.AagWhole.{written}
 use Rattle.rr_circuit.proofs.aag.write_aag.Goals as goal
 
