@@ -1,0 +1,5 @@
+pub mod Netlists
+pub mod ShareLaws
+pub mod CopyLaws
+pub mod Copies
+pub mod Valuations
