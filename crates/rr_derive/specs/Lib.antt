@@ -1,0 +1,3 @@
+pub mod Derive
+pub mod Marks
+pub mod Fresh
