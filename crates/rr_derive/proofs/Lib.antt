@@ -5,3 +5,7 @@ pub mod Trails
 pub mod FreshLaws
 pub mod CountLaws
 pub mod Few
+pub mod LratLines
+pub mod Signs
+pub mod LratText
+pub mod LratLaws
