@@ -1,12 +1,12 @@
 -- bytes have one proof or one first bad line
-use Rattle.std.proofs.Common.{ℕ, zero, suc, ◌≡◌, ◌≢◌, ◌∙◌, ◌⊎◌, inl, inr, ◌+◌, ◌<◌, ◌≤◌, true, false, List, [], ◌∷◌, ◌++◌, length, codes, refl, sym, ap, ap₂, subst, arith}
+use Rattle.std.proofs.Common.{ℕ, ◌≡◌, ◌∙◌, ◌⊎◌, inl, inr, ◌+◌, ◌<◌, ◌≤◌, List, [], ◌∷◌, ◌++◌, codes, refl, sym, ap, ap₂, subst, arith}
 use Rattle.std.specs.Prelude.{All, Contains, Err, IfErr, IfOk, Ok, Result}
 use Rattle.std.specs.List.{AllByRecursion, flat_map}
 use Rattle.std.proofs.lemmas.List.{append_assoc}
 use Rattle.std.proofs.lemmas.List.Elements.{All-contains, All-from_recursion}
-use Rattle.rr_cnf.specs.Clauses.{Literal, negated}
+use Rattle.rr_cnf.specs.Clauses.{IsWithin, Literal, negated}
 use Rattle.rr_derive.specs.Derive.{Proof, Step}
-use Rattle.rr_derive.specs.Lrat.{AreKept, BreaksRule, IsAddition, IsBad, IsCause, IsDeletion, IsFirstBad, IsProofText, IsRat, IsReadable, Keeps, Read, added, deleted, here, lrat, step_line}
+use Rattle.rr_derive.specs.Lrat.{AreKept, AreSigned, BreaksRule, IsAddition, IsBad, IsCause, IsDeletion, IsFirstBad, IsProofText, IsRat, IsReadable, Keeps, Read, added, deleted, here, lrat, step_line}
 use Rattle.rr_derive.specs.Reading.{ReadsAs}
 use Rattle.rr_derive.specs.declared.read.ProofFault.{ProofFault}
 use Rattle.rr_derive.specs.declared.read.ProofFault.TheVariants.{BadProof, RatLine, Memory}
@@ -129,3 +129,24 @@ reads_back clauses vars bytes r first proof cause p h e =
         let made : ℕ → List Step → Proof = λ f ls. record { first = f; lines = ls } in
         ap₂ made (first ∙ sym h.first) (one_proof_text clauses vars bytes j.lines p.lines proof text)
     by_result (Err f) first proof cause text = proof_or_cause clauses vars bytes p.lines f text cause
+
+-- what is read lies above and within the formula
+above_all : {vars e n : ℕ} {rest : List ℕ} {last k : ℕ} {text : List ℕ} {a : List Step} → Read vars e n rest last k text a → (c : ℕ) → c ≤ last → AllByRecursion (λ s. c < s.id) a
+above_all (here l1 c1 t1 p q r) c h = tt
+above_all (deleted l1 c1 t1 a1 s1 d1 x) c h = above_all x c h
+above_all (added l1 c1 t1 a1 z1 s1 d1 k1 x) c h = (omega (arith, k1.above, h), above_all x c (omega (arith, k1.above, h)))
+
+within_vars : (vars : ℕ) (ls : List Literal) → AreSigned ls → AllByRecursion (λ l. l.var ≤ vars) ls → AllByRecursion (IsWithin vars) ls
+within_vars vars [] s w = tt
+within_vars vars (l ∷ ls) s w = ((s.0.0, w.0), within_vars vars ls s.1 w.1)
+
+within_all : {vars e n : ℕ} {rest : List ℕ} {last k : ℕ} {text : List ℕ} {a : List Step} → Read vars e n rest last k text a → AllByRecursion (λ s. All (IsWithin vars) s.clause) a
+within_all (here l1 c1 t1 p q r) = tt
+within_all (deleted l1 c1 t1 a1 s1 d1 x) = within_all x
+within_all {vars} (added l1 c1 t1 a1 z1 s1 d1 k1 x) = (All-from_recursion (IsWithin vars) z1.clause (within_vars vars z1.clause d1.literals k1.within), within_all x)
+
+pub ids_above : (clauses vars : ℕ) (bytes : List ℕ) (steps : List Step) → IsProofText clauses vars bytes steps → All (λ s. clauses < s.id) steps
+ids_above clauses vars bytes steps h = All-from_recursion (λ s. clauses < s.id) steps (above_all h.read clauses (omega arith))
+
+pub literals_within : (clauses vars : ℕ) (bytes : List ℕ) (steps : List Step) → IsProofText clauses vars bytes steps → All (λ s. All (IsWithin vars) s.clause) steps
+literals_within clauses vars bytes steps h = All-from_recursion (λ s. All (IsWithin vars) s.clause) steps (within_all h.read)

@@ -1,10 +1,9 @@
 -- what the lines of a proof begin with
-use Rattle.std.proofs.Common.{ℕ, zero, suc, ◌≡◌, ◌≢◌, ◌∙◌, ◌⊎◌, inl, inr, ◌+◌, ◌^◌, ◌<◌, ◌≤◌, Bool, true, false, ◌||◌, cond, List, [], ◌∷◌, ◌++◌, length, map, codes, refl, sym, ap, ap₂, subst, arith, length-append}
+use Rattle.std.proofs.Common.{ℕ, zero, suc, ◌≡◌, ◌≢◌, ◌∙◌, inl, inr, ◌+◌, ◌^◌, ◌<◌, ◌≤◌, Bool, true, false, ◌||◌, cond, List, [], ◌∷◌, ◌++◌, length, map, codes, refl, sym, ap, ap₂, subst, arith, length-append}
 use Rattle.std.specs.Fmt.{decimal}
 use Rattle.std.specs.List.{AllByRecursion, flat_map, list_any}
 use Rattle.std.specs.Borrow.{Bor}
 use Rattle.std.specs.Prelude.{Contains, MatchOption, None, Option, Some, slice_index_or}
-use Rattle.std.specs.Str.Parse.{AllDigits}
 use Rattle.std.proofs.lemmas.Fmt.{decimal_digit, decimal_injective, decimal_nonempty, digits_decimal}
 use Rattle.std.proofs.lemmas.List.{append_assoc, flat_map_more, map-append}
 use Rattle.rr_decimal.proofs.Numerals.{NoDigit, digit_small, digits_cut, no_digit, number_unique, own, same_head, same_tail}
@@ -12,7 +11,7 @@ use Rattle.rr_cnf.specs.Clauses.{Literal}
 use Rattle.rr_cnf.specs.Dimacs.{literal_text}
 use Rattle.rr_cnf.proofs.Reading.{literal}
 use Rattle.rr_derive.specs.Derive.{Step}
-use Rattle.rr_derive.specs.Lrat.{AreNumbers, AreSigned, IsAddition, IsDeletion, IsNoLine, IsNumber, IsRat, Starts, addition_line, deletion_line, positive, step_line}
+use Rattle.rr_derive.specs.Lrat.{AreNumbers, AreSigned, IsAddition, IsDeletion, IsNoLine, IsNumber, IsRat, Starts, addition_line, deletion_line, positive}
 use Rattle.rr_derive.specs.Reading.{AreIds, HintsAre, IsEnd, IsNoDeletion, IsNumberless, LiteralsAre, NoIds, NumbersEnd, id_text, id_texts}
 
 fits : (n : ℕ) → IsNumber n → n < 2 ^ 64
@@ -313,9 +312,9 @@ module _ (text : List ℕ) (id : ℕ) (after : List ℕ) (h : IsNumber id) (is :
       pub no_hints_line : ((r : List ℕ) → last ≡ codes "0\n" ++ r → ⊥) → IsNoLine text
       no_hints_line missing = none_behind text id after h is
           (λ c hints r fc fh f.
-            let q = (literals_back c lits 32 (flat_map literal_text hints ++ 48 ∷ 10 ∷ r) rest fc ls.fit blank ls.end (sym f ∙ ls.text_is)).1 in
-            let b : flat_map literal_text hints ++ 48 ∷ 10 ∷ r ≡ behind_zero = same_tail 32 32 _ _ (same_tail 48 48 _ _ (q ∙ zero_is)) in
-            missing r (sym (literals_back hints hs.hints 10 r last fh hs.fit line_end hs.end (b ∙ hs.text_is)).1))
+          let q = (literals_back c lits 32 (flat_map literal_text hints ++ 48 ∷ 10 ∷ r) rest fc ls.fit blank ls.end (sym f ∙ ls.text_is)).1 in
+          let b : flat_map literal_text hints ++ 48 ∷ 10 ∷ r ≡ behind_zero = same_tail 32 32 _ _ (same_tail 48 48 _ _ (q ∙ zero_is)) in
+          missing r (sym (literals_back hints hs.hints 10 r last fh hs.fit line_end hs.end (b ∙ hs.text_is)).1))
           bare_deletion
 
       whole_text : (r : List ℕ) → last ≡ codes "0\n" ++ r → Starts text (addition_line id lits hs.hints) r

@@ -1,16 +1,13 @@
 -- the lines of a proof text, one after another
-use Rattle.std.proofs.Common.{ℕ, zero, suc, ◌≡◌, ◌≢◌, ◌∙◌, ◌⊎◌, inl, inr, ◌+◌, ◌-◌, ◌^◌, ◌<◌, ◌≤◌, ◌==◌, Bool, true, false, not, List, [], ◌∷◌, ◌++◌, length, map, codes, refl, sym, ap, ap₂, subst, arith, length-append}
-use Rattle.std.specs.Prelude.{All, Contains, MatchBool, None, Option, Some}
-use Rattle.std.specs.List.{AllByRecursion, flat_map}
+use Rattle.std.proofs.Common.{ℕ, suc, ◌≡◌, ◌≢◌, ◌∙◌, inr, ◌+◌, ◌<◌, ◌≤◌, ◌==◌, Bool, true, false, not, List, [], ◌∷◌, ◌++◌, length, refl, sym, ap, subst, arith, length-append}
+use Rattle.std.specs.Prelude.{All, MatchBool, None, Option, Some}
+use Rattle.std.specs.List.{AllByRecursion}
 use Rattle.std.proofs.lemmas.Bool.{eqb-true}
 use Rattle.std.proofs.lemmas.List.{append_assoc}
 use Rattle.std.proofs.lemmas.List.Elements.{All-nil, All-push, All-weaker}
-use Rattle.rr_cnf.specs.Clauses.{Literal, negated}
 use Rattle.rr_derive.specs.Derive.{IsNoTautology, Proof, Step}
-use Rattle.rr_derive.specs.Lrat.{AreKept, BreaksRule, HasBothSigns, HasVariableAbove, IsAddition, IsBad, IsCause, IsDeletion, IsFirstBad, IsNoLine, IsProofText, IsRat, IsReadable, Keeps, OneFault, OneProof, ProofOrFault, Read, added, deleted, here, lrat, step_line}
+use Rattle.rr_derive.specs.Lrat.{BreaksRule, HasBothSigns, IsFirstBad, IsProofText, Keeps, Read, added, deleted, here}
 use Rattle.rr_derive.specs.Reading.{GoesOn, KeptBy, MayKeep}
-use Rattle.rr_derive.specs.declared.read.ProofFault.{ProofFault}
-use Rattle.rr_derive.specs.declared.read.ProofFault.TheVariants.{BadProof, RatLine, Memory}
 
 -- what the tests of an addition say
 pub kept_of : (last vars : ℕ) (s : Step) (b : Bool) → last < s.id → AllByRecursion (λ l. l.var ≤ vars) s.clause → MatchBool b (HasBothSigns s.clause) (IsNoTautology s.clause) → MatchBool (not b) (Keeps last vars s) (BreaksRule last vars s)
@@ -53,21 +50,21 @@ module _ (clauses vars : ℕ) (bytes : List ℕ) (p q : Proof) (last now count :
   Reached-more None d k =
       let short = line_short text _ rest d.starts in
       let same : Reached clauses vars bytes p last (count + 1) rest = record {
-      first = h.first;
-      least = h.least;
-      below = h.below;
-      short = omega (arith, short, h.short);
-      goes_on = λ end n r steps t. h.goes_on end n r steps (deleted last count text rest steps d t);
+        first = h.first;
+        least = h.least;
+        below = h.below;
+        short = omega (arith, short, h.short);
+        goes_on = λ end n r steps t. h.goes_on end n r steps (deleted last count text rest steps d t);
       } in
       subst (λ x. Reached clauses vars bytes x now (count + 1) rest) (sym k.0) (subst (λ x. Reached clauses vars bytes p x (count + 1) rest) (sym k.1) same)
   Reached-more (Some s) a k =
       let short = line_short text _ rest a.0.starts in
       let same : Reached clauses vars bytes (record { first = p.first; lines = p.lines ++ s ∷ [] }) s.id (count + 1) rest = record {
-      first = h.first;
-      least = omega (arith, h.least, a.1.above);
-      below = All-push (λ t. t.id ≤ s.id) p.lines s (All-weaker (λ t. t.id ≤ last) (λ t. t.id ≤ s.id) (λ t k. omega (arith, k, a.1.above)) p.lines h.below) (omega arith);
-      short = omega (arith, short, h.short);
-      goes_on = λ end n r steps t. subst (Read vars end n r clauses 0 bytes) (sym (append_assoc p.lines (s ∷ []) steps)) (h.goes_on end n r (s ∷ steps) (added last count text rest s steps a.0 a.1 t));
+        first = h.first;
+        least = omega (arith, h.least, a.1.above);
+        below = All-push (λ t. t.id ≤ s.id) p.lines s (All-weaker (λ t. t.id ≤ last) (λ t. t.id ≤ s.id) (λ t k. omega (arith, k, a.1.above)) p.lines h.below) (omega arith);
+        short = omega (arith, short, h.short);
+        goes_on = λ end n r steps t. subst (Read vars end n r clauses 0 bytes) (sym (append_assoc p.lines (s ∷ []) steps)) (h.goes_on end n r (s ∷ steps) (added last count text rest s steps a.0 a.1 t));
       } in
       subst (λ x. Reached clauses vars bytes x now (count + 1) rest) (sym k.0) (subst (λ x. Reached clauses vars bytes (record { first = p.first; lines = p.lines ++ s ∷ [] }) x (count + 1) rest) (sym k.1) same)
 

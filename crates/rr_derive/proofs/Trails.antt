@@ -1,11 +1,11 @@
 -- trails by recursion, for the counting law
-use Rattle.std.specs.Prelude.{◌≡◌, ℕ, zero, suc, ◌+◌, ◌<◌, ◌≤◌, ◌⊎◌, Bool, true, false, List, [], ◌∷◌, ◌++◌, length, get_or, All, Contains}
+use Rattle.std.specs.Prelude.{◌≡◌, ℕ, zero, suc, ◌<◌, ◌≤◌, ◌⊎◌, true, false, List, [], ◌∷◌, ◌++◌, length, get_or, All, Contains}
 use Rattle.std.specs.List.{AllByRecursion as ByRecursion}
-use Rattle.std.proofs.Common.{inl, inr, sym, ◌∙◌, ap, subst, arith}
+use Rattle.std.proofs.Common.{inl, inr, arith}
 use Rattle.std.proofs.lemmas.Bool.{true≢false}
 use Rattle.std.proofs.lemmas.List.Elements.{All-weaker}
 use Rattle.rr_cnf.specs.Clauses.{Literal, negated}
-use Rattle.rr_cnf.specs.Partial.{IsQuiet as Quiet, IsUnit, IsFalse}
+use Rattle.rr_cnf.specs.Partial.{IsQuiet as Quiet}
 use Rattle.rr_derive.specs.Fresh.{Entry, IsDecided, IsForced, IsFresh as Fresh, IsTrail as Trail, OthersFalse as FalseBut, decision_of, lits}
 
 -- a trail stands newest first

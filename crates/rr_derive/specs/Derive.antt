@@ -1,6 +1,6 @@
 -- proof lines, and the hint check (LRAT without RAT lines: L. Cruz-Filipe, M. J. H. Heule, W. A. Hunt,
 -- M. Kaufmann, P. Schneider-Kamp, "Efficient certified RAT verification", 2017)
-use Rattle.std.specs.Prelude.{◌≡◌, ℕ, ◌-◌, ◌<◌, ◌≤◌, ◌⊎◌, List, [], ◌∷◌, ◌++◌, length, map, take, slice_get, slice_index_or, Some, All, Contains}
+use Rattle.std.specs.Prelude.{◌≡◌, ℕ, ◌+◌, ◌-◌, IfSome, None, Option, ◌<◌, ◌≤◌, ◌⊎◌, List, [], ◌∷◌, ◌++◌, length, map, take, slice_get, slice_index_or, Some, All, Contains}
 use Rattle.rr_cnf.specs.Clauses.{IsUnsatisfiable, Literal, negated}
 use Rattle.rr_cnf.specs.Partial.{IsFalse, IsUnit}
 
@@ -18,6 +18,18 @@ pub record Proof : Type 0 where
 -- the ids rise strictly
 abbrev pub IsRising : List Step → Type 0
 IsRising lines = (j k : ℕ) (d e : Step) → j < k → k < length lines → (slice_index_or lines j d).id < (slice_index_or lines k e).id
+
+-- the next id: the first, or one above the last
+abbrev pub next_after : ℕ → Option Step → ℕ
+next_after first None = first
+next_after first (Some s) = s.id + 1
+
+abbrev pub next_id : Proof → ℕ
+next_id p = next_after p.first (slice_get p.lines (length p.lines - 1))
+
+-- the last id, where there is one, is below n
+abbrev pub IsLastBelow : ℕ → List Step → Type 0
+IsLastBelow n lines = IfSome (slice_get lines (length lines - 1)) (λ s. s.id < n)
 
 -- the id names this clause: a clause of the formula, or the clause of one of the lines
 abbrev pub Names : List (List Literal) → List Step → ℕ → List Literal → Type 0

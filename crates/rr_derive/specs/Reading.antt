@@ -1,10 +1,10 @@
 -- parts of the reader: what stands at the head of a text, and what follows
-use Rattle.std.specs.Prelude.{◌≡◌, ◌<◌, ◌≤◌, ◌⊎◌, ⊤, All, ℕ, Bool, List, [], ◌∷◌, ◌++◌, Option, None, Some, codes, decimal, map, Result, Ok, Err, IfSome, MatchResult}
+use Rattle.std.specs.Prelude.{◌≡◌, ◌<◌, ◌≤◌, ⊤, All, ℕ, Bool, List, [], ◌∷◌, ◌++◌, Option, None, Some, codes, decimal, map, Result, MatchResult}
 use Rattle.std.specs.List.{flat_map, list_any}
 use Rattle.rr_cnf.specs.Clauses.{Literal}
 use Rattle.rr_cnf.specs.Dimacs.{literal_text}
 use Rattle.rr_derive.specs.Derive.{Proof, Step}
-use Rattle.rr_derive.specs.Lrat.{AreNumbers, AreSigned, BreaksRule, IsAddition, IsBad, IsDeletion, IsNoLine, IsNumber, IsRat, Keeps, positive}
+use Rattle.rr_derive.specs.Lrat.{AreNumbers, AreSigned, IsAddition, IsBad, IsDeletion, IsNoLine, IsNumber, IsRat, Keeps, positive}
 use Rattle.rr_derive.specs.declared.read.Entry.{Entry}
 use Rattle.rr_derive.specs.declared.read.Entry.TheVariants.{Addition, Deletion, Rat, Bad}
 use Rattle.rr_derive.specs.declared.read.LineFault.{LineFault}

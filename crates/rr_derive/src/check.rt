@@ -256,4 +256,3 @@ pub fn check_line(work: &mut Workspace, formula: &Formula, journal: &Journal, in
 }
 
 const STAMPS: u64 = 1 << 62;
-

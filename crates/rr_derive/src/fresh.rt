@@ -5,5 +5,4 @@ ghost use Rattle.rr_derive.specs.Fresh.{FreshLinesAreFew};
 /// literals before the same last decision.
 pub fn fresh_lines_are_few()
     ensures { FreshLinesAreFew }
-{
-}
+{}

@@ -4,5 +4,4 @@ ghost use Rattle.rr_derive.specs.Derive.{RefutedMeansUnsatisfiable};
 /// A formula with lines that refute it is satisfied by no assignment.
 pub fn refuted_means_unsatisfiable()
     ensures { RefutedMeansUnsatisfiable }
-{
-}
+{}

@@ -1,6 +1,7 @@
 //! The reader of LRAT texts.
-ghost use Rattle.std.specs.Prelude.{◌≡◌, ◌≢◌, ◌||◌, ◌+◌, ◌-◌, ◌^◌, ◌<◌, ◌≤◌, ℕ, List, [], ◌++◌, IfSome, IfNone, IfOk, IfErr, MatchBool, MatchOption};
+ghost use Rattle.std.specs.Prelude.{◌≡◌, ◌≢◌, ◌||◌, ◌+◌, ◌-◌, ◌^◌, ◌<◌, ◌≤◌, ℕ, List, [], ◌++◌, All, IfSome, IfNone, IfOk, IfErr, MatchBool, MatchOption};
 ghost use Rattle.std.specs.List.{AllByRecursion};
+ghost use Rattle.rr_cnf.specs.Clauses.{IsWithin};
 ghost use Rattle.rr_cnf.specs.Codes.{code_of};
 ghost use Rattle.rr_cnf.specs.Dimacs.{literal_text};
 ghost use Rattle.rr_derive.specs.Derive.{IsNoTautology, Proof};
@@ -278,18 +279,15 @@ pub fn read_lrat(
     requires { clauses < 2 ^ 64 - 1 }
     ensures first { IfOk result (λ j. j.first ≡ clauses + 1) }
     ensures proof { IfOk result (λ j. IsProofText clauses vars bytes.now j.lines) }
+    ensures ids { IfOk result (λ j. All (λ s. clauses < s.id) j.lines) }
+    ensures within { IfOk result (λ j. All (λ s. All (IsWithin vars) s.clause) j.lines) }
     ensures cause { IfErr result (IsCause clauses vars bytes.now) }
     ensures back { (p : Proof) → IsReadable clauses vars p → bytes.now ≡ lrat p → ReadsAs result p }
 {
     read_lines(alloc, bytes, clauses, vars)
 }
 
-fn read_lines(
-    alloc: Global,
-    bytes: &[u8],
-    clauses: u64,
-    vars: u64,
-) -> Result<Journal, ProofFault>
+fn read_lines(alloc: Global, bytes: &[u8], clauses: u64, vars: u64) -> Result<Journal, ProofFault>
     requires { clauses < 2 ^ 64 - 1 }
     ensures first { IfOk result (λ j. j.first ≡ clauses + 1) }
     ensures proof { IfOk result (λ j. IsProofText clauses vars bytes.now j.lines) }
@@ -317,20 +315,17 @@ fn read_lines(
 /// No bytes have two proofs.
 pub fn one_proof()
     ensures { OneProof }
-{
-}
+{}
 
 /// No bytes have both a proof and a first bad line.
 pub fn proof_or_fault()
     ensures { ProofOrFault }
-{
-}
+{}
 
 /// No bytes have two first bad lines.
 pub fn one_fault()
     ensures { OneFault }
-{
-}
+{}
 
 /// Adds the line that was read, if there was one; the greatest id then.
 fn keep(journal: &mut Journal, step: Option<Line>, last: u64) -> Result<u64, AllocError>

@@ -1,6 +1,6 @@
-use Rattle.std.proofs.Common.{◌≡◌, ◌⊎◌, inl, inr, ◌<◌, ◌≤◌, ◌^◌, refl, sym, arith, rules, length}
+use Rattle.std.proofs.Common.{refl, arith}
 use Rattle.std.proofs.lemmas.List.{take_rest}
-use Rattle.rr_decimal.proofs.Numerals.{no_digit_else, Scanned, Scanned-more, Scanned-number, none-other, none-shape, none-large, none-open}
+use Rattle.rr_decimal.proofs.Numerals.{no_digit_else, Scanned-more, Scanned-number, none-other, none-shape, none-large, none-open}
 use Rattle.rr_decimal.proofs.number_then.Goals as goal
 use Rattle.rr_decimal.proofs.number_then.Goals.{else-byte-stop-via-then-byte-stop+else-are_digits_written, else-byte-stop-via-else-byte-stop}
 

@@ -1,4 +1,3 @@
-use Rattle.std.proofs.Common.{refl}
 use Rattle.rr_derive.proofs.LratLines.{deletion_is, id_then, no_deletion_line, no_id_line}
 use Rattle.rr_derive.proofs.read.entry_of.Goals as goal
 use Rattle.rr_derive.proofs.read.entry_of.Goals.{in-Some-deletion_then, in-None-deletion_then}
