@@ -62,7 +62,7 @@ IsSmall l = l.var < 2 ^ 64
 tail_of : (n : ℕ) (s xs : List ℕ) → (decimal n ++ s) ++ xs ≡ decimal n ++ (s ++ xs)
 tail_of n s xs = append_assoc (decimal n) s xs
 
-literal : (l k : Literal) (xs ys : List ℕ) → IsSmall l → IsSmall k → literal_text l ++ xs ≡ literal_text k ++ ys → (l ≡ k) × (xs ≡ ys)
+pub literal : (l k : Literal) (xs ys : List ℕ) → IsSmall l → IsSmall k → literal_text l ++ xs ≡ literal_text k ++ ys → (l ≡ k) × (xs ≡ ys)
 literal l k xs ys hl hk e = by_signs l.var k.var l.negative k.negative hl hk e
   where
     by_signs : (v w : ℕ) (a b : Bool) → v < 2 ^ 64 → w < 2 ^ 64 → (cond a (codes "-") [] ++ (decimal v ++ codes " ")) ++ xs ≡ (cond b (codes "-") [] ++ (decimal w ++ codes " ")) ++ ys

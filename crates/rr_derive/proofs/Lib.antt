@@ -1,0 +1,11 @@
+pub mod MarkLaws
+pub mod DeriveLaws
+pub mod Soundness
+pub mod Trails
+pub mod FreshLaws
+pub mod CountLaws
+pub mod Few
+pub mod LratLines
+pub mod Signs
+pub mod LratText
+pub mod LratLaws

@@ -1,0 +1,19 @@
+//! Proof lines with hints, their check, and their LRAT text.
+#![tactic(auto)]
+
+mod check;
+mod fresh;
+mod laws;
+mod line;
+mod read;
+mod write;
+
+pub use check::{Workspace, check_line};
+pub use fresh::fresh_lines_are_few;
+pub use laws::refuted_means_unsatisfiable;
+pub use line::{Journal, Line};
+pub use read::{ProofFault, one_fault, one_proof, proof_or_fault, read_lrat};
+pub use write::write_lrat;
+
+#[cfg(test)]
+mod tests;
