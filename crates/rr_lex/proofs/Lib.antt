@@ -1,0 +1,16 @@
+pub mod Facts
+pub mod Digits
+pub mod Padding
+pub mod Pieces
+pub mod Runs
+pub mod NumberText
+pub mod Closed
+pub mod Marks
+pub mod Ascii
+pub mod Exact
+pub mod Steps
+pub mod Edges
+pub mod Patches
+pub mod Whole
+pub mod Unique
+pub mod Written
