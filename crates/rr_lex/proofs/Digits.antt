@@ -9,8 +9,8 @@ use Rattle.std.proofs.Math.Nat.{mod-add-mod, mul-le-mul_left}
 use Rattle.std.proofs.Math.Pow.{mod-mod-pow}
 use Rattle.rr_lex.specs.declared.number.Base.{Base}
 use Rattle.rr_lex.specs.declared.number.Count.TheVariants as count
-use Rattle.rr_lex.specs.Numbers.{one_more, number, counted, digit, any_digit, unknown_digit, literal, base_of, is_width, width_of, is_sized, fits, digits_fit}
-use Rattle.rr_lex.specs.Reading.{checked}
+use Rattle.rr_lex.specs.Numbers.{one_more, number, counted, digit, any_digit, unknown_digit, literal, base_of, is_width, width_of, is_sized, fits, digits_fit, radix_of}
+use Rattle.rr_lex.specs.Reading.{checked, sized}
 use Rattle.rr_syntax.specs.declared.token.Number.{Number}
 
 pub low_same : (base : ℕ) (f : ℕ → ℕ) (t b n : ℕ) → b ≡ 95 → t ≡ n % 2 ^ 128 → t ≡ one_more base f n b % 2 ^ 128

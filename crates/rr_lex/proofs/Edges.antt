@@ -12,12 +12,12 @@ use Rattle.rr_lex.specs.declared.piece.Wrong.TheVariants as wrong
 use Rattle.rr_lex.specs.Bytes.{is, begins, starts, is_blank, is_gap, is_dark, is_decimal, is_digit, is_letter, is_name_byte, is_printable}
 use Rattle.rr_lex.specs.Reading.{member, comment, is_mark, mark_len, mark_piece, number_len, number_of, number_piece, in_range, some_piece, word_of}
 use Rattle.rr_syntax.specs.Words.{Word, marks}
-use Rattle.rr_lex.specs.Tokens.{more, place_of, is_closed_next, begins_with, attribute_begins, IsName, IsToken, named, reserved, escaped_name, numbered, marked, Stands}
-use Rattle.rr_lex.specs.Numbers.{Parts, AreParts, text_of, IsDecimal, IsNumberText, decimal, based, IsNumber}
+use Rattle.rr_lex.specs.Tokens.{more, place_of, is_closed_next, begins_with, attribute_begins, IsName, IsToken, named, reserved, escaped_name, system_name, numbered, marked, Stands}
+use Rattle.rr_lex.specs.Numbers.{goes_on, Parts, AreParts, text_of, IsDecimal, IsNumberText, decimal, based, IsNumber, is_wild}
 use Rattle.rr_lex.proofs.Runs.{run_stops, run_more, bare_run, Dark, begins_append}
-use Rattle.rr_lex.proofs.Marks.{starts_mark, mark_fine, fine, place_sound, found, fine_parts, goes_on, goes_on_dark, mark_is, mark_reach}
+use Rattle.rr_lex.proofs.Marks.{starts_mark, mark_fine, fine, place_sound, found, fine_parts, lengthens, lengthens_dark, mark_is, mark_reach}
 use Rattle.rr_lex.proofs.NumberText.{NumberCase, case_decimal, case_based, case_wrong, number_case, based_len, decimal_len, dark_decimal, dark_further}
-use Rattle.rr_lex.proofs.Exact.{stands_read, read_stands, empty_seen, name_first, escape_piece, first_byte, text_first, found_number, none_number, fronts, number_text, place_mark, mark_piece_is, dark_printable}
+use Rattle.rr_lex.proofs.Exact.{stands_read, read_stands, empty_seen, name_first, escape_piece, system_piece_is, first_byte, text_first, found_number, none_number, fronts, number_text, place_mark, mark_piece_is, dark_printable}
 
 -- after a (: a * and then, past blanks, no )
 unfoldable pub opens : List ℕ → Bool
@@ -68,6 +68,19 @@ escaped_stays : (text body old new : List ℕ) (s : Shape) → text ≡ 92 ∷ b
     some_piece (text ++ old) ≡ part.Text s (length text) → Edged old new → some_piece (text ++ new) ≡ part.Text s (length text)
 escaped_stays text body old new s q b h k e d = rw q (escape_stays body old new s b h k (rw q at e) d)
 
+system_kept : (body old new : List ℕ) (s : Shape) → begins is_name_byte body ≡ true → list_all is_name_byte body ≡ true → some_piece (36 ∷ (body ++ old)) ≡ part.Text s (suc (length body)) → Edged old new → some_piece (36 ∷ (body ++ new)) ≡ part.Text s (suc (length body))
+system_kept body old new s b h e d =
+    let q : part.Text shape.System (1 + (length body + prefix_len is_name_byte old)) ≡ part.Text s (suc (length body)) = sym (system_piece_is body old b h) ∙ e in
+    let l : 1 + (length body + prefix_len is_name_byte old) ≡ suc (length body) = same_len _ _ _ _ q in
+    let z : prefix_len is_name_byte old ≡ 0 = omega arith in
+    let k : begins is_name_byte old ≡ false = run_exact is_name_byte body old h (run_more is_name_byte body old h ∙ omega arith) in
+    let n : prefix_len is_name_byte new ≡ 0 = bare_run is_name_byte new (d.heads is_name_byte dark_name k) in
+    system_piece_is body new b h ∙ ap (part.Text shape.System) (omega arith) ∙ ap (λ (u : Shape). part.Text u (suc (length body))) (same_shape _ _ _ _ q)
+
+system_stays : (text body old new : List ℕ) (s : Shape) → text ≡ 36 ∷ body → begins is_name_byte body ≡ true → list_all is_name_byte body ≡ true →
+    some_piece (text ++ old) ≡ part.Text s (length text) → Edged old new → some_piece (text ++ new) ≡ part.Text s (length text)
+system_stays text body old new s q b h e d = rw q (system_kept body old new s b h (rw q at e) d)
+
 -- the text that was read as a number, by its length
 read_len : (n : ℕ) (o : Option _) (s : Shape) (m : ℕ) → in_range n o ≡ part.Text s m → n ≡ m
 unfolding in_range
@@ -114,7 +127,8 @@ mark_piece_at x rest s n =
     let c = and_parts _ _ b.1 in
     let d = and_parts _ _ c.1 in
     let e = and_parts _ _ d.1 in
-    rw (not-true (is_blank x) a.0, n.line, n.block, n.attribute, not-true (x == 96) b.0, not-true (is_letter x) c.0, not-true (x == 92) d.0, not-true (is_digit x) e.0, not-true (x == 39) e.1) refl
+    let f = and_parts _ _ e.1 in
+    rw (not-true (is_blank x) a.0, n.line, n.block, n.attribute, not-true (x == 96) b.0, not-true (is_letter x) c.0, not-true (x == 92) d.0, not-true (x == 36) e.0, not-true (is_digit x) f.0, not-true (x == 39) f.1) refl
 
 plain_here : (x : ℕ) (rest : List ℕ) (s : Shape) (n : ℕ) → starts_mark x ≡ true → some_piece (x ∷ rest) ≡ part.Text s n → Plain (x ∷ rest)
 unfolding some_piece starts_mark
@@ -169,8 +183,8 @@ plain_stays : (x : ℕ) (xs old new : List ℕ) → is_mark (x ∷ xs) ≡ true 
 plain_stays x [] old new h n e = record { line = second 47 47 x old new dark_slash e n.line; block = second 47 42 x old new dark_star e n.block; attribute = second_attribute x old new e n.attribute }
 plain_stays x (y ∷ xs) old new h n e = record { line = further 47 47 x y xs new old ∙ n.line; block = further 47 42 x y xs new old ∙ n.block; attribute = bracket_alone x y xs (xs ++ new) h }
 
-mark_ends : (x : ℕ) (xs old : List ℕ) → is_mark (x ∷ xs) ≡ true → mark_len (x ∷ (xs ++ old)) ≡ length (x ∷ xs) → begins (goes_on (x ∷ xs)) old ≡ false
-unfolding goes_on
+mark_ends : (x : ℕ) (xs old : List ℕ) → is_mark (x ∷ xs) ≡ true → mark_len (x ∷ (xs ++ old)) ≡ length (x ∷ xs) → begins (lengthens (x ∷ xs)) old ≡ false
+unfolding lengthens
 mark_ends x xs [] h e = refl
 mark_ends x xs (b ∷ old) h e = elim (cases_Bool (is_mark (x ∷ (xs ++ (b ∷ []))))) [
   | inr k ↦ k
@@ -190,9 +204,9 @@ mark_stays (x ∷ xs) old new s h e d =
     let n = plain_here x (xs ++ old) s (suc (length xs)) f e in
     let z : 0 < mark_len (x ∷ (xs ++ old)) = (let l : suc (length xs) ≤ mark_len (x ∷ (xs ++ old)) = mark_reach (x ∷ xs) old h in omega arith) in
     let q : part.Text shape.Mark (mark_len (x ∷ (xs ++ old))) ≡ part.Text s (suc (length xs)) = sym (mark_piece_is _ z) ∙ sym (mark_piece_at x (xs ++ old) f n) ∙ e in
-    let g : begins (goes_on (x ∷ xs)) old ≡ false = mark_ends x xs old h (same_len _ _ _ _ q) in
+    let g : begins (lengthens (x ∷ xs)) old ≡ false = mark_ends x xs old h (same_len _ _ _ _ q) in
     mark_piece_at x (xs ++ new) f (plain_stays x xs old new h n d)
-    ∙ ap mark_piece (mark_is (x ∷ xs) new h (d.heads (goes_on (x ∷ xs)) (goes_on_dark x xs) g))
+    ∙ ap mark_piece (mark_is (x ∷ xs) new h (d.heads (lengthens (x ∷ xs)) (lengthens_dark x xs) g))
     ∙ mark_piece_is (suc (length xs)) (omega arith) ∙ ap (λ (u : Shape). part.Text u (suc (length xs))) (same_shape _ _ _ _ q)
 
 pub stays : (w : Word) (text old new : List ℕ) → Stands w text old → Edged old new → Stands w text new
@@ -203,6 +217,7 @@ stays w (b ∷ text) old new t d =
       | named n k f ↦ name_stays (b ∷ text) old new r.0 n r.1 d
       | reserved j n k f ↦ name_stays (b ∷ text) old new r.0 n r.1 d
       | escaped_name body h k i q f ↦ escaped_stays (b ∷ text) body old new r.0 q h k i r.1 d
+      | system_name body h k q f ↦ system_stays (b ∷ text) body old new r.0 q h k r.1 d
       | numbered n k f ↦ number_stays (b ∷ text) old new r.0 (number_text (b ∷ text) n k) r.1 d
       | marked m k f ↦ mark_stays (b ∷ text) old new r.0 (place_mark (b ∷ text) m k) r.1 d
     ] in

@@ -13,16 +13,17 @@ use Rattle.rr_lex.specs.declared.piece.Piece.TheVariants as part
 use Rattle.rr_lex.specs.declared.piece.Wrong.{Wrong}
 use Rattle.rr_lex.specs.declared.piece.Wrong.TheVariants as wrong
 use Rattle.rr_lex.specs.Bytes.{is, begins, starts, is_blank, is_gap, is_dark, is_decimal, is_digit, is_letter, is_name_byte, is_in_line, is_printable}
-use Rattle.rr_lex.specs.Reading.{member, closing, comment, is_mark, is_escaped, mark_len, mark_piece, number_len, number_of, number_piece, in_range, apostrophe, checked, some_piece, word_of, keyword_word, number_word, mark_word, IsKnown}
-use Rattle.rr_syntax.specs.Words.{Word, Named, Digits, Reserved, Marked, marks, keywords}
-use Rattle.rr_lex.specs.Tokens.{more, place_of, IsClosedBy, is_closed_next, begins_with, attribute_begins, IsWhite, blank, line, block, attribute, IsName, IsToken, named, reserved, escaped_name, numbered, marked, HasApostrophe, NoWhite, IsBroken, open_block, open_attribute, directive, no_digits, out_of_range, IsFault, broken, no_token, Stands}
-use Rattle.rr_lex.specs.Numbers.{Parts, AreParts, text_of, IsDecimal, IsNumberText, decimal, based, IsNumber, decimal_number, based_number, fits, literal, plain_literal, is_signed, number, digit}
+use Rattle.rr_lex.specs.Reading.{system_piece, is_skipped, sized, member, closing, comment, is_mark, is_escaped, mark_len, mark_piece, number_len, number_of, number_piece, in_range, apostrophe, checked, some_piece, word_of, keyword_word, number_word, mark_word, IsKnown}
+use Rattle.rr_syntax.specs.Words.{System, Word, Named, Digits, Reserved, Marked, marks, keywords}
+use Rattle.rr_lex.specs.Tokens.{more, place_of, IsClosedBy, is_closed_next, begins_with, attribute_begins, IsWhite, blank, line, block, attribute, skipped, IsName, IsToken, named, reserved, escaped_name, system_name, numbered, marked, HasApostrophe, NoWhite, IsBroken, open_block, open_attribute, directive, no_digits, out_of_range, IsFault, broken, no_token, Stands}
+use Rattle.rr_lex.specs.Numbers.{goes_on, radix_of, is_wild, Parts, AreParts, text_of, IsDecimal, IsNumberText, decimal, based, IsNumber, decimal_number, based_number, fits, literal, plain_literal, is_signed, number, digit}
 use Rattle.std.specs.Str.{IsAscii}
 use Rattle.rr_lex.proofs.Ascii.{ascii_all, name_ascii, printable_ascii}
 use Rattle.rr_lex.specs.Reading as reading
 use Rattle.rr_lex.proofs.Runs.{run_stops, run_more, run_all, bare_run, Dark, not_blank, begins_append, past_gap, Splits, split, begins_not_gap}
+use Rattle.rr_lex.proofs.Skipped.{skip_piece, skipped_is, Skips, skips, unskipped}
 use Rattle.rr_lex.proofs.Closed.{Closes, closing_is, closing_case}
-use Rattle.rr_lex.proofs.Marks.{starts_mark, Fine, fine, mark_fine, fine_parts, MarkCase, no_mark, a_mark, mark_case, mark_is, mark_reach, goes_on, found}
+use Rattle.rr_lex.proofs.Marks.{starts_mark, Fine, fine, mark_fine, fine_parts, MarkCase, no_mark, a_mark, mark_case, mark_is, mark_reach, lengthens, found}
 use Rattle.rr_lex.proofs.NumberText.{NumberCase, case_decimal, case_based, case_wrong, number_case, based_len, based_of, decimal_len, decimal_of, tail_of, text_rest, text_length, number_reach, ticked_at, plain_at}
 
 -- a comment's bytes up to its end
@@ -55,6 +56,7 @@ unfolding some_piece is_blank is_gap begins_with attribute_begins
 white_is text after (blank b h e) = rw e (rw h refl)
 white_is text after (line body h s e) = rw e (ap (λ (n : ℕ). part.White (2 + n)) (run_stops is_in_line body after h s) ∙ ap part.White (omega arith))
 white_is text after (block body c e) = rw e (comment_is 42 47 body after c ∙ ap part.White (omega arith))
+white_is text after (skipped k name rest n b h s e) = rw e (skip_piece ((name ++ rest) ++ after) ∙ skipped_is k name rest after n b h s ∙ ap part.White (omega arith))
 white_is text after (attribute body c s e) = rw e (rw (closed_dark 42 41 body after refl c, s) (comment_is 42 41 body after c ∙ ap part.White (omega arith)))
 
 -- another byte
@@ -82,7 +84,7 @@ number_letter b h = grind (arith, nat_tests)
 number_first : (b : ℕ) (rest : List ℕ) → begins_number b ≡ true → some_piece (b ∷ rest) ≡ number_piece (b ∷ rest) (number_len (b ∷ rest))
 unfolding some_piece begins_with attribute_begins begins_number is_digit
 number_first b rest h =
-    rw (not_blank_byte begins_number dark_number b h, other begins_number 47 b refl h, other begins_number 40 b refl h, other begins_number 96 b refl h, number_letter b h, other begins_number 92 b refl h, h) refl
+    rw (not_blank_byte begins_number dark_number b h, other begins_number 47 b refl h, other begins_number 40 b refl h, other begins_number 96 b refl h, number_letter b h, other begins_number 92 b refl h, other begins_number 36 b refl h, h) refl
 
 pub name_first : (b : ℕ) (rest : List ℕ) → is_letter b ≡ true → some_piece (b ∷ rest) ≡ part.Text shape.Name (prefix_len is_name_byte (b ∷ rest))
 unfolding some_piece begins_with attribute_begins is_letter
@@ -129,10 +131,14 @@ attribute_is bs h =
     let r = pair_is 40 42 bs k.0 in
     (r.0, r.1, not-true (is_closed_next r.0) (ap (λ (l : List ℕ). not (is_closed_next (drop 2 l))) (sym r.1) ∙ k.1))
 
-directive_piece : (bs : List ℕ) → begins (is 96) bs ≡ true → some_piece bs ≡ part.Fault wrong.Directive
-unfolding some_piece is_blank begins_with attribute_begins
-directive_piece [] h = absurd (cc)
-directive_piece (b ∷ bs) h = let q : b ≡ 96 = eqb-true b 96 h in rw q refl
+no_skip : (rest : List ℕ) → NoWhite (96 ∷ rest) → is_skipped (96 ∷ rest) ≡ false
+no_skip rest n = elim (cases_Bool (is_skipped (96 ∷ rest))) [ inr e ↦ e | inl e ↦ let s = skips rest e in absurd (n s.text s.after s.whole s.white) ]
+
+directive_piece : (bs : List ℕ) → begins (is 96) bs ≡ true → NoWhite bs → some_piece bs ≡ part.Fault wrong.Directive
+directive_piece [] h n = absurd (false≢true h)
+directive_piece (b ∷ bs) h n =
+    let q : b ≡ 96 = eqb-true b 96 h in
+    ap (λ (x : ℕ). some_piece (x ∷ bs)) q ∙ skip_piece bs ∙ unskipped bs (no_skip bs (let P : ℕ → Type 0 = λ x. NoWhite (x ∷ bs) in subst P q n))
 
 pub none_number : (bs : List ℕ) → number_len bs ≡ None → number_piece bs (number_len bs) ≡ part.Fault wrong.Number
 unfolding number_piece
@@ -220,7 +226,7 @@ broken_is bs f (open_block h n e) = let r = pair_is 47 42 bs h in
     ap some_piece r.1 ∙ block_piece r.0 ∙ none_comment _ (no_block r.0 (let P : List ℕ → Type 0 = λ l. NoWhite l in subst P r.1 n)) ∙ ap part.Fault (sym e)
 broken_is bs f (open_attribute h n e) = let r = attribute_is bs h in
     ap some_piece r.1 ∙ attribute_piece r.0 r.2 ∙ none_comment _ (no_attribute r.0 r.2 (let P : List ℕ → Type 0 = λ l. NoWhite l in subst P r.1 n)) ∙ ap part.Fault (sym e)
-broken_is bs f (directive h e) = directive_piece bs h ∙ ap part.Fault (sym e)
+broken_is bs f (directive h n e) = directive_piece bs h n ∙ ap part.Fault (sym e)
 broken_is bs f (no_digits t n e) = first_byte bs (apostrophe_first bs t) ∙ elim (number_case bs (apostrophe_first bs t)) [
   | case_decimal x r w d s q ↦ absurd (false≢true (sym (plain_at x r d.1 s q) ∙ ap (λ (l : List ℕ). begins (is 39) (drop (apostrophe l) l)) (sym w) ∙ ticked_at bs t))
   | case_based p c r w a s ↦ absurd (n p c r a w)
@@ -230,7 +236,6 @@ broken_is bs f (out_of_range text after w t l n e) = number_fault bs text after 
 
 -- what is read where a token is spelled
 pub Seen : Word → List ℕ → Piece → Type 0
-Seen w text part.Finish = ⊥
 Seen w text (part.White n) = Unit {0}
 Seen w text (part.Text s n) = (length text ≤ n) × (length text ≡ n → w ≡ word_of s text)
 Seen w text (part.Fault wrong.Byte) = ⊥
@@ -268,6 +273,18 @@ escape_seen : (w : Word) (body after : List ℕ) → begins is_printable body �
 unfolding Seen word_of
 escape_seen w body after b h d e = rw (escape_piece body after b h d) (omega arith, λ _. e)
 
+system_first : (rest : List ℕ) → some_piece (36 ∷ rest) ≡ system_piece (36 ∷ rest)
+unfolding some_piece is_blank begins_with attribute_begins is_letter
+system_first rest = refl
+
+pub system_piece_is : (body after : List ℕ) → begins is_name_byte body ≡ true → list_all is_name_byte body ≡ true → some_piece (36 ∷ (body ++ after)) ≡ part.Text shape.System (1 + (length body + prefix_len is_name_byte after))
+unfolding system_piece
+system_piece_is body after b h = system_first (body ++ after) ∙ rw (begins_append is_name_byte body after b, run_more is_name_byte body after h) refl
+
+system_seen : (w : Word) (body after : List ℕ) → begins is_name_byte body ≡ true → list_all is_name_byte body ≡ true → w ≡ System body → Seen w (36 ∷ body) (some_piece ((36 ∷ body) ++ after))
+unfolding Seen word_of
+system_seen w body after b h e = rw (system_piece_is body after b h) (omega arith, λ _. e)
+
 -- what is read where a mark may begin
 mark_first : (P : Piece → Type 0) (x : ℕ) (rest : List ℕ) → starts_mark x ≡ true → ((n : ℕ) → P (part.White n)) → ((o : Option ℕ) → P (comment o)) → P (mark_piece (mark_len (x ∷ rest))) → P (some_piece (x ∷ rest))
 unfolding some_piece starts_mark
@@ -277,7 +294,8 @@ mark_first P x rest s white note mark =
     let c = and_parts _ _ b.1 in
     let d = and_parts _ _ c.1 in
     let e = and_parts _ _ d.1 in
-    rw (not-true (is_blank x) a.0, not-true (x == 96) b.0, not-true (is_letter x) c.0, not-true (x == 92) d.0, not-true (is_digit x) e.0, not-true (x == 39) e.1)
+    let f = and_parts _ _ e.1 in
+    rw (not-true (is_blank x) a.0, not-true (x == 96) b.0, not-true (is_letter x) c.0, not-true (x == 92) d.0, not-true (x == 36) e.0, not-true (is_digit x) f.0, not-true (x == 39) f.1)
     (cond_both (begins_with 47 47 (x ∷ rest)) _ _ P (λ _. white _) (λ _. cond_both (begins_with 47 42 (x ∷ rest)) _ _ P (λ _. note _) (λ _. cond_both (attribute_begins (x ∷ rest)) _ _ P (λ _. note _) (λ _. mark))))
 
 pub mark_piece_is : (n : ℕ) → 0 < n → mark_piece n ≡ part.Text shape.Mark n
@@ -319,6 +337,7 @@ pub token_is : (w : Word) (text after : List ℕ) → IsToken w text after → S
 token_is w text after (named n k e) = name_seen w text after n (e ∙ rw k refl)
 token_is w text after (reserved j n k e) = name_seen w text after n (e ∙ rw k refl)
 token_is w text after (escaped_name body b h d t e) = rw t (escape_seen w body after b h d e)
+token_is w text after (system_name body b h t e) = rw t (system_seen w body after b h e)
 token_is w text after (numbered n t e) = number_seen w text after n t e
 token_is w text after (marked m k e) = mark_seen w text after m k e
 
@@ -417,6 +436,31 @@ name_case b rest h =
       | inr k ↦ c_text shape.Name (b ∷ s.front) s.rest w (reserved k.0 n k.1 (rw (k.1) refl)) (ascii_all is_name_byte name_ascii (b ∷ s.front) n.1) p
     ]
 
+system_ascii : (text : List ℕ) → list_all is_name_byte text ≡ true → IsAscii (36 ∷ text)
+system_ascii text h zero = omega arith
+system_ascii text h (suc i) = ascii_all is_name_byte name_ascii text h i
+
+lone_system : (rest : List ℕ) → begins is_name_byte rest ≡ false → some_piece (36 ∷ rest) ≡ part.Fault wrong.Byte
+unfolding system_piece
+lone_system rest h = system_first rest ∙ rw h refl
+
+system_case : (rest : List ℕ) → Case (36 ∷ rest)
+unfolding word_of
+system_case rest =
+    let s = split is_name_byte rest in
+    elim (cases_Bool (begins is_name_byte rest)) [
+      | inr h ↦ c_byte (lone_system rest h)
+      | inl h ↦ let k = begins_before is_name_byte s.front s.rest (rw s.whole at h) s.stops in
+          c_text shape.System (36 ∷ s.front) s.rest (ap (λ (l : List ℕ). 36 ∷ l) s.whole) (system_name s.front k s.each refl refl) (system_ascii s.front s.each)
+          (ap (λ (l : List ℕ). some_piece (36 ∷ l)) s.whole ∙ system_piece_is s.front s.rest k s.each ∙ ap (part.Text shape.System) (let z : prefix_len is_name_byte s.rest ≡ 0 = bare_run is_name_byte s.rest s.stops in omega arith))
+    ]
+
+skip_case : (rest : List ℕ) → Case (96 ∷ rest)
+skip_case rest = elim (cases_Bool (is_skipped (96 ∷ rest))) [
+  | inl h ↦ let s = skips rest h in c_white s.text s.after s.whole s.white (ap some_piece s.whole ∙ white_is s.text s.after s.white)
+  | inr h ↦ c_broken wrong.Directive (directive refl (open_is (96 ∷ rest) (skip_piece rest ∙ unskipped rest h)) refl) (skip_piece rest ∙ unskipped rest h)
+]
+
 escape_ascii : (text : List ℕ) → list_all is_printable text ≡ true → IsAscii (92 ∷ text)
 escape_ascii text h zero = omega arith
 escape_ascii text h (suc i) = ascii_all is_printable printable_ascii text h i
@@ -457,14 +501,17 @@ case_at b rest = elim (cases_Bool (is_blank b)) [
       | inr h2 ↦ elim (cases_Bool (attribute_begins (b ∷ rest))) [
         | inl h ↦ let r = attribute_is (b ∷ rest) h in let P : List ℕ → Type 0 = λ l. Case l in subst P (sym r.1) (attribute_case r.0 r.2)
         | inr h3 ↦ elim (cases_Bool (b == 96)) [
-          | inl h ↦ c_broken wrong.Directive (directive h refl) (rw (h0, h1, h2, h3, h) refl)
+          | inl h ↦ let P : ℕ → Type 0 = λ n. Case (n ∷ rest) in subst P (sym (eqb-true b 96 h)) (skip_case rest)
           | inr h4 ↦ elim (cases_Bool (is_letter b)) [
             | inl h ↦ name_case b rest h
             | inr h5 ↦ elim (cases_Bool (b == 92)) [
               | inl h ↦ let P : ℕ → Type 0 = λ n. Case (n ∷ rest) in subst P (sym (eqb-true b 92 h)) (escape_case rest)
-              | inr h6 ↦ elim (cases_Bool (is_digit b || b == 39)) [
-                | inl h ↦ number_case_at (b ∷ rest) h
-                | inr h7 ↦ mark_case_at b rest (rw (h0, h1, h2, h3, h4, h5, h6, h7) refl)
+              | inr h6 ↦ elim (cases_Bool (b == 36)) [
+                | inl h ↦ let P : ℕ → Type 0 = λ n. Case (n ∷ rest) in subst P (sym (eqb-true b 36 h)) (system_case rest)
+                | inr h7 ↦ elim (cases_Bool (is_digit b || b == 39)) [
+                  | inl h ↦ number_case_at (b ∷ rest) h
+                  | inr h8 ↦ mark_case_at b rest (rw (h0, h1, h2, h3, h4, h5, h6, h7, h8) refl)
+                ]
               ]
             ]
           ]
@@ -506,13 +553,14 @@ unfolding fine
 empty_seen w after (named n k e) = false≢true n.0
 empty_seen w after (reserved j n k e) = false≢true n.0
 empty_seen w after (escaped_name body b h d t e) = absurd (cc)
+empty_seen w after (system_name body b h t e) = absurd (cc)
 empty_seen w after (numbered n t e) = empty_number (number_text [] n t)
 empty_seen w after (marked m k e) = false≢true (mark_fine [] (place_mark [] m k))
 
 broken_byte : (bs : List ℕ) (g : Wrong) → IsBroken bs g → part.Fault g ≡ part.Fault wrong.Byte → ⊥
 broken_byte bs g (open_block h n e) p = absurd (cc)
 broken_byte bs g (open_attribute h n e) p = absurd (cc)
-broken_byte bs g (directive h e) p = absurd (cc)
+broken_byte bs g (directive h n e) p = absurd (cc)
 broken_byte bs g (no_digits t n e) p = absurd (cc)
 broken_byte bs g (out_of_range text after w t l n e) p = absurd (cc)
 

@@ -4,10 +4,11 @@ use Rattle.std.proofs.lemmas.List.{take_rest, length-drop, drop-drop, drop-map, 
 use Rattle.std.proofs.lemmas.Bool.{and_parts}
 use Rattle.std.specs.Str.{bytes_eq}
 use Rattle.rr_lex.specs.declared.number.Base.{Base}
-use Rattle.rr_lex.specs.Bytes.{is, begins, is_gap, is_decimal, is_dark, is_printable, is_blank}
-use Rattle.rr_lex.specs.Reading.{member, texts_of, closing, digits_len, letter_base, sign_len, tail_len, apostrophe, number_len, number_of, based, checked, is_escaped, at_least, is_mark, has_mark}
+use Rattle.rr_lex.specs.declared.number.Base.TheVariants as base
+use Rattle.rr_lex.specs.Bytes.{is, begins, is_gap, is_decimal, is_dark, is_printable, is_blank, is_name_byte}
+use Rattle.rr_lex.specs.Reading.{member, texts_of, closing, digits_len, letter_base, sign_len, tail_len, apostrophe, number_len, number_of, based, checked, is_escaped, at_least, is_mark, has_mark, first_class, further_class, is_skipped, run_len, sized, is_white_name}
 use Rattle.rr_lex.specs.Tokens.{begins_with, attribute_begins, more, place_of}
-use Rattle.rr_lex.specs.Numbers.{is_first, is_sign, fits, literal, plain_literal, number, digit}
+use Rattle.rr_lex.specs.Numbers.{is_first, is_sign, fits, literal, plain_literal, number, digit, further, is_wild, goes_on}
 use denote.Ref.{Bor}
 use Rattle.rr_syntax.specs.declared.token.Number.{Number}
 

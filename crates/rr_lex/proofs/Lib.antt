@@ -6,6 +6,7 @@ pub mod Runs
 pub mod NumberText
 pub mod Closed
 pub mod Marks
+pub mod Skipped
 pub mod Ascii
 pub mod Exact
 pub mod Steps

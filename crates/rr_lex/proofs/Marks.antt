@@ -25,7 +25,7 @@ place_sound p text (t ∷ ts) m a e = let k = and_parts (p t) (list_all p ts) a 
 
 -- what begins a mark begins no other token
 unfoldable pub starts_mark : ℕ → Bool
-starts_mark b = not (is_blank b) && (not (b == 96) && (not (is_letter b) && (not (b == 92) && (not (is_digit b) && not (b == 39)))))
+starts_mark b = not (is_blank b) && (not (b == 96) && (not (is_letter b) && (not (b == 92) && (not (b == 36) && (not (is_digit b) && not (b == 39))))))
 
 -- each mark has one to three bytes, no blank, and marks as its fronts
 unfoldable pub fine : List ℕ → Bool
@@ -76,20 +76,20 @@ no_blank x xs b e = elim (cases_Bool (is_mark (x ∷ (xs ++ (b ∷ []))))) [
 ]
 
 -- the bytes that make this mark a longer one
-unfoldable pub goes_on : List ℕ → ℕ → Bool
-goes_on text b = is_mark (text ++ (b ∷ []))
+unfoldable pub lengthens : List ℕ → ℕ → Bool
+lengthens text b = is_mark (text ++ (b ∷ []))
 
-pub goes_on_dark : (x : ℕ) (xs : List ℕ) → Dark (goes_on (x ∷ xs))
-unfolding goes_on is_blank
-goes_on_dark x xs = record { blank = no_blank x xs 32 refl; tab = no_blank x xs 9 refl; line = no_blank x xs 10 refl; return = no_blank x xs 13 refl; feed = no_blank x xs 12 refl }
+pub lengthens_dark : (x : ℕ) (xs : List ℕ) → Dark (lengthens (x ∷ xs))
+unfolding lengthens is_blank
+lengthens_dark x xs = record { blank = no_blank x xs 32 refl; tab = no_blank x xs 9 refl; line = no_blank x xs 10 refl; return = no_blank x xs 13 refl; feed = no_blank x xs 12 refl }
 
-pub mark_len_one : (x : ℕ) (after : List ℕ) → is_mark (x ∷ []) ≡ true → begins (goes_on (x ∷ [])) after ≡ false → mark_len (x ∷ after) ≡ 1
-unfolding mark_len has_mark goes_on at_least
+pub mark_len_one : (x : ℕ) (after : List ℕ) → is_mark (x ∷ []) ≡ true → begins (lengthens (x ∷ [])) after ≡ false → mark_len (x ∷ after) ≡ 1
+unfolding mark_len has_mark lengthens at_least
 mark_len_one x [] h e = rw h refl
 mark_len_one x (y ∷ after) h e = rw (h, e) refl
 
-pub mark_len_two : (x y : ℕ) (after : List ℕ) → is_mark (x ∷ []) ≡ true → is_mark (x ∷ (y ∷ [])) ≡ true → begins (goes_on (x ∷ (y ∷ []))) after ≡ false → mark_len (x ∷ (y ∷ after)) ≡ 2
-unfolding mark_len has_mark goes_on at_least
+pub mark_len_two : (x y : ℕ) (after : List ℕ) → is_mark (x ∷ []) ≡ true → is_mark (x ∷ (y ∷ [])) ≡ true → begins (lengthens (x ∷ (y ∷ []))) after ≡ false → mark_len (x ∷ (y ∷ after)) ≡ 2
+unfolding mark_len has_mark lengthens at_least
 mark_len_two x y [] h i e = rw (h, i) refl
 mark_len_two x y (z ∷ after) h i e = rw (h, i, e) refl
 
@@ -100,26 +100,26 @@ mark_len_three x y z after h i j = rw (h, i, j) refl
 -- what stands there by the longest mark
 pub data MarkCase (bs : List ℕ) : Type 0 where
   no_mark : ((text after : List ℕ) → bs ≡ text ++ after → is_mark text ≡ true → ⊥) → mark_len bs ≡ 0 → MarkCase bs
-  a_mark : (text after : List ℕ) → bs ≡ text ++ after → is_mark text ≡ true → begins (goes_on text) after ≡ false → MarkCase bs
+  a_mark : (text after : List ℕ) → bs ≡ text ++ after → is_mark text ≡ true → begins (lengthens text) after ≡ false → MarkCase bs
 
 begins_none : (x : ℕ) (rest text after : List ℕ) → is_mark (x ∷ []) ≡ false → x ∷ rest ≡ text ++ after → is_mark text ≡ true → ⊥
 unfolding fine
 begins_none x rest [] after h e m = absurd (cc (mark_fine [] m))
 begins_none x rest (y ∷ text) after h e m = let q : y ≡ x = cc in absurd (cc ((fine_parts y text m).one, ap (λ (n : ℕ). is_mark (n ∷ [])) q))
 
-no_three : (x y z : ℕ) → begins (goes_on (x ∷ (y ∷ (z ∷ [])))) [] ≡ false
+no_three : (x y z : ℕ) → begins (lengthens (x ∷ (y ∷ (z ∷ [])))) [] ≡ false
 no_three x y z = refl
 
 four : (x y z w : ℕ) → is_mark (x ∷ (y ∷ (z ∷ (w ∷ [])))) ≡ true → ⊥
 four x y z w h = let l : 3 ≤ 2 = (fine_parts x (y ∷ (z ∷ (w ∷ []))) h).short in omega arith
 
-stops_three : (x y z : ℕ) (rest : List ℕ) → begins (goes_on (x ∷ (y ∷ (z ∷ [])))) rest ≡ false
-unfolding goes_on
+stops_three : (x y z : ℕ) (rest : List ℕ) → begins (lengthens (x ∷ (y ∷ (z ∷ [])))) rest ≡ false
+unfolding lengthens
 stops_three x y z [] = refl
 stops_three x y z (w ∷ rest) = elim (cases_Bool (is_mark (x ∷ (y ∷ (z ∷ (w ∷ [])))))) [ inr h ↦ h | inl h ↦ absurd (four x y z w h) ]
 
 two_case : (x y : ℕ) (rest : List ℕ) → is_mark (x ∷ (y ∷ [])) ≡ true → MarkCase (x ∷ (y ∷ rest))
-unfolding goes_on
+unfolding lengthens
 two_case x y [] h = a_mark (x ∷ (y ∷ [])) [] refl h refl
 two_case x y (z ∷ rest) h = elim (cases_Bool (is_mark (x ∷ (y ∷ (z ∷ []))))) [
   | inl i ↦ a_mark (x ∷ (y ∷ (z ∷ []))) rest refl i (stops_three x y z rest)
@@ -127,7 +127,7 @@ two_case x y (z ∷ rest) h = elim (cases_Bool (is_mark (x ∷ (y ∷ (z ∷ [])
 ]
 
 one_case : (x : ℕ) (rest : List ℕ) → is_mark (x ∷ []) ≡ true → MarkCase (x ∷ rest)
-unfolding goes_on
+unfolding lengthens
 one_case x [] h = a_mark (x ∷ []) [] refl h refl
 one_case x (y ∷ rest) h = elim (cases_Bool (is_mark (x ∷ (y ∷ [])))) [
   | inl i ↦ two_case x y rest i
@@ -142,7 +142,7 @@ mark_case x rest = elim (cases_Bool (is_mark (x ∷ []))) [
 ]
 
 -- the longest mark, by what follows it
-pub mark_is : (text after : List ℕ) → is_mark text ≡ true → begins (goes_on text) after ≡ false → mark_len (text ++ after) ≡ length text
+pub mark_is : (text after : List ℕ) → is_mark text ≡ true → begins (lengthens text) after ≡ false → mark_len (text ++ after) ≡ length text
 unfolding fine
 mark_is [] after h e = absurd (cc (mark_fine [] h))
 mark_is (x ∷ []) after h e = mark_len_one x after h e

@@ -5,7 +5,7 @@ use Rattle.std.proofs.lemmas.Bool.{and_parts, and_from, and_cases, cases_Bool, e
 use Rattle.std.proofs.lemmas.List.{drop_at, take_at, drop-drop, append_assoc, length-append, append-nil}
 use Rattle.rr_lex.specs.Bytes.{is, begins, starts, is_dark, is_blank, is_gap, is_in_line, is_digit, is_letter}
 use Rattle.rr_syntax.specs.Words.{Word, Marked, Digits, Named, Reserved, marks, mark_star, mark_close_parenthesis}
-use Rattle.rr_lex.specs.Tokens.{Lexeme, place_of, more, is_closed_next, IsWhite, blank, line, block, attribute, IsToken, named, reserved, escaped_name, numbered, marked, Stands, Read, here, white, token, NoWhite, words_of}
+use Rattle.rr_lex.specs.Tokens.{Lexeme, place_of, more, is_closed_next, IsWhite, blank, line, block, attribute, skipped, IsToken, named, reserved, escaped_name, system_name, numbered, marked, Stands, Read, here, white, token, NoWhite, words_of}
 use Rattle.rr_lex.specs.Numbers.{IsNumberText}
 use Rattle.rr_lex.specs.Reading.{is_mark}
 use Rattle.rr_lex.specs.Patch.{New, Edit, run_end, run_text, token_text, patched, token_word, new_words, patched_words, IsNew, AllNew, Replaces, IsNext, AreEdits, AreWords}
@@ -95,6 +95,7 @@ white_stays : (text old new : List ℕ) → IsWhite text old → (begins is_in_l
 white_stays text old new (blank b h e) l = blank b h e
 white_stays text old new (line body h s e) l = line body h (l s) e
 white_stays text old new (block body c e) l = block body c e
+white_stays text old new (skipped k name rest n b h s e) l = skipped k name rest n b h (l s) e
 white_stays text old new (attribute body c s e) l = attribute body c s e
 
 -- the same byte at the front
@@ -131,6 +132,7 @@ unfolding is_gap
 white_same text old new (blank b h e) k = rw e (elim (cases_Bool (is_gap b)) [ inl g ↦ blank_edge b old new g (blank_star b h) k | inr g ↦ front_edge b old new g (blank_star b h) ])
 white_same text old new (line body h s e) k = rw e (front_edge 47 (47 ∷ (body ++ old)) (47 ∷ (body ++ new)) refl refl)
 white_same text old new (block body c e) k = rw e (front_edge 47 (42 ∷ (body ++ old)) (42 ∷ (body ++ new)) refl refl)
+white_same text old new (skipped i name rest n b h s e) k = rw e (front_edge 96 ((name ++ rest) ++ old) ((name ++ rest) ++ new) refl refl)
 white_same text old new (attribute body c s e) k = rw e (front_edge 40 (42 ∷ (body ++ old)) (42 ∷ (body ++ new)) refl refl)
 
 is_place : ℕ → Option ℕ → Bool
@@ -158,18 +160,19 @@ number_begins : (text : List ℕ) (b : ℕ) (xs : List ℕ) → text ≡ b ∷ x
 number_begins text b xs e t = rw (ap (λ (l : List ℕ). l ++ []) e) at (text_first text [] t)
 
 -- a token that begins as a mark is one
-mark_of : (w : Word) (text after : List ℕ) → IsToken w text after → begins is_letter text ≡ false → begins (is 92) text ≡ false → (begins is_digit (text ++ []) || begins (is 39) (text ++ [])) ≡ false →
+mark_of : (w : Word) (text after : List ℕ) → IsToken w text after → begins is_letter text ≡ false → begins (is 92) text ≡ false → begins (is 36) text ≡ false → (begins is_digit (text ++ []) || begins (is 39) (text ++ [])) ≡ false →
     (m : ℕ) × (place_of text marks ≡ Some m) × (w ≡ Marked m)
-mark_of w text after (named n k e) l s d = absurd (false≢true (sym l ∙ n.0))
-mark_of w text after (reserved j n k e) l s d = absurd (false≢true (sym l ∙ n.0))
-mark_of w text after (escaped_name body b h i t e) l s d = absurd (false≢true (sym s ∙ ap (begins (is 92)) t))
-mark_of w text after (numbered n t e) l s d = absurd (false≢true (sym d ∙ text_first text [] (number_text text n t)))
-mark_of w text after (marked m k e) l s d = (m, k, e)
+mark_of w text after (named n k e) l s y d = absurd (false≢true (sym l ∙ n.0))
+mark_of w text after (reserved j n k e) l s y d = absurd (false≢true (sym l ∙ n.0))
+mark_of w text after (escaped_name body b h i t e) l s y d = absurd (false≢true (sym s ∙ ap (begins (is 92)) t))
+mark_of w text after (system_name body b h t e) l s y d = absurd (false≢true (sym y ∙ ap (begins (is 36)) t))
+mark_of w text after (numbered n t e) l s y d = absurd (false≢true (sym d ∙ text_first text [] (number_text text n t)))
+mark_of w text after (marked m k e) l s y d = (m, k, e)
 
 closing_word : (w : Word) (text after : List ℕ) → IsToken w (41 ∷ text) after → w ≡ Marked mark_close_parenthesis
 unfolding closes is_letter is_digit
 closing_word w text after t =
-    let k = mark_of w (41 ∷ text) after t refl refl refl in
+    let k = mark_of w (41 ∷ text) after t refl refl refl refl in
     k.2 ∙ ap Marked (place_is mark_close_parenthesis (place_of (41 ∷ text) marks) k.0 (place_sound closes (41 ∷ text) marks k.0 all_close k.1) k.1)
 
 is_nil : List ℕ → Bool
@@ -186,12 +189,12 @@ all_stars = refl
 star_word : (w : Word) (after : List ℕ) → IsToken w (42 ∷ []) after → w ≡ Marked mark_star
 unfolding stars is_nil is_letter is_digit
 star_word w after t =
-    let k = mark_of w (42 ∷ []) after t refl refl refl in
+    let k = mark_of w (42 ∷ []) after t refl refl refl refl in
     k.2 ∙ ap Marked (place_is mark_star (place_of (42 ∷ []) marks) k.0 (place_sound stars (42 ∷ []) marks k.0 all_stars k.1) k.1)
 
 star_mark : (w : Word) (y : ℕ) (xs after : List ℕ) → IsToken w (42 ∷ (y ∷ xs)) after → is_mark (42 ∷ (y ∷ xs)) ≡ true
 unfolding is_letter is_digit
-star_mark w y xs after t = let k = mark_of w (42 ∷ (y ∷ xs)) after t refl refl refl in place_mark (42 ∷ (y ∷ xs)) k.0 k.1
+star_mark w y xs after t = let k = mark_of w (42 ∷ (y ∷ xs)) after t refl refl refl refl in place_mark (42 ∷ (y ∷ xs)) k.0 k.1
 
 dark_gap : (y : ℕ) → is_dark y ≡ true → is_gap y ≡ false
 unfolding is_dark
@@ -242,6 +245,7 @@ white_closed text after (blank b h e) c = elim (cases_Bool (is_gap b)) [
 ]
 white_closed text after (line body h s e) c = absurd (false≢true (rw e at c))
 white_closed text after (block body k e) c = absurd (false≢true (rw e at c))
+white_closed text after (skipped i name rest n b h s e) c = absurd (false≢true (rw e at c))
 white_closed text after (attribute body k s e) c = absurd (false≢true (rw e at c))
 
 closed_next : (end at : ℕ) (bs : List ℕ) (ts : List Lexeme) → Read end [] at bs ts → is_closed_next bs ≡ true → IsNext (Marked mark_close_parenthesis) ts

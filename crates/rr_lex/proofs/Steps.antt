@@ -13,7 +13,7 @@ use Rattle.rr_lex.specs.declared.piece.Wrong.{Wrong}
 use Rattle.rr_lex.specs.declared.piece.Wrong.TheVariants as wrong
 use Rattle.rr_lex.specs.Bytes.{is_name_byte, is_printable}
 use Rattle.rr_syntax.specs.Words.{Word, Named, Digits, Reserved, Marked, marks, keywords}
-use Rattle.rr_lex.specs.Tokens.{Lexeme, place_of, IsWhite, blank, line, block, attribute, IsToken, named, reserved, escaped_name, numbered, marked, Stands, IsFault, IsFirstFault, Read, here, white, token}
+use Rattle.rr_lex.specs.Tokens.{Lexeme, place_of, IsWhite, blank, line, block, attribute, skipped, IsToken, named, reserved, escaped_name, numbered, marked, Stands, IsFault, IsFirstFault, Read, here, white, token}
 use Rattle.rr_lex.specs.Reading.{some_piece, moved, word_of, IsKnown, IsSafe, number_of}
 use Rattle.rr_lex.proofs.Exact.{Case, c_white, c_text, c_broken, c_byte, case_at, empty_seen, read_stands, read_fault, number_back}
 
@@ -21,6 +21,7 @@ pub white_length : (text after : List ℕ) → IsWhite text after → 0 < length
 white_length text after (blank b h e) = rw e (omega arith)
 white_length text after (line body h s e) = rw e (omega arith)
 white_length text after (block body c e) = rw e (omega arith)
+white_length text after (skipped k name rest n b h s e) = rw e (omega arith)
 white_length text after (attribute body c s e) = rw e (omega arith)
 
 pub token_length : (w : Word) (text after : List ℕ) → IsToken w text after → 0 < length text
@@ -94,7 +95,6 @@ lex_text bs at end s v ts h e f r = elim (case_here (drop at bs) (room bs at h))
 
 moved_back : (at : ℕ) (f : Wrong) (p : Piece) → moved at p ≡ part.Fault f → p ≡ part.Fault f
 unfolding moved
-moved_back at f part.Finish e = e
 moved_back at f (part.White n) e = absurd (cc)
 moved_back at f (part.Text s n) e = absurd (cc)
 moved_back at f (part.Fault g) e = e

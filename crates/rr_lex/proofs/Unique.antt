@@ -8,7 +8,7 @@ use Rattle.rr_lex.specs.Bytes.{is, begins, is_digit}
 use Rattle.rr_lex.specs.Reading.{member, some_piece, word_of, number_len, number_of, number_piece, in_range, checked}
 use Rattle.rr_syntax.specs.Words.{Word, Digits}
 use Rattle.rr_lex.specs.Tokens.{Lexeme, begins_with, attribute_begins, HasApostrophe, IsWhite, IsBroken, open_block, open_attribute, directive, no_digits, out_of_range, IsFault, broken, no_token, IsFirstFault, Stands, Read, here, white, token, AreTokens}
-use Rattle.rr_lex.specs.Numbers.{Parts, AreParts, text_of, IsNumberText, based, fits, literal, is_signed}
+use Rattle.rr_lex.specs.Numbers.{Parts, AreParts, text_of, IsNumberText, based, fits, literal, is_signed, radix_of, goes_on, is_wild}
 use Rattle.std.proofs.lemmas.Bool.{false≢true}
 use Rattle.std.proofs.lemmas.List.{length-append}
 use Rattle.rr_lex.specs.declared.piece.Wrong.{Wrong}
@@ -85,7 +85,7 @@ empty_broken : (f : Wrong) → IsBroken [] f → ⊥
 unfolding begins_with attribute_begins
 empty_broken f (open_block h n e) = false≢true h
 empty_broken f (open_attribute h n e) = false≢true h
-empty_broken f (directive h e) = false≢true h
+empty_broken f (directive h n e) = false≢true h
 empty_broken f (no_digits t n e) = empty_apostrophe t
 empty_broken f (out_of_range text after w t l n e) = false≢true (ap (λ (b : List ℕ). begins is_digit b || begins (is 39) b) w ∙ text_first text after t)
 

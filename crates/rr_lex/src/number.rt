@@ -1,6 +1,6 @@
 //! The text of a number, and the number that it writes.
 
-ghost use Rattle.std.specs.Prelude.{◌≡◌, ℕ, List, ◌≤◌, ◌<◌, ◌+◌, ◌^◌, [], ◌∷◌, ◌++◌, ◌&&◌, length, drop, take, IfSome, MatchOption, ◌%◌, nat_lt};
+ghost use Rattle.std.specs.Prelude.{◌≡◌, ℕ, List, ◌≤◌, ◌<◌, ◌+◌, ◌^◌, [], ◌∷◌, ◌++◌, ◌&&◌, length, drop, take, IfSome, MatchOption, ◌%◌, nat_lt, false, true};
 ghost use Rattle.std.specs.List.{prefix_len, fold};
 ghost use Rattle.rr_syntax.specs.declared.token.Number.{Number};
 ghost use Rattle.rr_lex.specs.Bytes.{is, begins};
