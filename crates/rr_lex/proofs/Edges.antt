@@ -45,7 +45,7 @@ same_len s u n m e = cc
 same_shape : (s u : Shape) (n m : ℕ) → part.Text s n ≡ part.Text u m → s ≡ u
 same_shape s u n m e = cc
 
-dark_name : Dark is_name_byte
+pub dark_name : Dark is_name_byte
 unfolding is_name_byte
 dark_name = record { blank = refl; tab = refl; line = refl; return = refl; feed = refl }
 

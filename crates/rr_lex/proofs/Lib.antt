@@ -15,3 +15,4 @@ pub mod Patches
 pub mod Whole
 pub mod Unique
 pub mod Written
+pub mod Fresh

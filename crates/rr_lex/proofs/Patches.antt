@@ -1,11 +1,11 @@
--- The words_of of a patched text.
+-- The words of a patched text.
 use Rattle.std.proofs.Common.{zero-add, ℕ, zero, suc, ◌≡◌, ◌≢◌, ◌+◌, ◌-◌, ◌≤◌, ◌<◌, List, [], ◌∷◌, ◌++◌, length, drop, take, map, Bool, true, false, not, ◌&&◌, ◌||◌, ◌==◌, Option, Some, None, refl, ap, ◌∙◌, sym, arith, cond, subst, ◌⊎◌, inl, inr}
 use Rattle.std.specs.List.{prefix_len, list_all}
 use Rattle.std.proofs.lemmas.Bool.{and_parts, and_from, and_cases, cases_Bool, eqb-true, eq-eqb, false≢true, not-true, not-false, and_right, and_left}
 use Rattle.std.proofs.lemmas.List.{drop_at, take_at, drop-drop, append_assoc, length-append, append-nil}
 use Rattle.rr_lex.specs.Bytes.{is, begins, starts, is_dark, is_blank, is_gap, is_in_line, is_digit, is_letter}
 use Rattle.rr_syntax.specs.Words.{Word, Marked, Digits, Named, Reserved, marks, mark_star, mark_close_parenthesis}
-use Rattle.rr_lex.specs.Tokens.{Lexeme, place_of, more, is_closed_next, IsWhite, blank, line, block, attribute, skipped, IsToken, named, reserved, escaped_name, system_name, numbered, marked, Stands, Read, here, white, token, NoWhite, words_of}
+use Rattle.rr_lex.specs.Tokens.{Lexeme, place_of, more, is_closed_next, IsWhite, blank, line, block, attribute, skipped, IsToken, named, reserved, escaped_name, system_name, numbered, marked, Stands, Read, here, white, token, NoWhite, words_of, AreTokens}
 use Rattle.rr_lex.specs.Numbers.{IsNumberText}
 use Rattle.rr_lex.specs.Reading.{is_mark}
 use Rattle.rr_lex.specs.Patch.{New, Edit, run_end, run_text, token_text, patched, token_word, new_words, patched_words, IsNew, AllNew, Replaces, IsNext, AreEdits, AreWords}
@@ -13,6 +13,10 @@ use Rattle.rr_lex.proofs.Runs.{Dark, gap_blank}
 use Rattle.rr_lex.proofs.Marks.{place_sound, fine_parts}
 use Rattle.rr_lex.proofs.Exact.{empty_seen, text_first, number_text, place_mark}
 use Rattle.rr_lex.proofs.Edges.{Edged, opens, stays}
+
+-- these bytes have tokens with these words, from any place
+abbrev Reads : List ℕ → List Word → Type 0
+Reads bs ws = (at : ℕ) → (end : ℕ) × (ts : List Lexeme) × Read end [] at bs ts × (words_of ts ≡ ws)
 
 -- what holds of the bytes after a change, for what stands before them
 pub record Same (old new : List ℕ) : Type 0 where
@@ -62,27 +66,27 @@ new_edge old rest n k = record {
 }
 
 -- the bytes read on, from any place
-read_white : (text after : List ℕ) (ws : List Word) → IsWhite text after → AreWords after ws → AreWords (text ++ after) ws
+read_white : (text after : List ℕ) (ws : List Word) → IsWhite text after → Reads after ws → Reads (text ++ after) ws
 read_white text after ws w r at = let k = r (at + length text) in (k.0, k.1, white at (text ++ after) text after k.1 refl w k.2, k.3)
 
-read_token : (w : Word) (text after : List ℕ) (ws : List Word) → Stands w text after → AreWords after ws → AreWords (text ++ after) (w ∷ ws)
+read_token : (w : Word) (text after : List ℕ) (ws : List Word) → Stands w text after → Reads after ws → Reads (text ++ after) (w ∷ ws)
 read_token w text after ws t r at = let k = r (at + length text) in
     (k.0, record { word = w; start = at; end = at + length text } ∷ k.1, token at (text ++ after) text after w k.1 refl t k.2, ap (λ (l : List Word). w ∷ l) k.3)
 
 -- a run of new tokens, each after a blank
-read_run : (n : New) (ns : List New) (after : List ℕ) (ws : List Word) → AllNew (n ∷ ns) → AreWords after ws → AreWords (run_end (n ∷ ns) ++ after) (new_words (n ∷ ns) ++ ws)
+read_run : (n : New) (ns : List New) (after : List ℕ) (ws : List Word) → AllNew (n ∷ ns) → Reads after ws → Reads (run_end (n ∷ ns) ++ after) (new_words (n ∷ ns) ++ ws)
 read_run n [] after ws k r =
-    let a : AreWords (n.text ++ (32 ∷ after)) (n.word ∷ ws) = read_token n.word n.text (32 ∷ after) ws (k.0.alone after) (read_white (32 ∷ []) after ws (space after) r) in
-    let b : AreWords (32 ∷ (n.text ++ (32 ∷ after))) (n.word ∷ ws) = read_white (32 ∷ []) (n.text ++ (32 ∷ after)) (n.word ∷ ws) (space _) a in
-    subst (λ (l : List ℕ). AreWords (32 ∷ l) (n.word ∷ ws)) (sym (append_assoc n.text (32 ∷ []) after)) b
+    let a : Reads (n.text ++ (32 ∷ after)) (n.word ∷ ws) = read_token n.word n.text (32 ∷ after) ws (k.0.alone after) (read_white (32 ∷ []) after ws (space after) r) in
+    let b : Reads (32 ∷ (n.text ++ (32 ∷ after))) (n.word ∷ ws) = read_white (32 ∷ []) (n.text ++ (32 ∷ after)) (n.word ∷ ws) (space _) a in
+    subst (λ (l : List ℕ). Reads (32 ∷ l) (n.word ∷ ws)) (sym (append_assoc n.text (32 ∷ []) after)) b
 read_run n (m ∷ ns) after ws k r =
-    let t : AreWords (run_end (m ∷ ns) ++ after) (new_words (m ∷ ns) ++ ws) = read_run m ns after ws k.1 r in
-    let a : AreWords (n.text ++ (run_end (m ∷ ns) ++ after)) (n.word ∷ (new_words (m ∷ ns) ++ ws)) =
+    let t : Reads (run_end (m ∷ ns) ++ after) (new_words (m ∷ ns) ++ ws) = read_run m ns after ws k.1 r in
+    let a : Reads (n.text ++ (run_end (m ∷ ns) ++ after)) (n.word ∷ (new_words (m ∷ ns) ++ ws)) =
     read_token n.word n.text (run_end (m ∷ ns) ++ after) (new_words (m ∷ ns) ++ ws) (k.0.alone ((m.text ++ run_end ns) ++ after)) t in
-    let b : AreWords (32 ∷ (n.text ++ (run_end (m ∷ ns) ++ after))) (n.word ∷ (new_words (m ∷ ns) ++ ws)) = read_white (32 ∷ []) (n.text ++ (run_end (m ∷ ns) ++ after)) _ (space _) a in
-    subst (λ (l : List ℕ). AreWords (32 ∷ l) (n.word ∷ (new_words (m ∷ ns) ++ ws))) (sym (append_assoc n.text (run_end (m ∷ ns)) after)) b
+    let b : Reads (32 ∷ (n.text ++ (run_end (m ∷ ns) ++ after))) (n.word ∷ (new_words (m ∷ ns) ++ ws)) = read_white (32 ∷ []) (n.text ++ (run_end (m ∷ ns) ++ after)) _ (space _) a in
+    subst (λ (l : List ℕ). Reads (32 ∷ l) (n.word ∷ (new_words (m ∷ ns) ++ ws))) (sym (append_assoc n.text (run_end (m ∷ ns)) after)) b
 
-read_runs : (ns : List New) (after : List ℕ) (ws : List Word) → AllNew ns → AreWords after ws → AreWords (run_text ns ++ after) (new_words ns ++ ws)
+read_runs : (ns : List New) (after : List ℕ) (ws : List Word) → AllNew ns → Reads after ws → Reads (run_text ns ++ after) (new_words ns ++ ws)
 read_runs [] after ws k r = r
 read_runs (n ∷ ns) after ws k r = read_run n ns after ws k r
 
@@ -254,10 +258,10 @@ closed_next end a b c (white at bs text after ts w k r) h = closed_next end (at 
 closed_next end a b c (token at bs text after w ts q t r) h = closed_first w text after t (rw q at h)
 
 -- any text reads from any place
-words_of : (end at : ℕ) (bs : List ℕ) (ts : List Lexeme) → Read end [] at bs ts → AreWords bs (words_of ts)
-words_of end a b c (here at bs e w) = rw w (λ n. (n, [], here n [] refl refl, refl))
-words_of end a b c (white at bs text after ts w k r) = rw w (read_white text after (words_of ts) k (words_of end (at + length text) after ts r))
-words_of end a b c (token at bs text after w ts q t r) = rw q (read_token w text after (words_of ts) t (words_of end (at + length text) after ts r))
+reads_of : (end at : ℕ) (bs : List ℕ) (ts : List Lexeme) → Read end [] at bs ts → Reads bs (words_of ts)
+reads_of end a b c (here at bs e w) = rw w (λ n. (n, [], here n [] refl refl, refl))
+reads_of end a b c (white at bs text after ts w k r) = rw w (read_white text after (words_of ts) k (reads_of end (at + length text) after ts r))
+reads_of end a b c (token at bs text after w ts q t r) = rw q (read_token w text after (words_of ts) t (reads_of end (at + length text) after ts r))
 
 starts_from : (end at : ℕ) (bs : List ℕ) (t : Lexeme) (ts us : List Lexeme) → us ≡ t ∷ ts → Read end [] at bs us → (at ≤ t.start) × (t.start ≤ t.end)
 starts_from end a b t ts c e (here at bs f w) = absurd (cc)
@@ -289,7 +293,7 @@ patched_token at text after w ts e es =
     rw (z, l, take_at text after (length text) refl, drop_at text after (length text) refl) refl
 
 pub record Patches (bs new : List ℕ) (ws : List Word) : Type 0 where
-  pub reads : AreWords new ws
+  pub reads : Reads new ws
   pub sees : Same bs new
 
 run_sees : (old next : List ℕ) (ns : List New) → AllNew ns → Edged old next → Edged old (run_text ns ++ next)
@@ -335,17 +339,36 @@ token_patch : (w : Word) (text old next : List ℕ) (ts : List Lexeme) (ws : Lis
 token_patch w text old next ts ws None ns t r n c i p = kept_patch w text old next ts ws ns t n c i p
 token_patch w text old next ts ws (Some m) ns t r n c i p = replaced_patch w text old next ws m ns t r.0 r.1 n p
 
--- The patched text has the words_of with the edits.
+-- The patched text has the words with the edits.
 pub patch_is : (end at : ℕ) (bs : List ℕ) (ts : List Lexeme) → Read end [] at bs ts → (es : List Edit) → AreEdits ts es → Patches bs (patched at bs ts es) (patched_words ts es)
-patch_is end a b c (here at bs e w) es k = record { reads = words_of end at bs [] (here at bs e w); sees = same bs }
+patch_is end a b c (here at bs e w) es k = record { reads = reads_of end at bs [] (here at bs e w); sees = same bs }
 patch_is end a b c (white at bs text after ts w k r) es f =
     let p = patch_is end (at + length text) after ts r es f in
     rw (w, patched_white end at text after ts es r) (record {
       reads = read_white text (patched (at + length text) after ts es) (patched_words ts es) (white_stays text after (patched (at + length text) after ts es) k p.sees.lines) p.reads;
       sees = white_same text after (patched (at + length text) after ts es) k p.sees;
     })
-patch_is end a b c (token at bs text after w ts q t r) [] f = record { reads = words_of end at bs _ (token at bs text after w ts q t r); sees = same bs }
+patch_is end a b c (token at bs text after w ts q t r) [] f = record { reads = reads_of end at bs _ (token at bs text after w ts q t r); sees = same bs }
 patch_is end a b c (token at bs text after w ts q t r) (e ∷ es) f =
     let p = patch_is end (at + length text) after ts r es f.3 in
     rw (q, patched_token at text after w ts e es)
     (token_patch w text after (patched (at + length text) after ts es) ts (patched_words ts es) e.text e.run t f.0 f.1 f.2 (closed_next end (at + length text) after ts r) p)
+
+-- the place where reading ends
+read_end : (end at : ℕ) (bs : List ℕ) (ts : List Lexeme) → Read end [] at bs ts → end ≡ at + length bs
+read_end end a b c (here at bs e w) = rw w (sym e ∙ omega arith)
+read_end end a b c (white at bs text after ts w k r) =
+    let i : end ≡ at + length text + length after = read_end end (at + length text) after ts r in
+    rw w (rw (length-append text after) (i ∙ omega arith))
+read_end end a b c (token at bs text after w ts q t r) =
+    let i : end ≡ at + length text + length after = read_end end (at + length text) after ts r in
+    rw q (rw (length-append text after) (i ∙ omega arith))
+
+are_words : (bs : List ℕ) (ws : List Word) → Reads bs ws → AreWords bs ws
+are_words bs ws r =
+    let k = r 0 in
+    let e : k.0 ≡ length bs = read_end k.0 0 bs k.1 k.2 ∙ zero-add (length bs) in
+    (k.1, subst (λ (n : ℕ). Read n [] 0 bs k.1) e k.2, k.3)
+
+pub patch_words : (bs : List ℕ) (ts : List Lexeme) (es : List Edit) → AreTokens bs ts → AreEdits ts es → AreWords (patched 0 bs ts es) (patched_words ts es)
+patch_words bs ts es r f = are_words (patched 0 bs ts es) (patched_words ts es) (patch_is (length bs) 0 bs ts r es f).reads

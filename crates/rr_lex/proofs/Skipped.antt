@@ -11,7 +11,7 @@ use Rattle.rr_lex.specs.Reading.{is_skipped, is_white_name, skipped_piece, some_
 use Rattle.rr_lex.proofs.Runs.{run_stops, Splits, split}
 use Rattle.rr_lex.proofs.Marks.{place_sound, found}
 
-begins_over : (p : ℕ → Bool) (xs ys : List ℕ) → begins p xs ≡ false → begins p ys ≡ false → begins p (xs ++ ys) ≡ false
+pub begins_over : (p : ℕ → Bool) (xs ys : List ℕ) → begins p xs ≡ false → begins p ys ≡ false → begins p (xs ++ ys) ≡ false
 begins_over p [] ys h k = k
 begins_over p (x ∷ xs) ys h k = h
 

@@ -5,6 +5,7 @@ use Rattle.std.specs.Str.{IsAscii}
 use Rattle.std.proofs.lemmas.Bool.{and_parts}
 use Rattle.std.proofs.lemmas.Bool.Decides.{nat_tests}
 use Rattle.std.proofs.lemmas.List.{drop_at, take_at, drop-drop, length-append, length-drop, append_assoc, append-nil, drop_all}
+use Rattle.rr_syntax.specs.declared.token.Token.{Token}
 use Rattle.rr_lex.specs.declared.piece.Shape.{Shape}
 use Rattle.rr_lex.specs.declared.piece.Shape.TheVariants as shape
 use Rattle.rr_lex.specs.declared.piece.Piece.{Piece}
@@ -12,8 +13,8 @@ use Rattle.rr_lex.specs.declared.piece.Piece.TheVariants as part
 use Rattle.rr_lex.specs.declared.piece.Wrong.{Wrong}
 use Rattle.rr_lex.specs.declared.piece.Wrong.TheVariants as wrong
 use Rattle.rr_lex.specs.Bytes.{is_name_byte, is_printable}
-use Rattle.rr_syntax.specs.Words.{Word, Named, Digits, Reserved, Marked, marks, keywords}
-use Rattle.rr_lex.specs.Tokens.{Lexeme, place_of, IsWhite, blank, line, block, attribute, skipped, IsToken, named, reserved, escaped_name, numbered, marked, Stands, IsFault, IsFirstFault, Read, here, white, token}
+use Rattle.rr_syntax.specs.Words.{Word, Named, Digits, Reserved, Marked, marks, keywords, word, words}
+use Rattle.rr_lex.specs.Tokens.{Lexeme, lexemes, words_of, place_of, IsWhite, blank, line, block, attribute, skipped, IsToken, named, reserved, escaped_name, numbered, marked, Stands, IsFault, IsFirstFault, Read, here, white, token}
 use Rattle.rr_lex.specs.Reading.{some_piece, moved, word_of, IsKnown, IsSafe, number_of}
 use Rattle.rr_lex.proofs.Exact.{Case, c_white, c_text, c_broken, c_byte, case_at, empty_seen, read_stands, read_fault, number_back}
 
@@ -108,3 +109,8 @@ lex_fault bs at f ts h e r = (ts, drop at bs, r, fault_here (drop at bs) (room b
 
 pub lex_done : (bs : List ℕ) (at : ℕ) (ts : List Lexeme) → length bs ≤ at → at ≤ length bs → Read at (drop at bs) 0 bs ts → Read (length bs) [] 0 bs ts
 lex_done bs at ts h l r = let m : at ≡ length bs = omega arith in subst (λ (n : ℕ). Read n [] 0 bs ts) m (subst (λ (x : List ℕ). Read at x 0 bs ts) (drop_all at bs h) r)
+
+pub token_words : (ts : List Token) → words_of (lexemes ts) ≡ words ts
+unfolding words
+token_words [] = refl
+token_words (t ∷ ts) = ap (λ (ws : List Word). word t.kind ∷ ws) (token_words ts)

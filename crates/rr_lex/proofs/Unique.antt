@@ -112,3 +112,31 @@ no_fault m n a b c d rest ts us f (token at bs x r z xs w t i) (token bt cs y s 
 
 pub one_answer : (bs : List ℕ) (ts : List Lexeme) (f : Wrong) (at : ℕ) → AreTokens bs ts → IsFirstFault bs f at → ⊥
 one_answer bs ts f at r s = no_fault (length bs) at 0 0 bs bs s.1 ts s.0 f r s.2 s.3 refl
+
+white_fault_at : (f : Wrong) (text after bs : List ℕ) → IsWhite text after → bs ≡ text ++ after → IsFault bs f → ⊥
+white_fault_at f text after bs w e k = white_fault f text after w (subst (λ (l : List ℕ). IsFault l f) e k)
+
+sound_at : (w : Word) (f : Wrong) (text after bs : List ℕ) → Stands w text after → bs ≡ text ++ after → IsFault bs f → ⊥
+sound_at w f text after bs t e k = t.sound f (subst (λ (l : List ℕ). IsFault l f) e k)
+
+same_wrong : (f g : Wrong) (bs cs : List ℕ) → bs ≡ cs → IsFault bs f → IsFault cs g → f ≡ g
+same_wrong f g bs cs e k l = let q : part.Fault f ≡ part.Fault g = sym (fault_read bs f k) ∙ ap some_piece e ∙ fault_read cs g l in cc
+
+-- Two first faults are equal.
+pub same_fault : (m n : ℕ) (old rest : List ℕ) (at bt : ℕ) (bs cs : List ℕ) (ts us : List Lexeme) (f g : Wrong) → Read m old at bs ts → IsFault old f → Read n rest bt cs us → IsFault rest g → at ≡ bt → bs ≡ cs → (f ≡ g) × (m ≡ n)
+same_fault m n old rest a b c d ts us f g (here at bs e w) k (here bt cs o v) l p q = (same_wrong f g old rest (sym w ∙ q ∙ v) k l, sym e ∙ p ∙ o)
+same_fault m n old rest a b c d ts us f g (here at bs e w) k (white bt cs y s vs v h r) l p q = absurd (white_fault_at f y s old h (sym w ∙ q ∙ v) k)
+same_fault m n old rest a b c d ts us f g (here at bs e w) k (token bt cs y s x vs v t r) l p q = absurd (sound_at x f y s old t (sym w ∙ q ∙ v) k)
+same_fault m n old rest a b c d ts us f g (white at bs x r xs w h i) k (here bt cs o v) l p q = absurd (white_fault_at g x r rest h (sym v ∙ sym q ∙ w) l)
+same_fault m n old rest a b c d ts us f g (white at bs x r xs w h i) k (white bt cs y s vs v j z) l p q =
+    let u = same_white x y r s (sym w ∙ q ∙ v) h j in
+    same_fault m n old rest (at + length x) (bt + length y) r s xs vs f g i k z l (omega arith) (fronts x y r s (sym w ∙ q ∙ v) u).1
+same_fault m n old rest a b c d ts us f g (white at bs x r xs w h i) k (token bt cs y s z vs v t j) l p q = absurd (no_both z x y r s (sym w ∙ q ∙ v) h t)
+same_fault m n old rest a b c d ts us f g (token at bs x r z xs w t i) k (here bt cs o v) l p q = absurd (sound_at z g x r rest t (sym v ∙ sym q ∙ w) l)
+same_fault m n old rest a b c d ts us f g (token at bs x r z xs w t i) k (white bt cs y s vs v h j) l p q = absurd (no_both z y x s r (sym v ∙ sym q ∙ w) h t)
+same_fault m n old rest a b c d ts us f g (token at bs x r z xs w t i) k (token bt cs y s o vs v h j) l p q =
+    let u = same_token z o x y r s (sym w ∙ q ∙ v) t h in
+    same_fault m n old rest (at + length x) (bt + length y) r s xs vs f g i k j l (omega arith) (fronts x y r s (sym w ∙ q ∙ v) u.0).1
+
+pub one_fault : (bs : List ℕ) (f g : Wrong) (at place : ℕ) → IsFirstFault bs f at → IsFirstFault bs g place → (f ≡ g) × (at ≡ place)
+one_fault bs f g at place r s = same_fault at place r.1 s.1 0 0 bs bs r.0 s.0 f g r.2 r.3 s.2 s.3 refl refl

@@ -1,5 +1,5 @@
 -- The text of a literal reads back.
-use Rattle.std.proofs.Common.{ℕ, zero, suc, ◌≡◌, ◌+◌, ◌-◌, ◌*◌, ◌/◌, ◌%◌, ◌^◌, ◌≤◌, ◌<◌, List, [], ◌∷◌, ◌++◌, length, Bool, true, false, Option, Some, None, ◌==◌, ◌&&◌, ◌||◌, not, nat_lt, nat_le, refl, ap, ◌∙◌, sym, arith, cond, subst, inl, inr, ◌⊎◌}
+use Rattle.std.proofs.Common.{ℕ, zero, suc, ◌≡◌, ◌+◌, ◌-◌, ◌*◌, ◌/◌, ◌%◌, ◌^◌, ◌≤◌, ◌<◌, List, [], ◌∷◌, ◌++◌, length, drop, Bool, true, false, Option, Some, None, ◌==◌, ◌&&◌, ◌||◌, not, nat_lt, nat_le, refl, ap, ◌∙◌, sym, arith, cond, subst, inl, inr, ◌⊎◌}
 use Rattle.std.specs.List.{list_all, fold}
 use Rattle.std.proofs.lemmas.Bool.{false≢true, and_parts, and_from, cases_lt, lt-ltb, le-ltb, le-leb, ne_eqb, or_left, or_right}
 use Rattle.std.proofs.lemmas.Bool.Decides.{nat_tests}
@@ -12,13 +12,19 @@ use native.Mathlib.Nat.{pow-suc}
 use Rattle.rr_lex.specs.declared.number.Base.TheVariants as base
 use Rattle.rr_syntax.specs.declared.token.Number.{Number}
 use Rattle.rr_lex.specs.Bytes.{begins, is_digit, is_decimal}
-use Rattle.rr_lex.specs.Reading.{member}
-use Rattle.rr_lex.specs.Numbers.{number, one_more, digit, any_digit, unknown_digit, hex_byte, hex_text, size_text, sign_text, literal_parts, text_of, AreParts, is_first, is_sign, is_signed, IsDecimal, fits, is_width, digits_fit, literal, base_of, base_letter, width_of, is_sized, IsNumber, based_number}
+use Rattle.rr_lex.specs.Numbers.{number, one_more, digit, any_digit, unknown_digit, hex_byte, hex_text, size_text, sign_text, literal_parts, text_of, AreParts, is_first, is_digit_of, further, goes_on, is_wild, is_x, is_z, padding, radix_in, radix_of, is_sign, is_signed, IsDecimal, fits, is_width, digits_fit, literal, base_letter, width_of, is_sized, IsNumber, based_number}
+use Rattle.rr_lex.specs.Patch.{plain_number}
+use Rattle.rr_lex.proofs.Skipped.{begins_over}
 use Rattle.rr_lex.proofs.Runs.{begins_append}
+
+-- a hexadecimal digit is no x and no z
+tame_hex : (d : ℕ) → d < 16 → is_wild (hex_byte d) ≡ false
+unfolding is_wild is_x is_z
+tame_hex d h = grind (arith, nat_tests)
 
 digit_hex : (d : ℕ) → d < 16 → digit (hex_byte d) ≡ d
 unfolding digit
-digit_hex d h = grind (arith, nat_tests)
+digit_hex d h = rw (tame_hex d h) (grind (arith, nat_tests))
 
 plain_low : (d : ℕ) → d < 10 → 95 ≡ 48 + d → ⊥
 plain_low d h e = omega arith
@@ -29,9 +35,17 @@ plain_high d e g h = omega arith
 plain_hex : (d : ℕ) → d < 16 → hex_byte d ≡ 95 → ⊥
 plain_hex d h e = elim (cases_lt d 10) [ inl l ↦ plain_low d l (sym (rw (lt-ltb d 10 l) at e)) | inr g ↦ plain_high d (sym (rw (le-ltb d 10 g) at e)) g h ]
 
-in_hex : (d : ℕ) → d < 16 → is_hex (hex_byte d) ≡ true
-unfolding is_hex
+in_hex : (d : ℕ) → d < 16 → is_digit_of base.Hexadecimal (hex_byte d) ≡ true
+unfolding is_digit_of
 in_hex d h = grind (arith, nat_tests)
+
+first_hex : (d : ℕ) → d < 16 → is_first base.Hexadecimal (hex_byte d) ≡ true
+unfolding is_first
+first_hex d h = or_left (is_digit_of base.Hexadecimal (hex_byte d)) (is_wild (hex_byte d)) (in_hex d h)
+
+further_hex : (w : Bool) (d : ℕ) → d < 16 → further base.Hexadecimal w (hex_byte d) ≡ true
+unfolding further
+further_hex w d h = or_left (is_first base.Hexadecimal (hex_byte d)) (hex_byte d == 95) (first_hex d h)
 
 push_number : (base : ℕ) (f : ℕ → ℕ) (xs : List ℕ) (b : ℕ) → (b ≡ 95 → ⊥) → number base f (xs ++ (b ∷ [])) ≡ number base f xs * base + f b
 unfolding number one_more
@@ -49,19 +63,36 @@ hex_value (suc n) v h =
     let q : v / 16 < 16 ^ n = (let e : 16 ^ suc n ≡ 16 * 16 ^ n = pow-suc 16 n ∙ mul_comm (16 ^ n) 16 in let m : v < 16 * 16 ^ n = rw e at h in omega arith) in
     push_number 16 digit (hex_text n (v / 16)) (hex_byte (v % 16)) (plain_hex (v % 16) d) ∙ rw (hex_value n (v / 16) q, digit_hex (v % 16) d) (div-add-mod' v 16)
 
-pub hex_all : (n v : ℕ) → list_all (member class.Hexes) (hex_text n v) ≡ true
-unfolding hex_text member
-hex_all zero v = refl
-hex_all (suc n) v = all_push is_hex (hex_text n (v / 16)) (hex_byte (v % 16)) (hex_all n (v / 16)) (in_hex (v % 16) (omega arith))
+all_hex : (w : Bool) (n v : ℕ) → list_all (further base.Hexadecimal w) (hex_text n v) ≡ true
+unfolding hex_text
+all_hex w zero v = refl
+all_hex w (suc n) v = all_push (further base.Hexadecimal w) (hex_text n (v / 16)) (hex_byte (v % 16)) (all_hex w n (v / 16)) (further_hex w (v % 16) (omega arith))
 
-pub hex_first : (n v : ℕ) → begins (is_first class.Hexes) (hex_text (suc n) v) ≡ true
-unfolding hex_text member is_first
-hex_first zero v = and_from (is_hex (hex_byte (v % 16))) (not (hex_byte (v % 16) == 95)) (in_hex (v % 16) (omega arith)) (rw (ne_eqb (hex_byte (v % 16)) 95 (plain_hex (v % 16) (omega arith))) refl)
-hex_first (suc n) v = begins_append (is_first class.Hexes) (hex_text (suc n) (v / 16)) (hex_byte (v % 16) ∷ []) (hex_first n (v / 16))
+all_rest : (p : ℕ → Bool) (xs : List ℕ) → list_all p xs ≡ true → list_all p (drop 1 xs) ≡ true
+all_rest p [] h = refl
+all_rest p (x ∷ xs) h = (and_parts (p x) (list_all p xs) h).1
+
+pub hex_first : (n v : ℕ) → begins (is_first base.Hexadecimal) (hex_text (suc n) v) ≡ true
+unfolding hex_text
+hex_first zero v = first_hex (v % 16) (omega arith)
+hex_first (suc n) v = begins_append (is_first base.Hexadecimal) (hex_text (suc n) (v / 16)) (hex_byte (v % 16) ∷ []) (hex_first n (v / 16))
+
+tame_text : (n v : ℕ) → begins is_wild (hex_text n v) ≡ false
+unfolding hex_text
+tame_text zero v = refl
+tame_text (suc n) v = begins_over is_wild (hex_text n (v / 16)) (hex_byte (v % 16) ∷ []) (tame_text n (v / 16)) (tame_hex (v % 16) (omega arith))
+
+no_padding : (text : List ℕ) → begins is_wild text ≡ false → padding text ≡ []
+no_padding [] h = refl
+no_padding (b ∷ bs) h = rw h refl
+
+tame_low : (d : ℕ) → d < 10 → is_wild (48 + d) ≡ false
+unfolding is_wild is_x is_z
+tame_low d h = grind (arith, nat_tests)
 
 low_digit : (d : ℕ) → d < 10 → digit (48 + d) ≡ d
 unfolding digit
-low_digit d h = grind (arith, nat_tests)
+low_digit d h = rw (tame_low d h) (grind (arith, nat_tests))
 
 low_plain : (d : ℕ) → d < 10 → 48 + d ≡ 95 → ⊥
 low_plain d h e = omega arith
@@ -114,19 +145,23 @@ sized_by (b ∷ size) d = (refl, refl)
 sized : (w : ℕ) → IsDecimal (size_text w) → (is_sized (size_text w) ≡ true) × (width_of (size_text w) ≡ number 10 digit (size_text w))
 sized w d = sized_by (size_text w) d
 
+or_false : (a b : Bool) → (a || b) ≡ false → (a ≡ false) × (b ≡ false)
+or_false true b h = absurd (cc)
+or_false false b h = (refl, h)
+
 -- digits of hexadecimals are no z and no x
 none_of : (f : ℕ → ℕ) → ((d : ℕ) → d < 16 → f (hex_byte d) ≡ 0) → (n v : ℕ) → number 16 f (hex_text n v) ≡ 0
 unfolding hex_text number
 none_of f h zero v = refl
 none_of f h (suc n) v = push_number 16 f (hex_text n (v / 16)) (hex_byte (v % 16)) (plain_hex (v % 16) (omega arith)) ∙ rw (none_of f h n (v / 16), h (v % 16) (omega arith)) refl
 
-no_any : (d : ℕ) → d < 16 → any_digit (hex_byte d) ≡ 0
-unfolding any_digit
-no_any d h = grind (arith, nat_tests)
+no_any : (d : ℕ) → d < 16 → any_digit 16 (hex_byte d) ≡ 0
+unfolding any_digit is_wild
+no_any d h = rw (or_false (is_x (hex_byte d)) (is_z (hex_byte d)) (tame_hex d h)).1 refl
 
-no_unknown : (d : ℕ) → d < 16 → unknown_digit (hex_byte d) ≡ 0
-unfolding unknown_digit
-no_unknown d h = grind (arith, nat_tests)
+no_unknown : (d : ℕ) → d < 16 → unknown_digit 16 (hex_byte d) ≡ 0
+unfolding unknown_digit is_wild
+no_unknown d h = rw (or_false (is_x (hex_byte d)) (is_z (hex_byte d)) (tame_hex d h)).0 refl
 
 sixteen : (n : ℕ) → 16 ^ n ≡ 2 ^ (4 * n)
 sixteen zero = refl
@@ -143,7 +178,7 @@ sign_parts : (s : Bool) → (sign_text s ≡ []) ⊎ ((b : ℕ) × (sign_text s 
 sign_parts true = inr (115, refl, refl)
 sign_parts false = inl refl
 
-written_parts : (w : ℕ) (signed : Bool) (v : ℕ) → 1 ≤ w → IsDecimal (size_text w) → AreParts (literal_parts w signed v) class.Hexes
+pub written_parts : (w : ℕ) (signed : Bool) (v : ℕ) → 1 ≤ w → IsDecimal (size_text w) → AreParts (literal_parts w signed v) base.Hexadecimal
 unfolding base_letter
 written_parts w signed v h d = record {
   size = inr d;
@@ -152,21 +187,29 @@ written_parts w signed v h d = record {
   letter = refl;
   space = refl;
   first = (let e : (w + 3) / 4 ≡ suc ((w + 3) / 4 - 1) = omega arith in rw e (hex_first ((w + 3) / 4 - 1) v));
-  digits = hex_all ((w + 3) / 4) v;
+  digits = all_rest _ (hex_text ((w + 3) / 4) v) (all_hex _ ((w + 3) / 4) v);
 }
 
-pub written : (w : ℕ) (signed : Bool) (v : ℕ) → 1 ≤ w → w ≤ 128 → v < 2 ^ w → IsNumber (text_of (literal_parts w signed v)) (record { width = w; signed = signed; value = v; any = 0; unknown = 0 })
-unfolding literal fits is_width digits_fit base_of base_letter
-written w signed v h k l =
-    let d = size_decimal w (omega arith) in
-    let z = sized w d in
+pub written_fits : (w : ℕ) (signed : Bool) (v : ℕ) → 1 ≤ w → w ≤ 128 → fits (size_text w) (radix_of base.Hexadecimal (hex_text ((w + 3) / 4) v)) (hex_text ((w + 3) / 4) v) ≡ true
+unfolding fits is_width digits_fit radix_in
+written_fits w signed v h k =
+    let z = sized w (size_decimal w (omega arith)) in
+    let n : width_of (size_text w) ≡ w = z.1 ∙ size_number w (omega arith) in
+    rw (n, z.0, le-leb 1 w h, le-leb w 128 k) refl
+
+pub written_literal : (w : ℕ) (signed : Bool) (v : ℕ) → 1 ≤ w → w ≤ 128 → v < 2 ^ w →
+    plain_number w signed v ≡ literal (size_text w) (is_signed (sign_text signed)) (radix_of base.Hexadecimal (hex_text ((w + 3) / 4) v)) (hex_text ((w + 3) / 4) v)
+unfolding literal radix_in
+written_literal w signed v h k l =
+    let z = sized w (size_decimal w (omega arith)) in
     let n : width_of (size_text w) ≡ w = z.1 ∙ size_number w (omega arith) in
     let c : number 16 digit (hex_text ((w + 3) / 4) v) ≡ v = hex_value ((w + 3) / 4) v (room w v l) in
-    let a = none_of any_digit no_any ((w + 3) / 4) v in
-    let u = none_of unknown_digit no_unknown ((w + 3) / 4) v in
-    based_number (literal_parts w signed v) class.Hexes (written_parts w signed v h d) refl
-    (rw (n, z.0, le-leb 1 w h, le-leb w 128 k) refl)
-    (rw (n, c, a, u, signed_is signed, mod-eq_of_lt l, zero-mod (2 ^ w)) refl)
+    let a = none_of (any_digit 16) no_any ((w + 3) / 4) v in
+    let u = none_of (unknown_digit 16) no_unknown ((w + 3) / 4) v in
+    rw (no_padding (hex_text ((w + 3) / 4) v) (tame_text ((w + 3) / 4) v), n, c, a, u, signed_is signed, mod-eq_of_lt l, zero-mod (2 ^ w)) refl
+
+pub written : (w : ℕ) (signed : Bool) (v : ℕ) → 1 ≤ w → w ≤ 128 → v < 2 ^ w → IsNumber (text_of (literal_parts w signed v)) (plain_number w signed v)
+written w signed v h k l = based_number (literal_parts w signed v) base.Hexadecimal (written_parts w signed v h (size_decimal w (omega arith))) refl (written_fits w signed v h k) (written_literal w signed v h k l)
 
 pub hex_low : (d : ℕ) → d < 10 → 48 + d ≡ hex_byte d
 hex_low d h = sym (rw (lt-ltb d 10 h) refl)
@@ -195,5 +238,5 @@ unfolding hex_text
 hex_more zero v xs ys h e = absurd (h refl)
 hex_more (suc n) v xs ys h e = let m : suc n - 1 ≡ n = omega arith in rw (e, m) (append_assoc xs (hex_text n (v / 16)) (hex_byte (v % 16) ∷ []))
 
-pub written_is : (w : ℕ) (signed : Bool) (v : ℕ) (text : List ℕ) → 1 ≤ w → w ≤ 128 → v < 2 ^ w → text ≡ text_of (literal_parts w signed v) → IsNumber text (record { width = w; signed = signed; value = v; any = 0; unknown = 0 })
+pub written_is : (w : ℕ) (signed : Bool) (v : ℕ) (text : List ℕ) → 1 ≤ w → w ≤ 128 → v < 2 ^ w → text ≡ text_of (literal_parts w signed v) → IsNumber text (plain_number w signed v)
 written_is w signed v text h k l e = rw e (written w signed v h k l)
