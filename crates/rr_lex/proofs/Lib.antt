@@ -1,3 +1,4 @@
+pub mod Classes
 pub mod Facts
 pub mod Digits
 pub mod Padding

@@ -3,3 +3,4 @@ pub mod Numbers
 pub mod Tokens
 pub mod Patch
 pub mod Reading
+pub mod Table

@@ -1,9 +1,10 @@
 //! Classes of bytes, and runs of them.
 
-ghost use Rattle.std.specs.Prelude.{◌≡◌, ℕ, List, ◌≤◌, ◌<◌, ◌+◌, length, drop};
+ghost use Rattle.std.specs.Prelude.{◌≡◌, ℕ, List, ◌≤◌, ◌<◌, ◌+◌, length, drop, get_or};
 ghost use Rattle.std.specs.List.{prefix_len};
 ghost use Rattle.rr_lex.specs.Bytes.{is, begins};
 ghost use Rattle.rr_lex.specs.Tokens.{more, begins_with as begins_with_of};
+ghost use Rattle.rr_lex.specs.Table.{class_table, mask_of};
 ghost use Rattle.rr_lex.specs.Reading.{member, closing as closing_of};
 
 /// A class of bytes, with its place in the masks of [`CLASSES`].
@@ -66,7 +67,10 @@ const CLASSES: [u32; 256] = [
 ];
 
 /// The bit of a class in the masks of [`CLASSES`].
-fn mask(class: Class) -> u32 {
+#[tactic(auto, unfolding(crate::specs::Table::mask_of))]
+fn mask(class: Class) -> u32
+    ensures { result ≡ mask_of class }
+{
     match class {
         Class::Blank => 0x00001,
         Class::Gap => 0x00002,
@@ -89,10 +93,19 @@ fn mask(class: Class) -> u32 {
     }
 }
 
+/// The mask of the classes of a byte.
+fn classes(byte: u8) -> u32
+    ensures { result ≡ get_or class_table byte 0 }
+{
+    CLASSES[byte as usize]
+}
+
+/// Whether a byte is of the class.
+#[tactic(auto, using(crate::proofs::Classes::table_is))]
 pub fn is_in(class: Class, byte: u8) -> bool
     ensures { result ≡ member class byte }
 {
-    CLASSES[byte as usize] & mask(class) != 0
+    classes(byte) & mask(class) != 0
 }
 
 /// The place after the bytes of a class from here on.
