@@ -2,15 +2,16 @@
 use Rattle.std.proofs.Common.{ℕ, zero, suc, ◌≡◌, ◌+◌, ◌*◌, ◌%◌, ◌^◌, ◌≤◌, ◌<◌, List, [], ◌∷◌, ◌++◌, length, drop, take, get_or, Bool, true, false, Option, Some, None, ◌==◌, nat_lt, nat_le, ◌-◌, refl, ap, ◌∙◌, sym, arith, cond}
 use Rattle.std.specs.List.{fold}
 use Rattle.std.proofs.lemmas.Bool.{eqb-true, ne_eqb, eq-eqb, cond_both, lt-ltb, le-ltb, le-leb, lt-leb, and_right, and_from}
-use Rattle.std.proofs.lemmas.List.{take-append-drop}
+use Rattle.std.proofs.lemmas.List.{take-append-drop, take_all}
 use Rattle.std.proofs.lemmas.List.Sums.{fold_more, fold-append}
 use Rattle.std.proofs.lemmas.Nat.{mul-mod_first}
 use Rattle.std.proofs.Math.Nat.{mod-add-mod, mul-le-mul_left}
 use Rattle.std.proofs.Math.Pow.{mod-mod-pow}
 use Rattle.rr_lex.specs.declared.number.Base.{Base}
+use Rattle.rr_lex.specs.declared.number.Count.{Count}
 use Rattle.rr_lex.specs.declared.number.Count.TheVariants as count
-use Rattle.rr_lex.specs.Numbers.{one_more, number, counted, digit, any_digit, unknown_digit, literal, base_of, is_width, width_of, is_sized, fits, digits_fit, radix_of}
-use Rattle.rr_lex.specs.Reading.{checked, sized}
+use Rattle.rr_lex.specs.Numbers.{one_more, number, digit, any_digit, unknown_digit, literal, is_width, width_of, is_sized, fits, digits_fit, radix_of, padding}
+use Rattle.rr_lex.specs.Reading.{counted, checked, sized}
 use Rattle.rr_syntax.specs.declared.token.Number.{Number}
 
 pub low_same : (base : ℕ) (f : ℕ → ℕ) (t b n : ℕ) → b ≡ 95 → t ≡ n % 2 ^ 128 → t ≡ one_more base f n b % 2 ^ 128
@@ -114,3 +115,13 @@ misfit c size signed digits h k = sym (rw (h, k) refl)
 pub fit : (c : Base) (size : List ℕ) (signed : Bool) (digits : List ℕ) (m : Number) → is_width (width_of size) ≡ true → digits_fit size (radix_of c digits) digits ≡ true → m ≡ literal size signed (radix_of c digits) digits → Some m ≡ sized c size signed digits
 unfolding fits checked sized
 fit c size signed digits m h k e = sym (rw (h, k, e) refl)
+
+-- digits read behind others
+pub behind : (radix : ℕ) (f : ℕ → ℕ) (front text : List ℕ) → fold (one_more radix f) (number radix f front) text ≡ number radix f (front ++ text)
+unfolding number
+behind radix f front text = sym (fold-append (one_more radix f) 0 front text)
+
+pub low_done : (k : Count) (r q i t : ℕ) (front text : List ℕ) → q ≡ r → length text ≤ i → t ≡ fold (one_more q (counted k q)) (number q (counted k q) front) (take i text) % 2 ^ 128 → t ≡ number r (counted k r) (front ++ text) % 2 ^ 128
+low_done k r q i t front text e l h =
+    h ∙ ap (λ (xs : List ℕ). fold (one_more q (counted k q)) (number q (counted k q) front) xs % 2 ^ 128) (take_all i text l) ∙ ap (λ (n : ℕ). n % 2 ^ 128) (behind q (counted k q) front text)
+    ∙ ap (λ (n : ℕ). number n (counted k n) (front ++ text) % 2 ^ 128) e

@@ -1,5 +1,5 @@
 -- The digits that stand before a first digit x or z.
-use Rattle.std.proofs.Common.{ℕ, zero, suc, ◌≡◌, ◌+◌, ◌-◌, ◌*◌, ◌%◌, ◌^◌, List, [], ◌∷◌, Bool, true, false, ◌==◌, ◌||◌, if◌then◌else◌, refl, ap, ◌∙◌, sym, arith, inl, inr, ◌⊎◌}
+use Rattle.std.proofs.Common.{ℕ, zero, suc, ◌≡◌, ◌+◌, ◌-◌, ◌*◌, ◌%◌, ◌^◌, ◌≤◌, ◌<◌, length, get_or, List, [], ◌∷◌, Bool, true, false, ◌==◌, ◌||◌, if◌then◌else◌, refl, ap, ◌∙◌, sym, arith, inl, inr, ◌⊎◌}
 use Rattle.std.specs.Prelude.{replicate}
 use Rattle.std.specs.List.{fold, list_all}
 use Rattle.std.proofs.lemmas.Bool.{and_parts, or_cases, cases_Bool, eqb-true, false≢true, ne_eqb, or_left, or_right}
@@ -77,12 +77,15 @@ padding_is c k b bs = elim (cases_Bool (is_wild b)) [
   | inr h ↦ rw (h, tame k b h) refl
 ]
 
-pub padding_none : (c : Base) (k : Count) (text : List ℕ) → text ≡ [] → 0 ≡ number (radix_of c text) (counted k (radix_of c text)) (padding text) % 2 ^ 128
+pub padding_none : (c : Base) (k : Count) (text : List ℕ) → length text < 1 → 0 ≡ number (radix_of c text) (counted k (radix_of c text)) (padding text) % 2 ^ 128
 unfolding number
-padding_none c k text e = rw e refl
+padding_none c k [] l = refl
+padding_none c k (b ∷ bs) l = absurd (omega arith)
 
-pub padding_ones : (c : Base) (k : Count) (text bs : List ℕ) (b : ℕ) → text ≡ b ∷ bs → fills k b ≡ true → 340282366920938463463374607431768211455 ≡ number (radix_of c text) (counted k (radix_of c text)) (padding text) % 2 ^ 128
-padding_ones c k text bs b e h = rw e (sym (padding_is c k b bs ∙ rw h refl))
+pub padding_ones : (c : Base) (k : Count) (text : List ℕ) → 1 ≤ length text → fills k (get_or text 0 0) ≡ true → 340282366920938463463374607431768211455 ≡ number (radix_of c text) (counted k (radix_of c text)) (padding text) % 2 ^ 128
+padding_ones c k [] l h = absurd (omega arith)
+padding_ones c k (b ∷ bs) l h = sym (padding_is c k b bs ∙ rw h refl)
 
-pub padding_zeros : (c : Base) (k : Count) (text bs : List ℕ) (b : ℕ) → text ≡ b ∷ bs → fills k b ≡ false → 0 ≡ number (radix_of c text) (counted k (radix_of c text)) (padding text) % 2 ^ 128
-padding_zeros c k text bs b e h = rw e (sym (padding_is c k b bs ∙ rw h refl))
+pub padding_zeros : (c : Base) (k : Count) (text : List ℕ) → 1 ≤ length text → fills k (get_or text 0 0) ≡ false → 0 ≡ number (radix_of c text) (counted k (radix_of c text)) (padding text) % 2 ^ 128
+padding_zeros c k [] l h = absurd (omega arith)
+padding_zeros c k (b ∷ bs) l h = sym (padding_is c k b bs ∙ rw h refl)
