@@ -4,7 +4,7 @@ use Rattle.std.specs.List.{list_all}
 use Rattle.std.specs.Str.{IsAscii}
 use Rattle.std.proofs.lemmas.Bool.{and_parts}
 use Rattle.std.proofs.lemmas.Bool.Decides.{nat_tests}
-use Rattle.std.proofs.lemmas.List.{drop_at, take_at, drop-drop, length-append, length-drop, append_assoc, append-nil, drop_all}
+use Rattle.std.proofs.lemmas.List.{drop_at, take_at, drop-drop, length-append, length-drop, append_assoc, append-nil, drop_all, length-map}
 use Rattle.rr_syntax.specs.declared.token.Token.{Token}
 use Rattle.rr_lex.specs.declared.piece.Shape.{Shape}
 use Rattle.rr_lex.specs.declared.piece.Shape.TheVariants as shape
@@ -14,7 +14,7 @@ use Rattle.rr_lex.specs.declared.piece.Wrong.{Wrong}
 use Rattle.rr_lex.specs.declared.piece.Wrong.TheVariants as wrong
 use Rattle.rr_lex.specs.Bytes.{is_name_byte, is_printable}
 use Rattle.rr_syntax.specs.Words.{Word, Named, Digits, Reserved, Marked, marks, keywords, word, words}
-use Rattle.rr_lex.specs.Tokens.{Lexeme, lexemes, words_of, place_of, IsWhite, blank, line, block, attribute, skipped, IsToken, named, reserved, escaped_name, numbered, marked, Stands, IsFault, IsFirstFault, Read, here, white, token}
+use Rattle.rr_lex.specs.Tokens.{AreTokens, Rise, Lexeme, lexeme, lexemes, words_of, place_of, IsWhite, blank, line, block, attribute, skipped, IsToken, named, reserved, escaped_name, numbered, marked, Stands, IsFault, IsFirstFault, Read, here, white, token}
 use Rattle.rr_lex.specs.Reading.{some_piece, moved, word_of, IsKnown, IsSafe, number_of}
 use Rattle.rr_lex.proofs.Exact.{Case, c_white, c_text, c_broken, c_byte, case_at, empty_seen, read_stands, read_fault, number_back}
 
@@ -114,3 +114,23 @@ pub token_words : (ts : List Token) → words_of (lexemes ts) ≡ words ts
 unfolding words
 token_words [] = refl
 token_words (t ∷ ts) = ap (λ (ws : List Word). word t.kind ∷ ws) (token_words ts)
+
+-- spans rise
+rise_from : (a b end : ℕ) (ts : List Lexeme) → a ≤ b → Rise b end ts → Rise a end ts
+rise_from a b end [] h r = omega arith
+rise_from a b end (t ∷ ts) h r = let l = r.0 in (omega arith, r.1, r.2)
+
+read_rise : (end : ℕ) (rest : List ℕ) (at : ℕ) (bs : List ℕ) (ts : List Lexeme) → Read end rest at bs ts → Rise at end ts
+read_rise end rest a b c (here at bs e w) = omega arith
+read_rise end rest a b c (white at bs text after ts w k r) = rise_from at (at + length text) end ts (omega arith) (read_rise end rest (at + length text) after ts r)
+read_rise end rest a b c (token at bs text after w ts q k r) = let l = token_length w text after k.token in (omega arith, omega arith, read_rise end rest (at + length text) after ts r)
+
+rise_few : (from end : ℕ) (ts : List Lexeme) → Rise from end ts → from + length ts ≤ end
+rise_few from end [] r = omega arith
+rise_few from end (t ∷ ts) r = let a = r.0 in let b = r.1 in let i : t.end + length ts ≤ end = rise_few t.end end ts r.2 in omega arith
+
+pub lex_rise : (bs : List ℕ) (ts : List Lexeme) → AreTokens bs ts → Rise 0 (length bs) ts
+lex_rise bs ts r = read_rise (length bs) [] 0 bs ts r
+
+pub lex_few : (bs : List ℕ) (ts : List Token) → AreTokens bs (lexemes ts) → length ts ≤ length bs
+lex_few bs ts r = let l : 0 + length (lexemes ts) ≤ length bs = rise_few 0 (length bs) (lexemes ts) (lex_rise bs (lexemes ts) r) in omega (arith, length-map ts lexeme)

@@ -3,14 +3,11 @@ use Rattle.std.proofs.lemmas.List.{map_push, length-take-le, length-drop}
 use Rattle.rr_syntax.specs.declared.token.Token.{Token}
 use Rattle.rr_lex.specs.Tokens.{lexeme, lexemes, Lexeme, Read, here}
 use Rattle.rr_syntax.specs.Words.{word}
-use Rattle.rr_lex.proofs.Steps.{lex_white, lex_text, lex_fault, lex_done}
+use Rattle.rr_lex.proofs.Steps.{lex_white, lex_text, lex_fault, lex_done, lex_few, lex_rise}
 use Rattle.rr_lex.proofs.lexer.lex.Goals as goal
 
 pub loop-at-init : goal.loop-at-init
 loop-at-init c = record { within = omega arith; read = rw (c.new-tokens.ensures.items) (here 0 c.args.bytes.now refl refl) }
-
-pub unreachable-requires : goal.unreachable-requires
-unreachable-requires c = c.in-Finish.ensures.safe
 
 pub loop-at-smaller-in-White : goal.loop-at-smaller-in-White
 loop-at-smaller-in-White c = let s = c.in-White.ensures.safe in let a = s.0 in let b = s.1 in omega arith
@@ -41,7 +38,14 @@ loop-at-preserved c = record {
 }
 
 pub returns-in-Fault : goal.returns-in-Fault
-returns-in-Fault c = c.fault_at.ensures c.args.bytes.now (lex_fault c.args.bytes.now c.loop-at.at c.in-Fault.wrong (lexemes c.loop-at.tokens.items) c.loop-at-test.true c.in-Fault.ensures.place c.loop-at.invariant.read)
+returns-in-Fault c = record {
+  answer = c.fault_at.ensures c.args.bytes.now (lex_fault c.args.bytes.now c.loop-at.at c.in-Fault.wrong (lexemes c.loop-at.tokens.items) c.loop-at-test.true c.in-Fault.ensures.place c.loop-at.invariant.read);
+  few = tt;
+  spans = tt;
+}
 
 pub returns : goal.returns
-returns c = rw (c.into_bump_slice.ensures) (lex_done c.args.bytes.now c.loop-at.at (lexemes c.loop-at.tokens.items) c.loop-at-test.false c.loop-at.invariant.within c.loop-at.invariant.read)
+returns c =
+    let r = lex_done c.args.bytes.now c.loop-at.at (lexemes c.loop-at.tokens.items) c.loop-at-test.false c.loop-at.invariant.within c.loop-at.invariant.read in
+    let l = lex_few c.args.bytes.now c.loop-at.tokens.items r in
+    rw (c.into_bump_slice.ensures) (record { answer = r; few = omega arith; spans = lex_rise c.args.bytes.now (lexemes c.loop-at.tokens.items) r })
