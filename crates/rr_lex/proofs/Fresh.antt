@@ -14,6 +14,7 @@ use Rattle.rr_lex.specs.Numbers.{text_of, literal_parts, IsNumber, radix_of, fit
 use Rattle.rr_lex.specs.Tokens.{place_of, IsName, Stands, more, begins_with, attribute_begins}
 use Rattle.rr_lex.specs.Patch.{New, IsNew, IsNameText, is_none, is_plain_name, name_text, new_name, new_keyword, new_mark, new_literal, plain_number}
 use Rattle.rr_lex.specs.Reading.{some_piece, word_of, is_mark, keyword_word, mark_word, is_some_place, mark_len, mark_piece, has_mark, at_least}
+use Rattle.rr_lex.proofs.Places.{all_below, below_all, is_place, place_is}
 use Rattle.rr_lex.proofs.Runs.{run_stops, Dark}
 use Rattle.rr_lex.proofs.Exact.{name_first, escape_piece, read_stands}
 use Rattle.rr_lex.proofs.Edges.{dark_name}
@@ -34,28 +35,6 @@ unfolding word_of
 name_stands w text n e after =
     let t : Stands (word_of shape.Name text) text (32 ∷ after) = read_stands shape.Name text (32 ∷ after) (name_alone text n after) (name_length text n) in
     subst (λ (v : Word). Stands v text (32 ∷ after)) (sym e) t
-
--- every number below a bound
-all_below : (ℕ → Bool) → ℕ → Bool
-all_below p zero = true
-all_below p (suc n) = p n && all_below p n
-
-below_all : (p : ℕ → Bool) (n m : ℕ) → all_below p n ≡ true → m < n → p m ≡ true
-unfolding all_below
-below_all p zero m h l = absurd (omega arith)
-below_all p (suc n) m h l = let k = and_parts (p n) (all_below p n) h in elim (cases_lt m n) [
-  | inl i ↦ below_all p n m k.1 i
-  | inr i ↦ let e : m ≡ n = omega arith in ap p e ∙ k.0
-]
-
-is_place : ℕ → Option ℕ → Bool
-is_place m None = false
-is_place m (Some n) = n == m
-
-place_is : (m : ℕ) (o : Option ℕ) → is_place m o ≡ true → o ≡ Some m
-unfolding is_place
-place_is m None h = absurd (cc)
-place_is m (Some n) h = ap Some (eqb-true n m h)
 
 -- reserved words
 keyword_ok : ℕ → Bool

@@ -7,6 +7,7 @@ pub mod Runs
 pub mod NumberText
 pub mod Closed
 pub mod Marks
+pub mod Places
 pub mod Skipped
 pub mod Ascii
 pub mod Exact

@@ -10,7 +10,7 @@ use Rattle.rr_syntax.specs.Words.{marks}
 use Rattle.rr_lex.specs.Reading.{is_some_place, is_mark, has_mark, at_least, mark_len}
 use Rattle.rr_lex.proofs.Runs.{Dark, not_blank}
 
-more_found : (o : Option ℕ) (m : ℕ) → more 1 o ≡ Some m → (n : ℕ) × (o ≡ Some n)
+pub more_found : (o : Option ℕ) (m : ℕ) → more 1 o ≡ Some m → (n : ℕ) × (o ≡ Some n)
 unfolding more
 more_found None m e = absurd (cc)
 more_found (Some n) m e = (n, refl)
