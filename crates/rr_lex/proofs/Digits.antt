@@ -1,5 +1,5 @@
 -- The digits of a number, one by one.
-use Rattle.std.proofs.Common.{ℕ, zero, suc, ◌≡◌, ◌+◌, ◌*◌, ◌%◌, ◌^◌, ◌≤◌, ◌<◌, List, [], ◌∷◌, ◌++◌, length, drop, take, get_or, Bool, true, false, Option, Some, None, ◌==◌, nat_lt, nat_le, ◌-◌, refl, ap, ◌∙◌, sym, arith, cond}
+use Rattle.std.proofs.Common.{ℕ, zero, suc, ◌≡◌, ◌+◌, ◌*◌, ◌%◌, ◌^◌, ◌≤◌, ◌<◌, List, [], ◌∷◌, ◌++◌, length, drop, take, get_or, Bool, true, false, Option, Some, None, ◌==◌, nat_lt, nat_le, ◌-◌, refl, ap, ◌∙◌, sym, arith, cond, mul-le-mul_right}
 use Rattle.std.specs.List.{fold}
 use Rattle.std.proofs.lemmas.Bool.{eqb-true, ne_eqb, eq-eqb, cond_both, lt-ltb, le-ltb, le-leb, lt-leb, and_right, and_from}
 use Rattle.std.proofs.lemmas.List.{take-append-drop, take_all}
@@ -125,3 +125,8 @@ pub low_done : (k : Count) (r q i t : ℕ) (front text : List ℕ) → q ≡ r �
 low_done k r q i t front text e l h =
     h ∙ ap (λ (xs : List ℕ). fold (one_more q (counted k q)) (number q (counted k q) front) xs % 2 ^ 128) (take_all i text l) ∙ ap (λ (n : ℕ). n % 2 ^ 128) (behind q (counted k q) front text)
     ∙ ap (λ (n : ℕ). number n (counted k n) (front ++ text) % 2 ^ 128) e
+
+pub roomy : (t r : ℕ) → t < 1329227995784915872903807060280344576 → r < 256 → t * r ≤ 338953138925153547590470800371487866625
+roomy t r h k =
+    let a : t * r ≤ 1329227995784915872903807060280344575 * r = mul-le-mul_right r (omega arith) in
+    omega arith

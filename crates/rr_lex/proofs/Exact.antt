@@ -13,7 +13,7 @@ use Rattle.rr_lex.specs.declared.piece.Piece.TheVariants as part
 use Rattle.rr_lex.specs.declared.piece.Wrong.{Wrong}
 use Rattle.rr_lex.specs.declared.piece.Wrong.TheVariants as wrong
 use Rattle.rr_lex.specs.Bytes.{is, begins, starts, is_blank, is_gap, is_dark, is_decimal, is_digit, is_letter, is_name_byte, is_in_line, is_printable}
-use Rattle.rr_lex.specs.Reading.{system_piece, is_skipped, sized, member, closing, comment, is_mark, is_escaped, mark_len, mark_piece, number_len, number_of, number_piece, in_range, apostrophe, checked, some_piece, word_of, keyword_word, number_word, mark_word, IsKnown}
+use Rattle.rr_lex.specs.Reading.{system_piece, is_skipped, sized, member, closing, comment, is_mark, is_escaped, mark_len, mark_piece, number_len, number_of, number_piece, in_range, apostrophe, checked, some_piece, word_of, keyword_word, mark_word, IsKnown}
 use Rattle.rr_syntax.specs.Words.{System, Word, Named, Digits, Reserved, Marked, marks, keywords}
 use Rattle.rr_lex.specs.Tokens.{more, place_of, IsClosedBy, is_closed_next, begins_with, attribute_begins, IsWhite, blank, line, block, attribute, skipped, IsName, IsToken, named, reserved, escaped_name, system_name, numbered, marked, HasApostrophe, NoWhite, IsBroken, open_block, open_attribute, directive, no_digits, out_of_range, IsFault, broken, no_token, Stands}
 use Rattle.rr_lex.specs.Numbers.{goes_on, radix_of, is_wild, Parts, AreParts, text_of, IsDecimal, IsNumberText, decimal, based, IsNumber, decimal_number, based_number, fits, literal, plain_literal, is_signed, number, digit}
@@ -315,12 +315,16 @@ mark_seen w (x ∷ xs) after m e f =
     mark_first (Seen w (x ∷ xs)) x (xs ++ after) (fine_parts x xs (place_mark (x ∷ xs) m e)).start (λ _. tt) (λ o. seen_comment w (x ∷ xs) o)
     (rw (mark_piece_is (mark_len (x ∷ (xs ++ after))) (omega arith)) (l, λ _. k))
 
-seen_range : (w : Word) (text x : List ℕ) → length text ≤ length x → (length text ≡ length x → w ≡ number_word (number_of text)) → Seen w text (in_range (length x) (number_of x))
-unfolding Seen word_of in_range
-seen_range w text x l k = elim (number_of x) as (λ o. Seen w text (in_range (length x) o)) [ None ↦ tt | Some v ↦ (l, k) ]
+number_word : Option Number → Word
+number_word None = Named []
+number_word (Some n) = Digits n
+
+seen_range : (w : Word) (text x : List ℕ) → length text ≤ length x → (length text ≡ length x → w ≡ number_word (number_of x)) → Seen w text (in_range (length x) (number_of x))
+unfolding Seen word_of in_range number_word
+seen_range w text x l = elim (number_of x) as (λ o. (length text ≡ length x → w ≡ number_word o) → Seen w text (in_range (length x) o)) [ None ↦ λ k. tt | Some v ↦ λ k. (l, k) ]
 
 number_seen : (w : Word) (text after : List ℕ) (n : Number) → IsNumber text n → w ≡ Digits n → Seen w text (some_piece (text ++ after))
-unfolding Seen
+unfolding Seen number_word
 number_seen w text after n t e =
     let ty = number_text text n t in
     let h = text_first text after ty in
@@ -328,7 +332,7 @@ number_seen w text after n t e =
       | a_fault _ z ↦ rw (none_number (text ++ after) z) tt
       | a_number x r q tx z ↦
           let l : length text ≤ length x = number_reach text after (length x) ty z in
-          let k : length text ≡ length x → w ≡ number_word (number_of text) = λ (c : length text ≡ length x). e ∙ ap number_word (sym (number_back text n t)) in
+          let k : length text ≡ length x → w ≡ number_word (number_of x) = λ (c : length text ≡ length x). e ∙ ap number_word (sym (number_back text n t) ∙ ap number_of (fronts text x after r q c).0) in
           rw (ap (λ (b : List ℕ). number_piece b (number_len b)) q ∙ found_number x r (ap number_len (sym q) ∙ z))
           (seen_range w text x l k)
     ])
@@ -416,7 +420,7 @@ number_case_at bs h = elim (numbered_is bs h) [
   | a_number x r q t e ↦
       let p : some_piece bs ≡ in_range (length x) (number_of x) = first_byte bs h ∙ ap (λ (b : List ℕ). number_piece b (number_len b)) q ∙ found_number x r (ap number_len (sym q) ∙ e) in
       elim (some_none (number_of x)) [
-        | inr v ↦ c_text shape.Number x r q (numbered v.0 (number_there x v.0 t v.1) (rw v.1 refl)) (rw v.1 refl) (p ∙ rw v.1 refl)
+        | inr v ↦ c_text (shape.Number v.0) x r q (numbered v.0 (number_there x v.0 t v.1) refl) tt (p ∙ rw v.1 refl)
         | inl z ↦ c_broken wrong.Number (out_of_range x r q t
             (λ s a w k. number_reach s a (length x) k (ap number_len (sym w) ∙ e))
             (λ n k. number_bad x n z (number_back x n k)) refl) (p ∙ rw z refl)

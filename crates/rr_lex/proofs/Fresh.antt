@@ -64,7 +64,7 @@ is_mark_text n (part.Text shape.Mark m) = m == n
 is_mark_text n (part.Text shape.Name m) = false
 is_mark_text n (part.Text shape.Escaped m) = false
 is_mark_text n (part.Text shape.System m) = false
-is_mark_text n (part.Text shape.Number m) = false
+is_mark_text n (part.Text (shape.Number v) m) = false
 is_mark_text n (part.Fault f) = false
 
 text_is : (n : ℕ) (p : Piece) → is_mark_text n p ≡ true → p ≡ part.Text shape.Mark n
@@ -74,7 +74,7 @@ text_is n (part.Text shape.Mark m) h = ap (part.Text shape.Mark) (eqb-true m n h
 text_is n (part.Text shape.Name m) h = absurd (cc)
 text_is n (part.Text shape.Escaped m) h = absurd (cc)
 text_is n (part.Text shape.System m) h = absurd (cc)
-text_is n (part.Text shape.Number m) h = absurd (cc)
+text_is n (part.Text (shape.Number v) m) h = absurd (cc)
 text_is n (part.Fault f) h = absurd (cc)
 
 mark_ok : List ℕ → ℕ → Bool

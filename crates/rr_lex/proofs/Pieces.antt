@@ -21,10 +21,10 @@ unfolding more moved number_piece in_range
 number_wrong at end bs e = elim (number_len (drop at bs)) as (λ o. Some end ≡ more at o → None ≡ number_of (take (end - at) (drop at bs)) → part.Fault wrong.Number ≡ moved at (number_piece (drop at bs) o))
     [ None ↦ λ h _. absurd (cc) | Some n ↦ λ h k. let m : end ≡ at + n = cc in let l : end - at ≡ n = omega arith in rw (← l, ← k) refl ] e
 
-pub number_right : (at end : ℕ) (bs : List ℕ) (v : Number) → Some end ≡ more at (number_len (drop at bs)) → Some v ≡ number_of (take (end - at) (drop at bs)) → part.Text shape.Number end ≡ moved at (number_piece (drop at bs) (number_len (drop at bs)))
+pub number_right : (at end : ℕ) (bs : List ℕ) (v : Number) → Some end ≡ more at (number_len (drop at bs)) → Some v ≡ number_of (take (end - at) (drop at bs)) → part.Text (shape.Number v) end ≡ moved at (number_piece (drop at bs) (number_len (drop at bs)))
 unfolding more moved number_piece in_range
-number_right at end bs v e = elim (number_len (drop at bs)) as (λ o. Some end ≡ more at o → Some v ≡ number_of (take (end - at) (drop at bs)) → part.Text shape.Number end ≡ moved at (number_piece (drop at bs) o))
-    [ None ↦ λ h _. absurd (cc) | Some n ↦ λ h k. let m : end ≡ at + n = cc in let l : end - at ≡ n = omega arith in rw (← l, ← k) (ap (part.Text shape.Number) (omega arith)) ] e
+number_right at end bs v e = elim (number_len (drop at bs)) as (λ o. Some end ≡ more at o → Some v ≡ number_of (take (end - at) (drop at bs)) → part.Text (shape.Number v) end ≡ moved at (number_piece (drop at bs) o))
+    [ None ↦ λ h _. absurd (cc) | Some n ↦ λ h k. let m : end ≡ at + n = cc in let l : end - at ≡ n = omega arith in rw (← l, ← k) (ap (part.Text (shape.Number v)) (omega arith)) ] e
 
 comment_moved : (at : ℕ) (o : Option ℕ) → comment_at (more (at + 2) o) ≡ moved at (comment o)
 unfolding comment_at comment more moved

@@ -12,7 +12,7 @@ use Rattle.rr_lex.specs.Table.{placed, keyword_hash, keyword_slot, keyword_slots
 use Rattle.rr_lex.proofs.Marks.{more_found}
 
 -- every number below a bound
-pub all_below : (ℕ → Bool) → ℕ → Bool
+unfoldable pub all_below : (ℕ → Bool) → ℕ → Bool
 all_below p zero = true
 all_below p (suc n) = p n && all_below p n
 
@@ -24,7 +24,7 @@ below_all p (suc n) m h l = let k = and_parts (p n) (all_below p n) h in elim (c
   | inr i ↦ let e : m ≡ n = omega arith in ap p e ∙ k.0
 ]
 
-pub is_place : ℕ → Option ℕ → Bool
+unfoldable pub is_place : ℕ → Option ℕ → Bool
 is_place m None = false
 is_place m (Some n) = n == m
 

@@ -73,10 +73,9 @@ unfolding in_range checked word_of
 literal_alone p c a f after =
     let n : number_of (text_of p) ≡ Some (literal p.size (is_signed p.sign) (radix_of c p.digits) p.digits) = based_of p c a ∙ rw f refl in
     let l : number_len (text_of p ++ (32 ∷ after)) ≡ Some (length (text_of p)) = based_len p c (32 ∷ after) a ∙ ap Some (rw (bare_run (goes_on c p.digits) (32 ∷ after) (dark_further c (begins is_wild p.digits)).blank) (omega arith)) in
-    let e : some_piece (text_of p ++ (32 ∷ after)) ≡ part.Text shape.Number (length (text_of p)) =
+    let e : some_piece (text_of p ++ (32 ∷ after)) ≡ part.Text (shape.Number (literal p.size (is_signed p.sign) (radix_of c p.digits) p.digits)) (length (text_of p)) =
     first_byte (text_of p ++ (32 ∷ after)) (text_first (text_of p) (32 ∷ after) (based p c a refl)) ∙ found_number (text_of p) (32 ∷ after) l ∙ rw n refl in
-    let t = read_stands shape.Number (text_of p) (32 ∷ after) e (omega (arith, text_length p)) in
-    rw n at t
+    read_stands (shape.Number (literal p.size (is_signed p.sign) (radix_of c p.digits) p.digits)) (text_of p) (32 ∷ after) e (omega (arith, text_length p))
 
 empty_apostrophe : HasApostrophe [] → ⊥
 empty_apostrophe t = let l : 0 ≡ length (t.0 ++ (t.1 ++ (39 ∷ t.2))) = ap length t.3 in let k : length (t.0 ++ (t.1 ++ (39 ∷ t.2))) ≡ length t.0 + (length t.1 + suc (length t.2)) = simp length-append in omega arith

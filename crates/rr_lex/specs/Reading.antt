@@ -129,7 +129,7 @@ number_of text =
 
 unfoldable pub in_range : ℕ → Option Number → Piece
 in_range n None = part.Fault wrong.Number
-in_range n (Some v) = part.Text shape.Number n
+in_range n (Some v) = part.Text (shape.Number v) n
 
 unfoldable pub number_piece : List ℕ → Option ℕ → Piece
 number_piece bs None = part.Fault wrong.Number
@@ -205,10 +205,6 @@ abbrev pub keyword_word : List ℕ → Option ℕ → Word
 keyword_word text None = Named text
 keyword_word text (Some k) = Reserved k
 
-abbrev pub number_word : Option Number → Word
-number_word None = Named []
-number_word (Some n) = Digits n
-
 abbrev pub mark_word : Option ℕ → Word
 mark_word None = Named []
 mark_word (Some m) = Marked m
@@ -218,15 +214,15 @@ unfoldable pub word_of : Shape → List ℕ → Word
 word_of shape.Name text = keyword_word text (place_of text keywords)
 word_of shape.Escaped text = Named (drop 1 text)
 word_of shape.System text = System (drop 1 text)
-word_of shape.Number text = number_word (number_of text)
+word_of (shape.Number n) text = Digits n
 word_of shape.Mark text = mark_word (place_of text marks)
 
--- names are ASCII, numbers and marks are texts that have a word
+-- names are ASCII, and marks are texts that have a place
 abbrev pub IsKnown : Shape → List ℕ → Type 0
 IsKnown shape.Name text = IsAscii text
 IsKnown shape.Escaped text = IsAscii text
 IsKnown shape.System text = IsAscii text
-IsKnown shape.Number text = IsSome (number_of text)
+IsKnown (shape.Number n) text = Unit {0}
 IsKnown shape.Mark text = IsSome (place_of text marks)
 
 -- what stands at a place ends behind it and within the bytes

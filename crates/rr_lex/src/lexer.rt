@@ -6,7 +6,6 @@ ghost use Rattle.rr_syntax.specs.Words.{word};
 ghost use Rattle.rr_lex.specs.Tokens.{lexemes, AreTokens, IsFirstFault, IsTextFault, Rise};
 ghost use Rattle.rr_lex.specs.Reading.{word_of, IsKnown};
 
-use crate::number::number_of;
 use crate::piece::{Piece, Shape, Wrong, piece_at};
 use crate::words::{keyword_at, mark_at};
 use bumpalo::Bump;
@@ -63,10 +62,7 @@ fn kind_of<'a>(text: &[u8], shape: Shape, arena: &'a Bump) -> Result<Kind<'a>, A
         },
         Shape::Escaped => Ok(Kind::Name(name_at(&text[1..], arena)?)),
         Shape::System => Ok(Kind::System(name_at(&text[1..], arena)?)),
-        Shape::Number => match number_of(text) {
-            None => unreachable!(),
-            Some(number) => Ok(Kind::Number(number)),
-        },
+        Shape::Number(number) => Ok(Kind::Number(number)),
         Shape::Mark => match mark_at(text) {
             None => unreachable!(),
             Some(at) => Ok(Kind::Mark(Mark(at as u8))),

@@ -212,16 +212,23 @@ fn counted(count: Count, radix: u8, byte: u8) -> u8
     }
 }
 
+/// Below 2^120 one digit more always fits 128 bits.
+const ROOMY: u128 = 1329227995784915872903807060280344576;
+
 /// One digit more, where the number stays below 2^128.
-#[tactic(auto, unfolding(crate::specs::Numbers::one_more))]
+#[tactic(auto, using(crate::proofs::Digits::roomy), unfolding(crate::specs::Numbers::one_more))]
 fn one_more(total: u128, radix: u8, count: Count, byte: u8) -> Option<u128>
     ensures { MatchOption result (2 ^ 128 ≤ one_more_in radix (counted_of count radix) total byte) (λ n. n ≡ one_more_in radix (counted_of count radix) total byte) }
 {
     if byte == 95 {
         return Some(total);
     }
+    let digit = counted(count, radix, byte) as u128;
+    if total < ROOMY {
+        return Some(total * radix as u128 + digit);
+    }
     match total.checked_mul(radix as u128) {
-        Some(product) => match product.checked_add(counted(count, radix, byte) as u128) {
+        Some(product) => match product.checked_add(digit) {
             Some(sum) => Some(sum),
             None => None,
         },

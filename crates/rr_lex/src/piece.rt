@@ -8,6 +8,7 @@ ghost use Rattle.rr_lex.specs.Reading.{number_len as number_len_of, comment_at, 
 use crate::bytes::{Class, begins_with, closing, has, past, stands};
 use crate::number::{number_end, number_of};
 use crate::words::{directive_at, mark_at};
+use rr_syntax::Number;
 
 /// The form of a token's text.
 #[derive(Clone, Copy, Debug, PartialEq, Eq)]
@@ -15,7 +16,7 @@ pub enum Shape {
     Name,
     Escaped,
     System,
-    Number,
+    Number(Number),
     Mark,
 }
 
@@ -129,7 +130,7 @@ fn number_piece(bytes: &[u8], at: usize) -> Piece
         None => Piece::Fault(Wrong::Number),
         Some(end) => match number_of(&bytes[at..end]) {
             None => Piece::Fault(Wrong::Number),
-            Some(_) => Piece::Text(Shape::Number, end),
+            Some(number) => Piece::Text(Shape::Number(number), end),
         },
     }
 }
