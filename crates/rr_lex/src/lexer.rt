@@ -96,7 +96,8 @@ pub fn lex<'a>(bytes: &[u8], arena: &'a Bump) -> Result<&'a [Token<'a>], TextFau
     ensures few { IfOk result (λ tokens. length tokens.now < 2 ^ 32) }
     ensures spans { IfOk result (λ tokens. Rise 0 (length bytes.now) (lexemes tokens.now)) }
 {
-    let mut tokens = Vec::new(arena);
+    // Few sources have more than a token in three bytes, so room is mostly taken once.
+    let mut tokens = Vec::with_capacity(arena, bytes.len() / 3)?;
     let mut at = 0;
     while at < bytes.len() {
         match piece_at(bytes, at) {

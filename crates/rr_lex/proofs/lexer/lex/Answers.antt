@@ -7,7 +7,7 @@ use Rattle.rr_lex.proofs.Steps.{lex_white, lex_text, lex_fault, lex_done, lex_fe
 use Rattle.rr_lex.proofs.lexer.lex.Goals as goal
 
 pub loop-at-init : goal.loop-at-init
-loop-at-init c = record { within = omega arith; read = rw (c.new-tokens.ensures.items) (here 0 c.args.bytes.now refl refl) }
+loop-at-init c = record { within = omega arith; read = rw (c.in_ok-tokens.ensures.items) (here 0 c.args.bytes.now refl refl) }
 
 pub loop-at-smaller-in-White : goal.loop-at-smaller-in-White
 loop-at-smaller-in-White c = let s = c.in-White.ensures.safe in let a = s.0 in let b = s.1 in omega arith
