@@ -18,3 +18,4 @@ pub mod Whole
 pub mod Unique
 pub mod Written
 pub mod Fresh
+pub mod Sound

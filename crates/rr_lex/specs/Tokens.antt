@@ -1,5 +1,5 @@
 -- The tokens of a text: a relation on whole spans (IEEE 1364-2005 sections 3.1 to 3.8 and 19).
-use Rattle.std.specs.Prelude.{ℕ, ◌≡◌, ◌≢◌, ◌+◌, ◌<◌, ◌≤◌, ◌⊎◌, List, [], ◌∷◌, ◌++◌, length, drop, map, codes, Bool, true, false, not, ◌&&◌, ◌||◌, ◌==◌, Option, Some, None, if◌then◌else◌}
+use Rattle.std.specs.Prelude.{ℕ, ◌≡◌, ◌≢◌, ◌+◌, ◌<◌, ◌≤◌, ◌^◌, ◌⊎◌, List, [], ◌∷◌, ◌++◌, length, drop, map, codes, Bool, true, false, not, ◌&&◌, ◌||◌, ◌==◌, Option, Some, None, if◌then◌else◌}
 use Rattle.std.specs.List.{list_all}
 use Rattle.std.specs.Str.{bytes_eq}
 use Rattle.rr_syntax.specs.declared.token.Token.{Token}
@@ -135,3 +135,11 @@ IsTextFault bs fault.Memory = Unit {0}
 abbrev pub Rise : ℕ → ℕ → List Lexeme → Type 0
 Rise from end [] = from ≤ end
 Rise from end (t ∷ ts) = (from ≤ t.start) × (t.start < t.end) × Rise t.end end ts
+
+-- What a token of a text may be: a name of one or more bytes 33 to 126, a literal of 1 to 128 bits whose masks fit them, and places in the tables.
+abbrev pub IsSound : Word → Type 0
+IsSound (Named name) = (begins is_printable name ≡ true) × (list_all is_printable name ≡ true)
+IsSound (System name) = (begins is_name_byte name ≡ true) × (list_all is_name_byte name ≡ true)
+IsSound (Digits n) = (1 ≤ n.width) × (n.width ≤ 128) × (n.value < 2 ^ n.width) × (n.any < 2 ^ n.width) × (n.unknown < 2 ^ n.width)
+IsSound (Reserved k) = k < length keywords
+IsSound (Marked m) = m < length marks

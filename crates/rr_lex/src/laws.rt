@@ -1,10 +1,10 @@
 //! Laws of tokens and of patched texts.
 
-ghost use Rattle.std.specs.Prelude.{◌≡◌, ℕ, List, ◌≤◌, ◌<◌, ◌^◌, Bool, true, false, Option, None};
+ghost use Rattle.std.specs.Prelude.{◌≡◌, ℕ, List, ◌≤◌, ◌<◌, ◌^◌, Bool, true, false, All};
 ghost use Rattle.rr_syntax.specs.declared.token.Token.{Token};
 ghost use Rattle.rr_syntax.specs.Words.{words};
 ghost use Rattle.rr_lex.specs.declared.piece.Wrong.{Wrong};
-ghost use Rattle.rr_lex.specs.Tokens.{Lexeme, lexemes, words_of, AreTokens, IsFirstFault};
+ghost use Rattle.rr_lex.specs.Tokens.{Lexeme, lexemes, words_of, AreTokens, IsFirstFault, IsSound};
 ghost use Rattle.rr_lex.specs.Patch.{Edit, PatchReads, IsNew, IsNameText, new_literal, new_name, new_keyword, new_mark};
 
 /// No bytes have two token lists.
@@ -25,6 +25,11 @@ pub fn one_first_fault()
 /// The words of tokens are those of the tokens with their places.
 pub fn words_of_tokens()
     ensures { (tokens : List Token) → words_of (lexemes tokens) ≡ words tokens }
+{}
+
+/// Each token of a text has a name, a literal or a place that a token may have.
+pub fn words_are_sound()
+    ensures { (bytes : List ℕ) (ts : List Lexeme) → AreTokens bytes ts → All IsSound (words_of ts) }
 {}
 
 /// The patched text has the source's words with some replaced and runs of new ones put in.

@@ -14,7 +14,7 @@ mod tests;
 
 pub use laws::{
     keyword_is_new, literal_is_new, mark_is_new, name_is_new, one_first_fault, one_token_list,
-    patched_text_reads, tokens_or_fault, words_of_tokens,
+    patched_text_reads, tokens_or_fault, words_are_sound, words_of_tokens,
 };
 pub use lexer::{TextFault, lex};
 pub use literal::number_text;
