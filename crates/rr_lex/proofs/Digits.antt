@@ -88,8 +88,12 @@ pub literal_is : (size : List ℕ) (signed : Bool) (k : Base) (digits : List ℕ
     a ≡ u % 2 ^ w → b ≡ v % 2 ^ w → c ≡ x % 2 ^ w → record { width = w; signed = signed; value = a; any = b; unknown = c } ≡ literal size signed (radix_of k digits) digits
 unfolding literal counted
 literal_is size signed k digits w u v x a b c e h p q r s t y =
-    rw (cut_is (radix_of k digits) w u a (λ (n : ℕ). digit n) (padding digits ++ digits) h p s, cut_is (radix_of k digits) w v b (λ (n : ℕ). any_digit (radix_of k digits) n) (padding digits ++ digits) h q t,
-    cut_is (radix_of k digits) w x c (λ (n : ℕ). unknown_digit (radix_of k digits) n) (padding digits ++ digits) h r y, e) refl
+    rw (
+      cut_is (radix_of k digits) w u a (λ (n : ℕ). digit n) (padding digits ++ digits) h p s,
+      cut_is (radix_of k digits) w v b (λ (n : ℕ). any_digit (radix_of k digits) n) (padding digits ++ digits) h q t,
+      cut_is (radix_of k digits) w x c (λ (n : ℕ). unknown_digit (radix_of k digits) n) (padding digits ++ digits) h r y,
+      e,
+    ) refl
 
 pub width_zero : (size : List ℕ) (n : ℕ) → is_sized size ≡ true → n ≡ number 10 digit size → (1 ≤ n → ⊥) → is_width (width_of size) ≡ false
 unfolding is_width

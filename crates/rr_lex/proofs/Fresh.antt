@@ -1,5 +1,5 @@
 -- The texts that are their token wherever a blank follows.
-use Rattle.std.proofs.Common.{ℕ, zero, suc, ◌≡◌, ◌+◌, ◌≤◌, ◌<◌, ◌^◌, List, [], ◌∷◌, ◌++◌, length, drop, take, get_or, nat_lt, inl, inr, ◌⊎◌, Bool, true, false, not, ◌&&◌, ◌||◌, ◌==◌, Option, Some, None, refl, ap, ◌∙◌, sym, arith, subst, cond, if◌then◌else◌}
+use Rattle.std.proofs.Common.{ℕ, zero, suc, ◌≡◌, ◌+◌, ◌≤◌, ◌<◌, ◌^◌, List, [], ◌∷◌, ◌++◌, length, drop, take, get_or, is_none, is_some, nat_lt, inl, inr, ◌⊎◌, Bool, true, false, not, ◌&&◌, ◌||◌, ◌==◌, Option, Some, None, refl, ap, ◌∙◌, sym, arith, subst, cond, if◌then◌else◌}
 use Rattle.std.specs.List.{prefix_len, list_all}
 use Rattle.std.proofs.lemmas.Bool.{and_parts, cases_Bool, cases_lt, eqb-true, false≢true, ltb-true, not-true}
 use Rattle.std.proofs.lemmas.List.{append-nil}
@@ -12,10 +12,10 @@ use Rattle.rr_lex.specs.declared.piece.Shape.TheVariants as shape
 use Rattle.rr_lex.specs.Bytes.{is, begins, is_letter, is_name_byte, is_printable, is_dark, is_blank, is_digit}
 use Rattle.rr_lex.specs.Numbers.{text_of, literal_parts, IsNumber, radix_of, fits, literal, is_signed, AreParts, size_text}
 use Rattle.rr_lex.specs.Tokens.{place_of, IsName, Stands, more, begins_with, attribute_begins}
-use Rattle.rr_lex.specs.Patch.{New, IsNew, IsNameText, is_none, is_plain_name, name_text, new_name, new_keyword, new_mark, new_literal, plain_number}
+use Rattle.rr_lex.specs.Patch.{New, IsNew, IsNameText, is_plain_name, name_text, new_name, new_keyword, new_mark, new_literal, plain_number}
 use Rattle.rr_lex.specs.Reading.{some_piece, word_of, is_mark, keyword_word, mark_word, is_some_place, mark_len, mark_piece, has_mark, at_least}
 use Rattle.rr_lex.proofs.Places.{all_below, below_all, is_place, place_is}
-use Rattle.rr_lex.proofs.Runs.{run_stops, Dark}
+use Rattle.rr_lex.proofs.Runs.{run_stops, run_all, Dark}
 use Rattle.rr_lex.proofs.Exact.{name_first, escape_piece, read_stands}
 use Rattle.rr_lex.proofs.Edges.{dark_name}
 use Rattle.rr_lex.proofs.Unique.{literal_alone}
@@ -168,3 +168,32 @@ literal_new w signed v h k l =
       alone = λ after. subst (λ (n : Number). Stands (Digits n) (text_of p) (32 ∷ after)) (sym (written_literal w signed v h k l)) (literal_alone p base.Hexadecimal (written_parts w signed v h d) (written_fits w signed v h k) after);
       unquoted = sized_unquoted (size_text w) _ d.0;
     }
+
+-- whether a name is plain, by its run of bytes
+whole_run : (p : ℕ → Bool) (xs : List ℕ) → prefix_len p xs ≡ length xs → list_all p xs ≡ true
+whole_run p [] h = refl
+whole_run p (x ∷ xs) h = elim (cases_Bool (p x)) [
+  | inl e ↦ let s : prefix_len p (x ∷ xs) ≡ 1 + prefix_len p xs = rw e refl in let q : 1 + prefix_len p xs ≡ suc (length xs) = sym s ∙ h in rw (e, whole_run p xs (omega arith)) refl
+  | inr e ↦ let s : prefix_len p (x ∷ xs) ≡ 0 = rw e refl in let q : 0 ≡ suc (length xs) = sym s ∙ h in absurd (omega arith)
+]
+
+part_run : (p : ℕ → Bool) (xs : List ℕ) → (prefix_len p xs ≡ length xs → ⊥) → list_all p xs ≡ false
+part_run p xs h = elim (cases_Bool (list_all p xs)) [ inr e ↦ e | inl e ↦ absurd (h (run_all p xs e)) ]
+
+pub plain_no_letter : (name : List ℕ) → begins is_letter name ≡ false → false ≡ is_plain_name name
+unfolding is_plain_name
+plain_no_letter name h = sym (rw h refl)
+
+pub plain_no_name : (name : List ℕ) (k : ℕ) → begins is_letter name ≡ true → k ≡ 0 + prefix_len is_name_byte name → (k ≡ length name → ⊥) → false ≡ is_plain_name name
+unfolding is_plain_name
+plain_no_name name k h e d = sym (rw (h, part_run is_name_byte name (λ q. d (e ∙ (let z : 0 + prefix_len is_name_byte name ≡ length name = omega arith in z)))) refl)
+
+pub plain_yes : (name : List ℕ) (k : ℕ) → begins is_letter name ≡ true → k ≡ 0 + prefix_len is_name_byte name → k ≡ length name → is_none (place_of name keywords) ≡ is_plain_name name
+unfolding is_plain_name
+plain_yes name k h e d = sym (rw (h, whole_run is_name_byte name (omega arith)) refl)
+
+pub none_by : (o : Option ℕ) (r : Bool) → is_some o ≡ not r → r ≡ is_none o
+none_by None true h = refl
+none_by None false h = absurd (false≢true h)
+none_by (Some k) true h = absurd (false≢true (sym h))
+none_by (Some k) false h = refl

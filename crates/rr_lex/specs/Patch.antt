@@ -1,5 +1,5 @@
 -- A text with new texts for some tokens, and new tokens after some.
-use Rattle.std.specs.Prelude.{ℕ, ◌≡◌, ◌≢◌, ◌+◌, ◌-◌, ◌*◌, ◌^◌, ◌/◌, ◌<◌, ◌≤◌, ◌⊎◌, List, [], ◌∷◌, ◌++◌, length, take, drop, map, Bool, true, false, ◌&&◌, if◌then◌else◌, Option, Some, None, get_or}
+use Rattle.std.specs.Prelude.{ℕ, ◌≡◌, ◌≢◌, ◌+◌, ◌-◌, ◌*◌, ◌^◌, ◌/◌, ◌<◌, ◌≤◌, ◌⊎◌, List, [], ◌∷◌, ◌++◌, length, take, drop, map, Bool, true, false, ◌&&◌, if◌then◌else◌, Option, Some, None, is_none, get_or}
 use Rattle.std.specs.List.{list_all}
 use Rattle.rr_syntax.specs.declared.token.Number.{Number}
 use Rattle.rr_syntax.specs.Words.{Word, Named, Digits, Reserved, Marked, marks, keywords, mark_star, mark_close_parenthesis}
@@ -95,10 +95,6 @@ new_mark m = record { word = Marked m; text = get_or marks m [] }
 -- what the name of a token may be: one or more bytes 33 to 126
 abbrev pub IsNameText : List ℕ → Type 0
 IsNameText name = (begins is_printable name ≡ true) × (list_all is_printable name ≡ true)
-
-abbrev pub is_none : Option ℕ → Bool
-is_none None = true
-is_none (Some k) = false
 
 -- a name that needs no \ before it
 unfoldable pub is_plain_name : List ℕ → Bool

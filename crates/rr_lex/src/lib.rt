@@ -7,10 +7,9 @@ mod lexer;
 mod literal;
 mod number;
 mod piece;
-mod words;
-
 #[cfg(test)]
 mod tests;
+mod words;
 
 pub use laws::{
     keyword_is_new, literal_is_new, mark_is_new, name_is_new, one_first_fault, one_token_list,
@@ -20,3 +19,4 @@ pub use lexer::{TextFault, lex};
 pub use literal::number_text;
 pub use number::read_number;
 pub use piece::Wrong;
+pub use words::is_plain_name;

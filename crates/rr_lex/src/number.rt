@@ -284,13 +284,7 @@ fn padding(base: Base, text: &[u8], count: Count) -> u128
 {
     match text {
         [] => 0,
-        [first, ..] => {
-            if fills(count, *first) {
-                u128::MAX
-            } else {
-                0
-            }
-        }
+        [first, ..] => { if fills(count, *first) { u128::MAX } else { 0 } }
     }
 }
 
@@ -303,13 +297,7 @@ fn radix_of(base: Base, text: &[u8]) -> u8
     match base {
         Base::Binary => 2,
         Base::Octal => 8,
-        Base::Decimal => {
-            if stands(text, 0, Class::Wild) {
-                2
-            } else {
-                10
-            }
-        }
+        Base::Decimal => { if stands(text, 0, Class::Wild) { 2 } else { 10 } }
         Base::Hexadecimal => 16,
     }
 }

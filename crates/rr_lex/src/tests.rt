@@ -28,7 +28,10 @@ fn lexes(alloc: Global, text: &[u8], wanted: &[(Kind, u32, u32)]) -> bool
                 return false;
             }
             for (token, (kind, start, end)) in tokens.iter().zip(wanted) {
-                if !same(token.kind, *kind) || token.span.start != *start || token.span.end != *end {
+                if !same(token.kind, *kind)
+                    || token.span.start != *start
+                    || token.span.end != *end
+                {
                     return false;
                 }
             }
@@ -171,7 +174,10 @@ fn reads_tokens(rt: HostRuntime) -> Result<(), Fail> {
                 (Kind::Mark(Mark::CLOSE_PARENTHESIS), 3, 4),
             ],
         ),
-        (b"(* x *)3", &[(Kind::Number(number(32, true, 3, 0, 0)), 7, 8)]),
+        (
+            b"(* x *)3",
+            &[(Kind::Number(number(32, true, 3, 0, 0)), 7, 8)],
+        ),
         (b"(**)", &[]),
         (b"/* * */ // the end", &[]),
         (b"/*/ */\\b//", &[(Kind::Name("b//"), 6, 10)]),
@@ -400,18 +406,39 @@ fn patches_at_token_edges(rt: HostRuntime) -> Result<(), Fail> {
         rt.alloc(),
         b"module m(input clk,input s,output reg[3:0]q);always@(posedge clk)q<=s?4'd3:4'd0;endmodule",
         &[
-            Edit { token: 24, text: None, run: &[b"begin"] },
-            Edit { token: 26, text: None, run: &[b"("] },
-            Edit { token: 27, text: None, run: &[b")", b"&&", b"!", b"s"] },
-            Edit { token: 29, text: Some(b"4'ha"), run: &[] },
+            Edit {
+                token: 24,
+                text: None,
+                run: &[b"begin"],
+            },
+            Edit {
+                token: 26,
+                text: None,
+                run: &[b"("],
+            },
+            Edit {
+                token: 27,
+                text: None,
+                run: &[b")", b"&&", b"!", b"s"],
+            },
+            Edit {
+                token: 29,
+                text: Some(b"4'ha"),
+                run: &[],
+            },
             Edit {
                 token: 32,
                 text: None,
-                run: &[b"if", b"(", b"!", b"s", b")", b"q", b"<=", b"4'h9", b";", b"end"],
+                run: &[
+                    b"if", b"(", b"!", b"s", b")", b"q", b"<=", b"4'h9", b";", b"end",
+                ],
             },
         ],
     )?;
-    assert!(rt; text.as_slice() == b"module m(input clk,input s,output reg[3:0]q);always@(posedge clk) begin q<= ( s ) && ! s ? 4'ha :4'd0; if ( ! s ) q <= 4'h9 ; end endmodule".as_slice());
+    assert!(rt;
+        text.as_slice()
+            == b"module m(input clk,input s,output reg[3:0]q);always@(posedge clk) begin q<= ( s ) && ! s ? 4'ha :4'd0; if ( ! s ) q <= 4'h9 ; end endmodule".as_slice()
+    );
     Ok(())
 }
 
@@ -420,42 +447,78 @@ fn patches_between_comments(rt: HostRuntime) -> Result<(), Fail> {
     let cases: [(&[u8], &[Edit], &[u8]); 7] = [
         (
             b"a// x\nb",
-            &[Edit { token: 0, text: Some(b"\\+"), run: &[b"c", b"d"] }],
+            &[Edit {
+                token: 0,
+                text: Some(b"\\+"),
+                run: &[b"c", b"d"],
+            }],
             b" \\+  c d // x\nb",
         ),
         (
             b"a/* x */b",
-            &[Edit { token: 0, text: None, run: &[b"/"] }],
+            &[Edit {
+                token: 0,
+                text: None,
+                run: &[b"/"],
+            }],
             b"a / /* x */b",
         ),
         (
             b"(*x*)a(*y*)",
-            &[Edit { token: 0, text: Some(b"("), run: &[] }],
+            &[Edit {
+                token: 0,
+                text: Some(b"("),
+                run: &[],
+            }],
             b"(*x*) ( (*y*)",
         ),
         (
             b"@(*)a",
             &[
-                Edit { token: 0, text: None, run: &[b"("] },
-                Edit { token: 3, text: None, run: &[b"begin"] },
+                Edit {
+                    token: 0,
+                    text: None,
+                    run: &[b"("],
+                },
+                Edit {
+                    token: 3,
+                    text: None,
+                    run: &[b"begin"],
+                },
             ],
             b"@ ( (*) begin a",
         ),
         (
             b"\\a+ \\b",
-            &[Edit { token: 0, text: None, run: &[b"\\if"] }],
+            &[Edit {
+                token: 0,
+                text: None,
+                run: &[b"\\if"],
+            }],
             b"\\a+ \\if  \\b",
         ),
         (
             b"a 4'd3 'h1",
-            &[Edit { token: 1, text: Some(b"4'h2"), run: &[] }],
+            &[Edit {
+                token: 1,
+                text: Some(b"4'h2"),
+                run: &[],
+            }],
             b"a  4'h2  'h1",
         ),
         (
             b"a",
             &[
-                Edit { token: 0, text: None, run: &[b"b"] },
-                Edit { token: 0, text: None, run: &[b"4'sh1", b"end"] },
+                Edit {
+                    token: 0,
+                    text: None,
+                    run: &[b"b"],
+                },
+                Edit {
+                    token: 0,
+                    text: None,
+                    run: &[b"4'sh1", b"end"],
+                },
             ],
             b"a b  4'sh1 end ",
         ),
