@@ -1,7 +1,7 @@
 -- The digits of a number, one by one.
-use Rattle.std.proofs.Common.{ℕ, zero, suc, ◌≡◌, ◌+◌, ◌*◌, ◌%◌, ◌^◌, ◌≤◌, ◌<◌, List, [], ◌∷◌, ◌++◌, length, drop, take, get_or, Bool, true, false, Option, Some, None, ◌==◌, nat_lt, nat_le, ◌-◌, refl, ap, ◌∙◌, sym, arith, cond, mul-le-mul_right}
+use Rattle.std.proofs.Common.{ℕ, ◌≡◌, ◌+◌, ◌*◌, ◌%◌, ◌^◌, ◌≤◌, ◌<◌, List, [], ◌∷◌, ◌++◌, length, drop, take, get_or, Bool, true, false, Some, None, ◌==◌, nat_lt, nat_le, ◌-◌, refl, ap, ◌∙◌, sym, arith, mul-le-mul_right}
 use Rattle.std.specs.List.{fold}
-use Rattle.std.proofs.lemmas.Bool.{eqb-true, ne_eqb, eq-eqb, cond_both, lt-ltb, le-ltb, le-leb, lt-leb, and_right, and_from}
+use Rattle.std.proofs.lemmas.Bool.{ne_eqb, cond_both, lt-ltb, le-ltb, le-leb, lt-leb, and_right, and_from}
 use Rattle.std.proofs.lemmas.List.{take-append-drop, take_all}
 use Rattle.std.proofs.lemmas.List.Sums.{fold_more, fold-append}
 use Rattle.std.proofs.lemmas.Nat.{mul-mod_first}

@@ -1,23 +1,21 @@
 -- A token stays where what follows it changes, as far as the token looks.
-use Rattle.std.proofs.Common.{ℕ, zero, suc, ◌≡◌, ◌+◌, ◌≤◌, ◌<◌, List, [], ◌∷◌, ◌++◌, length, drop, take, Bool, true, false, not, ◌&&◌, ◌||◌, ◌==◌, Option, Some, None, refl, ap, ◌∙◌, sym, arith, cond, subst, ◌⊎◌, inl, inr}
+use Rattle.std.proofs.Common.{ℕ, suc, ◌≡◌, ◌+◌, ◌≤◌, ◌<◌, List, [], ◌∷◌, ◌++◌, length, drop, Bool, true, false, not, ◌&&◌, ◌==◌, Option, Some, None, refl, ap, ◌∙◌, sym, arith, subst, inl, inr}
 use Rattle.std.specs.List.{prefix_len, list_all}
-use Rattle.std.proofs.lemmas.Bool.{and_parts, and_from, and_cases, cases_Bool, eqb-true, false≢true, not-true, and_right, and_left}
-use Rattle.std.proofs.lemmas.List.{drop_at, take_at, append_assoc, length-append, append-nil}
-use Rattle.rr_lex.specs.declared.number.Base.{Base}
+use Rattle.std.proofs.lemmas.Bool.{and_parts, and_cases, cases_Bool, false≢true, not-true, and_right, and_left}
+use Rattle.std.proofs.lemmas.List.{append_assoc, length-append}
 use Rattle.rr_lex.specs.declared.piece.Shape.{Shape}
 use Rattle.rr_lex.specs.declared.piece.Shape.TheVariants as shape
-use Rattle.rr_lex.specs.declared.piece.Piece.{Piece}
 use Rattle.rr_lex.specs.declared.piece.Piece.TheVariants as part
 use Rattle.rr_lex.specs.declared.piece.Wrong.TheVariants as wrong
 use Rattle.rr_lex.specs.Bytes.{is, begins, starts, is_blank, is_gap, is_dark, is_decimal, is_digit, is_letter, is_name_byte, is_printable}
-use Rattle.rr_lex.specs.Reading.{member, comment, is_mark, mark_len, mark_piece, number_len, number_of, number_piece, in_range, some_piece, word_of}
+use Rattle.rr_lex.specs.Reading.{comment, is_mark, mark_len, mark_piece, number_len, number_of, number_piece, in_range, some_piece}
 use Rattle.rr_syntax.specs.Words.{Word, marks}
-use Rattle.rr_lex.specs.Tokens.{more, place_of, is_closed_next, begins_with, attribute_begins, IsName, IsToken, named, reserved, escaped_name, system_name, numbered, marked, Stands}
-use Rattle.rr_lex.specs.Numbers.{goes_on, Parts, AreParts, text_of, IsDecimal, IsNumberText, decimal, based, IsNumber, is_wild}
-use Rattle.rr_lex.proofs.Runs.{run_stops, run_more, bare_run, Dark, begins_append}
+use Rattle.rr_lex.specs.Tokens.{place_of, is_closed_next, begins_with, attribute_begins, IsName, named, reserved, escaped_name, system_name, numbered, marked, Stands}
+use Rattle.rr_lex.specs.Numbers.{goes_on, text_of, IsNumberText, is_wild}
+use Rattle.rr_lex.proofs.Runs.{run_stops, run_more, bare_run, Dark}
 use Rattle.rr_lex.proofs.Marks.{starts_mark, mark_fine, fine, place_sound, found, fine_parts, lengthens, lengthens_dark, mark_is, mark_reach}
-use Rattle.rr_lex.proofs.NumberText.{NumberCase, case_decimal, case_based, case_wrong, number_case, based_len, decimal_len, dark_decimal, dark_further}
-use Rattle.rr_lex.proofs.Exact.{stands_read, read_stands, empty_seen, name_first, escape_piece, system_piece_is, first_byte, text_first, found_number, none_number, fronts, number_text, place_mark, mark_piece_is, dark_printable}
+use Rattle.rr_lex.proofs.NumberText.{case_decimal, case_based, case_wrong, number_case, based_len, decimal_len, dark_decimal, dark_further}
+use Rattle.rr_lex.proofs.Exact.{stands_read, read_stands, empty_seen, name_first, escape_piece, system_piece_is, first_byte, text_first, found_number, none_number, fronts, number_text, place_mark, mark_piece_is}
 
 -- after a (: a * and then, past blanks, no )
 unfoldable pub opens : List ℕ → Bool
@@ -216,8 +214,8 @@ stays w (b ∷ text) old new t d =
     let e : some_piece (b ∷ (text ++ new)) ≡ part.Text r.0 (suc (length text)) = elim t.token [
       | named n k f ↦ name_stays (b ∷ text) old new r.0 n r.1 d
       | reserved j n k f ↦ name_stays (b ∷ text) old new r.0 n r.1 d
-      | escaped_name body h k i q f ↦ escaped_stays (b ∷ text) body old new r.0 q h k i r.1 d
-      | system_name body h k q f ↦ system_stays (b ∷ text) body old new r.0 q h k r.1 d
+      | escaped_name body n f ↦ escaped_stays (b ∷ text) body old new r.0 n.3 n.0 n.1 n.2 r.1 d
+      | system_name body n f ↦ system_stays (b ∷ text) body old new r.0 n.2 n.0 n.1 r.1 d
       | numbered n k f ↦ number_stays (b ∷ text) old new r.0 (number_text (b ∷ text) n k) r.1 d
       | marked m k f ↦ mark_stays (b ∷ text) old new r.0 (place_mark (b ∷ text) m k) r.1 d
     ] in

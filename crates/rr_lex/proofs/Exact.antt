@@ -1,9 +1,9 @@
 -- What the reading function finds is what the relation says, on both sides.
-use Rattle.std.proofs.Common.{ℕ, zero, suc, ◌≡◌, ◌+◌, ◌≤◌, ◌<◌, List, [], ◌∷◌, ◌++◌, length, drop, take, Bool, true, false, not, ◌&&◌, ◌||◌, ◌==◌, Option, Some, None, refl, ap, ◌∙◌, sym, arith, cond, subst, eqb, ◌⊎◌, inl, inr, nat_lt, ◌^◌}
+use Rattle.std.proofs.Common.{ℕ, zero, suc, ◌≡◌, ◌+◌, ◌≤◌, ◌<◌, List, [], ◌∷◌, ◌++◌, length, drop, take, Bool, true, false, not, ◌||◌, ◌==◌, Option, Some, None, refl, ap, ◌∙◌, sym, arith, subst, ◌⊎◌, inl, inr, ◌^◌}
 use Rattle.std.specs.List.{prefix_len, list_all}
-use Rattle.std.proofs.lemmas.Bool.{and_parts, and_from, cases_Bool, eqb-true, or_cases, or_left, or_right, cond_both, false≢true, not-true, not-false, ne_eqb, eq-eqb, lt-ltb, ltb-true}
+use Rattle.std.proofs.lemmas.Bool.{and_parts, and_from, cases_Bool, eqb-true, or_left, cond_both, false≢true, not-true, not-false, ne_eqb, eq-eqb, lt-ltb, ltb-true}
 use Rattle.std.proofs.lemmas.Bool.Decides.{nat_tests}
-use Rattle.std.proofs.lemmas.List.{drop_at, take_at, append_assoc, length-append, append-nil}
+use Rattle.std.proofs.lemmas.List.{drop_at, take_at, append_assoc, append-nil}
 use Rattle.rr_lex.specs.declared.number.Base.{Base}
 use Rattle.rr_syntax.specs.declared.token.Number.{Number}
 use Rattle.rr_lex.specs.declared.piece.Shape.{Shape}
@@ -12,19 +12,19 @@ use Rattle.rr_lex.specs.declared.piece.Piece.{Piece}
 use Rattle.rr_lex.specs.declared.piece.Piece.TheVariants as part
 use Rattle.rr_lex.specs.declared.piece.Wrong.{Wrong}
 use Rattle.rr_lex.specs.declared.piece.Wrong.TheVariants as wrong
-use Rattle.rr_lex.specs.Bytes.{is, begins, starts, is_blank, is_gap, is_dark, is_decimal, is_digit, is_letter, is_name_byte, is_in_line, is_printable}
+use Rattle.rr_lex.specs.Bytes.{is, begins, is_blank, is_gap, is_dark, is_digit, is_letter, is_name_byte, is_in_line, is_printable}
 use Rattle.rr_lex.specs.Reading.{system_piece, is_skipped, sized, member, closing, comment, is_mark, is_escaped, mark_len, mark_piece, number_len, number_of, number_piece, in_range, apostrophe, checked, some_piece, word_of, keyword_word, mark_word, IsKnown}
-use Rattle.rr_syntax.specs.Words.{System, Word, Named, Digits, Reserved, Marked, marks, keywords}
-use Rattle.rr_lex.specs.Tokens.{more, place_of, IsClosedBy, is_closed_next, begins_with, attribute_begins, IsWhite, blank, line, block, attribute, skipped, IsName, IsToken, named, reserved, escaped_name, system_name, numbered, marked, HasApostrophe, NoWhite, IsBroken, open_block, open_attribute, directive, no_digits, out_of_range, IsFault, broken, no_token, Stands}
-use Rattle.rr_lex.specs.Numbers.{goes_on, radix_of, is_wild, Parts, AreParts, text_of, IsDecimal, IsNumberText, decimal, based, IsNumber, decimal_number, based_number, fits, literal, plain_literal, is_signed, number, digit}
+use Rattle.rr_syntax.specs.Words.{System, Word, Named, Digits, Marked, marks, keywords}
+use Rattle.rr_lex.specs.Tokens.{place_of, IsClosedBy, is_closed_next, begins_with, attribute_begins, IsWhite, blank, line, block, attribute, skipped, IsName, IsToken, named, reserved, escaped_name, system_name, numbered, marked, HasApostrophe, NoWhite, IsBroken, open_block, open_attribute, directive, no_digits, out_of_range, IsFault, broken, no_token, Stands}
+use Rattle.rr_lex.specs.Numbers.{goes_on, Parts, AreParts, text_of, IsNumberText, decimal, based, IsNumber, decimal_number, based_number, number, digit}
 use Rattle.std.specs.Str.{IsAscii}
 use Rattle.rr_lex.proofs.Ascii.{ascii_all, name_ascii, printable_ascii}
 use Rattle.rr_lex.specs.Reading as reading
-use Rattle.rr_lex.proofs.Runs.{run_stops, run_more, run_all, bare_run, Dark, not_blank, begins_append, past_gap, Splits, split, begins_not_gap}
-use Rattle.rr_lex.proofs.Skipped.{skip_piece, skipped_is, Skips, skips, unskipped}
-use Rattle.rr_lex.proofs.Closed.{Closes, closing_is, closing_case}
-use Rattle.rr_lex.proofs.Marks.{starts_mark, Fine, fine, mark_fine, fine_parts, MarkCase, no_mark, a_mark, mark_case, mark_is, mark_reach, lengthens, found}
-use Rattle.rr_lex.proofs.NumberText.{NumberCase, case_decimal, case_based, case_wrong, number_case, based_len, based_of, decimal_len, decimal_of, tail_of, text_rest, text_length, number_reach, ticked_at, plain_at}
+use Rattle.rr_lex.proofs.Runs.{run_stops, run_more, bare_run, Dark, not_blank, begins_append, split}
+use Rattle.rr_lex.proofs.Skipped.{skip_piece, skipped_is, skips, unskipped}
+use Rattle.rr_lex.proofs.Closed.{closing_is, closing_case}
+use Rattle.rr_lex.proofs.Marks.{starts_mark, fine, mark_fine, fine_parts, no_mark, a_mark, mark_case, mark_is, mark_reach, found}
+use Rattle.rr_lex.proofs.NumberText.{case_decimal, case_based, case_wrong, number_case, based_len, based_of, decimal_len, decimal_of, tail_of, text_rest, text_length, number_reach, ticked_at, plain_at}
 
 -- a comment's bytes up to its end
 comment_is : (a b : ℕ) (body after : List ℕ) → IsClosedBy a b body → comment (closing a b (body ++ after)) ≡ part.White (2 + length body)
@@ -340,8 +340,8 @@ number_seen w text after n t e =
 pub token_is : (w : Word) (text after : List ℕ) → IsToken w text after → Seen w text (some_piece (text ++ after))
 token_is w text after (named n k e) = name_seen w text after n (e ∙ rw k refl)
 token_is w text after (reserved j n k e) = name_seen w text after n (e ∙ rw k refl)
-token_is w text after (escaped_name body b h d t e) = rw t (escape_seen w body after b h d e)
-token_is w text after (system_name body b h t e) = rw t (system_seen w body after b h e)
+token_is w text after (escaped_name body n e) = rw (n.3) (escape_seen w body after n.0 n.1 n.2 e)
+token_is w text after (system_name body n e) = rw (n.2) (system_seen w body after n.0 n.1 e)
 token_is w text after (numbered n t e) = number_seen w text after n t e
 token_is w text after (marked m k e) = mark_seen w text after m k e
 
@@ -455,7 +455,7 @@ system_case rest =
     elim (cases_Bool (begins is_name_byte rest)) [
       | inr h ↦ c_byte (lone_system rest h)
       | inl h ↦ let k = begins_before is_name_byte s.front s.rest (rw s.whole at h) s.stops in
-          c_text shape.System (36 ∷ s.front) s.rest (ap (λ (l : List ℕ). 36 ∷ l) s.whole) (system_name s.front k s.each refl refl) (system_ascii s.front s.each)
+          c_text shape.System (36 ∷ s.front) s.rest (ap (λ (l : List ℕ). 36 ∷ l) s.whole) (system_name s.front (k, s.each, refl) refl) (system_ascii s.front s.each)
           (ap (λ (l : List ℕ). some_piece (36 ∷ l)) s.whole ∙ system_piece_is s.front s.rest k s.each ∙ ap (part.Text shape.System) (let z : prefix_len is_name_byte s.rest ≡ 0 = bare_run is_name_byte s.rest s.stops in omega arith))
     ]
 
@@ -476,7 +476,7 @@ escape_case rest =
     elim (cases_Bool (is_escaped (92 ∷ rest))) [
       | inr h ↦ c_byte (escape_wrong rest h)
       | inl h ↦ let k = escape_parts s.front s.rest s.each s.stops (rw s.whole at h) in
-          c_text shape.Escaped (92 ∷ s.front) s.rest (ap (λ (l : List ℕ). 92 ∷ l) s.whole) (escaped_name s.front k.0 s.each k.1 refl refl) (escape_ascii s.front s.each)
+          c_text shape.Escaped (92 ∷ s.front) s.rest (ap (λ (l : List ℕ). 92 ∷ l) s.whole) (escaped_name s.front (k.0, s.each, k.1, refl) refl) (escape_ascii s.front s.each)
           (ap (λ (l : List ℕ). some_piece (92 ∷ l)) s.whole ∙ escape_piece s.front s.rest k.0 s.each k.1 ∙ ap (part.Text shape.Escaped) (omega arith))
     ]
 
@@ -556,8 +556,8 @@ pub empty_seen : (w : Word) (after : List ℕ) → IsToken w [] after → ⊥
 unfolding fine
 empty_seen w after (named n k e) = false≢true n.0
 empty_seen w after (reserved j n k e) = false≢true n.0
-empty_seen w after (escaped_name body b h d t e) = absurd (cc)
-empty_seen w after (system_name body b h t e) = absurd (cc)
+empty_seen w after (escaped_name body n e) = absurd (cc (n.3))
+empty_seen w after (system_name body n e) = absurd (cc (n.2))
 empty_seen w after (numbered n t e) = empty_number (number_text [] n t)
 empty_seen w after (marked m k e) = false≢true (mark_fine [] (place_mark [] m k))
 

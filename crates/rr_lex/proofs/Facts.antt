@@ -1,14 +1,14 @@
-use Rattle.std.proofs.Common.{ℕ, zero, suc, ◌≡◌, ◌+◌, ◌≤◌, ◌<◌, List, [], ◌∷◌, ◌++◌, length, drop, take, get_or, Bool, true, false, not, ◌&&◌, ◌==◌, Option, Some, None, refl, ap, ◌∙◌, sym, arith, cond, subst, eqb, ◌-◌, nat_lt, ◌^◌}
+use Rattle.std.proofs.Common.{ℕ, zero, suc, ◌≡◌, ◌+◌, ◌≤◌, ◌<◌, List, [], ◌∷◌, length, drop, take, get_or, Bool, true, false, not, ◌&&◌, ◌==◌, Option, Some, None, refl, ap, ◌∙◌, sym, arith, ◌-◌, nat_lt, ◌^◌}
 use Rattle.std.specs.List.{prefix_len}
-use Rattle.std.proofs.lemmas.List.{take_rest, length-drop, drop-drop, drop-map, length-map, drop_more, drop_all, at_drop_more, at_drop_all}
+use Rattle.std.proofs.lemmas.List.{take_rest, length-drop, drop-drop, drop-map, length-map, drop_more, drop_all}
 use Rattle.std.proofs.lemmas.Bool.{and_parts}
 use Rattle.std.specs.Str.{bytes_eq}
 use Rattle.rr_lex.specs.declared.number.Base.{Base}
 use Rattle.rr_lex.specs.declared.number.Base.TheVariants as base
-use Rattle.rr_lex.specs.Bytes.{is, begins, is_gap, is_decimal, is_dark, is_printable, is_blank, is_name_byte}
+use Rattle.rr_lex.specs.Bytes.{is, begins, is_gap, is_decimal, is_dark, is_printable, is_name_byte}
 use Rattle.rr_lex.specs.Reading.{member, texts_of, closing, digits_len, letter_base, sign_len, tail_len, apostrophe, number_len, number_of, based, checked, is_escaped, at_least, is_mark, has_mark, first_class, further_class, is_skipped, run_len, sized, is_white_name}
 use Rattle.rr_lex.specs.Tokens.{begins_with, attribute_begins, more, place_of}
-use Rattle.rr_lex.specs.Numbers.{is_first, is_sign, fits, literal, plain_literal, number, digit, further, is_wild, goes_on}
+use Rattle.rr_lex.specs.Numbers.{is_first, is_sign, plain_literal, number, digit, further, is_wild, goes_on}
 use denote.Ref.{Bor}
 use Rattle.rr_syntax.specs.declared.token.Number.{Number}
 

@@ -1,21 +1,20 @@
 -- The texts that are their token wherever a blank follows.
-use Rattle.std.proofs.Common.{ℕ, zero, suc, ◌≡◌, ◌+◌, ◌≤◌, ◌<◌, ◌^◌, List, [], ◌∷◌, ◌++◌, length, drop, take, get_or, is_none, is_some, nat_lt, inl, inr, ◌⊎◌, Bool, true, false, not, ◌&&◌, ◌||◌, ◌==◌, Option, Some, None, refl, ap, ◌∙◌, sym, arith, subst, cond, if◌then◌else◌}
+use Rattle.std.proofs.Common.{ℕ, suc, ◌≡◌, ◌+◌, ◌≤◌, ◌<◌, ◌^◌, List, [], ◌∷◌, ◌++◌, length, get_or, is_none, is_some, nat_lt, inl, inr, Bool, true, false, not, ◌&&◌, ◌==◌, Option, Some, None, refl, ap, ◌∙◌, sym, arith, subst}
 use Rattle.std.specs.List.{prefix_len, list_all}
-use Rattle.std.proofs.lemmas.Bool.{and_parts, cases_Bool, cases_lt, eqb-true, false≢true, ltb-true, not-true}
-use Rattle.std.proofs.lemmas.List.{append-nil}
+use Rattle.std.proofs.lemmas.Bool.{and_parts, cases_Bool, eqb-true, false≢true, ltb-true, not-true}
 use Rattle.rr_syntax.specs.Words.{Word, Named, Reserved, Marked, Digits, keywords, marks}
 use Rattle.rr_lex.specs.declared.number.Base.TheVariants as base
 use Rattle.rr_syntax.specs.declared.token.Number.{Number}
 use Rattle.rr_lex.specs.declared.piece.Piece.{Piece}
 use Rattle.rr_lex.specs.declared.piece.Piece.TheVariants as part
 use Rattle.rr_lex.specs.declared.piece.Shape.TheVariants as shape
-use Rattle.rr_lex.specs.Bytes.{is, begins, is_letter, is_name_byte, is_printable, is_dark, is_blank, is_digit}
-use Rattle.rr_lex.specs.Numbers.{text_of, literal_parts, IsNumber, radix_of, fits, literal, is_signed, AreParts, size_text}
+use Rattle.rr_lex.specs.Bytes.{is, begins, is_letter, is_name_byte, is_dark, is_blank, is_digit}
+use Rattle.rr_lex.specs.Numbers.{text_of, literal_parts, size_text}
 use Rattle.rr_lex.specs.Tokens.{place_of, IsName, Stands, more, begins_with, attribute_begins}
-use Rattle.rr_lex.specs.Patch.{New, IsNew, IsNameText, is_plain_name, name_text, new_name, new_keyword, new_mark, new_literal, plain_number}
-use Rattle.rr_lex.specs.Reading.{some_piece, word_of, is_mark, keyword_word, mark_word, is_some_place, mark_len, mark_piece, has_mark, at_least}
+use Rattle.rr_lex.specs.Patch.{IsNew, IsNameText, is_plain_name, new_name, new_keyword, new_mark, new_literal}
+use Rattle.rr_lex.specs.Reading.{some_piece, word_of, is_mark, keyword_word, mark_word, mark_len, mark_piece, has_mark, at_least}
 use Rattle.rr_lex.proofs.Places.{all_below, below_all, is_place, place_is}
-use Rattle.rr_lex.proofs.Runs.{run_stops, run_all, Dark}
+use Rattle.rr_lex.proofs.Runs.{run_stops, run_all}
 use Rattle.rr_lex.proofs.Exact.{name_first, escape_piece, read_stands}
 use Rattle.rr_lex.proofs.Edges.{dark_name}
 use Rattle.rr_lex.proofs.Unique.{literal_alone}

@@ -1,14 +1,14 @@
 -- The longest mark.
-use Rattle.std.proofs.Common.{ℕ, zero, suc, ◌≡◌, ◌+◌, ◌≤◌, ◌<◌, List, [], ◌∷◌, ◌++◌, length, drop, take, Bool, true, false, not, ◌&&◌, ◌||◌, ◌==◌, Option, Some, None, refl, ap, ◌∙◌, sym, arith, cond, subst, eqb, ◌⊎◌, inl, inr, nat_le, nat_lt}
+use Rattle.std.proofs.Common.{ℕ, suc, ◌≡◌, ◌≤◌, List, [], ◌∷◌, ◌++◌, length, take, Bool, true, false, not, ◌&&◌, ◌==◌, Option, Some, None, refl, ap, ◌∙◌, sym, arith, inl, inr, nat_le}
 use Rattle.std.specs.List.{list_all}
 use Rattle.std.specs.Str.{bytes_eq}
 use Rattle.std.specs.Cmp.Lexicographic.{same_text}
-use Rattle.std.proofs.lemmas.Bool.{and_parts, and_from, cases_Bool, eqb-true, eq-eqb, false≢true, leb-true, cond_both}
-use Rattle.rr_lex.specs.Bytes.{is, begins, is_blank, is_letter, is_digit, is_dark}
+use Rattle.std.proofs.lemmas.Bool.{and_parts, cases_Bool, leb-true, cond_both}
+use Rattle.rr_lex.specs.Bytes.{begins, is_blank, is_letter, is_digit, is_dark}
 use Rattle.rr_lex.specs.Tokens.{more, place_of}
 use Rattle.rr_syntax.specs.Words.{marks}
 use Rattle.rr_lex.specs.Reading.{is_some_place, is_mark, has_mark, at_least, mark_len}
-use Rattle.rr_lex.proofs.Runs.{Dark, not_blank}
+use Rattle.rr_lex.proofs.Runs.{Dark}
 
 pub more_found : (o : Option ℕ) (m : ℕ) → more 1 o ≡ Some m → (n : ℕ) × (o ≡ Some n)
 unfolding more

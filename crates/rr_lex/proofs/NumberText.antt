@@ -1,18 +1,17 @@
 -- The text of a number: how long it is, and what it is read as.
-use Rattle.std.proofs.Common.{ℕ, zero, suc, ◌≡◌, ◌+◌, ◌≤◌, ◌<◌, List, [], ◌∷◌, ◌++◌, length, drop, take, Bool, true, false, not, ◌&&◌, ◌||◌, ◌==◌, Option, Some, None, refl, ap, ◌∙◌, sym, arith, cond, subst, eqb, ◌⊎◌, inl, inr, nat_lt, ◌^◌}
+use Rattle.std.proofs.Common.{ℕ, ◌≡◌, ◌+◌, ◌≤◌, List, [], ◌∷◌, ◌++◌, length, drop, take, Bool, true, false, ◌||◌, ◌==◌, Option, Some, None, refl, ap, ◌∙◌, sym, arith, ◌⊎◌, inl, inr, nat_lt, ◌^◌}
 use Rattle.std.specs.List.{prefix_len, list_all}
-use Rattle.std.proofs.lemmas.Bool.{and_parts, and_from, cases_Bool, eqb-true, or_cases}
+use Rattle.std.proofs.lemmas.Bool.{and_parts, cases_Bool, eqb-true, or_cases}
 use Rattle.std.proofs.lemmas.List.{drop-drop, drop_all, drop_at, take_at, append_assoc, length-append, append-nil}
 use Rattle.rr_lex.specs.declared.number.Base.{Base}
 use Rattle.rr_lex.specs.declared.number.Base.TheVariants as base
-use Rattle.rr_syntax.specs.declared.token.Number.{Number}
-use Rattle.rr_lex.specs.Bytes.{is, begins, starts, is_blank, is_gap, is_dark, is_decimal, is_digit}
+use Rattle.rr_lex.specs.Bytes.{is, begins, starts, is_gap, is_decimal, is_digit}
 use Rattle.rr_lex.specs.Reading.{member, sign_len, letter_base, digits_len, tail_len, apostrophe, number_len, checked, number_of, run_len, sized}
 use Rattle.rr_lex.specs.Tokens.{more, HasApostrophe}
-use Rattle.rr_lex.specs.Numbers.{Parts, AreParts, text_of, IsDecimal, IsNumberText, decimal, based, IsNumber, decimal_number, based_number, base_letter, is_first, is_sign, is_signed, number, digit, fits, literal, plain_literal, further, goes_on, is_digit_of, is_wild, radix_of, is_x, is_z}
+use Rattle.rr_lex.specs.Numbers.{Parts, AreParts, text_of, IsDecimal, IsNumberText, decimal, based, base_letter, is_first, is_sign, is_signed, number, digit, fits, literal, plain_literal, further, goes_on, is_digit_of, is_wild, radix_of, is_x, is_z}
 use Rattle.rr_lex.specs.Reading as reading
 use Rattle.rr_lex.proofs.Facts.{more-some}
-use Rattle.rr_lex.proofs.Runs.{run_stops, run_more, run_all, Dark, not_blank, begins_not_gap, begins_append, past_gap, not_gap, Splits, split, gap_blank}
+use Rattle.rr_lex.proofs.Runs.{run_stops, run_more, run_all, Dark, not_blank, begins_not_gap, past_gap, split, gap_blank}
 
 pub dark_decimal : Dark is_decimal
 unfolding is_decimal

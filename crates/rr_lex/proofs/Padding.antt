@@ -1,13 +1,12 @@
 -- The digits that stand before a first digit x or z.
-use Rattle.std.proofs.Common.{ℕ, zero, suc, ◌≡◌, ◌+◌, ◌-◌, ◌*◌, ◌%◌, ◌^◌, ◌≤◌, ◌<◌, length, get_or, List, [], ◌∷◌, Bool, true, false, ◌==◌, ◌||◌, if◌then◌else◌, refl, ap, ◌∙◌, sym, arith, inl, inr, ◌⊎◌}
+use Rattle.std.proofs.Common.{ℕ, ◌≡◌, ◌-◌, ◌%◌, ◌^◌, ◌≤◌, ◌<◌, length, get_or, List, [], ◌∷◌, Bool, true, false, ◌==◌, ◌||◌, if◌then◌else◌, refl, ap, ◌∙◌, sym, arith, inl, inr}
 use Rattle.std.specs.Prelude.{replicate}
-use Rattle.std.specs.List.{fold, list_all}
-use Rattle.std.proofs.lemmas.Bool.{and_parts, or_cases, cases_Bool, eqb-true, false≢true, ne_eqb, or_left, or_right}
+use Rattle.std.specs.List.{list_all}
+use Rattle.std.proofs.lemmas.Bool.{and_parts, or_cases, cases_Bool, eqb-true, false≢true, or_left, or_right}
 use Rattle.rr_lex.specs.declared.number.Base.{Base}
 use Rattle.rr_lex.specs.declared.number.Base.TheVariants as base
 use Rattle.rr_lex.specs.declared.number.Count.{Count}
 use Rattle.rr_lex.specs.declared.number.Count.TheVariants as count
-use Rattle.rr_lex.specs.Bytes.{begins}
 use Rattle.rr_lex.specs.Numbers.{is_x, is_z, is_wild, digit, any_digit, unknown_digit, one_more, number, radix_in, radix_of, padding}
 use Rattle.rr_lex.specs.Reading.{counted, fills}
 

@@ -1,15 +1,15 @@
 -- The words of a patched text.
-use Rattle.std.proofs.Common.{zero-add, ℕ, zero, suc, ◌≡◌, ◌≢◌, ◌+◌, ◌-◌, ◌≤◌, ◌<◌, List, [], ◌∷◌, ◌++◌, length, drop, take, map, Bool, true, false, not, ◌&&◌, ◌||◌, ◌==◌, Option, Some, None, refl, ap, ◌∙◌, sym, arith, cond, subst, ◌⊎◌, inl, inr}
+use Rattle.std.proofs.Common.{zero-add, ℕ, suc, ◌≡◌, ◌≢◌, ◌+◌, ◌-◌, ◌≤◌, List, [], ◌∷◌, ◌++◌, length, drop, take, Bool, true, false, not, ◌&&◌, ◌||◌, ◌==◌, Option, Some, None, refl, ap, ◌∙◌, sym, arith, subst, ◌⊎◌, inl, inr}
 use Rattle.std.specs.List.{prefix_len, list_all}
-use Rattle.std.proofs.lemmas.Bool.{and_parts, and_from, and_cases, cases_Bool, eqb-true, eq-eqb, false≢true, not-true, not-false, and_right, and_left}
-use Rattle.std.proofs.lemmas.List.{drop_at, take_at, drop-drop, append_assoc, length-append, append-nil}
+use Rattle.std.proofs.lemmas.Bool.{and_parts, cases_Bool, eqb-true, false≢true, not-true, not-false}
+use Rattle.std.proofs.lemmas.List.{drop_at, take_at, append_assoc, length-append}
 use Rattle.rr_lex.specs.Bytes.{is, begins, starts, is_dark, is_blank, is_gap, is_in_line, is_digit, is_letter}
-use Rattle.rr_syntax.specs.Words.{Word, Marked, Digits, Named, Reserved, marks, mark_star, mark_close_parenthesis}
-use Rattle.rr_lex.specs.Tokens.{Lexeme, place_of, more, is_closed_next, IsWhite, blank, line, block, attribute, skipped, IsToken, named, reserved, escaped_name, system_name, numbered, marked, Stands, Read, here, white, token, NoWhite, words_of, AreTokens}
+use Rattle.rr_syntax.specs.Words.{Word, Marked, marks, mark_star, mark_close_parenthesis}
+use Rattle.rr_lex.specs.Tokens.{Lexeme, place_of, more, is_closed_next, IsWhite, blank, line, block, attribute, skipped, IsToken, named, reserved, escaped_name, system_name, numbered, marked, Stands, Read, here, white, token, words_of, AreTokens}
 use Rattle.rr_lex.specs.Numbers.{IsNumberText}
 use Rattle.rr_lex.specs.Reading.{is_mark}
 use Rattle.rr_lex.specs.Patch.{New, Edit, run_end, run_text, token_text, patched, token_word, new_words, patched_words, IsNew, AllNew, Replaces, IsNext, AreEdits, AreWords}
-use Rattle.rr_lex.proofs.Runs.{Dark, gap_blank}
+use Rattle.rr_lex.proofs.Runs.{gap_blank}
 use Rattle.rr_lex.proofs.Marks.{place_sound, fine_parts}
 use Rattle.rr_lex.proofs.Exact.{empty_seen, text_first, number_text, place_mark}
 use Rattle.rr_lex.proofs.Edges.{Edged, opens, stays}
@@ -168,8 +168,8 @@ mark_of : (w : Word) (text after : List ℕ) → IsToken w text after → begins
     (m : ℕ) × (place_of text marks ≡ Some m) × (w ≡ Marked m)
 mark_of w text after (named n k e) l s y d = absurd (false≢true (sym l ∙ n.0))
 mark_of w text after (reserved j n k e) l s y d = absurd (false≢true (sym l ∙ n.0))
-mark_of w text after (escaped_name body b h i t e) l s y d = absurd (false≢true (sym s ∙ ap (begins (is 92)) t))
-mark_of w text after (system_name body b h t e) l s y d = absurd (false≢true (sym y ∙ ap (begins (is 36)) t))
+mark_of w text after (escaped_name body n e) l s y d = absurd (false≢true (sym s ∙ ap (begins (is 92)) n.3))
+mark_of w text after (system_name body n e) l s y d = absurd (false≢true (sym y ∙ ap (begins (is 36)) n.2))
 mark_of w text after (numbered n t e) l s y d = absurd (false≢true (sym d ∙ text_first text [] (number_text text n t)))
 mark_of w text after (marked m k e) l s y d = (m, k, e)
 

@@ -1,5 +1,5 @@
 -- What stands at a place of the bytes, case by case.
-use Rattle.std.proofs.Common.{ℕ, zero, suc, ◌≡◌, ◌+◌, ◌≤◌, ◌<◌, List, [], ◌∷◌, ◌++◌, length, drop, take, get_or, Bool, true, false, not, ◌&&◌, ◌||◌, ◌==◌, Option, Some, None, refl, ap, ◌∙◌, sym, arith, cond, subst, eqb, ◌-◌}
+use Rattle.std.proofs.Common.{ℕ, zero, suc, ◌≡◌, ◌+◌, List, drop, take, true, false, Option, Some, None, refl, ap, sym, arith, ◌-◌}
 use Rattle.std.specs.List.{prefix_len}
 use Rattle.std.proofs.lemmas.List.{drop-drop}
 use Rattle.std.proofs.lemmas.Bool.{ne_eqb}
@@ -8,8 +8,8 @@ use Rattle.rr_lex.specs.declared.piece.Piece.{Piece}
 use Rattle.rr_lex.specs.declared.piece.Piece.TheVariants as part
 use Rattle.rr_lex.specs.declared.piece.Shape.TheVariants as shape
 use Rattle.rr_lex.specs.declared.piece.Wrong.TheVariants as wrong
-use Rattle.rr_lex.specs.Bytes.{is, begins, is_gap, is_decimal, is_dark, is_printable, is_blank, is_letter, is_digit, is_in_line, is_name_byte}
-use Rattle.rr_lex.specs.Reading.{member, closing, comment, comment_at, number_len, number_of, number_piece, in_range, is_escaped, escaped, is_skipped, skipped_piece, system_piece, mark_len, mark_piece, some_piece, moved}
+use Rattle.rr_lex.specs.Bytes.{is, begins, is_printable, is_blank, is_letter, is_digit, is_in_line, is_name_byte}
+use Rattle.rr_lex.specs.Reading.{closing, comment, comment_at, number_len, number_of, number_piece, in_range, is_escaped, escaped, is_skipped, skipped_piece, system_piece, mark_len, mark_piece, some_piece, moved}
 use Rattle.rr_lex.specs.Tokens.{more, begins_with, attribute_begins}
 
 pub number_none : (at : ℕ) (bs : List ℕ) → None ≡ more at (number_len (drop at bs)) → part.Fault wrong.Number ≡ moved at (number_piece (drop at bs) (number_len (drop at bs)))

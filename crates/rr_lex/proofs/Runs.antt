@@ -1,8 +1,8 @@
 -- Runs of bytes of a class.
-use Rattle.std.proofs.Common.{zero-add, ℕ, zero, suc, ◌≡◌, ◌+◌, ◌≤◌, ◌<◌, List, [], ◌∷◌, ◌++◌, length, drop, take, Bool, true, false, not, ◌&&◌, ◌||◌, ◌==◌, Option, Some, None, refl, ap, ◌∙◌, sym, arith, cond, subst, eqb, ◌⊎◌, inl, inr}
+use Rattle.std.proofs.Common.{zero-add, ℕ, ◌≡◌, ◌+◌, List, [], ◌∷◌, ◌++◌, length, Bool, true, false, ◌||◌, ◌==◌, refl, ap, ◌∙◌, sym, arith, inl, inr}
 use Rattle.std.specs.List.{prefix_len, list_all}
 use Rattle.std.proofs.lemmas.Bool.{and_parts, and_from, cases_Bool, eqb-true, or_cases}
-use Rattle.rr_lex.specs.Bytes.{is, begins, is_blank, is_gap, is_dark}
+use Rattle.rr_lex.specs.Bytes.{begins, is_blank, is_gap}
 
 pub bare_run : (p : ℕ → Bool) (ys : List ℕ) → begins p ys ≡ false → prefix_len p ys ≡ 0
 bare_run p [] h = refl

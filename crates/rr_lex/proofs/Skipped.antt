@@ -1,14 +1,14 @@
 -- The directives that are white space.
-use Rattle.std.proofs.Common.{ℕ, zero, suc, ◌≡◌, ◌+◌, List, [], ◌∷◌, ◌++◌, length, drop, take, Bool, true, false, not, ◌==◌, Option, Some, None, refl, ap, ◌∙◌, sym, arith, cond, subst}
+use Rattle.std.proofs.Common.{ℕ, ◌≡◌, ◌+◌, List, [], ◌∷◌, ◌++◌, length, take, Bool, true, false, ◌==◌, Some, refl, ap, ◌∙◌, sym, subst}
 use Rattle.std.specs.List.{prefix_len, list_all}
-use Rattle.std.proofs.lemmas.Bool.{and_parts, eqb-true, not-false}
+use Rattle.std.proofs.lemmas.Bool.{eqb-true, not-false}
 use Rattle.std.proofs.lemmas.List.{take_at, append_assoc}
 use Rattle.rr_lex.specs.declared.piece.Piece.TheVariants as part
 use Rattle.rr_lex.specs.declared.piece.Wrong.TheVariants as wrong
 use Rattle.rr_lex.specs.Bytes.{begins, is_blank, is_in_line, is_name_byte}
 use Rattle.rr_lex.specs.Tokens.{IsWhite, skipped, begins_with, attribute_begins, directives, place_of}
-use Rattle.rr_lex.specs.Reading.{is_skipped, is_white_name, skipped_piece, some_piece, is_some_place}
-use Rattle.rr_lex.proofs.Runs.{run_stops, Splits, split}
+use Rattle.rr_lex.specs.Reading.{is_skipped, is_white_name, skipped_piece, some_piece}
+use Rattle.rr_lex.proofs.Runs.{run_stops, split}
 use Rattle.rr_lex.proofs.Marks.{place_sound, found}
 
 pub begins_over : (p : ℕ → Bool) (xs ys : List ℕ) → begins p xs ≡ false → begins p ys ≡ false → begins p (xs ++ ys) ≡ false

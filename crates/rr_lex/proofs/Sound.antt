@@ -1,5 +1,5 @@
 -- What the tokens of a text may be.
-use Rattle.std.proofs.Common.{ℕ, zero, suc, ◌≡◌, ◌+◌, ◌%◌, ◌^◌, ◌≤◌, ◌<◌, List, [], ◌∷◌, ◌++◌, length, Bool, true, false, ◌&&◌, nat_le, Some, refl, ap, ◌∙◌, sym, arith, subst, get_or}
+use Rattle.std.proofs.Common.{ℕ, ◌≡◌, ◌+◌, ◌%◌, ◌^◌, ◌≤◌, ◌<◌, List, [], ◌∷◌, length, Bool, true, nat_le, refl, arith}
 use Rattle.std.specs.Prelude.{All}
 use Rattle.std.specs.List.{list_all, AllByRecursion}
 use Rattle.std.proofs.lemmas.List.Elements.{All-from_recursion}
@@ -8,11 +8,10 @@ use Rattle.std.proofs.lemmas.Bool.Decides.{nat_tests}
 use Rattle.std.proofs.lemmas.Nat.{pow_pos}
 use Rattle.std.proofs.Math.Nat.{mod-lt}
 use Rattle.rr_syntax.specs.declared.token.Number.{Number}
-use Rattle.rr_syntax.specs.Words.{Word, Named, System, Digits, Reserved, Marked, keywords, marks}
-use Rattle.rr_lex.specs.declared.number.Base.{Base}
+use Rattle.rr_syntax.specs.Words.{Word, Named, Digits, keywords, marks}
 use Rattle.rr_lex.specs.Bytes.{begins, is_letter, is_name_byte, is_printable}
 use Rattle.rr_lex.specs.Numbers.{IsNumber, decimal_number, based_number, is_width, width_of, digits_fit, fits, literal, plain_literal}
-use Rattle.rr_lex.specs.Tokens.{Lexeme, words_of, place_of, IsName, IsToken, named, reserved, escaped_name, system_name, numbered, marked, Stands, Read, here, white, token, AreTokens, IsSound}
+use Rattle.rr_lex.specs.Tokens.{Lexeme, words_of, IsName, IsToken, named, reserved, escaped_name, system_name, numbered, marked, Read, here, white, token, AreTokens, IsSound}
 use Rattle.rr_lex.proofs.Places.{place_at}
 
 letter_printable : (b : ℕ) → is_letter b ≡ true → is_printable b ≡ true
@@ -58,8 +57,8 @@ name_sound text n = (begins_as is_letter is_printable letter_printable text n.0,
 token_sound : (w : Word) (text after : List ℕ) → IsToken w text after → IsSound w
 token_sound w text after (named n k e) = rw e (name_sound text n)
 token_sound w text after (reserved j n k e) = rw e (place_at text keywords j k).0
-token_sound w text after (escaped_name body b h d t e) = rw e (b, h)
-token_sound w text after (system_name body b h t e) = rw e (b, h)
+token_sound w text after (escaped_name body n e) = rw e (n.0, n.1)
+token_sound w text after (system_name body n e) = rw e (n.0, n.1)
 token_sound w text after (numbered n t e) = rw e (number_sound text n t)
 token_sound w text after (marked m k e) = rw e (place_at text marks m k).0
 

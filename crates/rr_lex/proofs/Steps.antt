@@ -1,22 +1,16 @@
 -- One step of the lexer.
-use Rattle.std.proofs.Common.{ℕ, zero, suc, ◌≡◌, ◌+◌, ◌-◌, ◌≤◌, ◌<◌, List, [], ◌∷◌, ◌++◌, length, drop, take, get_or, Bool, true, false, Option, Some, None, refl, ap, ◌∙◌, sym, arith, subst, ◌⊎◌, inl, inr, IsSome}
-use Rattle.std.specs.List.{list_all}
-use Rattle.std.specs.Str.{IsAscii}
-use Rattle.std.proofs.lemmas.Bool.{and_parts}
-use Rattle.std.proofs.lemmas.Bool.Decides.{nat_tests}
-use Rattle.std.proofs.lemmas.List.{drop_at, take_at, drop-drop, length-append, length-drop, append_assoc, append-nil, drop_all, length-map}
+use Rattle.std.proofs.Common.{ℕ, ◌≡◌, ◌+◌, ◌-◌, ◌≤◌, ◌<◌, List, [], ◌∷◌, ◌++◌, length, drop, take, refl, ap, ◌∙◌, sym, arith, subst}
+use Rattle.std.proofs.lemmas.List.{drop_at, take_at, drop-drop, length-append, length-drop, append-nil, drop_all, length-map}
 use Rattle.rr_syntax.specs.declared.token.Token.{Token}
 use Rattle.rr_lex.specs.declared.piece.Shape.{Shape}
-use Rattle.rr_lex.specs.declared.piece.Shape.TheVariants as shape
 use Rattle.rr_lex.specs.declared.piece.Piece.{Piece}
 use Rattle.rr_lex.specs.declared.piece.Piece.TheVariants as part
 use Rattle.rr_lex.specs.declared.piece.Wrong.{Wrong}
 use Rattle.rr_lex.specs.declared.piece.Wrong.TheVariants as wrong
-use Rattle.rr_lex.specs.Bytes.{is_name_byte, is_printable}
-use Rattle.rr_syntax.specs.Words.{Word, Named, Digits, Reserved, Marked, marks, keywords, word, words}
-use Rattle.rr_lex.specs.Tokens.{AreTokens, Rise, Lexeme, lexeme, lexemes, words_of, place_of, IsWhite, blank, line, block, attribute, skipped, IsToken, named, reserved, escaped_name, numbered, marked, Stands, IsFault, IsFirstFault, Read, here, white, token}
-use Rattle.rr_lex.specs.Reading.{some_piece, moved, word_of, IsKnown, IsSafe, number_of}
-use Rattle.rr_lex.proofs.Exact.{Case, c_white, c_text, c_broken, c_byte, case_at, empty_seen, read_stands, read_fault, number_back}
+use Rattle.rr_syntax.specs.Words.{Word, word, words}
+use Rattle.rr_lex.specs.Tokens.{AreTokens, Rise, Lexeme, lexeme, lexemes, words_of, IsWhite, blank, line, block, attribute, skipped, IsToken, Stands, IsFault, IsFirstFault, Read, here, white, token}
+use Rattle.rr_lex.specs.Reading.{some_piece, moved, word_of, IsKnown, IsSafe}
+use Rattle.rr_lex.proofs.Exact.{Case, c_white, c_text, c_broken, c_byte, case_at, empty_seen, read_stands, read_fault}
 
 pub white_length : (text after : List ℕ) → IsWhite text after → 0 < length text
 white_length text after (blank b h e) = rw e (omega arith)

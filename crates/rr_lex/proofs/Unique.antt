@@ -1,21 +1,20 @@
 -- No bytes have two token lists.
-use Rattle.std.proofs.Common.{ℕ, zero, suc, ◌≡◌, ◌+◌, ◌≤◌, ◌<◌, List, [], ◌∷◌, ◌++◌, length, drop, take, Bool, true, false, ◌||◌, Option, Some, None, refl, ap, ◌∙◌, sym, arith, subst}
+use Rattle.std.proofs.Common.{ℕ, suc, ◌≡◌, ◌+◌, ◌<◌, List, [], ◌∷◌, ◌++◌, length, true, ◌||◌, Some, refl, ap, ◌∙◌, sym, arith, subst}
 use Rattle.rr_lex.specs.declared.piece.Shape.{Shape}
-use Rattle.rr_lex.specs.declared.piece.Piece.{Piece}
 use Rattle.rr_lex.specs.declared.piece.Piece.TheVariants as part
 use Rattle.rr_lex.specs.declared.number.Base.{Base}
 use Rattle.rr_lex.specs.Bytes.{is, begins, is_digit}
-use Rattle.rr_lex.specs.Reading.{member, some_piece, word_of, number_len, number_of, number_piece, in_range, checked}
+use Rattle.rr_lex.specs.Reading.{some_piece, word_of, number_len, number_of, in_range, checked}
 use Rattle.rr_syntax.specs.Words.{Word, Digits}
 use Rattle.rr_lex.specs.Tokens.{Lexeme, begins_with, attribute_begins, HasApostrophe, IsWhite, IsBroken, open_block, open_attribute, directive, no_digits, out_of_range, IsFault, broken, no_token, IsFirstFault, Stands, Read, here, white, token, AreTokens}
-use Rattle.rr_lex.specs.Numbers.{Parts, AreParts, text_of, IsNumberText, based, fits, literal, is_signed, radix_of, goes_on, is_wild}
+use Rattle.rr_lex.specs.Numbers.{Parts, AreParts, text_of, based, fits, literal, is_signed, radix_of, goes_on, is_wild}
 use Rattle.std.proofs.lemmas.Bool.{false≢true}
 use Rattle.std.proofs.lemmas.List.{length-append}
 use Rattle.rr_lex.specs.declared.piece.Wrong.{Wrong}
 use Rattle.rr_lex.specs.declared.piece.Shape.TheVariants as shape
-use Rattle.rr_lex.proofs.Runs.{bare_run, Dark}
+use Rattle.rr_lex.proofs.Runs.{bare_run}
 use Rattle.rr_lex.proofs.NumberText.{based_len, based_of, dark_further, text_length}
-use Rattle.rr_lex.proofs.Exact.{white_is, stands_read, read_stands, fronts, empty_seen, text_first, first_byte, found_number, fault_read}
+use Rattle.rr_lex.proofs.Exact.{white_is, stands_read, read_stands, fronts, text_first, first_byte, found_number, fault_read}
 use Rattle.rr_lex.proofs.Steps.{white_length, token_length}
 
 empty_front : (text after : List ℕ) → [] ≡ text ++ after → 0 < length text → ⊥

@@ -1,8 +1,7 @@
 -- A whole text that is a number's.
-use Rattle.std.proofs.Common.{ℕ, zero, suc, ◌≡◌, ◌+◌, ◌≤◌, ◌<◌, List, [], ◌∷◌, ◌++◌, length, drop, take, Bool, true, false, ◌||◌, ◌==◌, ◌⊎◌, inl, inr, Option, Some, None, refl, ap, ◌∙◌, sym, arith, subst, MatchOption}
+use Rattle.std.proofs.Common.{ℕ, ◌≡◌, List, [], length, true, false, ◌||◌, ◌⊎◌, inl, inr, Option, Some, None, refl, ap, ◌∙◌, sym, arith, subst, MatchOption}
 use Rattle.std.proofs.lemmas.Bool.{false≢true, or_left, or_right}
 use Rattle.std.proofs.lemmas.List.{append-nil}
-use Rattle.std.specs.List.{list_all}
 use Rattle.rr_syntax.specs.declared.token.Number.{Number}
 use Rattle.rr_lex.specs.Bytes.{is, begins, is_digit}
 use Rattle.rr_lex.specs.Tokens.{more}
@@ -10,7 +9,7 @@ use Rattle.rr_lex.specs.Numbers.{IsNumber, IsNumberText, decimal, based, text_of
 use Rattle.rr_lex.specs.Reading.{number_len, number_of}
 use Rattle.rr_lex.proofs.Facts.{more_zero}
 use Rattle.rr_lex.proofs.NumberText.{based_len, decimal_len}
-use Rattle.rr_lex.proofs.Exact.{Numbered, a_number, a_fault, numbered_is, number_back, number_there, number_text, text_first, fronts}
+use Rattle.rr_lex.proofs.Exact.{a_number, a_fault, numbered_is, number_back, number_there, number_text, text_first, fronts}
 
 whole_len : (text : List ℕ) → IsNumberText text → number_len text ≡ Some (length text)
 whole_len text (decimal d) = ap number_len (sym (append-nil text)) ∙ decimal_len text [] d.1 refl refl

@@ -1,7 +1,7 @@
 -- The text of a literal reads back.
-use Rattle.std.proofs.Common.{ℕ, zero, suc, ◌≡◌, ◌+◌, ◌-◌, ◌*◌, ◌/◌, ◌%◌, ◌^◌, ◌≤◌, ◌<◌, List, [], ◌∷◌, ◌++◌, length, drop, Bool, true, false, Option, Some, None, ◌==◌, ◌&&◌, ◌||◌, not, nat_lt, nat_le, refl, ap, ◌∙◌, sym, arith, cond, subst, inl, inr, ◌⊎◌}
-use Rattle.std.specs.List.{list_all, fold}
-use Rattle.std.proofs.lemmas.Bool.{false≢true, and_parts, and_from, cases_lt, lt-ltb, le-ltb, le-leb, ne_eqb, or_left, or_right}
+use Rattle.std.proofs.Common.{ℕ, zero, suc, ◌≡◌, ◌+◌, ◌-◌, ◌*◌, ◌/◌, ◌%◌, ◌^◌, ◌≤◌, ◌<◌, List, [], ◌∷◌, ◌++◌, drop, Bool, true, false, ◌==◌, ◌||◌, refl, ap, ◌∙◌, sym, arith, inl, inr, ◌⊎◌}
+use Rattle.std.specs.List.{list_all}
+use Rattle.std.proofs.lemmas.Bool.{false≢true, and_parts, and_from, cases_lt, lt-ltb, le-ltb, le-leb, ne_eqb, or_left}
 use Rattle.std.proofs.lemmas.Bool.Decides.{nat_tests}
 use Rattle.std.proofs.lemmas.List.Sums.{fold_push}
 use Rattle.std.proofs.lemmas.List.{append-nil, append_assoc}
@@ -10,9 +10,8 @@ use Rattle.std.proofs.Math.Nat.{mul_comm, mod-eq_of_lt, zero-mod}
 use Rattle.std.proofs.Math.Pow.{pow_mono}
 use native.Mathlib.Nat.{pow-suc}
 use Rattle.rr_lex.specs.declared.number.Base.TheVariants as base
-use Rattle.rr_syntax.specs.declared.token.Number.{Number}
 use Rattle.rr_lex.specs.Bytes.{begins, is_digit, is_decimal}
-use Rattle.rr_lex.specs.Numbers.{number, one_more, digit, any_digit, unknown_digit, hex_byte, hex_text, size_text, sign_text, literal_parts, text_of, AreParts, is_first, is_digit_of, further, goes_on, is_wild, is_x, is_z, padding, radix_in, radix_of, is_sign, is_signed, IsDecimal, fits, is_width, digits_fit, literal, base_letter, width_of, is_sized, IsNumber, based_number}
+use Rattle.rr_lex.specs.Numbers.{number, one_more, digit, any_digit, unknown_digit, hex_byte, hex_text, size_text, sign_text, literal_parts, text_of, AreParts, is_first, is_digit_of, further, is_wild, is_x, is_z, padding, radix_in, radix_of, is_sign, is_signed, IsDecimal, fits, is_width, digits_fit, literal, base_letter, width_of, is_sized, IsNumber, based_number}
 use Rattle.rr_lex.specs.Patch.{plain_number}
 use Rattle.rr_lex.proofs.Skipped.{begins_over}
 use Rattle.rr_lex.proofs.Runs.{begins_append}

@@ -1,5 +1,5 @@
 -- Classes of bytes (IEEE 1364-2005 sections 3.1 to 3.7).
-use Rattle.std.specs.Prelude.{ℕ, List, [], ◌∷◌, Bool, true, false, not, ◌&&◌, ◌||◌, ◌==◌, nat_le, drop}
+use Rattle.std.specs.Prelude.{ℕ, List, [], ◌∷◌, Bool, false, not, ◌&&◌, ◌||◌, ◌==◌, nat_le, drop}
 use Rattle.std.specs.List.{prefix_len}
 
 abbrev pub within : ℕ → ℕ → ℕ → Bool

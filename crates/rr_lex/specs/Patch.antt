@@ -1,11 +1,11 @@
 -- A text with new texts for some tokens, and new tokens after some.
-use Rattle.std.specs.Prelude.{ℕ, ◌≡◌, ◌≢◌, ◌+◌, ◌-◌, ◌*◌, ◌^◌, ◌/◌, ◌<◌, ◌≤◌, ◌⊎◌, List, [], ◌∷◌, ◌++◌, length, take, drop, map, Bool, true, false, ◌&&◌, if◌then◌else◌, Option, Some, None, is_none, get_or}
+use Rattle.std.specs.Prelude.{ℕ, ◌≡◌, ◌≢◌, ◌-◌, ◌⊎◌, List, [], ◌∷◌, ◌++◌, take, drop, map, Bool, true, false, ◌&&◌, if◌then◌else◌, Option, Some, None, is_none, get_or}
 use Rattle.std.specs.List.{list_all}
 use Rattle.rr_syntax.specs.declared.token.Number.{Number}
 use Rattle.rr_syntax.specs.Words.{Word, Named, Digits, Reserved, Marked, marks, keywords, mark_star, mark_close_parenthesis}
 use Rattle.rr_lex.specs.Bytes.{is, begins, is_letter, is_name_byte, is_printable}
 use Rattle.rr_lex.specs.Numbers.{text_of, literal_parts}
-use Rattle.rr_lex.specs.Tokens.{Lexeme, words_of, place_of, IsName, Stands, AreTokens}
+use Rattle.rr_lex.specs.Tokens.{Lexeme, words_of, place_of, Stands, AreTokens}
 
 -- a new token and its text
 pub record New : Type 0 where
@@ -51,7 +51,7 @@ patched_words [] es = []
 patched_words (t ∷ ts) [] = t.word ∷ words_of ts
 patched_words (t ∷ ts) (e ∷ es) = token_word e.text t.word ∷ (new_words e.run ++ patched_words ts es)
 
--- A text that is this token wherever a blank follows: any but a plain decimal. It begins with no apostrophe.
+-- A text that is this token wherever a blank follows, and that begins with no apostrophe. A plain decimal is none: past the blank an apostrophe may follow.
 pub record IsNew (n : New) : Type 0 where
   pub alone : (after : List ℕ) → Stands n.word n.text (32 ∷ after)
   pub unquoted : begins (is 39) n.text ≡ false

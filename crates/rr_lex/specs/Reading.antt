@@ -1,5 +1,5 @@
 -- What stands at the front of a text: a function that the lexer computes.
-use Rattle.std.specs.Prelude.{ℕ, zero, suc, ◌+◌, List, [], ◌∷◌, ◌++◌, length, take, drop, map, Bool, true, false, not, ◌&&◌, ◌||◌, ◌==◌, nat_lt, ◌^◌, if◌then◌else◌, cond, Option, Some, None, IsSome, ◌<◌, ◌≤◌, ◌-◌}
+use Rattle.std.specs.Prelude.{ℕ, zero, suc, ◌+◌, List, [], ◌∷◌, length, take, drop, map, Bool, true, false, not, ◌&&◌, ◌||◌, ◌==◌, nat_lt, ◌^◌, if◌then◌else◌, cond, Option, Some, None, IsSome, ◌<◌, ◌≤◌, ◌-◌}
 use Rattle.std.specs.Str.{IsAscii}
 use Rattle.std.specs.List.{prefix_len}
 use denote.Ref.{Bor}
@@ -16,8 +16,8 @@ use Rattle.rr_lex.specs.declared.piece.Shape.TheVariants as shape
 use Rattle.rr_lex.specs.declared.piece.Wrong.TheVariants as wrong
 use Rattle.rr_lex.specs.declared.piece.Piece.{Piece}
 use Rattle.rr_lex.specs.declared.piece.Piece.TheVariants as part
-use Rattle.rr_lex.specs.Bytes.{is, begins, starts, is_digit, is_decimal, is_letter, is_name_byte, is_blank, is_gap, is_printable, is_in_line, is_dark}
-use Rattle.rr_lex.specs.Numbers.{base_letter, is_first, is_sign, is_wild, is_x, is_z, goes_on, further, radix_of, digit, any_digit, unknown_digit, number, fits, literal, plain_literal}
+use Rattle.rr_lex.specs.Bytes.{is, begins, is_digit, is_decimal, is_letter, is_name_byte, is_blank, is_gap, is_printable, is_in_line, is_dark}
+use Rattle.rr_lex.specs.Numbers.{base_letter, is_first, is_sign, is_wild, is_x, is_z, goes_on, radix_of, digit, any_digit, unknown_digit, number, fits, literal, plain_literal}
 use Rattle.rr_lex.specs.Tokens.{attribute_begins, begins_with, more, place_of, directives}
 
 -- the classes of bytes that the lexer looks up

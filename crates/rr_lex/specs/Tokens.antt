@@ -1,5 +1,5 @@
 -- The tokens of a text: a relation on whole spans (IEEE 1364-2005 sections 3.1 to 3.8 and 19).
-use Rattle.std.specs.Prelude.{ℕ, ◌≡◌, ◌≢◌, ◌+◌, ◌<◌, ◌≤◌, ◌^◌, ◌⊎◌, List, [], ◌∷◌, ◌++◌, length, drop, map, codes, Bool, true, false, not, ◌&&◌, ◌||◌, ◌==◌, Option, Some, None, if◌then◌else◌}
+use Rattle.std.specs.Prelude.{ℕ, ◌≡◌, ◌+◌, ◌<◌, ◌≤◌, ◌^◌, ◌⊎◌, List, [], ◌∷◌, ◌++◌, length, drop, map, codes, Bool, true, false, not, ◌&&◌, Option, Some, None, if◌then◌else◌}
 use Rattle.std.specs.List.{list_all}
 use Rattle.std.specs.Str.{bytes_eq}
 use Rattle.rr_syntax.specs.declared.token.Token.{Token}
@@ -56,7 +56,8 @@ begins_with a b bs = begins (is a) bs && begins (is b) (drop 1 bs)
 unfoldable pub attribute_begins : List ℕ → Bool
 attribute_begins bs = begins_with 40 42 bs && not (is_closed_next (drop 2 bs))
 
--- one piece of white space, before the bytes after it (sections 3.2, 3.3, 3.8 and 19)
+-- One piece of white space, before the bytes after it: a blank byte (section 3.2), a line comment and a block comment (section 3.3),
+-- an attribute (section 3.8), or a directive that is skipped with the rest of its line (section 19).
 pub data IsWhite (text after : List ℕ) : Type 0 where
   blank : (b : ℕ) → is_blank b ≡ true → text ≡ b ∷ [] → IsWhite text after
   line : (body : List ℕ) → list_all is_in_line body ≡ true → begins is_in_line after ≡ false → text ≡ 47 ∷ (47 ∷ body) → IsWhite text after
@@ -65,17 +66,25 @@ pub data IsWhite (text after : List ℕ) : Type 0 where
   skipped : (k : ℕ) (name rest : List ℕ) → place_of name directives ≡ Some k → begins is_name_byte rest ≡ false → list_all is_in_line (name ++ rest) ≡ true →
       begins is_in_line after ≡ false → text ≡ 96 ∷ (name ++ rest) → IsWhite text after
 
--- a name (section 3.7)
+-- a simple identifier: a letter or _, then letters, digits, _ and $ (section 3.7)
 abbrev pub IsName : List ℕ → Type 0
 IsName text = (begins is_letter text ≡ true) × (list_all is_name_byte text ≡ true)
 
--- a text that is spelled as a token, before the bytes after it
+-- an escaped identifier: \ and one or more bytes 33 to 126 (section 3.7.1); a blank or the end follows
+abbrev pub IsEscapedName : List ℕ → List ℕ → List ℕ → Type 0
+IsEscapedName body text after = (begins is_printable body ≡ true) × (list_all is_printable body ≡ true) × (begins is_dark after ≡ false) × (text ≡ 92 ∷ body)
+
+-- the name of a system task or function: $ and one or more letters, digits, _ and $ (section 3.7.3)
+abbrev pub IsSystemName : List ℕ → List ℕ → Type 0
+IsSystemName body text = (begins is_name_byte body ≡ true) × (list_all is_name_byte body ≡ true) × (text ≡ 36 ∷ body)
+
+-- A text that is spelled as a token, before the bytes after it: a name that is no keyword, a keyword (section 3.7.2), an escaped name, a system name,
+-- a number (section 3.5.1), or a punctuation mark or operator (sections 3.4 and 5.1).
 pub data IsToken (w : Word) (text after : List ℕ) : Type 0 where
   named : IsName text → place_of text keywords ≡ None → w ≡ Named text → IsToken w text after
   reserved : (k : ℕ) → IsName text → place_of text keywords ≡ Some k → w ≡ Reserved k → IsToken w text after
-  escaped_name : (body : List ℕ) → begins is_printable body ≡ true → list_all is_printable body ≡ true → begins is_dark after ≡ false →
-      text ≡ 92 ∷ body → w ≡ Named body → IsToken w text after
-  system_name : (body : List ℕ) → begins is_name_byte body ≡ true → list_all is_name_byte body ≡ true → text ≡ 36 ∷ body → w ≡ System body → IsToken w text after
+  escaped_name : (body : List ℕ) → IsEscapedName body text after → w ≡ Named body → IsToken w text after
+  system_name : (body : List ℕ) → IsSystemName body text → w ≡ System body → IsToken w text after
   numbered : (n : Number) → IsNumber text n → w ≡ Digits n → IsToken w text after
   marked : (m : ℕ) → place_of text marks ≡ Some m → w ≡ Marked m → IsToken w text after
 

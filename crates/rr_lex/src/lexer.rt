@@ -24,6 +24,7 @@ pub enum TextFault {
     OpenComment(u32),
     /// A compiler directive that is no white space.
     Directive(u32),
+    /// The allocator gave no memory.
     Memory,
 }
 

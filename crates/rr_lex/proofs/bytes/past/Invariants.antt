@@ -1,4 +1,4 @@
-use Rattle.std.proofs.Common.{ℕ, ◌≡◌, ◌≤◌, ◌-◌, ◌+◌, length, drop}
+use Rattle.std.proofs.Common.{◌≡◌, ◌≤◌, ◌-◌, ◌+◌, length, drop}
 use Rattle.std.specs.List.{prefix_len}
 use Rattle.rr_lex.specs.Reading.{member}
 use Rattle.rr_lex.proofs.bytes.past.Given as goal

@@ -1,8 +1,6 @@
-use Rattle.std.proofs.Common.{ℕ, ◌≡◌, ◌≤◌, ◌-◌, ◌+◌, ◌∷◌, [], ◌++◌, length, drop, take, ap, ◌∙◌, sym, refl, arith, rules, subst, List}
+use Rattle.std.proofs.Common.{◌-◌, drop, refl, arith}
 use Rattle.std.proofs.lemmas.List.{map_push, length-take-le, length-drop}
-use Rattle.rr_syntax.specs.declared.token.Token.{Token}
-use Rattle.rr_lex.specs.Tokens.{lexeme, lexemes, Lexeme, Read, here}
-use Rattle.rr_syntax.specs.Words.{word}
+use Rattle.rr_lex.specs.Tokens.{lexeme, lexemes, here}
 use Rattle.rr_lex.proofs.Steps.{lex_white, lex_text, lex_fault, lex_done, lex_few, lex_rise}
 use Rattle.rr_lex.proofs.lexer.lex.Goals as goal
 

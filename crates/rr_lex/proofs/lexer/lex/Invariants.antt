@@ -1,4 +1,4 @@
-use Rattle.std.proofs.Common.{ℕ, ◌≡◌, ◌≤◌, ◌-◌, ◌+◌, length, drop}
+use Rattle.std.proofs.Common.{◌≤◌, ◌-◌, length, drop}
 use Rattle.rr_lex.specs.Tokens.{lexemes, Read}
 use Rattle.rr_lex.proofs.lexer.lex.Given as goal
 

@@ -1,4 +1,4 @@
-use Rattle.std.proofs.Common.{◌≡◌, ◌+◌, refl, ap, ◌∙◌, sym, drop, ℕ}
+use Rattle.std.proofs.Common.{◌+◌, ap, ◌∙◌, sym, drop, ℕ}
 use Rattle.std.specs.List.{prefix_len}
 use Rattle.rr_lex.specs.Reading.{member}
 use Rattle.rr_lex.specs.Bytes.{is_gap}

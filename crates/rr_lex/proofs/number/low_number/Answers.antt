@@ -1,4 +1,4 @@
-use Rattle.std.proofs.Common.{ℕ, ◌∙◌, sym, ap, arith, get_or, take, ◌%◌, ◌^◌}
+use Rattle.std.proofs.Common.{ℕ, ◌∙◌, sym, ap, arith, take, ◌%◌, ◌^◌}
 use Rattle.std.specs.List.{fold}
 use Rattle.std.proofs.lemmas.List.Sums.{fold_more}
 use Rattle.rr_lex.specs.Numbers.{number, one_more, padding, radix_of}

@@ -1,4 +1,4 @@
-use Rattle.std.proofs.Common.{ℕ, ◌≡◌, ◌%◌, ◌^◌, take}
+use Rattle.std.proofs.Common.{◌≡◌, ◌%◌, ◌^◌, take}
 use Rattle.std.specs.List.{fold}
 use Rattle.rr_lex.specs.Numbers.{number, one_more, padding, radix_of}
 use Rattle.rr_lex.specs.Reading.{counted}

@@ -1,4 +1,4 @@
-use Rattle.std.proofs.Common.{ℕ, ◌≡◌, ◌+◌, ◌∙◌, sym, ap, drop}
+use Rattle.std.proofs.Common.{◌+◌, ◌∙◌, sym, ap, drop}
 use Rattle.std.specs.List.{prefix_len}
 use Rattle.rr_lex.specs.declared.bytes.Class.{Class}
 use Rattle.rr_lex.specs.Bytes.{begins}

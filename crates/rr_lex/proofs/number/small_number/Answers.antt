@@ -1,4 +1,4 @@
-use Rattle.std.proofs.Common.{◌≡◌, refl, ◌∙◌, sym, arith, ap, get_or, ℕ, ◌^◌}
+use Rattle.std.proofs.Common.{refl, ◌∙◌, sym, arith, ap, get_or, ℕ, ◌^◌}
 use Rattle.rr_lex.specs.Numbers.{number, one_more}
 use Rattle.rr_lex.specs.Reading.{counted}
 use Rattle.rr_lex.proofs.Digits.{number_step, number_past}

@@ -1,4 +1,4 @@
-use Rattle.std.proofs.Common.{ℕ, ◌≡◌, take}
+use Rattle.std.proofs.Common.{◌≡◌, take}
 use Rattle.rr_lex.specs.Numbers.{number}
 use Rattle.rr_lex.specs.Reading.{counted}
 use Rattle.rr_lex.proofs.number.small_number.Given as goal

@@ -1,4 +1,4 @@
-use Rattle.std.proofs.Common.{◌≡◌, ◌+◌, ◌∙◌, sym, ap, not, rules, arith}
+use Rattle.std.proofs.Common.{◌∙◌, sym, ap, not}
 use Rattle.rr_lex.specs.Reading.{member}
 use Rattle.rr_lex.proofs.Facts.{escaped_yes}
 use Rattle.rr_lex.proofs.piece.is_escaped.Goals as goal

@@ -1,4 +1,4 @@
-use Rattle.std.proofs.Common.{◌≡◌, ◌∙◌, sym, ap, arith, is_none, Option, ℕ}
+use Rattle.std.proofs.Common.{◌∙◌, sym, ap, is_none, Option, ℕ}
 use Rattle.rr_lex.specs.Reading.{member}
 use Rattle.rr_lex.proofs.Fresh.{plain_yes, none_by}
 use Rattle.rr_lex.proofs.words.is_plain_name.Goals as goal

@@ -1,4 +1,4 @@
-use Rattle.std.proofs.Common.{ℕ, ◌≡◌, List, [], ◌∙◌, sym, arith}
+use Rattle.std.proofs.Common.{ℕ, List, [], ◌∙◌, sym, arith}
 use denote.Ref.{Bor}
 use Rattle.std.proofs.lemmas.List.{get_or-map}
 use Rattle.rr_lex.proofs.Places.{placed_yes, placed_no}
