@@ -368,42 +368,63 @@ fn push_token<'a>(
     Ok(())
 }
 
+fn are_same(found: &[Kind], wanted: &[Kind]) -> bool {
+    if found.len() != wanted.len() {
+        return false;
+    }
+    for (a, b) in found.iter().zip(wanted) {
+        if !same(*a, *b) {
+            return false;
+        }
+    }
+    true
+}
+
+/// Writes the tokens with their edits, and notes their kinds.
+fn push_tokens<'a>(
+    out: &mut Vec<u8>,
+    kinds: &mut Vec<Kind<'a>>,
+    bytes: &[u8],
+    tokens: &[Token<'a>],
+    edits: &[Edit],
+    arena: &'a Bump,
+) -> Result<(), AllocError> {
+    let mut from = 0;
+    for (at, token) in tokens.iter().enumerate() {
+        push_part(out, bytes, from, token.span.start as usize)?;
+        push_token(out, kinds, bytes, *token, edits, at, arena)?;
+        from = token.span.end as usize;
+    }
+    push_part(out, bytes, from, bytes.len())?;
+    Ok(())
+}
+
 /// The patched text, where its tokens are those of the source with the edits.
-fn patched(alloc: Global, bytes: &[u8], edits: &[Edit]) -> Result<Vec<u8>, AllocError>
+fn patched(alloc: Global, arena: &Bump, bytes: &[u8], edits: &[Edit]) -> Result<Vec<u8>, AllocError>
     requires { length bytes.now ≤ 1048576 }
 {
-    let arena = Bump::new(alloc);
     let mut out = Vec::new(alloc);
     let mut kinds = Vec::new(alloc);
-    let mut from = 0;
-    match lex(bytes, &arena) {
-        Ok(tokens) => {
-            for (at, token) in tokens.iter().enumerate() {
-                push_part(&mut out, bytes, from, token.span.start as usize)?;
-                push_token(&mut out, &mut kinds, bytes, *token, edits, at, &arena)?;
-                from = token.span.end as usize;
-            }
-        }
+    match lex(bytes, arena) {
+        Ok(tokens) => push_tokens(&mut out, &mut kinds, bytes, tokens, edits, arena)?,
         Err(_) => return Err(AllocError),
     }
-    push_part(&mut out, bytes, from, bytes.len())?;
     let mut found = Vec::new(alloc);
-    push_kinds(&mut found, &out, &arena)?;
-    if found.len() != kinds.len() {
-        return Err(AllocError);
+    push_kinds(&mut found, &out, arena)?;
+    if are_same(&found, &kinds) {
+        Ok(out)
+    } else {
+        Err(AllocError)
     }
-    for (a, b) in found.iter().zip(&kinds) {
-        if !same(*a, *b) {
-            return Err(AllocError);
-        }
-    }
-    Ok(out)
 }
 
 #[test]
 fn patches_at_token_edges(rt: HostRuntime) -> Result<(), Fail> {
+    let alloc = rt.alloc();
+    let arena = Bump::new(alloc);
     let text = patched(
-        rt.alloc(),
+        alloc,
+        &arena,
         b"module m(input clk,input s,output reg[3:0]q);always@(posedge clk)q<=s?4'd3:4'd0;endmodule",
         &[
             Edit {
@@ -444,90 +465,98 @@ fn patches_at_token_edges(rt: HostRuntime) -> Result<(), Fail> {
 
 #[test]
 fn patches_between_comments(rt: HostRuntime) -> Result<(), Fail> {
-    let cases: [(&[u8], &[Edit], &[u8]); 7] = [
-        (
-            b"a// x\nb",
-            &[Edit {
-                token: 0,
-                text: Some(b"\\+"),
-                run: &[b"c", b"d"],
-            }],
-            b" \\+  c d // x\nb",
-        ),
-        (
-            b"a/* x */b",
-            &[Edit {
-                token: 0,
-                text: None,
-                run: &[b"/"],
-            }],
-            b"a / /* x */b",
-        ),
-        (
-            b"(*x*)a(*y*)",
-            &[Edit {
-                token: 0,
-                text: Some(b"("),
-                run: &[],
-            }],
-            b"(*x*) ( (*y*)",
-        ),
-        (
-            b"@(*)a",
-            &[
-                Edit {
-                    token: 0,
-                    text: None,
-                    run: &[b"("],
-                },
-                Edit {
-                    token: 3,
-                    text: None,
-                    run: &[b"begin"],
-                },
-            ],
-            b"@ ( (*) begin a",
-        ),
-        (
-            b"\\a+ \\b",
-            &[Edit {
+    let alloc = rt.alloc();
+    let arena = Bump::new(alloc);
+    let text = patched(
+        alloc,
+        &arena,
+        b"a// x\nb",
+        &[Edit {
+            token: 0,
+            text: Some(b"\\+"),
+            run: &[b"c", b"d"],
+        }],
+    )?;
+    assert!(rt; text.as_slice() == b" \\+  c d // x\nb".as_slice());
+    let text = patched(
+        alloc,
+        &arena,
+        b"a/* x */b",
+        &[Edit {
+            token: 0,
+            text: None,
+            run: &[b"/"],
+        }],
+    )?;
+    assert!(rt; text.as_slice() == b"a / /* x */b".as_slice());
+    let text = patched(
+        alloc,
+        &arena,
+        b"(*x*)a(*y*)",
+        &[Edit {
+            token: 0,
+            text: Some(b"("),
+            run: &[],
+        }],
+    )?;
+    assert!(rt; text.as_slice() == b"(*x*) ( (*y*)".as_slice());
+    let text = patched(
+        alloc,
+        &arena,
+        b"@(*)a",
+        &[
+            Edit {
                 token: 0,
                 text: None,
-                run: &[b"\\if"],
-            }],
-            b"\\a+ \\if  \\b",
-        ),
-        (
-            b"a 4'd3 'h1",
-            &[Edit {
-                token: 1,
-                text: Some(b"4'h2"),
-                run: &[],
-            }],
-            b"a  4'h2  'h1",
-        ),
-        (
-            b"a",
-            &[
-                Edit {
-                    token: 0,
-                    text: None,
-                    run: &[b"b"],
-                },
-                Edit {
-                    token: 0,
-                    text: None,
-                    run: &[b"4'sh1", b"end"],
-                },
-            ],
-            b"a b  4'sh1 end ",
-        ),
-    ];
-    for (bytes, edits, wanted) in cases {
-        if bytes.len() <= 1048576 {
-            let text = patched(rt.alloc(), bytes, edits)?;
-            assert!(rt; text.as_slice() == wanted);
-        }
-    }
+                run: &[b"("],
+            },
+            Edit {
+                token: 3,
+                text: None,
+                run: &[b"begin"],
+            },
+        ],
+    )?;
+    assert!(rt; text.as_slice() == b"@ ( (*) begin a".as_slice());
+    let text = patched(
+        alloc,
+        &arena,
+        b"\\a+ \\b",
+        &[Edit {
+            token: 0,
+            text: None,
+            run: &[b"\\if"],
+        }],
+    )?;
+    assert!(rt; text.as_slice() == b"\\a+ \\if  \\b".as_slice());
+    let text = patched(
+        alloc,
+        &arena,
+        b"a 4'd3 'h1",
+        &[Edit {
+            token: 1,
+            text: Some(b"4'h2"),
+            run: &[],
+        }],
+    )?;
+    assert!(rt; text.as_slice() == b"a  4'h2  'h1".as_slice());
+    let text = patched(
+        alloc,
+        &arena,
+        b"a",
+        &[
+            Edit {
+                token: 0,
+                text: None,
+                run: &[b"b"],
+            },
+            Edit {
+                token: 0,
+                text: None,
+                run: &[b"4'sh1", b"end"],
+            },
+        ],
+    )?;
+    assert!(rt; text.as_slice() == b"a b  4'sh1 end ".as_slice());
     Ok(())
 }
