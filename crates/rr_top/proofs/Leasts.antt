@@ -21,7 +21,7 @@ off_is_choice (Constant b) = tt
 off_is_choice (Masked b) = tt
 
 -- a choice that is off keeps the right side
-keeps : (right : Right) (c : Choice) → c.on ≡ false → changed right c ≡ right
+pub keeps : (right : Right) (c : Choice) → c.on ≡ false → changed right c ≡ right
 keeps Copies c is = refl
 keeps (Constant b) c is = rw is refl
 keeps (Masked b) c is = rw is refl

@@ -9,6 +9,7 @@ pub mod Search
 pub mod Patching
 pub mod Texts
 pub mod Effects
+pub mod Answers
 pub mod Verdicts
 pub mod Endings
 pub mod Run

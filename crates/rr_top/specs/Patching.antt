@@ -15,9 +15,13 @@ kept = record { text = None; run = [] }
 abbrev pub new_bit : Bool → New
 new_bit b = new_literal 1 false (bit b)
 
--- the token at this place becomes the literal, and every other one stays
+-- the token at this place becomes a new one, and every other one stays
+abbrev pub edits_with : ℕ → New → List Edit
+edits_with place n = replicate place kept ++ (record { text = Some n; run = [] } ∷ [])
+
+-- the literal at this place has this value
 abbrev pub edits_at : ℕ → Bool → List Edit
-edits_at place b = replicate place kept ++ (record { text = Some (new_bit b); run = [] } ∷ [])
+edits_at place b = edits_with place (new_bit b)
 
 abbrev pub edits_of : Option ℕ → Bool → List Edit
 edits_of None b = []

@@ -1,5 +1,5 @@
 -- What contracts see of the program's own types.
-use Rattle.std.specs.Prelude.{◌≡◌, ◌⊎◌, ℕ, ◌<◌, ◌≤◌, ⊤, List, Option, Some, None, map, length, string_bytes, IfSome, IsSomeAnd, Result, Ok, Err, Vec}
+use Rattle.std.specs.Prelude.{◌≡◌, ◌⊎◌, ℕ, ◌<◌, ◌≤◌, ⊤, List, [], Option, Some, None, map, length, string_bytes, IfSome, IsSomeAnd, Result, Ok, Err, Vec}
 use Rattle.std.specs.declared.alloc.Global.{Global}
 use Rattle.rr_edge.specs.Faults.{Faulted}
 use Rattle.rr_edge.specs.Held.{Held}
@@ -34,6 +34,7 @@ abbrev pub report_text : Report → List ℕ
 report_text report = text_bytes report.text
 
 abbrev pub piece_bytes : Piece → List ℕ
+piece_bytes piece.Nothing = []
 piece_bytes (piece.Source bytes) = bytes.now
 piece_bytes (piece.Patched bytes) = bytes.items
 

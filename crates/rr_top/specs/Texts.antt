@@ -60,8 +60,7 @@ unchanged_text = line (codes "unchanged")
 -- the number of changes, the site with its offset and its new text, and the number of proposals that were tested
 abbrev pub repaired_text : ℕ → ℕ → List ℕ → List ℕ
 repaired_text count offset text =
-    line (codes "repaired " ++ decimal count) ++
-    (line (codes "site 0 literal " ++ (decimal offset ++ (32 ∷ text))) ++ line (codes "proposals 0"))
+    codes "repaired " ++ (decimal count ++ (10 ∷ (codes "site 0 literal " ++ (decimal offset ++ (32 ∷ (text ++ (10 ∷ line (codes "proposals 0"))))))))
 
 -- the report on a choice
 abbrev pub report : List Lexeme → Right → Choice → List ℕ

@@ -230,7 +230,9 @@ pub(crate) fn design_of<'a>(tokens: &[Token<'a>]) -> Option<Design<'a>>
 {
     let (name, rest) = after_module(tokens)?;
     let (input, output, rest) = after_both(rest)?;
-    let (target, right) = assigned(rest, input)?;
+    let Some((target, right)) = assigned(rest, input) else {
+        return None;
+    };
     if target != output || input == output {
         return None;
     }

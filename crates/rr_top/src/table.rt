@@ -61,13 +61,14 @@ fn rows_of(alloc: Global, bytes: &[u8]) -> Result<Option<Vec<Row>>, AllocError>
     let mut rows = Vec::new(alloc);
     let mut rest = bytes;
     while !rest.is_empty() {
-        match after_row(rest) {
-            Some((row, after)) if rows.len() < ROW_LIMIT => {
-                rows.push(row)?;
-                rest = after;
-            }
-            _ => return Ok(None),
+        let Some((row, after)) = after_row(rest) else {
+            return Ok(None);
+        };
+        if rows.len() == ROW_LIMIT {
+            return Ok(None);
         }
+        rows.push(row)?;
+        rest = after;
     }
     Ok(Some(rows))
 }
