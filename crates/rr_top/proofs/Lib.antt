@@ -5,3 +5,5 @@ pub mod Leasts
 pub mod Places
 pub mod Patched
 pub mod Judged
+pub mod Verdict
+pub mod Courses

@@ -1,8 +1,8 @@
 -- How a run ends, what it reports, and its status.
-use Rattle.std.specs.Prelude.{◌≡◌, ◌⊎◌, ℕ, List, [], Option, Some, None, MatchOption, ⊤}
+use Rattle.std.specs.Prelude.{◌≡◌, ◌⊎◌, ℕ, List, [], ◌∷◌, Option, Some, None, MatchOption, ⊤}
 use Rattle.std.specs.Io.KnownBytes.{Appends}
 use Rattle.rr_edge.specs.Held.{Held}
-use Rattle.rr_edge.specs.Faults.{Faulted}
+use Rattle.rr_edge.specs.Faults.{Faulted, NoFault}
 use Rattle.rr_edge.specs.Sink.{AppendsFront}
 use Rattle.rr_lex.specs.Tokens.{Lexeme}
 use Rattle.rr_lex.specs.Patch.{patched, AreWords}
@@ -16,8 +16,8 @@ use Rattle.rr_top.specs.Thin.{Thin, thin_words, site_count}
 use Rattle.rr_top.specs.Choices.{cost, instance, Matches, Mends, Least, NoneMends}
 use Rattle.rr_top.specs.Patching.{edits}
 use Rattle.rr_top.specs.Texts.{usage_text, memory_text, refused_text, absent_text, report, no_repair_text}
-use Rattle.rr_top.specs.Effects.{Outside, KeepsShelf, KeepsOut}
-use Rattle.rr_top.specs.Verdicts.{BothGiven, AreTaken, Refuses, Verdict, absent, refused, mended, unmendable, WhereRepair, verdict_status}
+use Rattle.rr_top.specs.Effects.{Outside, KeepsShelf, KeepsOut, AbsentAt, Gave}
+use Rattle.rr_top.specs.Verdicts.{reads_of, BothGiven, AreTaken, Refuses, Verdict, absent, refused, mended, unmendable, WhereRepair, verdict_status}
 use Rattle.rr_top.specs.Endings.{PlanEnds}
 
 -- the status that is due
@@ -107,9 +107,30 @@ pub record IsRefused (r : Course) (plan : Plan) : Type 0 where
   pub shelf : KeepsShelf r.before r.after
   pub out : KeepsOut r.before r.after
 
+-- Status 4 with an absent name: it is the first that a told shelf does not hold, and all else stays.
+pub record IsAbsent (r : Course) (plan : Plan) : Type 0 where
+  pub name : List ℕ
+  pub due : AbsentAt r.before.held (reads_of plan) name
+  pub reported : Appends r.notes_before r.notes_after (absent_text name)
+  pub shelf : KeepsShelf r.before r.after
+  pub out : KeepsOut r.before r.after
+
+-- Status 5: memory ran out, this is printed, and all else stays.
+pub record IsExhausted (r : Course) : Type 0 where
+  pub reported : Appends r.notes_before r.notes_after memory_text
+  pub shelf : KeepsShelf r.before r.after
+  pub out : KeepsOut r.before r.after
+
+-- Status 6: the words name no command, the usage is printed, and all else stays.
+pub record IsUnread (r : Course) : Type 0 where
+  pub none : command_of r.words ≡ None
+  pub reported : Appends r.notes_before r.notes_after usage_text
+  pub shelf : KeepsShelf r.before r.after
+  pub out : KeepsOut r.before r.after
+
 -- the words name a command of which this holds
-abbrev pub Names : List (List ℕ) → (Plan → Type 0) → Type 0
-Names words P = (plan : Plan) × (command_of words ≡ Some plan) × P plan
+abbrev pub WhereCommand : List (List ℕ) → (Plan → Type 0) → Type 0
+WhereCommand words P = (plan : Plan) × (command_of words ≡ Some plan) × P plan
 
 -- a count of faults rose in the run, or stands at its type's end
 abbrev pub SomeFault : Course → Type 0
@@ -137,3 +158,18 @@ course words before after notes_before notes_after notes_faults_before notes_fau
   notes_faults_after = notes_faults_after;
   status = status;
 }
+
+-- each name that the command reads is held, with few enough bytes
+abbrev pub AllGiven : Option Held → List (List ℕ × ℕ) → Type 0
+AllGiven told [] = ⊤
+AllGiven told (read ∷ reads) = ((bytes : List ℕ) × Gave told read.0 read.1 bytes) × AllGiven told reads
+
+-- no refusal of the command is due
+abbrev pub NoneRefuses : Plan → Option Held → Type 0
+NoneRefuses plan told = (refusal : Refusal) → Refuses plan told refusal → ⊥
+
+-- no count of faults rose, or stands at its type's end
+pub record NoFaults (r : Course) : Type 0 where
+  pub shelf : NoFault r.before.faults r.after.faults
+  pub out : NoFault r.before.out_faults r.after.out_faults
+  pub notes : NoFault r.notes_faults_before r.notes_faults_after

@@ -18,8 +18,10 @@ use Rattle.rr_top.specs.declared.ending.Refusal.{Refusal}
 use Rattle.rr_top.specs.declared.ending.Refusal.TheVariants.{TooManyBytes, Text, NotBuilt}
 use Rattle.rr_top.specs.declared.ending.Ending.{Ending}
 use Rattle.rr_top.specs.declared.ending.Ending.TheVariants.{Usage, NoMemory, Absent, ReadFault, OutFault, Refused, Done}
+use Rattle.rr_words.specs.declared.read.WordsFault.{WordsFault}
+use Rattle.rr_words.specs.declared.read.WordsFault.TheVariants as words_fault
 use Rattle.rr_top.specs.Thin.{Thin}
-use Rattle.rr_top.specs.Texts.{absent_text, read_fault_text, memory_text, refused_text}
+use Rattle.rr_top.specs.Texts.{absent_text, read_fault_text, memory_text, usage_text, refused_text}
 use Rattle.rr_top.specs.Effects.{Answer, Gave}
 use Rattle.rr_top.specs.Verdicts.{RefusesFiles}
 
@@ -67,3 +69,8 @@ RefusedOrNoMemory refusal report = ((report.ending ≡ Refused refusal) × (repo
 abbrev pub StopsWhere : (Refusal → Type 0) → Stop → Type 0
 StopsWhere P stop.Memory = ⊤
 StopsWhere P (stop.Refused refusal) = P refusal
+
+-- what is said of words that name no command, or for which memory ran out
+abbrev pub SaysWhy : WordsFault → Ending → List ℕ → Type 0
+SaysWhy words_fault.Usage ending text = (ending ≡ Usage) × (text ≡ usage_text)
+SaysWhy words_fault.Memory ending text = (ending ≡ NoMemory) × (text ≡ memory_text)

@@ -1,8 +1,24 @@
 -- Thin designs: one input, one output, and one continuous assignment whose right side is the input, a literal of one bit, or the input masked by one
 -- (IEEE 1364-2005 sections 6.1, 12.1 and 12.3.4).
 use Rattle.std.specs.Prelude.{ℕ, ◌≡◌, ◌≢◌, ◌++◌, List, [], ◌∷◌, Bool, false, true, Option, None, Some}
-use Rattle.rr_syntax.specs.Words.{Word, Named, Digits, Reserved, Marked, keyword_module, keyword_input, keyword_output, keyword_assign, keyword_endmodule,
-    mark_open_parenthesis, mark_close_parenthesis, mark_comma, mark_semicolon, mark_equals, mark_and}
+use Rattle.rr_syntax.specs.Words.{
+  Word,
+  Named,
+  Digits,
+  Reserved,
+  Marked,
+  keyword_module,
+  keyword_input,
+  keyword_output,
+  keyword_assign,
+  keyword_endmodule,
+  mark_open_parenthesis,
+  mark_close_parenthesis,
+  mark_comma,
+  mark_semicolon,
+  mark_equals,
+  mark_and,
+}
 use Rattle.rr_syntax.specs.declared.token.Number.{Number}
 use Rattle.rr_lex.specs.Patch.{plain_number}
 use Rattle.rr_top.specs.declared.design.Right.{Right}

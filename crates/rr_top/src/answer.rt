@@ -33,6 +33,21 @@ pub(crate) enum Piece<'b> {
     Patched(Vec<u8>),
 }
 
+impl Piece<'_> {
+    ghost use Rattle.std.specs.Prelude.{◌≡◌};
+    ghost use Rattle.rr_top.specs.Rust.{piece_bytes};
+
+    pub(crate) fn as_bytes(&self) -> &[u8]
+        ensures { result.now ≡ piece_bytes self.now }
+    {
+        match self {
+            Piece::Nothing => &[],
+            Piece::Source(bytes) => bytes,
+            Piece::Patched(bytes) => bytes.as_slice(),
+        }
+    }
+}
+
 /// What is to be done: a piece for the output, then the report.
 #[derive(Drop)]
 pub(crate) struct Answer<'b> {
@@ -82,12 +97,7 @@ fn patched(alloc: Global, bytes: &[u8], span: Span, text: &str) -> Result<Vec<u8
     Ok(out)
 }
 
-fn repaired_text(
-    alloc: Global,
-    count: u8,
-    offset: u32,
-    text: &str,
-) -> Result<String, AllocError>
+fn repaired_text(alloc: Global, count: u8, offset: u32, text: &str) -> Result<String, AllocError>
     ensures { IfOk result (λ report. string_bytes report ≡ repaired_text count offset text.now) }
 {
     format!(in alloc; "repaired {count}\nsite 0 literal {offset} {text}\nproposals 0\n")

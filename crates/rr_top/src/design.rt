@@ -8,16 +8,25 @@ ghost use Rattle.rr_top.specs.Rust.{thin_of};
 use rr_syntax::{Keyword, Kind, Mark, Number, Token};
 
 const ASSIGN: u8 = 2;
+
 const END_MODULE: u8 = 26;
+
 const INPUT: u8 = 47;
+
 const MODULE: u8 = 57;
+
 const OUTPUT: u8 = 67;
 
 const OPEN_PARENTHESIS: u8 = 0;
+
 const CLOSE_PARENTHESIS: u8 = 1;
+
 const COMMA: u8 = 6;
+
 const SEMICOLON: u8 = 7;
+
 const EQUALS: u8 = 13;
+
 const AND: u8 = 21;
 
 /// The right side of a thin design's assignment (IEEE 1364-2005 sections 5.1 and 6.1).
@@ -188,7 +197,11 @@ fn right_of(tokens: &[Token<'_>], input: &str) -> Option<Right>
         (λ right. words tokens.now ≡ right_words input.now right) }
 {
     if let Some((bit, rest)) = after_bit(tokens) {
-        return if is_end(rest) { Some(Right::Constant(bit)) } else { None };
+        return if is_end(rest) {
+            Some(Right::Constant(bit))
+        } else {
+            None
+        };
     }
     let (name, rest) = after_name(tokens)?;
     if name != input {

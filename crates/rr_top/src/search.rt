@@ -55,8 +55,20 @@ fn flipped(right: Right) -> Option<(Choice, Right)>
 {
     match right {
         Right::Copies => None,
-        Right::Constant(bit) => Some((Choice { on: true, value: !bit }, Right::Constant(!bit))),
-        Right::Masked(bit) => Some((Choice { on: true, value: !bit }, Right::Masked(!bit))),
+        Right::Constant(bit) => Some((
+            Choice {
+                on: true,
+                value: !bit,
+            },
+            Right::Constant(!bit),
+        )),
+        Right::Masked(bit) => Some((
+            Choice {
+                on: true,
+                value: !bit,
+            },
+            Right::Masked(!bit),
+        )),
     }
 }
 
@@ -69,5 +81,9 @@ pub(crate) fn least(right: Right, rows: &[Row]) -> Option<Choice>
         return Some(OFF);
     }
     let (choice, other) = flipped(right)?;
-    if matches(other, rows) { Some(choice) } else { None }
+    if matches(other, rows) {
+        Some(choice)
+    } else {
+        None
+    }
 }

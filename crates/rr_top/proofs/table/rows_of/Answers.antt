@@ -4,8 +4,9 @@ use Rattle.rr_top.proofs.table.rows_of.Goals as goal
 
 pub loop-rest-preserved : goal.loop-rest-preserved
 loop-rest-preserved c = (
-    rows_step c.args.bytes.now c.loop-rest.rest.now c.in-Some.after.now c.loop-rest.rows.items c.push.new.self.items c.in-Some.row c.loop-rest.invariant.0 c.in-Some.ensures c.in_ok-push.ensures.items,
-    grind (arith, c.in_ok-push.ensures.len))
+  rows_step c.args.bytes.now c.loop-rest.rest.now c.in-Some.after.now c.loop-rest.rows.items c.push.new.self.items c.in-Some.row c.loop-rest.invariant.0 c.in-Some.ensures c.in_ok-push.ensures.items,
+  grind (arith, c.in_ok-push.ensures.len),
+)
 
 pub returns-in_default : goal.returns-in_default
 returns-in_default c = λ rows is few.
