@@ -158,7 +158,7 @@ fn designs_are_repaired(rt: HostRuntime) {
             design: "/* low */module\\m+ (input(*x*)a,output y);assign y=1'd1;endmodule//",
             table: "a,y\n0,0\n1,0\n",
             out: "/* low */module\\m+ (input(*x*)a,output y);assign y= 1'h0 ;endmodule//",
-            notes: "repaired 1\nsite 0 literal 52 1'h0\nproposals 0\n",
+            notes: "repaired 1\nsite 0 literal 51 1'h0\nproposals 0\n",
             ..FIRST
         },
     );
