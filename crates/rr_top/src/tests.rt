@@ -99,58 +99,123 @@ fn check<R: Abort + AllocGlobal + Threads + Sync>(rt: &R, case: &Case) {
     assert!(rt; shelf.held("c.aag").is_none());
 }
 
+/// A design and a table that are kept as they are.
+fn keeps<R: Abort + AllocGlobal + Threads + Sync>(
+    rt: &R,
+    design: &'static str,
+    table: &'static str,
+) {
+    check(
+        rt,
+        &Case {
+            design,
+            table,
+            out: design,
+            notes: "unchanged\n",
+            ..FIRST
+        },
+    );
+}
+
+/// A design that no choice mends.
+fn despairs<R: Abort + AllocGlobal + Threads + Sync>(
+    rt: &R,
+    design: &'static str,
+    table: &'static str,
+    notes: &'static str,
+) {
+    check(
+        rt,
+        &Case {
+            design,
+            table,
+            status: 1,
+            notes,
+            ..SILENT
+        },
+    );
+}
+
+/// A refusal, with the notes that tell it.
+fn refuses<R: Abort + AllocGlobal + Threads + Sync>(
+    rt: &R,
+    words: &'static str,
+    design: &'static str,
+    table: &'static str,
+    notes: &'static str,
+) {
+    check(
+        rt,
+        &Case {
+            words,
+            design,
+            table,
+            notes,
+            ..REFUSED
+        },
+    );
+}
+
+/// A table that is refused.
+fn no_table<R: Abort + AllocGlobal + Threads + Sync>(rt: &R, table: &'static str) {
+    refuses(
+        rt,
+        FIRST.words,
+        FIRST.design,
+        table,
+        "refused 0 NotBuilt table\n",
+    );
+}
+
+/// A design that is refused.
+fn no_design<R: Abort + AllocGlobal + Threads + Sync>(rt: &R, design: &'static str) {
+    refuses(rt, FIRST.words, design, "", "refused 0 NotBuilt design\n");
+}
+
+/// Words that name a command that is not built.
+fn unbuilt<R: Abort + AllocGlobal + Threads + Sync>(rt: &R, words: &'static str) {
+    refuses(
+        rt,
+        words,
+        FIRST.design,
+        FIRST.table,
+        "refused 0 NotBuilt command\n",
+    );
+}
+
+/// Words that name no command.
+fn no_words<R: Abort + AllocGlobal + Threads + Sync>(rt: &R, words: &'static str) {
+    check(
+        rt,
+        &Case {
+            words,
+            status: 6,
+            notes: USAGE_NOTES,
+            ..SILENT
+        },
+    );
+}
+
+/// A name that is absent.
+fn is_absent<R: Abort + AllocGlobal + Threads + Sync>(
+    rt: &R,
+    words: &'static str,
+    notes: &'static str,
+) {
+    check(
+        rt,
+        &Case {
+            words,
+            notes,
+            design: "\"",
+            ..FAULT
+        },
+    );
+}
+
 #[test]
 fn designs_are_repaired(rt: HostRuntime) {
     check(&rt, &FIRST);
-    let unchanged = Case {
-        notes: "unchanged\n",
-        ..FIRST
-    };
-    let high = "module m(input a, output y);\n  assign y = a & 1'b1;\nendmodule\n";
-    check(
-        &rt,
-        &Case {
-            design: high,
-            table: "a,y\n1,1\n",
-            out: high,
-            ..unchanged
-        },
-    );
-    check(
-        &rt,
-        &Case {
-            table: "a,y\n1,x\n",
-            out: FIRST.design,
-            ..unchanged
-        },
-    );
-    check(
-        &rt,
-        &Case {
-            table: "a,y\n",
-            out: FIRST.design,
-            ..unchanged
-        },
-    );
-    check(
-        &rt,
-        &Case {
-            design: "module m(input a, output y); assign y = a; endmodule",
-            table: "a,y\n0,0\n0,1\n",
-            status: 1,
-            notes: "no repair\nsites 0\n",
-            ..SILENT
-        },
-    );
-    check(
-        &rt,
-        &Case {
-            table: "a,y\n0,1\n",
-            status: 1,
-            notes: "no repair\nsites 1\n",
-            ..SILENT
-        },
-    );
     check(
         &rt,
         &Case {
@@ -165,126 +230,123 @@ fn designs_are_repaired(rt: HostRuntime) {
 }
 
 #[test]
-fn inputs_are_refused(rt: HostRuntime) {
-    let no_table = Case {
-        notes: "refused 0 NotBuilt table\n",
-        ..REFUSED
-    };
-    for table in [
-        "a\n0\n1\n",
-        "",
-        "a,y\n0,0\n1,1",
-        "y,a\n0,0\n",
-        "a,y\nx,0\n",
-        "a,y\n0,2\n",
-    ] {
-        check(&rt, &Case { table, ..no_table });
-    }
-    let no_design = Case {
-        notes: "refused 0 NotBuilt design\n",
-        table: "",
-        ..REFUSED
-    };
-    for design in [
-        "module m(input a, output y);\n  assign y = a && 1'b0;\nendmodule\n",
-        "module m(input a, output a); assign a = a; endmodule",
-        "module m(input a, output y); assign a = a; endmodule",
-        "module m(input a, output y); assign y = y; endmodule",
-        "module m(input a, output y); assign y = a & 1'sb0; endmodule",
-        "module m(input a, output y); assign y = a & 2'b0; endmodule",
-        "module m(input a, output y); assign y = a & 1'bx; endmodule",
-        "module m(input a, output y); assign y = a; endmodule endmodule",
-        "",
-    ] {
-        check(
-            &rt,
-            &Case {
-                design,
-                ..no_design
-            },
-        );
-    }
-    check(
+fn designs_are_kept(rt: HostRuntime) {
+    keeps(
         &rt,
-        &Case {
-            words: "rtl_repair repair d.v t.csv c --top m",
-            ..no_design
-        },
+        "module m(input a, output y);\n  assign y = a & 1'b1;\nendmodule\n",
+        "a,y\n1,1\n",
     );
-    check(
-        &rt,
-        &Case {
-            words: "rtl_repair repair d.v t.csv c --clock a",
-            ..no_design
-        },
-    );
-    for (design, notes) in [
-        (
-            "module m(output y);assign y = \"a\";endmodule",
-            "refused 1 BadByte at 30\n",
-        ),
-        (
-            "module m(output y);assign y = 2'd;endmodule",
-            "refused 2 BadNumber at 30\n",
-        ),
-        ("module m(output y);/* x", "refused 3 OpenComment at 19\n"),
-        ("`include \"a.v\"", "refused 4 Directive at 0\n"),
-    ] {
-        check(
-            &rt,
-            &Case {
-                words: "rtl_repair repair d.v t.csv c --top m",
-                design,
-                notes,
-                table: "",
-                ..REFUSED
-            },
-        );
-    }
-    for words in [
-        "rtl_repair run none.v none.csv",
-        "rtl_repair sites none.v",
-        "rtl_repair check none.aag none.lrat",
-        "rtl_repair make 1 c",
-    ] {
-        check(
-            &rt,
-            &Case {
-                words,
-                notes: "refused 0 NotBuilt command\n",
-                ..REFUSED
-            },
-        );
-    }
+    keeps(&rt, FIRST.design, "a,y\n1,x\n");
+    keeps(&rt, FIRST.design, "a,y\n");
 }
 
 #[test]
-fn faults_are_told(rt: HostRuntime) {
-    check(
+fn designs_are_beyond_repair(rt: HostRuntime) {
+    despairs(
         &rt,
-        &Case {
-            words: "rtl_repair repair none.v t.csv c",
-            notes: "absent none.v\n",
-            ..FAULT
-        },
+        "module m(input a, output y); assign y = a; endmodule",
+        "a,y\n0,0\n0,1\n",
+        "no repair\nsites 0\n",
     );
-    check(
+    despairs(&rt, FIRST.design, "a,y\n0,1\n", "no repair\nsites 1\n");
+}
+
+#[test]
+fn tables_are_refused(rt: HostRuntime) {
+    no_table(&rt, "a\n0\n1\n");
+    no_table(&rt, "a,y\n0,0\n1,1");
+    no_table(&rt, "y,a\n0,0\n");
+    no_table(&rt, "a,y\nx,0\n");
+    no_table(&rt, "a,y\n0,2\n");
+}
+
+#[test]
+fn designs_are_refused(rt: HostRuntime) {
+    no_design(
         &rt,
-        &Case {
-            words: "rtl_repair repair d.v none.csv c",
-            design: "\"",
-            notes: "absent none.csv\n",
-            ..FAULT
-        },
+        "module m(input a, output y);\n  assign y = a && 1'b0;\nendmodule\n",
     );
-    check(
+    no_design(&rt, "module m(input a, output a); assign a = a; endmodule");
+    no_design(&rt, "module m(input a, output y); assign a = a; endmodule");
+    no_design(
         &rt,
-        &Case {
-            words: "rtl_repair repair none.v none.csv c",
-            notes: "absent none.v\n",
-            ..FAULT
-        },
+        "module m(input a, output y); assign y = a & 1'sb0; endmodule",
     );
+    no_design(
+        &rt,
+        "module m(input a, output y); assign y = a & 1'bx; endmodule",
+    );
+    no_design(&rt, "");
+}
+
+#[test]
+fn options_are_refused(rt: HostRuntime) {
+    let notes = "refused 0 NotBuilt design\n";
+    refuses(
+        &rt,
+        "rtl_repair repair d.v t.csv c --top m",
+        FIRST.design,
+        "",
+        notes,
+    );
+    refuses(
+        &rt,
+        "rtl_repair repair d.v t.csv c --clock a",
+        FIRST.design,
+        "",
+        notes,
+    );
+}
+
+#[test]
+fn texts_are_refused(rt: HostRuntime) {
+    let words = "rtl_repair repair d.v t.csv c --top m";
+    refuses(
+        &rt,
+        words,
+        "module m(output y);assign y = \"a\";endmodule",
+        "",
+        "refused 1 BadByte at 30\n",
+    );
+    refuses(
+        &rt,
+        words,
+        "module m(output y);assign y = 2'd;endmodule",
+        "",
+        "refused 2 BadNumber at 30\n",
+    );
+    refuses(
+        &rt,
+        words,
+        "module m(output y);/* x",
+        "",
+        "refused 3 OpenComment at 19\n",
+    );
+    refuses(
+        &rt,
+        words,
+        "`include \"a.v\"",
+        "",
+        "refused 4 Directive at 0\n",
+    );
+}
+
+#[test]
+fn commands_are_refused(rt: HostRuntime) {
+    unbuilt(&rt, "rtl_repair run none.v none.csv");
+    unbuilt(&rt, "rtl_repair sites none.v");
+    unbuilt(&rt, "rtl_repair check none.aag none.lrat");
+    unbuilt(&rt, "rtl_repair make 1 c");
+}
+
+#[test]
+fn names_are_absent(rt: HostRuntime) {
+    is_absent(&rt, "rtl_repair repair none.v t.csv c", "absent none.v\n");
+    is_absent(&rt, "rtl_repair repair d.v none.csv c", "absent none.csv\n");
+}
+
+#[test]
+fn reads_fail(rt: HostRuntime) {
     check(
         &rt,
         &Case {
@@ -301,6 +363,10 @@ fn faults_are_told(rt: HostRuntime) {
             ..FAULT
         },
     );
+}
+
+#[test]
+fn puts_fail(rt: HostRuntime) {
     check(
         &rt,
         &Case {
@@ -327,32 +393,13 @@ fn faults_are_told(rt: HostRuntime) {
             ..FAULT
         },
     );
-    for words in [
-        "rtl_repair",
-        "rtl_repair repair",
-        "rtl_repair repair d.v t.csv",
-        "rtl_repair repair d.v t.csv c --budget 0",
-        "rtl_repair --help",
-    ] {
-        check(
-            &rt,
-            &Case {
-                words,
-                status: 6,
-                notes: USAGE_NOTES,
-                ..SILENT
-            },
-        );
-    }
-    check(
-        &rt,
-        &Case {
-            words: "rtl_repair repair",
-            notes_fails: 0,
-            notes: "",
-            ..FAULT
-        },
-    );
+}
+
+#[test]
+fn words_name_no_command(rt: HostRuntime) {
+    no_words(&rt, "rtl_repair");
+    no_words(&rt, "rtl_repair repair");
+    no_words(&rt, "rtl_repair repair d.v t.csv c --budget 0");
 }
 
 /// The status of the command on these bytes, and whether the report is this.
