@@ -1,0 +1,9 @@
+pub mod Over
+pub mod Designs
+pub mod Rows
+pub mod Leasts
+pub mod Places
+pub mod Patched
+pub mod Judged
+pub mod Verdict
+pub mod Courses

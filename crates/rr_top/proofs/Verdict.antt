@@ -1,0 +1,255 @@
+-- What a told shelf decides for a command, it decides once.
+use Rattle.std.proofs.Common.{◌≡◌, ◌≢◌, ◌∙◌, ◌⊎◌, inl, inr, ◌<◌, ◌≤◌, ℕ, List, [], ◌∷◌, length, refl, sym, ap, subst, arith, Bool, true, false, Option, Some, None}
+use Rattle.rr_edge.specs.Held.{Held}
+use Rattle.rr_syntax.specs.Words.{Word, Named, Digits}
+use Rattle.rr_syntax.specs.declared.token.Number.{Number}
+use Rattle.rr_lex.specs.Tokens.{Lexeme, AreTokens, IsFirstFault, words_of}
+use Rattle.rr_lex.specs.declared.piece.Wrong.{Wrong}
+use Rattle.rr_lex.proofs.Unique.{one_list, one_fault, one_answer}
+use Rattle.rr_words.specs.Plan.{Plan, repair, run, sites, check, make}
+use Rattle.rr_top.specs.declared.TheConstants.{DESIGN_LIMIT, TABLE_LIMIT}
+use Rattle.rr_top.specs.declared.design.Right.{Right}
+use Rattle.rr_top.specs.declared.design.Right.TheVariants.{Copies, Constant, Masked}
+use Rattle.rr_top.specs.declared.ending.Part.{Part}
+use Rattle.rr_top.specs.declared.ending.Part.TheVariants as part
+use Rattle.rr_top.specs.declared.ending.Refusal.{Refusal}
+use Rattle.rr_top.specs.declared.ending.Refusal.TheVariants.{TooManyBytes, Text, NotBuilt}
+use Rattle.rr_top.specs.declared.search.Choice.{Choice}
+use Rattle.rr_top.specs.declared.table.Row.{Row}
+use Rattle.rr_top.specs.Thin.{Thin, IsThin, thin_words, right_words, bit, bit_number}
+use Rattle.rr_top.specs.Table.{IsTable}
+use Rattle.rr_top.specs.Choices.{Mends, NoneMends}
+use Rattle.rr_top.specs.Effects.{Gave, AbsentAt, TooLongAt}
+use Rattle.rr_top.specs.Verdicts.{reads_of, BothGiven, IsTaken, AreTaken, NoDesign, NoTable, RefusesFiles, RefusesGiven, Refuses, Verdict, absent, refused, mended, unmendable, IsMendable, IsUnmendable, Judges}
+use Rattle.rr_top.proofs.Rows.{one_table}
+
+-- no words are two thin designs
+one_bit : (a b : Bool) → bit a ≡ bit b → a ≡ b
+one_bit false false is = refl
+one_bit true true is = refl
+one_bit false true is = absurd (omega (arith, is))
+one_bit true false is = absurd (omega (arith, is))
+
+one_literal : (a b : Bool) → Digits (bit_number a) ≡ Digits (bit_number b) → a ≡ b
+one_literal a b is = let numbers : bit_number a ≡ bit_number b = cc in one_bit a b (ap (λ (n : Number). n.value) numbers)
+
+one_right : (r s : Right) (a b : List ℕ) → right_words a r ≡ right_words b s → r ≡ s
+one_right Copies Copies a b is = refl
+one_right Copies (Constant y) a b is = absurd (cc)
+one_right Copies (Masked y) a b is = absurd (cc)
+one_right (Constant x) Copies a b is = absurd (cc)
+one_right (Constant x) (Constant y) a b is =
+    let literals : Digits (bit_number x) ≡ Digits (bit_number y) = cc in
+    ap (λ (v : Bool). Constant v) (one_literal x y literals)
+one_right (Constant x) (Masked y) a b is = absurd (cc)
+one_right (Masked x) Copies a b is = absurd (cc)
+one_right (Masked x) (Constant y) a b is = absurd (cc)
+one_right (Masked x) (Masked y) a b is =
+    let literals : Digits (bit_number x) ≡ Digits (bit_number y) = cc in
+    ap (λ (v : Bool). Masked v) (one_literal x y literals)
+
+same_thin : (t u : Thin) → t.name ≡ u.name → t.input ≡ u.input → t.output ≡ u.output → t.right ≡ u.right → t ≡ u
+same_thin t u n i o r = λ k. record { name = n k; input = i k; output = o k; right = r k }
+
+pub one_spelling : (t u : Thin) → thin_words t ≡ thin_words u → t ≡ u
+one_spelling t u is =
+    let n : t.name ≡ u.name = cc in
+    let i : t.input ≡ u.input = cc in
+    let o : t.output ≡ u.output = cc in
+    let r : right_words t.input t.right ≡ right_words u.input u.right = cc in
+    same_thin t u n i o (one_right t.right u.right t.input u.input r)
+
+pub one_thin : (ws : List Word) (t u : Thin) → IsThin ws t → IsThin ws u → t ≡ u
+one_thin ws t u p q = one_spelling t u (sym p.spelled ∙ q.spelled)
+
+-- What the reads of two files give: a name that is absent, a file that is too long, or both files.
+data Reading : Type 0 where
+  missing : List ℕ → Reading
+  long : ℕ → Reading
+  given : List ℕ → List ℕ → Reading
+
+module _ (held : Held) (d t : List ℕ) where
+  abbrev reads : List (List ℕ × ℕ)
+  reads = (d, DESIGN_LIMIT) ∷ ((t, TABLE_LIMIT) ∷ [])
+
+  abbrev IsReading : Reading → Type 0
+  IsReading (missing name) = AbsentAt (Some held) reads name
+  IsReading (long count) = TooLongAt (Some held) reads count
+  IsReading (given design table) = BothGiven (Some held) d t design table
+
+  missing_missing : (a b : List ℕ) → AbsentAt (Some held) reads a → AbsentAt (Some held) reads b → a ≡ b
+  missing_missing a b p q = grind arith
+
+  missing_long : (a : List ℕ) (n : ℕ) → AbsentAt (Some held) reads a → TooLongAt (Some held) reads n → ⊥
+  missing_long a n p q = grind arith
+
+  missing_given : (a x y : List ℕ) → AbsentAt (Some held) reads a → BothGiven (Some held) d t x y → ⊥
+  missing_given a x y p q = grind arith
+
+  long_long : (n m : ℕ) → TooLongAt (Some held) reads n → TooLongAt (Some held) reads m → n ≡ m
+  long_long n m p q = grind arith
+
+  long_given : (n : ℕ) (x y : List ℕ) → TooLongAt (Some held) reads n → BothGiven (Some held) d t x y → ⊥
+  long_given n x y p q = grind arith
+
+  given_design : (x y v w : List ℕ) → BothGiven (Some held) d t x y → BothGiven (Some held) d t v w → x ≡ v
+  given_design x y v w p q = grind arith
+
+  given_table : (x y v w : List ℕ) → BothGiven (Some held) d t x y → BothGiven (Some held) d t v w → y ≡ w
+  given_table x y v w p q = grind arith
+
+  one_reading : (r s : Reading) → IsReading r → IsReading s → r ≡ s
+  one_reading (missing a) (missing b) p q = ap (λ (x : List ℕ). missing x) (missing_missing a b p q)
+  one_reading (missing a) (long n) p q = absurd (missing_long a n p q)
+  one_reading (missing a) (given x y) p q = absurd (missing_given a x y p q)
+  one_reading (long n) (missing a) p q = absurd (missing_long a n q p)
+  one_reading (long n) (long m) p q = ap (λ (x : ℕ). long x) (long_long n m p q)
+  one_reading (long n) (given x y) p q = absurd (long_given n x y p q)
+  one_reading (given x y) (missing a) p q = absurd (missing_given a x y q p)
+  one_reading (given x y) (long n) p q = absurd (long_given n x y q p)
+  one_reading (given x y) (given v w) p q =
+      let first : x ≡ v = given_design x y v w p q in
+      let second : y ≡ w = given_table x y v w p q in
+      cc
+
+module _ (top clock : Option (List ℕ)) where
+  -- what the tokens of a design decide
+  data OnTokens (table : List ℕ) (ts : List Lexeme) (v : Verdict) : Type 0 where
+    no_design : ((t : Thin) → IsTaken top clock ts t → ⊥) → v ≡ refused (NotBuilt part.Design) → OnTokens table ts v
+    no_table : (t : Thin) → IsTaken top clock ts t → ((rows : List Row) → IsTable t table rows → ⊥) → v ≡ refused (NotBuilt part.Table) → OnTokens table ts v
+    is_mended : (t : Thin) → IsTaken top clock ts t → (rows : List Row) → IsTable t table rows → (c : Choice) → Mends t rows c → v ≡ mended → OnTokens table ts v
+    is_unmendable : (t : Thin) → IsTaken top clock ts t → (rows : List Row) → IsTable t table rows → NoneMends t rows → v ≡ unmendable → OnTokens table ts v
+
+  -- what two files decide
+  data OnFiles (design table : List ℕ) (v : Verdict) : Type 0 where
+    on_fault : (wrong : Wrong) (at : ℕ) → IsFirstFault design wrong at → v ≡ refused (Text wrong at) → OnFiles design table v
+    on_tokens : (ts : List Lexeme) → AreTokens design ts → OnTokens table ts v → OnFiles design table v
+
+  module _ (table : List ℕ) (ts : List Lexeme) where
+    one_taken : (t u : Thin) → IsTaken top clock ts t → IsTaken top clock ts u → t ≡ u
+    one_taken t u p q = one_thin (words_of ts) t u p.thin q.thin
+
+    same_table : (t u : Thin) (a b : List Row) → IsTaken top clock ts t → IsTaken top clock ts u → IsTable t table a → IsTable u table b → a ≡ b
+    same_table t u a b p q i j = one_table u table a b (rw (one_taken t u p q) at i) j
+
+    other_table : {X : Type 0} (t u : Thin) (a : List Row) → IsTaken top clock ts t → IsTaken top clock ts u → IsTable t table a → ((rows : List Row) → IsTable u table rows → ⊥) → X
+    other_table t u a p q i none = absurd (none a (rw (one_taken t u p q) at i))
+
+    other_mends : {X : Type 0} (t u : Thin) (a b : List Row) (c : Choice) → IsTaken top clock ts t → IsTaken top clock ts u → IsTable t table a → IsTable u table b
+        → Mends t a c → NoneMends u b → X
+    other_mends t u a b c p q i j mends none = absurd (none c (rw (one_taken t u p q, same_table t u a b p q i j) at mends))
+
+    one_on_tokens : (v w : Verdict) → OnTokens table ts v → OnTokens table ts w → v ≡ w
+    one_on_tokens v w (no_design n e) (no_design m f) = e ∙ sym f
+    one_on_tokens v w (no_design n e) (no_table t p m f) = absurd (n t p)
+    one_on_tokens v w (no_design n e) (is_mended t p a i c m f) = absurd (n t p)
+    one_on_tokens v w (no_design n e) (is_unmendable t p a i m f) = absurd (n t p)
+    one_on_tokens v w (no_table t p n e) (no_design m f) = absurd (m t p)
+    one_on_tokens v w (no_table t p n e) (no_table u q m f) = e ∙ sym f
+    one_on_tokens v w (no_table t p n e) (is_mended u q a i c m f) = other_table u t a q p i n
+    one_on_tokens v w (no_table t p n e) (is_unmendable u q a i m f) = other_table u t a q p i n
+    one_on_tokens v w (is_mended t p a i c n e) (no_design m f) = absurd (m t p)
+    one_on_tokens v w (is_mended t p a i c n e) (no_table u q m f) = other_table t u a p q i m
+    one_on_tokens v w (is_mended t p a i c n e) (is_mended u q b j d m f) = e ∙ sym f
+    one_on_tokens v w (is_mended t p a i c n e) (is_unmendable u q b j m f) = other_mends t u a b c p q i j n m
+    one_on_tokens v w (is_unmendable t p a i n e) (no_design m f) = absurd (m t p)
+    one_on_tokens v w (is_unmendable t p a i n e) (no_table u q m f) = other_table t u a p q i m
+    one_on_tokens v w (is_unmendable t p a i n e) (is_mended u q b j d m f) = other_mends u t b a d q p j i m n
+    one_on_tokens v w (is_unmendable t p a i n e) (is_unmendable u q b j m f) = e ∙ sym f
+
+  module _ (design table : List ℕ) where
+    one_on_files : (v w : Verdict) → OnFiles design table v → OnFiles design table w → v ≡ w
+    one_on_files v w (on_fault x i p e) (on_fault y j q f) =
+        let both = one_fault design x y i j p q in
+        let x_is : x ≡ y = both.0 in
+        let i_is : i ≡ j = both.1 in
+        let same : refused (Text x i) ≡ refused (Text y j) = cc in
+        e ∙ same ∙ sym f
+    one_on_files v w (on_fault x i p e) (on_tokens ts q f) = absurd (one_answer design ts x i q p)
+    one_on_files v w (on_tokens ts p e) (on_fault x i q f) = absurd (one_answer design ts x i p q)
+    one_on_files v w (on_tokens ts p e) (on_tokens us q f) =
+        one_on_tokens table ts v w e (subst (λ (l : List Lexeme). OnTokens table l w) (sym (one_list design ts us p q)) f)
+
+  module _ (held : Held) (d t : List ℕ) where
+    -- what a reading decides
+    abbrev OnReading : Reading → Verdict → Type 0
+    OnReading (missing name) v = v ≡ absent name
+    OnReading (long count) v = v ≡ refused (TooManyBytes count)
+    OnReading (given design table) v = OnFiles design table v
+
+    record IsRead (v : Verdict) : Type 0 where
+      reading : Reading
+      is : IsReading held d t reading
+      on : OnReading reading v
+
+    one_on_reading : (r : Reading) (v w : Verdict) → OnReading r v → OnReading r w → v ≡ w
+    one_on_reading (missing name) v w p q = p ∙ sym q
+    one_on_reading (long count) v w p q = p ∙ sym q
+    one_on_reading (given design table) v w p q = one_on_files design table v w p q
+
+    one_read : (v w : Verdict) → IsRead v → IsRead w → v ≡ w
+    one_read v w p q = one_on_reading p.reading v w p.on (subst (λ (r : Reading). OnReading r w) (one_reading held d t q.reading p.reading q.is p.is) q.on)
+
+    on_refused : (design table : List ℕ) (part : Part) → RefusesFiles top clock design table (NotBuilt part) → OnFiles design table (refused (NotBuilt part))
+    on_refused design table part.Command none = absurd none
+    on_refused design table part.Design lacks = on_tokens lacks.tokens lacks.lexed (no_design lacks.none refl)
+    on_refused design table part.Table lacks = on_tokens lacks.tokens lacks.lexed (no_table lacks.thin lacks.taken lacks.none refl)
+
+    is_read : (cert : List ℕ) (budget members : ℕ) (v : Verdict) → Judges (repair d t cert top clock budget members) held v → IsRead v
+    is_read cert budget members (absent name) j = record { reading = missing name; is = j; on = refl }
+    is_read cert budget members (refused (TooManyBytes count)) j = record { reading = long count; is = j; on = refl }
+    is_read cert budget members (refused (Text wrong at)) j = record { reading = given j.design j.table; is = j.given; on = on_fault wrong at j.refused refl }
+    is_read cert budget members (refused (NotBuilt part)) j = record { reading = given j.design j.table; is = j.given; on = on_refused j.design j.table part j.refused }
+    is_read cert budget members mended j = record {
+      reading = given j.design j.table;
+      is = j.given;
+      on = on_tokens j.tokens j.taken.lexed (is_mended j.thin j.taken.taken j.rows j.taken.tabled j.choice j.mends refl);
+    }
+    is_read cert budget members unmendable j = record {
+      reading = given j.design j.table;
+      is = j.given;
+      on = on_tokens j.tokens j.taken.lexed (is_unmendable j.thin j.taken.taken j.rows j.taken.tabled j.none refl);
+    }
+
+-- the other commands are refused
+abbrev IsUnbuilt : Verdict → Type 0
+IsUnbuilt v = v ≡ refused (NotBuilt part.Command)
+
+unbuilt_run : (held : Held) (design table : List ℕ) (top clock : Option (List ℕ)) (v : Verdict) → Judges (run design table top clock) held v → IsUnbuilt v
+unbuilt_run held design table top clock (absent name) j = absurd j
+unbuilt_run held design table top clock (refused (TooManyBytes count)) j = absurd j
+unbuilt_run held design table top clock (refused (Text wrong at)) j = ap (λ (r : Refusal). refused r) j
+unbuilt_run held design table top clock (refused (NotBuilt part)) j = ap (λ (r : Refusal). refused r) j
+unbuilt_run held design table top clock mended j = absurd j
+unbuilt_run held design table top clock unmendable j = absurd j
+
+unbuilt_sites : (held : Held) (design : List ℕ) (top clock : Option (List ℕ)) (v : Verdict) → Judges (sites design top clock) held v → IsUnbuilt v
+unbuilt_sites held design top clock (absent name) j = absurd j
+unbuilt_sites held design top clock (refused (TooManyBytes count)) j = absurd j
+unbuilt_sites held design top clock (refused (Text wrong at)) j = ap (λ (r : Refusal). refused r) j
+unbuilt_sites held design top clock (refused (NotBuilt part)) j = ap (λ (r : Refusal). refused r) j
+unbuilt_sites held design top clock mended j = absurd j
+unbuilt_sites held design top clock unmendable j = absurd j
+
+unbuilt_check : (held : Held) (circuit proof : List ℕ) (v : Verdict) → Judges (check circuit proof) held v → IsUnbuilt v
+unbuilt_check held circuit proof (absent name) j = absurd j
+unbuilt_check held circuit proof (refused (TooManyBytes count)) j = absurd j
+unbuilt_check held circuit proof (refused (Text wrong at)) j = ap (λ (r : Refusal). refused r) j
+unbuilt_check held circuit proof (refused (NotBuilt part)) j = ap (λ (r : Refusal). refused r) j
+unbuilt_check held circuit proof mended j = absurd j
+unbuilt_check held circuit proof unmendable j = absurd j
+
+unbuilt_make : (held : Held) (seed : ℕ) (cert : List ℕ) (v : Verdict) → Judges (make seed cert) held v → IsUnbuilt v
+unbuilt_make held seed cert (absent name) j = absurd j
+unbuilt_make held seed cert (refused (TooManyBytes count)) j = absurd j
+unbuilt_make held seed cert (refused (Text wrong at)) j = ap (λ (r : Refusal). refused r) j
+unbuilt_make held seed cert (refused (NotBuilt part)) j = ap (λ (r : Refusal). refused r) j
+unbuilt_make held seed cert mended j = absurd j
+unbuilt_make held seed cert unmendable j = absurd j
+
+pub one_verdict : (plan : Plan) (held : Held) (v w : Verdict) → Judges plan held v → Judges plan held w → v ≡ w
+one_verdict (repair d t cert top clock budget members) held v w p q = one_read top clock held d t v w (is_read top clock held d t cert budget members v p) (is_read top clock held d t cert budget members w q)
+one_verdict (run design table top clock) held v w p q = unbuilt_run held design table top clock v p ∙ sym (unbuilt_run held design table top clock w q)
+one_verdict (sites design top clock) held v w p q = unbuilt_sites held design top clock v p ∙ sym (unbuilt_sites held design top clock w q)
+one_verdict (check circuit proof) held v w p q = unbuilt_check held circuit proof v p ∙ sym (unbuilt_check held circuit proof w q)
+one_verdict (make seed cert) held v w p q = unbuilt_make held seed cert v p ∙ sym (unbuilt_make held seed cert w q)

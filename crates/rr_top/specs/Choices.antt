@@ -1,0 +1,57 @@
+-- Choices of repair: what they cost, which design they give, and whether it matches a table.
+use Rattle.std.specs.Prelude.{ℕ, ◌≡◌, ◌<◌, List, Bool, true, false, Option, None, Some, All, ⊤, if◌then◌else◌}
+use Rattle.rr_top.specs.declared.design.Right.{Right}
+use Rattle.rr_top.specs.declared.design.Right.TheVariants.{Copies, Constant, Masked}
+use Rattle.rr_top.specs.declared.search.Choice.{Choice}
+use Rattle.rr_top.specs.declared.table.Row.{Row}
+use Rattle.rr_top.specs.Thin.{Thin, output_of}
+
+abbrev pub off : Choice
+off = record { on = false; value = false }
+
+-- without a literal there is nothing to switch on
+abbrev pub IsChoice : Right → Choice → Type 0
+IsChoice Copies c = c ≡ off
+IsChoice (Constant b) c = ⊤
+IsChoice (Masked b) c = ⊤
+
+-- the number of switches that are on
+abbrev pub cost : Choice → ℕ
+cost c = if c.on then 1 else 0
+
+-- the literal's value under the choice
+abbrev pub chosen : Choice → Bool → Bool
+chosen c b = if c.on then c.value else b
+
+abbrev pub changed : Right → Choice → Right
+changed Copies c = Copies
+changed (Constant b) c = Constant (chosen c b)
+changed (Masked b) c = Masked (chosen c b)
+
+-- the design that a choice gives
+abbrev pub instance : Thin → Choice → Thin
+instance t c = record { name = t.name; input = t.input; output = t.output; right = changed t.right c }
+
+-- a known cell is the output's value; an unknown one asks nothing
+abbrev pub MeetsCell : Option Bool → Bool → Type 0
+MeetsCell None value = ⊤
+MeetsCell (Some expected) value = value ≡ expected
+
+-- each known cell is the output's value at its row's input
+abbrev pub Matches : Thin → List Row → Type 0
+Matches t rows = All (λ row. MeetsCell row.expected (output_of t.right row.input)) rows
+
+-- a choice for the design, whose instance matches
+pub record Mends (t : Thin) (rows : List Row) (c : Choice) : Type 0 where
+  pub is_choice : IsChoice t.right c
+  pub matches : Matches (instance t c) rows
+
+-- some choice of cost k mends, and no choice of smaller cost does
+pub record Least (t : Thin) (rows : List Row) (k : ℕ) : Type 0 where
+  pub choice : Choice
+  pub costs : cost choice ≡ k
+  pub mends : Mends t rows choice
+  pub none_below : (c : Choice) → cost c < k → Mends t rows c → ⊥
+
+abbrev pub NoneMends : Thin → List Row → Type 0
+NoneMends t rows = (c : Choice) → Mends t rows c → ⊥

@@ -1,0 +1,16 @@
+pub use Rattle.rr_edge.specs.Faults
+pub use Rattle.rr_edge.specs.Held
+pub use Rattle.rr_edge.specs.Shelf
+pub use Rattle.rr_edge.specs.Sink
+pub mod Thin
+pub mod Table
+pub mod Choices
+pub mod Search
+pub mod Patching
+pub mod Texts
+pub mod Effects
+pub mod Answers
+pub mod Verdicts
+pub mod Endings
+pub mod Run
+pub mod Rust

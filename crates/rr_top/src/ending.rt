@@ -1,0 +1,147 @@
+//! How a run ends, and the texts that say so.
+ghost use Rattle.std.specs.Prelude.{◌≡◌, ◌++◌, Some, IfOk, string_bytes};
+ghost use Rattle.rr_top.specs.Texts.{absent_text, read_fault_text, refused_text};
+
+use rr_lex::Wrong;
+use std::alloc::{AllocError, Global};
+use std::fmt;
+
+/// A part of the work that is not built yet.
+#[derive(Clone, Copy, Debug, PartialEq, Eq)]
+pub enum Part {
+    /// The command that the words name.
+    Command,
+    /// A design that is none of the thin form.
+    Design,
+    /// A table that is none for the design.
+    Table,
+}
+
+impl fmt::Display for Part {
+    ghost use Rattle.std.specs.Prelude.{Some};
+    ghost use Rattle.rr_top.specs.Texts.{part_text};
+
+    ghost output = { λ part. Some (part_text part) };
+
+    fn fmt<W: fmt::Write>(&self, f: &mut fmt::Formatter<W>) -> fmt::Result {
+        match self {
+            Part::Command => write!(f, "command"),
+            Part::Design => write!(f, "design"),
+            Part::Table => write!(f, "table"),
+        }
+    }
+}
+
+/// Why the input is refused.
+#[derive(Clone, Copy, Debug, PartialEq, Eq)]
+pub enum Refusal {
+    /// A file has more bytes than its limit: so many.
+    TooManyBytes(u64),
+    /// The first fault of the design's text, at this byte.
+    Text(Wrong, u32),
+    /// This part is not built yet.
+    NotBuilt(Part),
+}
+
+impl fmt::Display for Refusal {
+    ghost use Rattle.std.specs.Prelude.{Some};
+    ghost use Rattle.rr_top.specs.Texts.{refusal_text};
+
+    ghost output = { λ refusal. Some (refusal_text refusal) };
+
+    fn fmt<W: fmt::Write>(&self, f: &mut fmt::Formatter<W>) -> fmt::Result {
+        match self {
+            Refusal::TooManyBytes(count) => write!(f, "16 TooMany bytes {count}"),
+            Refusal::Text(Wrong::Byte, at) => write!(f, "1 BadByte at {at}"),
+            Refusal::Text(Wrong::Number, at) => write!(f, "2 BadNumber at {at}"),
+            Refusal::Text(Wrong::Comment, at) => write!(f, "3 OpenComment at {at}"),
+            Refusal::Text(Wrong::Directive, at) => write!(f, "4 Directive at {at}"),
+            Refusal::NotBuilt(part) => write!(f, "0 NotBuilt {part}"),
+        }
+    }
+}
+
+/// How a run ends.
+#[derive(Clone, Copy)]
+pub enum Ending<'a> {
+    /// The words name no command.
+    Usage,
+    /// Memory ran out.
+    NoMemory,
+    /// The shelf holds nothing under this name.
+    Absent(&'a str),
+    /// Reading this name failed.
+    ReadFault(&'a str),
+    /// The put on the output failed.
+    OutFault,
+    /// The input is refused.
+    Refused(Refusal),
+    /// The answer was carried out, and has this status.
+    Done(u8),
+}
+
+/// The status of an ending.
+pub(crate) fn status(ending: Ending<'_>) -> u8
+    ensures { result ≡ status_of ending.entry }
+{
+    match ending {
+        Ending::Usage => 6,
+        Ending::NoMemory => 5,
+        Ending::Absent(_) | Ending::ReadFault(_) | Ending::OutFault => 4,
+        Ending::Refused(_) => 3,
+        Ending::Done(status) => status,
+    }
+}
+
+pub(crate) const OUT_OF_MEMORY: &str = "out of memory\n";
+
+pub(crate) const FAULT_OUT: &str = "fault out\n";
+
+pub(crate) const UNCHANGED: &str = "unchanged\n";
+
+/// A text of the report.
+#[derive(Drop)]
+pub(crate) enum Text {
+    Fixed(&'static str),
+    Made(String),
+}
+
+impl Text {
+    ghost use Rattle.rr_top.specs.Rust.{text_bytes};
+
+    pub(crate) fn as_bytes(&self) -> &[u8]
+        ensures { result.now ≡ text_bytes self.now }
+    {
+        match self {
+            Text::Fixed(text) => text.as_bytes(),
+            Text::Made(text) => text.as_bytes(),
+        }
+    }
+}
+
+/// An ending with the text that reports it.
+#[derive(Drop)]
+pub(crate) struct Report<'a> {
+    pub(crate) ending: Ending<'a>,
+    pub(crate) text: Text,
+}
+
+ghost use Rattle.rr_top.specs.Run.{status_of};
+
+pub(crate) fn absent_text(alloc: Global, name: &str) -> Result<String, AllocError>
+    ensures { IfOk result (λ text. string_bytes text ≡ absent_text name.now) }
+{
+    format!(in alloc; "absent {name}\n")
+}
+
+pub(crate) fn read_fault_text(alloc: Global, name: &str) -> Result<String, AllocError>
+    ensures { IfOk result (λ text. string_bytes text ≡ read_fault_text name.now) }
+{
+    format!(in alloc; "fault read {name}\n")
+}
+
+pub(crate) fn refused_text(alloc: Global, refusal: Refusal) -> Result<String, AllocError>
+    ensures { IfOk result (λ text. string_bytes text ≡ refused_text refusal) }
+{
+    format!(in alloc; "refused {refusal}\n")
+}

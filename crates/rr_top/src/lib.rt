@@ -1,0 +1,227 @@
+//! The top call: it runs the command of a command line over a shelf of files, an output and a report.
+#![tactic(auto)]
+
+ghost use Rattle.std.specs.Prelude.{◌≡◌, ◌<◌, ◌⊎◌, ℕ, List, Some, map, string_bytes};
+ghost use Rattle.rr_edge.specs.Held.{Held};
+ghost use Rattle.rr_words.specs.Plan.{Plan, command_of, plan_of};
+ghost use Rattle.rr_words.specs.Plain.{IsPlain};
+ghost use Rattle.rr_top.specs.Effects.{outside};
+ghost use Rattle.rr_top.specs.Verdicts.{Verdict, Judges, WhereRepair, reads_of};
+ghost use Rattle.rr_top.specs.Endings.{PlanEnds};
+ghost use Rattle.rr_top.specs.Run.{Ends, course, IsCourse, IsRepaired, IsBeyondRepair, IsRefused, IsAbsent, IsExhausted, IsUnread, WhereCommand, SomeFault, Follows, AllGiven, NoneRefuses, NoFaults};
+ghost use Rattle.rr_top.specs.Rust.{report_text, SaysWhy};
+
+use rr_edge::{Shelf, Sink};
+use rr_words::{Command, USAGE, WordsFault, read_words};
+use std::alloc::Global;
+use std::thread::Threads;
+
+mod answer;
+mod design;
+mod ending;
+mod laws;
+mod repair;
+mod search;
+mod table;
+#[cfg(test)]
+mod tests;
+
+use answer::Options;
+pub use design::Right;
+pub use ending::{Ending, Part, Refusal};
+use ending::{Report, Text, status};
+pub use laws::{one_thin_design, one_thin_table, one_verdict};
+use repair::{Names, out_of_memory, put_piece, refused, run_repair};
+pub use search::Choice;
+pub use table::{ROW_LIMIT, Row};
+
+/// The most bytes of a design.
+pub const DESIGN_LIMIT: u64 = 1048576;
+
+/// The most bytes of a table.
+pub const TABLE_LIMIT: u64 = 16777216;
+
+/// How the command ends. Every command but `repair` is refused.
+fn run_command<'a, H: Shelf, K: Sink>(
+    alloc: Global,
+    command: Command<'a>,
+    shelf: &mut H,
+    out: &mut K,
+) -> Report<'a>
+    ensures { PlanEnds (plan_of command.entry)
+        (outside (H.told shelf.old) (H.faults shelf.old) (K.written out.old) (K.faults out.old))
+        (outside (H.told shelf.new) (H.faults shelf.new) (K.written out.new) (K.faults out.new))
+        result.ending (report_text result) }
+{
+    match command {
+        Command::Repair {
+            design,
+            table,
+            cert: _,
+            top,
+            clock,
+            budget: _,
+            members: _,
+        } => {
+            let options = Options { top, clock };
+            let names = Names {
+                design,
+                table,
+                options,
+            };
+            run_repair(alloc, names, shelf, out)
+        }
+        Command::Run { .. }
+        | Command::Sites { .. }
+        | Command::Check { .. }
+        | Command::Make { .. } => refused(alloc, Refusal::NotBuilt(Part::Command)),
+    }
+}
+
+/// What is said of words that name no command, or for which memory ran out.
+fn unread<'a>(fault: WordsFault) -> Report<'a>
+    ensures { SaysWhy fault result.ending (report_text result) }
+{
+    match fault {
+        WordsFault::Usage => Report {
+            ending: Ending::Usage,
+            text: Text::Fixed(USAGE),
+        },
+        WordsFault::Memory => out_of_memory(),
+    }
+}
+
+/// How the command of these words ends.
+fn attempt<'a, H: Shelf, K: Sink>(
+    alloc: Global,
+    words: &'a [String],
+    shelf: &mut H,
+    out: &mut K,
+) -> Report<'a>
+    ensures { Ends (map string_bytes words.entry.now)
+        (outside (H.told shelf.old) (H.faults shelf.old) (K.written out.old) (K.faults out.old))
+        (outside (H.told shelf.new) (H.faults shelf.new) (K.written out.new) (K.faults out.new))
+        result.ending (report_text result) }
+{
+    let command = match read_words(alloc, words) {
+        Ok(command) => command,
+        Err(fault) => return unread(fault),
+    };
+    run_command(alloc, command, shelf, out)
+}
+
+/// Runs the command that the words name, and puts the report.
+fn conduct<H: Shelf, K: Sink, E: Sink>(
+    alloc: Global,
+    words: &[String],
+    shelf: &mut H,
+    out: &mut K,
+    notes: &mut E,
+) -> u8
+    ensures { IsCourse (course (map string_bytes words.now)
+        (outside (H.told shelf.old) (H.faults shelf.old) (K.written out.old) (K.faults out.old))
+        (outside (H.told shelf.new) (H.faults shelf.new) (K.written out.new) (K.faults out.new))
+        (E.written notes.old) (E.written notes.new) (E.faults notes.old) (E.faults notes.new) result) }
+{
+    let report = attempt(alloc, words, shelf, out);
+    match put_piece(notes, report.text.as_bytes()) {
+        Ok(()) => status(report.ending),
+        Err(_) => 4,
+    }
+}
+
+/// Runs the command that the words name, the first of which is the program's own name, over a shelf,
+/// an output and a report, and answers the program's status: 0 done, 1 no repair, 3 refused input,
+/// 4 a fault or an absent name, 5 want of memory, 6 usage.
+///
+/// Of the commands `repair DESIGN TABLE CERT` alone is built, on thin designs; the shelf is only read.
+pub fn run<R: Threads + Sync, H: Shelf, K: Sink, E: Sink>(
+    rt: &R,
+    alloc: Global,
+    words: &[String],
+    shelf: &mut H,
+    out: &mut K,
+    notes: &mut E,
+) -> u8
+    // How the run ends, whole: what was found, which text reports it, and what it leaves.
+    ensures ended { IsCourse (course (map string_bytes words.now)
+        (outside (H.told shelf.old) (H.faults shelf.old) (K.written out.old) (K.faults out.old))
+        (outside (H.told shelf.new) (H.faults shelf.new) (K.written out.new) (K.faults out.new))
+        (E.written notes.old) (E.written notes.new) (E.faults notes.old) (E.faults notes.new) result) }
+
+    // The shelf is only read.
+    ensures kept { H.told shelf.new ≡ H.told shelf.old }
+
+    // Status 0: the bytes put out are the tokens of an instance of the design with k changes, which matches
+    // every expected cell, and no instance with fewer does.
+    ensures repaired { result ≡ 0 → WhereCommand (map string_bytes words.now) (λ plan. WhereRepair plan (IsRepaired
+        (course (map string_bytes words.now)
+        (outside (H.told shelf.old) (H.faults shelf.old) (K.written out.old) (K.faults out.old))
+        (outside (H.told shelf.new) (H.faults shelf.new) (K.written out.new) (K.faults out.new))
+        (E.written notes.old) (E.written notes.new) (E.faults notes.old) (E.faults notes.new) result))) }
+
+    // Status 1: no instance matches.
+    ensures beyond_repair { result ≡ 1 → WhereCommand (map string_bytes words.now) (λ plan. WhereRepair plan (IsBeyondRepair
+        (course (map string_bytes words.now)
+        (outside (H.told shelf.old) (H.faults shelf.old) (K.written out.old) (K.faults out.old))
+        (outside (H.told shelf.new) (H.faults shelf.new) (K.written out.new) (K.faults out.new))
+        (E.written notes.old) (E.written notes.new) (E.faults notes.old) (E.faults notes.new) result))) }
+
+    // Status 3: the refusal that is due is printed.
+    ensures refused { result ≡ 3 → WhereCommand (map string_bytes words.now) (IsRefused
+        (course (map string_bytes words.now)
+        (outside (H.told shelf.old) (H.faults shelf.old) (K.written out.old) (K.faults out.old))
+        (outside (H.told shelf.new) (H.faults shelf.new) (K.written out.new) (K.faults out.new))
+        (E.written notes.old) (E.written notes.new) (E.faults notes.old) (E.faults notes.new) result)) }
+
+    // Status 4: a count of faults rose or stands at its end, or a name is absent.
+    ensures faulty { result ≡ 4 → SomeFault
+        (course (map string_bytes words.now)
+        (outside (H.told shelf.old) (H.faults shelf.old) (K.written out.old) (K.faults out.old))
+        (outside (H.told shelf.new) (H.faults shelf.new) (K.written out.new) (K.faults out.new))
+        (E.written notes.old) (E.written notes.new) (E.faults notes.old) (E.faults notes.new) result) ⊎ WhereCommand (map string_bytes words.now) (IsAbsent
+        (course (map string_bytes words.now)
+        (outside (H.told shelf.old) (H.faults shelf.old) (K.written out.old) (K.faults out.old))
+        (outside (H.told shelf.new) (H.faults shelf.new) (K.written out.new) (K.faults out.new))
+        (E.written notes.old) (E.written notes.new) (E.faults notes.old) (E.faults notes.new) result)) }
+
+    // Status 5: memory ran out.
+    ensures exhausted { result ≡ 5 → IsExhausted
+        (course (map string_bytes words.now)
+        (outside (H.told shelf.old) (H.faults shelf.old) (K.written out.old) (K.faults out.old))
+        (outside (H.told shelf.new) (H.faults shelf.new) (K.written out.new) (K.faults out.new))
+        (E.written notes.old) (E.written notes.new) (E.faults notes.old) (E.faults notes.new) result) }
+
+    // Status 6: the words name no command, so they are not plain.
+    ensures usage { result ≡ 6 → IsUnread
+        (course (map string_bytes words.now)
+        (outside (H.told shelf.old) (H.faults shelf.old) (K.written out.old) (K.faults out.old))
+        (outside (H.told shelf.new) (H.faults shelf.new) (K.written out.new) (K.faults out.new))
+        (E.written notes.old) (E.written notes.new) (E.faults notes.old) (E.faults notes.new) result) }
+    ensures not_plain { result ≡ 6 → (plan : Plan) → IsPlain (map string_bytes words.now) plan → ⊥ }
+
+    // A fault in this call makes the status 4.
+    ensures shelf_fault { H.faults shelf.old < H.faults shelf.new → result ≡ 4 }
+    ensures out_fault { K.faults out.old < K.faults out.new → result ≡ 4 }
+    ensures notes_fault { E.faults notes.old < E.faults notes.new → result ≡ 4 }
+
+    // What a told shelf decides comes about: each absent name, each refusal, and the statuses 0 and 1, exactly
+    // where they are due. Otherwise memory ran out, or the status is 4 and a count of faults rose or stands at its end.
+    ensures decided { (plan : Plan) (held : Held) (verdict : Verdict) → command_of (map string_bytes words.now) ≡ Some plan → H.told shelf.old ≡ Some held
+        → Judges plan held verdict → Follows
+        (course (map string_bytes words.now)
+        (outside (H.told shelf.old) (H.faults shelf.old) (K.written out.old) (K.faults out.old))
+        (outside (H.told shelf.new) (H.faults shelf.new) (K.written out.new) (K.faults out.new))
+        (E.written notes.old) (E.written notes.new) (E.faults notes.old) (E.faults notes.new) result) verdict }
+
+    // Plain words, files that are held within their limits, no refusal that is due and no fault: the command is done, or memory ran out.
+    ensures complete { (plan : Plan) (held : Held) → IsPlain (map string_bytes words.now) plan → H.told shelf.old ≡ Some held
+        → AllGiven (Some held) (reads_of plan) → NoneRefuses plan (Some held) → NoFaults
+        (course (map string_bytes words.now)
+        (outside (H.told shelf.old) (H.faults shelf.old) (K.written out.old) (K.faults out.old))
+        (outside (H.told shelf.new) (H.faults shelf.new) (K.written out.new) (K.faults out.new))
+        (E.written notes.old) (E.written notes.new) (E.faults notes.old) (E.faults notes.new) result) → (result ≡ 0) ⊎ ((result ≡ 1) ⊎ (result ≡ 5)) }
+{
+    let _ = rt;
+    conduct(alloc, words, shelf, out, notes)
+}
