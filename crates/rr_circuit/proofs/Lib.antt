@@ -1,0 +1,10 @@
+pub mod Netlists
+pub mod ShareLaws
+pub mod CopyLaws
+pub mod Copies
+pub mod Valuations
+pub mod Numerals
+pub mod AagLaws
+pub mod HeaderLaws
+pub mod AagParts
+pub mod AagWhole
