@@ -1,5 +1,5 @@
 -- the turns of comparisons
-use Rattle.std.proofs.Common.{◌≡◌, ℕ, suc, ◌+◌, ◌-◌, ◌*◌, ◌^◌, ◌<◌, ◌≤◌, ◌==◌, ◌⊎◌, inl, inr, nat_lt, Bool, true, false, not, ◌&&◌, ◌||◌, cond, length, get_or, take, refl, sym, ◌∙◌, ap, arith, ℤ, pos, negsuc, ◌-ℤ◌, int_lt, List}
+use Rattle.std.proofs.Common.{◌≡◌, ℕ, suc, ◌+◌, ◌-◌, ◌*◌, ◌^◌, ◌<◌, ◌≤◌, ◌==◌, ◌⊎◌, inl, inr, nat_lt, Bool, true, false, not, ◌&&◌, cond, length, get_or, take, refl, sym, ◌∙◌, ap, arith, pos, negsuc, ◌-ℤ◌, int_lt, List}
 use Rattle.std.proofs.lemmas.Bool.{lt-ltb, le-ltb, cases_lt, eq-eqb, ne_eqb, cases_eq}
 use Rattle.std.proofs.lemmas.Int.{ints}
 use Rattle.std.proofs.lemmas.List.{take_all, length-take-le, get_or-map}
@@ -7,7 +7,7 @@ use Rattle.std.proofs.lemmas.List.Elements.{All-get_or}
 use Rattle.rr_circuit.specs.declared.Wire.{Wire}
 use Rattle.rr_circuit.specs.Values.{xor, Netlist, wire_value, IsWire, Extends, AreWires, wire_values}
 use Rattle.rr_circuit.proofs.Netlists.{Extends-trans, Extends-refl}
-use Rattle.rr_bits.specs.Words.{bit, number, less, top, integer}
+use Rattle.rr_bits.specs.Words.{bit, number, less, top}
 use Rattle.rr_bits.specs.Fields.{pow_next}
 use Rattle.rr_bits.proofs.Numbers.{number-lt}
 use Rattle.rr_arith.specs.Orders.{less_next}

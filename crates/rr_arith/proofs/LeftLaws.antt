@@ -1,10 +1,10 @@
 -- a shift to the left is one to the right of the word turned round
-use Rattle.std.proofs.Common.{◌≡◌, ◌⊎◌, inl, inr, ℕ, ◌+◌, ◌-◌, ◌<◌, ◌≤◌, nat_lt, Bool, false, cond, List, length, get_or, map, reverse, refl, sym, ◌∙◌, ap, arith}
+use Rattle.std.proofs.Common.{◌≡◌, ◌⊎◌, inl, inr, ℕ, ◌+◌, ◌-◌, ◌<◌, ◌≤◌, nat_lt, Bool, false, cond, List, length, get_or, reverse, refl, sym, ◌∙◌, ap, arith}
 use Rattle.std.proofs.lemmas.Bool.{cases_lt, lt-ltb, le-ltb}
 use Rattle.std.proofs.lemmas.List.{length-map, get_or-map, get_or_past, get_or-reverse, length-reverse, same_lists}
 use Rattle.rr_circuit.specs.declared.Wire.{Wire}
-use Rattle.rr_circuit.specs.Values.{Netlist, wire_value, IsWire, AreWires, wire_values}
-use Rattle.rr_bits.specs.Words.{number, tabulate, shl}
+use Rattle.rr_circuit.specs.Values.{Netlist, wire_value, AreWires, wire_values}
+use Rattle.rr_bits.specs.Words.{number, shl}
 use Rattle.rr_bits.proofs.Places.{length_tabulate, get_tabulate}
 use Rattle.rr_arith.specs.Shifts.{shift_filled}
 

@@ -1,17 +1,16 @@
 -- the rows of a product
-use Rattle.std.proofs.Common.{◌≡◌, ◌⊎◌, inl, inr, ℕ, ◌+◌, ◌-◌, ◌*◌, ◌/◌, ◌%◌, ◌^◌, ◌<◌, ◌≤◌, nat_lt, Bool, true, false, cond, ◌&&◌, List, [], ◌∷◌, length, get_or, take, refl, sym, ◌∙◌, ap, arith}
+use Rattle.std.proofs.Common.{◌≡◌, ◌⊎◌, inl, inr, ℕ, ◌+◌, ◌-◌, ◌*◌, ◌%◌, ◌^◌, ◌<◌, ◌≤◌, nat_lt, Bool, true, false, cond, ◌&&◌, List, [], ◌∷◌, length, get_or, take, refl, sym, ◌∙◌, ap, arith}
 use Rattle.std.proofs.lemmas.Bool.{cases_lt, lt-ltb, le-ltb}
-use Rattle.std.proofs.lemmas.Nat.{pow_pos}
 use Rattle.std.proofs.lemmas.List.{take_all}
 use Rattle.std.proofs.lemmas.List.Elements.{All-get_or}
 use Rattle.std.proofs.Math.Nat.{add-mod}
 use Rattle.rr_circuit.specs.declared.Wire.{Wire}
 use Rattle.rr_circuit.specs.Values.{Netlist, wire_value, IsWire, Extends, AreWires, wire_values}
 use Rattle.rr_circuit.proofs.Netlists.{wire_values-extends, Extends-trans}
-use Rattle.rr_bits.specs.Words.{bit, number, word, tabulate, shl, add, mul}
-use Rattle.rr_bits.specs.Fields.{number_word, length_word}
+use Rattle.rr_bits.specs.Words.{bit, number, tabulate, shl, add, mul}
+use Rattle.rr_bits.specs.Fields.{number_word}
 use Rattle.rr_bits.proofs.Numbers.{number-lt, word_number, word_wrapped}
-use Rattle.rr_bits.proofs.Places.{has_zero, word_tabulated, tabulate_same}
+use Rattle.rr_bits.proofs.Places.{has_zero, word_tabulated}
 use Rattle.rr_bits.proofs.Operators.{Held, shl_is}
 use Rattle.rr_bits.proofs.Gates.{product_from_number}
 use Rattle.rr_arith.proofs.Ripple.{number-take, width-values}

@@ -1,8 +1,8 @@
 -- the turn of a ripple adder
-use Rattle.std.proofs.Common.{◌≡◌, ℕ, suc, ◌+◌, ◌-◌, ◌*◌, ◌/◌, ◌%◌, ◌^◌, ◌<◌, ◌≤◌, Bool, true, false, not, cond, List, [], ◌∷◌, ◌++◌, length, get_or, take, map, refl, sym, ◌∙◌, ap, arith, length-append, rules, add-one}
-use Rattle.std.proofs.lemmas.List.{map-append, take_more, map_push, take_all, length-take, length-map, length-take-le, get_or-map}
-use Rattle.std.proofs.lemmas.List.Elements.{All-push, All-take, All-get_or}
-use Rattle.std.proofs.lemmas.Grind.{pow_more, common_steps}
+use Rattle.std.proofs.Common.{◌≡◌, ℕ, ◌+◌, ◌-◌, ◌*◌, ◌%◌, ◌^◌, ◌<◌, Bool, true, false, not, List, [], ◌∷◌, ◌++◌, length, get_or, take, map, refl, sym, ◌∙◌, ap, arith, length-append, rules}
+use Rattle.std.proofs.lemmas.List.{take_more, map_push, take_all, length-map, length-take-le}
+use Rattle.std.proofs.lemmas.List.Elements.{All-push, All-get_or}
+use Rattle.std.proofs.lemmas.Grind.{pow_more}
 use Rattle.std.proofs.Math.Nat.{add-mul-mod_self_left, mod-eq_of_lt}
 use Rattle.rr_circuit.specs.declared.Wire.{Wire}
 use Rattle.rr_circuit.specs.Values.{Netlist, wire_value, IsWire, Extends, AreWires, wire_values}

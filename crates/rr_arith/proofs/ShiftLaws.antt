@@ -1,9 +1,9 @@
 -- lists built wire by wire, and the turns of shifts
-use Rattle.std.proofs.Common.{◌≡◌, ◌⊎◌, inl, inr, ℕ, zero, suc, ◌+◌, ◌-◌, ◌*◌, ◌^◌, ◌<◌, ◌≤◌, nat_lt, Bool, true, false, ◌||◌, if◌then◌else◌, List, [], ◌∷◌, ◌++◌, length, get_or, take, drop, map, refl, sym, ◌∙◌, ap, arith, rules, length-append}
+use Rattle.std.proofs.Common.{◌≡◌, ◌⊎◌, inl, inr, ℕ, zero, suc, ◌+◌, ◌-◌, ◌*◌, ◌^◌, ◌<◌, ◌≤◌, nat_lt, Bool, true, false, ◌||◌, if◌then◌else◌, List, [], ◌∷◌, ◌++◌, length, get_or, take, drop, refl, sym, ◌∙◌, ap, arith, rules, length-append}
 use Rattle.std.proofs.lemmas.Bool.{cases_lt, lt-ltb}
 use Rattle.std.proofs.lemmas.Nat.{pow_pos}
 use Rattle.std.proofs.lemmas.Grind.{pow_more}
-use Rattle.std.proofs.lemmas.List.{take_all, map-append, map_push, length-map, length-take-le, get_or-map, get_or_past, get_or_default, length-drop, take-append-drop}
+use Rattle.std.proofs.lemmas.List.{take_all, map-append, map_push, length-take-le, get_or-map, get_or_past, get_or_default, length-drop, take-append-drop}
 use Rattle.std.proofs.lemmas.List.FromFn.{fill_by_all, map-range_with_len_more}
 use Rattle.std.proofs.lemmas.List.Elements.{All-push, All-get_or, All-drop}
 use Rattle.rr_circuit.specs.declared.Wire.{Wire}

@@ -1,5 +1,5 @@
 -- shifts to the right with any bit from above, and the bit at a place
-use Rattle.std.specs.Prelude.{ℕ, ◌+◌, Bool, false, List, length, get_or}
+use Rattle.std.specs.Prelude.{ℕ, ◌+◌, Bool, List, length, get_or}
 use Rattle.rr_bits.specs.Words.{tabulate}
 
 -- each bit at a place by places lower, with this bit from above (IEEE 1364-2005 section 5.1.12):

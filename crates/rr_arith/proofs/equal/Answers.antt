@@ -1,4 +1,4 @@
-use Rattle.std.proofs.Common.{arith, ◌==◌, sym, ◌∙◌}
+use Rattle.std.proofs.Common.{arith, ◌==◌}
 use Rattle.rr_arith.proofs.Comparisons.{Compared-none, Equal-more, Compared-all}
 use Rattle.rr_arith.proofs.equal.Goals as goal
 

@@ -1,4 +1,4 @@
-use Rattle.std.proofs.Common.{arith, ◌∙◌, refl}
+use Rattle.std.proofs.Common.{◌∙◌}
 use Rattle.rr_arith.proofs.LeftLaws.{Left-all, AreWires-reverse}
 use Rattle.rr_arith.proofs.shift_left.Goals as goal
 

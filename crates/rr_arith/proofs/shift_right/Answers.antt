@@ -1,4 +1,4 @@
-use Rattle.std.proofs.Common.{arith, refl}
+use Rattle.std.proofs.Common.{refl}
 use Rattle.rr_arith.proofs.ShiftLaws.{Shift-all, logical, arithmetic}
 use Rattle.rr_arith.proofs.shift_right.Goals as goal
 

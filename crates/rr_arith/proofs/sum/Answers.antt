@@ -1,4 +1,4 @@
-use Rattle.std.proofs.Common.{arith, refl, rules}
+use Rattle.std.proofs.Common.{arith, rules}
 use Rattle.rr_arith.proofs.Ripple.{Rippled-none, Rippled-more, Rippled-all}
 use Rattle.rr_arith.proofs.sum.Goals as goal
 
