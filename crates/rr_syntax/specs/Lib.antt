@@ -1,1 +1,10 @@
+pub mod Expressions
+pub mod Items
+pub mod Laws
+pub mod Nesting
+pub mod Places
+pub mod Statements
+pub mod Tables
+pub mod Tree
+pub mod View
 pub mod Words

@@ -2,18 +2,22 @@
 
 use crate::token::{Keyword, Mark, Number};
 
+/// A name and the number of its token (IEEE 1364-2005 section 3.7).
 #[derive(Clone, Copy)]
 pub struct Named<'a> {
     pub token: u32,
     pub name: &'a str,
 }
 
+/// `[left:right]` (annex A.2.5).
 #[derive(Clone, Copy)]
 pub struct Bounds<'a> {
     pub left: &'a Expr<'a>,
     pub right: &'a Expr<'a>,
 }
 
+/// An expression (section 5, annex A.8). Each leaf has the number of its token, counted from 0; a
+/// leaf that no source spells has `u32::MAX`. `up` is true for `+:`, and brackets are nodes.
 #[derive(Clone, Copy)]
 pub enum Expr<'a> {
     Name {
@@ -72,6 +76,8 @@ pub enum Expr<'a> {
     },
 }
 
+/// A statement (section 9, annex A.6). `kind` is `case`, `casez` or `casex`; `now` is true for `=`,
+/// false for `<=`, and a target is a name, a select of one, or targets in braces.
 #[cycle(statements)]
 #[derive(Clone, Copy)]
 pub enum Stmt<'a> {
@@ -97,6 +103,8 @@ pub enum Stmt<'a> {
     },
 }
 
+/// An arm of a `case` (section 9.5). A default arm has no labels, and `colon` says whether its word
+/// is followed by one; with labels `colon` is true.
 #[cycle(statements)]
 #[derive(Clone, Copy)]
 pub struct Arm<'a> {
@@ -105,6 +113,7 @@ pub struct Arm<'a> {
     pub body: &'a Stmt<'a>,
 }
 
+/// The direction and kind of a port (section 12.3.3).
 #[derive(Clone, Copy, Debug, PartialEq, Eq)]
 pub enum Dir {
     Input,
@@ -114,6 +123,7 @@ pub enum Dir {
     OutputReg,
 }
 
+/// Ports that are declared together (annex A.2.1.2); `names` is not empty.
 #[derive(Clone, Copy)]
 pub struct Group<'a> {
     pub dir: Dir,
@@ -122,6 +132,7 @@ pub struct Group<'a> {
     pub names: &'a [Named<'a>],
 }
 
+/// A parameter and its value (annex A.2.4).
 #[derive(Clone, Copy)]
 pub struct Setting<'a> {
     pub token: u32,
@@ -129,6 +140,8 @@ pub struct Setting<'a> {
     pub value: &'a Expr<'a>,
 }
 
+/// Parameters that are declared together (section 12.2, annex A.2.1.1), by `localparam` where `local`.
+/// An `integer` one has no range and no `signed`; `sets` is not empty.
 #[derive(Clone, Copy)]
 pub struct Params<'a> {
     pub local: bool,
@@ -138,6 +151,7 @@ pub struct Params<'a> {
     pub sets: &'a [Setting<'a>],
 }
 
+/// A net and its driver, where its declaration gives one (section 6.1.1).
 #[derive(Clone, Copy)]
 pub struct NetName<'a> {
     pub token: u32,
@@ -145,12 +159,14 @@ pub struct NetName<'a> {
     pub value: Option<&'a Expr<'a>>,
 }
 
+/// A target and what drives it (section 6.1, annex A.6.1).
 #[derive(Clone, Copy)]
 pub struct Pair<'a> {
     pub target: &'a Expr<'a>,
     pub value: &'a Expr<'a>,
 }
 
+/// `posedge` where `rising`, else `negedge`, and a name with the number of its token (section 9.7.2).
 #[derive(Clone, Copy)]
 pub struct Event<'a> {
     pub rising: bool,
@@ -158,6 +174,8 @@ pub struct Event<'a> {
     pub token: u32,
 }
 
+/// What stands behind `@` (sections 9.7.3 to 9.7.5): `*`, or a list that is not empty. `commas` has
+/// an entry for each separator of the list, true for a comma and false for `or`.
 #[derive(Clone, Copy)]
 pub enum Events<'a> {
     Star {
@@ -173,6 +191,7 @@ pub enum Events<'a> {
     },
 }
 
+/// `.name(value)` (section 12.3.6); the token is the name's.
 #[derive(Clone, Copy)]
 pub struct Connection<'a> {
     pub token: u32,
@@ -180,12 +199,14 @@ pub struct Connection<'a> {
     pub value: Option<&'a Expr<'a>>,
 }
 
+/// Connections in their brackets. `Names` is not empty: `()` is `Positions` without entries.
 #[derive(Clone, Copy)]
 pub enum Conns<'a> {
     Positions(&'a [Expr<'a>]),
     Names(&'a [Connection<'a>]),
 }
 
+/// An instance and its connections (section 12.1.2).
 #[derive(Clone, Copy)]
 pub struct Instance<'a> {
     pub token: u32,
@@ -193,6 +214,8 @@ pub struct Instance<'a> {
     pub conns: Conns<'a>,
 }
 
+/// An item of a module (section 12.1, annex A.1.4). The token of `Always` is that of its first word,
+/// and that of `Instances` is its module's name. `overrides` is `None` where no `#` stands.
 #[derive(Clone, Copy)]
 pub enum Item<'a> {
     Ports(Group<'a>),
@@ -226,6 +249,9 @@ pub enum Item<'a> {
     },
 }
 
+/// A module (section 12.1, annex A.1.2) and the number of its name's token. `header` is `None` where
+/// there are no port brackets, and `groups` is then empty. Else `header` has the plain names and
+/// `groups` the declared ports, and one of the two at most has entries.
 #[derive(Clone, Copy)]
 pub struct Module<'a> {
     pub name: &'a str,
@@ -236,6 +262,7 @@ pub struct Module<'a> {
     pub items: &'a [Item<'a>],
 }
 
+/// A source text: its modules in order (annex A.1.2).
 #[derive(Clone, Copy)]
 pub struct Source<'a> {
     pub modules: &'a [Module<'a>],

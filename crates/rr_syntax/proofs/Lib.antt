@@ -1,0 +1,14 @@
+pub mod BareExpressions
+pub mod BareItems
+pub mod BareStatements
+pub mod Depths
+pub mod Equations
+pub mod ItemLengths
+pub mod LawsOfTrees
+pub mod Lengths
+pub mod NestingOfNodes
+pub mod Nonempty
+pub mod Rows
+pub mod Sums
+pub mod TablesAgreeing
+pub mod Examples

@@ -1,0 +1,56 @@
+ghost use Rattle.std.specs.Prelude.{◌+◌, ◌*◌, ◌≤◌, length};
+ghost use Rattle.rr_syntax.specs.Expressions.{depth as depth_tree, spell};
+ghost use Rattle.rr_syntax.specs.View.{plain};
+
+use super::nesting::expression_depth;
+use super::spelling::expression_len;
+use super::*;
+
+fn comma(start: u32, end: u32) -> Token<'static> {
+    Token {
+        kind: Kind::Mark(Mark::COMMA),
+        span: Span { start, end },
+    }
+}
+
+fn start_at(tokens: &[Token], offset: u32) -> Option<u32> {
+    token_at(tokens, offset).map(|token| token.span.start)
+}
+
+// Spans of no bytes hold nothing, and of two that hold a byte the first is taken.
+#[test]
+fn tokens_by_offset(rt: HostRuntime) {
+    let tokens = [comma(1, 4), comma(5, 5), comma(3, 7), comma(6, 9)];
+    assert_eq!(rt; start_at(&tokens, 0), None);
+    assert_eq!(rt; start_at(&tokens, 1), Some(1));
+    assert_eq!(rt; start_at(&tokens, 3), Some(1));
+    assert_eq!(rt; start_at(&tokens, 4), Some(3));
+    assert_eq!(rt; start_at(&tokens, 5), Some(3));
+    assert_eq!(rt; start_at(&tokens, 6), Some(3));
+    assert_eq!(rt; start_at(&tokens, 8), Some(6));
+    assert_eq!(rt; start_at(&tokens, 9), None);
+    assert_eq!(rt; start_at(&[], 0), None);
+}
+
+// The measures of the expression in as many brackets.
+#[tactic(auto, using(crate::proofs::Lengths::sizes, crate::proofs::Depths::depths))]
+fn measure_brackets(expr: &Expr, brackets: u32) -> (u64, u32)
+    requires short { length (spell (plain expr.now)) + 2 * brackets ≤ 4000 }
+    requires shallow { depth_tree (plain expr.now) + brackets ≤ 4000 }
+{
+    if brackets > 0 {
+        measure_brackets(&Expr::Paren { of: &*expr }, brackets - 1)
+    } else {
+        (expression_len(&*expr), expression_depth(&*expr))
+    }
+}
+
+#[test]
+#[tactic(auto, using(crate::proofs::Lengths::sizes, crate::proofs::Depths::depths))]
+fn deep_expression(rt: HostRuntime) {
+    let name = Expr::Name {
+        token: 500,
+        name: "b",
+    };
+    assert_eq!(rt; measure_brackets(&name, 500), (1001, 500));
+}
