@@ -1,0 +1,7 @@
+use Rattle.std.proofs.Common.{◌∙◌, ap}
+use Rattle.rr_bits.specs.Words.{select}
+use Rattle.rr_expr.specs.Indices.{integer_of}
+use Rattle.rr_expr.proofs.selects.indexed.Goals as goal
+
+pub returns : goal.returns
+returns c = c.selected.ensures ∙ ap (λ from. select c.args.word from c.args.count) (c.below_index.ensures.place (integer_of c.args.index))

@@ -1,0 +1,60 @@
+//! Widths, signs and values of expressions (IEEE 1364-2005 section 5).
+#![tactic(auto)]
+
+ghost use Rattle.std.specs.Prelude.{◌≡◌, ◌≤◌, IfOk, IfErr, Some, None, true, false, []};
+ghost use Rattle.rr_syntax.specs.View.{plain};
+ghost use Rattle.rr_expr.specs.Faults.{fault};
+ghost use Rattle.rr_expr.specs.Scopes.{env_of};
+ghost use Rattle.rr_expr.specs.Values.{form, value as value_of, own, nowhere};
+
+mod entities;
+mod operators;
+mod scope;
+mod selects;
+mod shapes;
+mod types;
+mod values;
+
+use rr_bits::Bits;
+use rr_syntax::Expr;
+pub use scope::Scope;
+use shapes::shape_in;
+pub use types::{Bit, Entity, Env, ExprFault, Shape};
+use values::value_in;
+
+/// Width and sign of an expression (IEEE 1364-2005 sections 5.4.1 and 5.5.1), or its first fault in
+/// the order of the tokens; of two at one token the lower in the order of the variants.
+pub fn shape(expr: &Expr, scope: &Scope) -> Result<Shape, ExprFault>
+    ensures none { IfOk result (λ a. fault scope.now (plain expr.now) false ≡ None) }
+    ensures value { IfOk result (λ a. a ≡ form scope.now (plain expr.now)) }
+    ensures fault { IfErr result (λ f. fault scope.now (plain expr.now) false ≡ Some f) }
+{
+    shape_in(expr, scope, false)
+}
+
+/// The value of an expression that has a shape, in a context of a width and a sign (IEEE 1364-2005
+/// sections 5.4 and 5.5). The width is at least the expression's own and at most 128. A signal
+/// without a value in the environment is 0.
+pub fn value(expr: &Expr, scope: &Scope, env: &Env, width: u32, signed: bool) -> Bits
+    requires none { fault scope.now (plain expr.now) false ≡ None }
+    requires low { (form scope.now (plain expr.now)).width ≤ width }
+    requires high { width ≤ 128 }
+    ensures { result ≡ value_of scope.now (plain expr.now) (env_of env.now.values.items) width signed }
+{
+    value_in(expr, scope, env.values.as_slice(), width, signed)
+}
+
+/// The value and the sign of a constant expression, or its first fault; a signal in it is one, as is
+/// a divisor that is 0 and a negative exponent.
+pub fn constant(expr: &Expr, scope: &Scope) -> Result<(Bits, bool), ExprFault>
+    ensures none { IfOk result (λ r. fault scope.now (plain expr.now) true ≡ None) }
+    ensures value { IfOk result (λ r. r.0 ≡ own scope.now (plain expr.now) nowhere) }
+    ensures signed { IfOk result (λ r. r.1 ≡ (form scope.now (plain expr.now)).signed) }
+    ensures fault { IfErr result (λ f. fault scope.now (plain expr.now) true ≡ Some f) }
+{
+    let shape = shape_in(expr, scope, true)?;
+    Ok((
+        value_in(expr, scope, &[], shape.width, shape.signed),
+        shape.signed,
+    ))
+}
