@@ -5,3 +5,5 @@ pub mod Words
 pub mod Indices
 pub mod Parts
 pub mod Sound
+pub mod NamedBits
+pub mod NamesAlone

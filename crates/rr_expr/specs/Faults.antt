@@ -14,7 +14,7 @@ use Rattle.rr_expr.specs.Scopes.{Names, meant, entity_shape, entity_range, is_sc
 use Rattle.rr_expr.specs.Selects.{span, count, is_against, integer_with}
 use Rattle.rr_expr.specs.Values.{form, widths, value, nowhere}
 
--- the number of a tree's first token; -1 where the list of parts is empty counts as 0
+-- the number of a tree's first token (a tree without parts, which no source spells, has 0)
 unfoldable mutual
   pub first : Tree → ℕ
   first (Name token name) = token
@@ -38,7 +38,7 @@ unfoldable mutual
 abbrev pub is_width : ℕ → Bool
 is_width w = nat_lt 0 w && nat_lt w 129
 
--- the width of the shape that an integer constant has
+-- the number of bits or copies that a constant asks, and the number of indices between two constants
 abbrev pub constant_count : Names → Tree → ℕ
 constant_count s n = count (integer_with (form s n) (value s n nowhere))
 

@@ -4,3 +4,4 @@ pub mod Selects
 pub mod Values
 pub mod Faults
 pub mod Indices
+pub mod Reading

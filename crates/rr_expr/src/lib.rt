@@ -8,6 +8,7 @@ ghost use Rattle.rr_expr.specs.Scopes.{env_of};
 ghost use Rattle.rr_expr.specs.Values.{form, value as value_of, own, nowhere};
 
 mod entities;
+mod laws;
 mod operators;
 mod scope;
 mod selects;
@@ -15,6 +16,7 @@ mod shapes;
 mod types;
 mod values;
 
+pub use laws::{scope_laws, value_laws};
 use rr_bits::Bits;
 use rr_syntax::Expr;
 pub use scope::Scope;
@@ -58,3 +60,6 @@ pub fn constant(expr: &Expr, scope: &Scope) -> Result<(Bits, bool), ExprFault>
         shape.signed,
     ))
 }
+
+#[cfg(test)]
+mod tests;

@@ -1,0 +1,226 @@
+//! Vectors of IEEE 1364-2005 section 5.
+use crate::{Entity, Env, ExprFault, Scope, constant, shape, value};
+use rr_syntax::{Expr, Mark, Number};
+use std::alloc::{AllocError, Global};
+use std::test::Fail;
+
+/// A literal: width, sign and number.
+type Operand = (u32, bool, u128);
+
+/// A mark, two operands, and the width, the sign and the number of the result.
+type Pair = (u8, Operand, Operand, Operand);
+
+/// 7, 2 and 3 as plain decimals, and as words that write their negations.
+const SEVEN: Operand = (32, true, 7);
+
+const TWO: Operand = (32, true, 2);
+
+const THREE: Operand = (32, true, 3);
+
+const MINUS_SEVEN: Operand = (32, true, 4294967289);
+
+const MINUS_TWO: Operand = (32, true, 4294967294);
+
+const ARITHMETIC: [Pair; 22] = [
+    (14, SEVEN, TWO, (32, true, 9)),
+    (14, (4, false, 15), (4, false, 1), (4, false, 0)),
+    (14, (4, false, 15), (5, false, 1), (5, false, 16)),
+    (14, (4, true, 15), (8, true, 1), (8, true, 0)),
+    (14, (4, true, 15), (8, false, 1), (8, false, 16)),
+    (15, TWO, SEVEN, (32, true, 4294967291)),
+    (15, (4, false, 0), (8, false, 1), (8, false, 255)),
+    (16, (4, false, 15), (4, false, 15), (4, false, 1)),
+    (16, (4, true, 15), (8, true, 3), (8, true, 253)),
+    (17, MINUS_SEVEN, TWO, (32, true, 4294967293)),
+    (17, SEVEN, MINUS_TWO, (32, true, 4294967293)),
+    (17, MINUS_SEVEN, (32, false, 2), (32, false, 2147483644)),
+    (18, MINUS_SEVEN, TWO, (32, true, 4294967295)),
+    (18, SEVEN, MINUS_TWO, (32, true, 1)),
+    (18, (8, false, 249), (8, false, 2), (8, false, 1)),
+    (26, TWO, THREE, (32, true, 8)),
+    (26, (4, false, 2), (32, true, 4), (4, false, 0)),
+    (26, MINUS_TWO, THREE, (32, true, 4294967288)),
+    (21, (4, false, 12), (8, false, 250), (8, false, 8)),
+    (22, (4, true, 12), (8, true, 1), (8, true, 253)),
+    (23, (4, false, 12), (4, false, 10), (4, false, 6)),
+    (41, (4, false, 12), (4, false, 10), (4, false, 9)),
+];
+
+const COMPARISONS: [Pair; 22] = [
+    (24, (4, true, 15), (4, false, 2), (1, false, 0)),
+    (24, (4, true, 15), (4, true, 2), (1, false, 1)),
+    (24, (4, true, 15), (8, true, 0), (1, false, 1)),
+    (24, (4, false, 15), (8, true, 0), (1, false, 0)),
+    (25, (4, false, 15), (8, false, 14), (1, false, 1)),
+    (31, (4, true, 8), (4, true, 7), (1, false, 1)),
+    (32, (4, true, 8), (4, true, 7), (1, false, 0)),
+    (31, (4, false, 8), (4, false, 8), (1, false, 1)),
+    (27, (4, true, 15), (8, true, 255), (1, false, 1)),
+    (27, (4, false, 15), (8, true, 255), (1, false, 0)),
+    (28, (4, true, 15), (8, true, 255), (1, false, 0)),
+    (29, (4, false, 5), (8, false, 5), (1, false, 1)),
+    (30, (4, false, 5), (8, false, 5), (1, false, 0)),
+    (33, (4, false, 9), (2, false, 1), (4, false, 2)),
+    (33, (4, false, 9), (128, false, 1 << 127), (4, false, 0)),
+    (34, (4, true, 8), (1, false, 1), (4, true, 4)),
+    (35, (4, true, 9), (1, true, 1), (4, true, 2)),
+    (36, (4, true, 8), (32, true, 1), (4, true, 12)),
+    (36, (4, false, 8), (32, true, 1), (4, false, 4)),
+    (36, (4, true, 8), (2, true, 3), (4, true, 15)),
+    (37, (4, false, 2), (1, false, 0), (1, false, 0)),
+    (38, (4, false, 0), (4, true, 8), (1, false, 1)),
+];
+
+const UNARY: [(u8, Operand, Operand); 14] = [
+    (14, (4, true, 9), (4, true, 9)),
+    (15, (4, false, 1), (4, false, 15)),
+    (19, (4, false, 8), (1, false, 0)),
+    (19, (4, false, 0), (1, false, 1)),
+    (20, (4, true, 9), (4, true, 6)),
+    (21, (4, false, 15), (1, false, 1)),
+    (21, (4, false, 14), (1, false, 0)),
+    (39, (4, false, 15), (1, false, 0)),
+    (22, (4, false, 4), (1, false, 1)),
+    (40, (4, false, 4), (1, false, 0)),
+    (23, (4, false, 7), (1, false, 1)),
+    (23, (4, false, 6), (1, false, 0)),
+    (41, (4, false, 7), (1, false, 0)),
+    (42, (128, false, 3), (1, false, 1)),
+];
+
+fn literal<'a>(token: u32, operand: &Operand) -> Expr<'a> {
+    Expr::Literal {
+        token,
+        number: Number {
+            width: operand.0,
+            signed: operand.1,
+            value: operand.2,
+            any: 0,
+            unknown: 0,
+        },
+    }
+}
+
+fn is_constant(expr: &Expr, scope: &Scope, want: &Operand) -> bool {
+    match constant(expr, scope) {
+        Ok((bits, signed)) => {
+            bits.width() == want.0 && signed == want.1 && bits.to_u128() == want.2
+        }
+        Err(_) => false,
+    }
+}
+
+fn gives(pair: &Pair, scope: &Scope) -> bool {
+    let left = literal(0, &pair.1);
+    let right = literal(2, &pair.2);
+    let whole = Expr::Binary {
+        op: Mark(pair.0),
+        left: &left,
+        right: &right,
+    };
+    is_constant(&whole, scope, &pair.3)
+}
+
+fn turns(case: &(u8, Operand, Operand), scope: &Scope) -> bool {
+    let of = literal(1, &case.1);
+    let whole = Expr::Unary {
+        op: Mark(case.0),
+        of: &of,
+    };
+    is_constant(&whole, scope, &case.2)
+}
+
+#[test]
+fn computes(rt: HostRuntime) {
+    let scope = Scope::new(rt.alloc());
+    assert_eq!(rt;
+        ARITHMETIC.iter().position(|pair| !gives(pair, &scope)),
+        None
+    );
+    assert_eq!(rt;
+        COMPARISONS.iter().position(|pair| !gives(pair, &scope)),
+        None
+    );
+    assert_eq!(rt; UNARY.iter().position(|case| !turns(case, &scope)), None);
+}
+
+fn fault_of(op: u8, left: &Operand, right: &Operand, scope: &Scope) -> Option<ExprFault> {
+    let left = literal(4, left);
+    let right = literal(6, right);
+    let whole = Expr::Binary {
+        op: Mark(op),
+        left: &left,
+        right: &right,
+    };
+    shape(&whole, scope).err()
+}
+
+#[test]
+fn refuses(rt: HostRuntime) {
+    let scope = Scope::new(rt.alloc());
+    assert_eq!(rt;
+        fault_of(17, &(4, false, 1), &(4, false, 0), &scope),
+        Some(ExprFault::NotConstant(6))
+    );
+    assert_eq!(rt;
+        fault_of(18, &SEVEN, &(4, false, 0), &scope),
+        Some(ExprFault::NotConstant(6))
+    );
+    assert_eq!(rt;
+        fault_of(26, &TWO, &(4, true, 15), &scope),
+        Some(ExprFault::NotConstant(6))
+    );
+    assert_eq!(rt; fault_of(26, &TWO, &(4, false, 15), &scope), None);
+}
+
+/// The three bits down from an index of a signal of eight bits with the value 0xd2, in a range.
+fn three_down(
+    left: u32,
+    right: u32,
+    index: u128,
+    alloc: Global,
+) -> Result<Option<u128>, AllocError> {
+    let mut scope = Scope::new(alloc);
+    let entity = Entity::Signal {
+        id: 0,
+        range: Some((left, right)),
+        signed: false,
+    };
+    scope.add("a", entity)?;
+    let mut values = Vec::new(alloc);
+    values.push(0xd2)?;
+    let env = Env { values };
+    let from = literal(2, &(32, true, index));
+    let width = literal(4, &(32, true, 3));
+    let part = Expr::Indexed {
+        token: 0,
+        name: "a",
+        from: &from,
+        width: &width,
+        up: false,
+    };
+    match shape(&part, &scope) {
+        Ok(shape) if shape.width <= 8 => Ok(Some(value(
+            &part,
+            &scope,
+            &env,
+            shape.width,
+            false,
+        ).to_u128())),
+        Ok(_) | Err(_) => Ok(None),
+    }
+}
+
+#[test]
+fn selects(rt: HostRuntime) -> Result<(), Fail> {
+    let alloc = rt.alloc();
+    assert_eq!(rt; three_down(7, 0, 7, alloc)?, Some(6));
+    assert_eq!(rt; three_down(7, 0, 0, alloc)?, Some(0));
+    assert_eq!(rt; three_down(7, 0, 1, alloc)?, Some(4));
+    assert_eq!(rt; three_down(7, 0, 8, alloc)?, Some(3));
+    assert_eq!(rt; three_down(0, 7, 2, alloc)?, Some(6));
+    assert_eq!(rt; three_down(0, 7, 0, alloc)?, Some(1));
+    assert_eq!(rt; three_down(0, 7, 8, alloc)?, Some(4));
+    assert_eq!(rt; three_down(0, 7, 4294967295, alloc)?, Some(0));
+    Ok(())
+}
