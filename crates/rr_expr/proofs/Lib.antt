@@ -7,3 +7,6 @@ pub mod Parts
 pub mod Sound
 pub mod NamedBits
 pub mod NamesAlone
+pub mod Same
+pub mod LowBits
+pub mod Kept

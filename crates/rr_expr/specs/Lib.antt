@@ -5,3 +5,5 @@ pub mod Values
 pub mod Faults
 pub mod Indices
 pub mod Reading
+pub mod Notes
+pub mod LowBits

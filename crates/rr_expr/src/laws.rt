@@ -1,4 +1,5 @@
 //! What the value of an expression stands on.
+ghost use Rattle.rr_expr.specs.LowBits.{LowBitsKept};
 ghost use Rattle.rr_expr.specs.Reading.{ValueByNamedBits, ShapeByNames, ValueByNames, FaultByNames};
 
 /// The value of an expression depends only on the bits that it names: two environments that agree on
@@ -16,4 +17,11 @@ pub fn scope_laws()
     ensures shape { ShapeByNames }
     ensures value { ValueByNames }
     ensures fault { FaultByNames }
+{}
+
+/// Extending the context of an expression keeps its low bits, where no `/`, `%` or shift to the right
+/// takes an operand in that context: a carry goes up alone (IEEE 1364-2005 section 5.4.1).
+#[tactic(auto, using(crate::proofs::LowBits::low_bits_kept))]
+pub fn context_laws()
+    ensures low { LowBitsKept }
 {}

@@ -9,6 +9,7 @@ ghost use Rattle.rr_expr.specs.Values.{form, value as value_of, own, nowhere};
 
 mod entities;
 mod laws;
+mod notes;
 mod operators;
 mod scope;
 mod selects;
@@ -16,7 +17,8 @@ mod shapes;
 mod types;
 mod values;
 
-pub use laws::{scope_laws, value_laws};
+pub use laws::{context_laws, scope_laws, value_laws};
+use notes::Notes;
 use rr_bits::Bits;
 use rr_syntax::Expr;
 pub use scope::Scope;
@@ -43,7 +45,15 @@ pub fn value(expr: &Expr, scope: &Scope, env: &Env, width: u32, signed: bool) ->
     requires high { width ≤ 128 }
     ensures { result ≡ value_of scope.now (plain expr.now) (env_of env.now.values.items) width signed }
 {
-    value_in(expr, scope, env.values.as_slice(), width, signed)
+    let mut notes = Notes::new();
+    value_in(
+        expr,
+        scope,
+        env.values.as_slice(),
+        width,
+        signed,
+        &mut notes,
+    )
 }
 
 /// The value and the sign of a constant expression, or its first fault; a signal in it is one, as is
@@ -55,8 +65,9 @@ pub fn constant(expr: &Expr, scope: &Scope) -> Result<(Bits, bool), ExprFault>
     ensures fault { IfErr result (λ f. fault scope.now (plain expr.now) true ≡ Some f) }
 {
     let shape = shape_in(expr, scope, true)?;
+    let mut notes = Notes::new();
     Ok((
-        value_in(expr, scope, &[], shape.width, shape.signed),
+        value_in(expr, scope, &[], shape.width, shape.signed, &mut notes),
         shape.signed,
     ))
 }

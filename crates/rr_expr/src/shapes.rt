@@ -3,12 +3,14 @@ ghost use Rattle.std.specs.Prelude.{◌≡◌, ◌≤◌, ◌*◌, IfOk, IfErr, 
 ghost use Rattle.rr_syntax.specs.View.{plain, plain_list};
 ghost use Rattle.rr_expr.specs.Faults.{fits, fit, fault, faults, first, first_part, is_bad as bad, takes_constants as constants_of, base_fault, name_fault, width_fault, count_fault, fault_if, or_else, is_width as is_a_width};
 ghost use Rattle.rr_expr.specs.Indices.{integer_of};
+ghost use Rattle.rr_expr.specs.Notes.{integer_in};
 ghost use Rattle.rr_expr.specs.Selects.{span, is_against as turned};
 ghost use Rattle.rr_expr.specs.declared.types.ExprFault.TheVariants.{BadRange};
 ghost use Rattle.rr_expr.specs.Scopes.{entity_shape as shape_of_entity};
 ghost use Rattle.rr_expr.specs.Values.{form, value as value_of, nowhere, widths, unsigned_of};
 
 use crate::entities::{capped, entity_range, entity_shape, entity_width, is_scalar};
+use crate::notes::Notes;
 use crate::operators::{Infix, infix_of, infix_shape, joined, prefix_of, prefix_shape};
 use crate::scope::Scope;
 use crate::selects::{Index, count_of, is_against, span_of};
@@ -148,17 +150,30 @@ fn is_bad(op: Infix, left: Shape, right: Shape, operand: &Expr, scope: &Scope) -
     match op {
         Infix::Divide | Infix::Remainder => {
             let shape = joined(left, right);
-            value_in(operand, scope, &[], shape.width, shape.signed).to_u128() == 0
+            let mut notes = Notes::new();
+            value_in(operand, scope, &[], shape.width, shape.signed, &mut notes).to_u128() == 0
         }
-        Infix::Power => value_in(operand, scope, &[], right.width, right.signed).is_negative(
-            right.signed,
-        ),
+        Infix::Power => {
+            let mut notes = Notes::new();
+            value_in(operand, scope, &[], right.width, right.signed, &mut notes).is_negative(
+                right.signed,
+            )
+        }
         Infix::Arithmetic(_)
         | Infix::Shifted(_)
         | Infix::Compared(_)
         | Infix::Both
         | Infix::Either => false,
     }
+}
+
+/// The value of a constant operand without a fault.
+fn constant_of(expr: &Expr, scope: &Scope) -> Index
+    requires { IsTrue (fits scope.now (plain expr.now)) }
+    ensures { integer_of result ≡ integer_in scope.now (plain expr.now) }
+{
+    let mut notes = Notes::new();
+    constant_index(expr, scope, &mut notes)
 }
 
 /// Width and sign of an expression, or its first fault in the order of the tokens. Where `constant`
@@ -200,8 +215,8 @@ pub(crate) fn shape_in(expr: &Expr, scope: &Scope, constant: bool) -> Result<Sha
             part_shape(
                 entity_range(&base),
                 *token,
-                constant_index(left, scope),
-                constant_index(right, scope),
+                constant_of(left, scope),
+                constant_of(right, scope),
             )
         }
         Expr::Indexed {
@@ -214,7 +229,7 @@ pub(crate) fn shape_in(expr: &Expr, scope: &Scope, constant: bool) -> Result<Sha
             check_base(&scope.meaning(name), *token, constant)?;
             match shape_in(width, scope, true) {
                 Ok(_) => {
-                    let shape = count_shape(*token, count_of(constant_index(width, scope)))?;
+                    let shape = count_shape(*token, count_of(constant_of(width, scope)))?;
                     shape_in(from, scope, constant)?;
                     Ok(shape)
                 }
@@ -250,7 +265,7 @@ pub(crate) fn shape_in(expr: &Expr, scope: &Scope, constant: bool) -> Result<Sha
         }
         Expr::Repeat { count, parts } => {
             shape_in(count, scope, true)?;
-            let copies = count_of(constant_index(count, scope));
+            let copies = count_of(constant_of(count, scope));
             if copies == 0 {
                 return Err(ExprFault::BadRange(first_token(count)));
             }

@@ -1,5 +1,6 @@
 //! Vectors of IEEE 1364-2005 section 5.
 use crate::{Entity, Env, ExprFault, Scope, constant, shape, value};
+use rr_bits::Bits;
 use rr_syntax::{Expr, Mark, Number};
 use std::alloc::{AllocError, Global};
 use std::test::Fail;
@@ -222,5 +223,156 @@ fn selects(rt: HostRuntime) -> Result<(), Fail> {
     assert_eq!(rt; three_down(0, 7, 0, alloc)?, Some(1));
     assert_eq!(rt; three_down(0, 7, 8, alloc)?, Some(4));
     assert_eq!(rt; three_down(0, 7, 4294967295, alloc)?, Some(0));
+    Ok(())
+}
+
+/// The number that an expression without names has in a context.
+fn in_context(expr: &Expr, width: u32, signed: bool, alloc: Global) -> Option<u128> {
+    let scope = Scope::new(alloc);
+    let env = Env {
+        values: Vec::new(alloc),
+    };
+    match shape(expr, &scope) {
+        Ok(shape) if shape.width <= width && width <= 128 => {
+            Some(value(expr, &scope, &env, width, signed).to_u128())
+        }
+        Ok(_) | Err(_) => None,
+    }
+}
+
+/// The shift to the right by one of 15 + 1 in four bits, whose carry a wider context keeps.
+#[test]
+fn carries(rt: HostRuntime) {
+    let left = literal(1, &(4, false, 15));
+    let right = literal(3, &(4, false, 1));
+    let sum = Expr::Binary {
+        op: Mark::PLUS,
+        left: &left,
+        right: &right,
+    };
+    let by = literal(6, &(32, true, 1));
+    let half = Expr::Binary {
+        op: Mark::SHIFT_RIGHT,
+        left: &sum,
+        right: &by,
+    };
+    assert_eq!(rt; in_context(&half, 4, false, rt.alloc()), Some(0));
+    assert_eq!(rt; in_context(&half, 5, false, rt.alloc()), Some(8));
+}
+
+/// The negation of 1 in four bits.
+#[test]
+fn negates(rt: HostRuntime) {
+    let plain = literal(1, &(4, false, 1));
+    let signed = literal(1, &(4, true, 1));
+    let minus = Expr::Unary {
+        op: Mark::MINUS,
+        of: &plain,
+    };
+    let minus_signed = Expr::Unary {
+        op: Mark::MINUS,
+        of: &signed,
+    };
+    assert_eq!(rt; in_context(&minus, 8, false, rt.alloc()), Some(255));
+    assert_eq!(rt; in_context(&minus_signed, 4, true, rt.alloc()), Some(15));
+    assert_eq!(rt; in_context(&minus_signed, 8, true, rt.alloc()), Some(255));
+}
+
+/// Two copies of two bits.
+#[test]
+fn repeats(rt: HostRuntime) {
+    let count = literal(1, &TWO);
+    let parts = [literal(3, &(2, true, 1))];
+    let copies = Expr::Repeat {
+        count: &count,
+        parts: &parts,
+    };
+    let scope = Scope::new(rt.alloc());
+    assert!(rt; is_constant(&copies, &scope, &(4, false, 5)));
+}
+
+/// Branches of three widths, of which one is unsigned.
+#[test]
+fn chooses(rt: HostRuntime) {
+    let test = literal(0, &(1, false, 1));
+    let other = literal(2, &(1, false, 0));
+    let four = literal(4, &(4, true, 15));
+    let six = literal(6, &(6, true, 63));
+    let eight = literal(8, &(8, false, 3));
+    let inner = Expr::Cond {
+        test: &other,
+        yes: &four,
+        no: &six,
+    };
+    let outer = Expr::Cond {
+        test: &test,
+        yes: &inner,
+        no: &eight,
+    };
+    let scope = Scope::new(rt.alloc());
+    assert!(rt; is_constant(&inner, &scope, &(6, true, 63)));
+    assert!(rt; is_constant(&outer, &scope, &(8, false, 63)));
+}
+
+/// A digit x counts as 0: `&4'b1x11` and `|4'bx000`.
+#[test]
+fn unknown_digits(rt: HostRuntime) {
+    let number = Number {
+        width: 4,
+        signed: false,
+        value: 11,
+        any: 0,
+        unknown: 4,
+    };
+    let digits = Expr::Literal { token: 1, number };
+    let all = Expr::Unary {
+        op: Mark::AND,
+        of: &digits,
+    };
+    let some = Expr::Unary {
+        op: Mark::OR,
+        of: &digits,
+    };
+    let scope = Scope::new(rt.alloc());
+    assert!(rt; is_constant(&all, &scope, &(1, false, 0)));
+    assert!(rt; is_constant(&some, &scope, &(1, false, 1)));
+}
+
+/// Parts of a parameter within the bounds of parts are each evaluated once or twice, however deep
+/// they nest: each bound is the lowest bit of the parameter's part that the next one names.
+fn nested<'a>(inner: &'a Expr<'a>, levels: u32, scope: &Scope) -> Option<u128> {
+    if levels == 0 {
+        return match constant(inner, scope) {
+            Ok((bits, _)) => Some(bits.to_u128()),
+            Err(_) => None,
+        };
+    }
+    let zero = literal(9, &(32, true, 0));
+    let part = Expr::Part {
+        token: levels,
+        name: "p",
+        left: inner,
+        right: &zero,
+    };
+    let one = literal(10, &(1, false, 0));
+    let sum = Expr::Binary {
+        op: Mark::PLUS,
+        left: &part,
+        right: &one,
+    };
+    nested(&sum, levels - 1, scope)
+}
+
+#[test]
+fn nests(rt: HostRuntime) -> Result<(), Fail> {
+    let alloc = rt.alloc();
+    let mut scope = Scope::new(alloc);
+    let entity = Entity::Constant {
+        bits: Bits::from_u128(8, 2),
+        signed: false,
+    };
+    scope.add("p", entity)?;
+    let first = literal(0, &(32, true, 1));
+    assert_eq!(rt; nested(&first, 60, &scope), Some(2));
     Ok(())
 }

@@ -9,28 +9,28 @@ use Rattle.rr_expr.proofs.values.+values.Goals as goal
 use Rattle.rr_expr.proofs.values.+values.Goals.{parts_value-in-None, parts_value-in-Some}
 
 pub parts_width-loop-part-init : goal.parts_width-loop-part-init
-parts_width-loop-part-init t c = widths_none c.args.scope.now
+parts_width-loop-part-init t c = (widths_none c.args.scope.now, c.requires.noted)
 
 pub parts_width-own_shape-total-requires : goal.parts_width-own_shape-total-requires
-parts_width-own_shape-total-requires t c = (search (rules, the_lemmas), (fit_at c.args.scope.now c.args.parts.now c.loop-part.part-index c.part-item.result c.requires.fit c.loop-part-test.true c.part-item.is).0)
+parts_width-own_shape-total-requires t c = (search (rules, the_lemmas), ((fit_at c.args.scope.now c.args.parts.now c.loop-part.part-index c.part-item.result c.requires.fit c.loop-part-test.true c.part-item.is).0, c.loop-part.invariant.1))
 
 pub parts_width-overflow_add-total : goal.parts_width-overflow_add-total
 parts_width-overflow_add-total t c =
     let p = fit_at c.args.scope.now c.args.parts.now c.loop-part.part-index c.part-item.result c.requires.fit c.loop-part-test.true c.part-item.is in
     let w : c.own_shape-total.result.width ≡ (form c.args.scope.now (plain c.part-item.result)).width = ap (λ a. a.width) c.own_shape-total.ensures.value in
-    omega (arith, p.1, w, c.loop-part.invariant, c.requires.high)
+    omega (arith, p.1, w, c.loop-part.invariant.0, c.requires.high)
 
 pub parts_width-loop-part-preserved : goal.parts_width-loop-part-preserved
 parts_width-loop-part-preserved t c =
     let n = widths_next c.args.scope.now c.args.parts.now c.loop-part.part-index c.part-item.result c.loop-part-test.true c.part-item.is in
     let w : c.own_shape-total.result.width ≡ (form c.args.scope.now (plain c.part-item.result)).width = ap (λ a. a.width) c.own_shape-total.ensures.value in
-    omega (arith, n, w, c.loop-part.invariant)
+    (omega (arith, n, w, c.loop-part.invariant.0), c.own_shape-total.ensures.noted)
 
 pub parts_value-loop-part-init : goal.parts_value-loop-part-init
-parts_value-loop-part-init t c = (values_none c.args.scope.now (env_of c.args.env.now), widths_none c.args.scope.now)
+parts_value-loop-part-init t c = (values_none c.args.scope.now (env_of c.args.env.now), widths_none c.args.scope.now, c.requires.noted)
 
 pub parts_value-own_value-low-requires : goal.parts_value-own_value-low-requires
-parts_value-own_value-low-requires t c = (search (rules, the_lemmas), (fit_at c.args.scope.now c.args.parts.now c.loop-part.part-index c.part-item.result c.requires.fit c.loop-part-test.true c.part-item.is).0)
+parts_value-own_value-low-requires t c = (search (rules, the_lemmas), ((fit_at c.args.scope.now c.args.parts.now c.loop-part.part-index c.part-item.result c.requires.fit c.loop-part-test.true c.part-item.is).0, c.loop-part.invariant.2))
 
 pub parts_value-append-requires : goal.parts_value-append-requires
 parts_value-append-requires t c =
@@ -46,9 +46,9 @@ parts_value-loop-part-preserved t c =
       | parts_value-in-None w ↦
           let h : [] ≡ values c.args.scope.now (plain_list (take c.loop-part.part-index c.args.parts.now)) (env_of c.args.env.now) = rw w.in-None.is at c.loop-part.invariant.0 in
           let k : 0 ≡ widths c.args.scope.now (plain_list (take c.loop-part.part-index c.args.parts.now)) = rw w.in-None.is at c.loop-part.invariant.1 in
-          rw w.whole-is (c.own_value-low.ensures.value ∙ sym (append-nil _) ∙ ap (λ ys. own c.args.scope.now (plain c.part-item.result) (env_of c.args.env.now) ++ ys) h ∙ sym next, omega (arith, wide, k, c.own_value-low.ensures.width))
+          rw w.whole-is (c.own_value-low.ensures.value ∙ sym (append-nil _) ∙ ap (λ ys. own c.args.scope.now (plain c.part-item.result) (env_of c.args.env.now) ++ ys) h ∙ sym next, omega (arith, wide, k, c.own_value-low.ensures.width), c.own_value-low.ensures.noted)
       | parts_value-in-Some w ↦
           let h : w.in-Some.high ≡ values c.args.scope.now (plain_list (take c.loop-part.part-index c.args.parts.now)) (env_of c.args.env.now) = rw w.in-Some.is at c.loop-part.invariant.0 in
           let k : length w.in-Some.high ≡ widths c.args.scope.now (plain_list (take c.loop-part.part-index c.args.parts.now)) = rw w.in-Some.is at c.loop-part.invariant.1 in
-          rw w.whole-is (w.append.ensures ∙ ap (λ ys. ys ++ w.in-Some.high) c.own_value-low.ensures.value ∙ ap (λ ys. own c.args.scope.now (plain c.part-item.result) (env_of c.args.env.now) ++ ys) h ∙ sym next, ap length w.append.ensures ∙ length-append c.own_value-low.result w.in-Some.high ∙ omega (arith, wide, k, c.own_value-low.ensures.width))
+          rw w.whole-is (w.append.ensures ∙ ap (λ ys. ys ++ w.in-Some.high) c.own_value-low.ensures.value ∙ ap (λ ys. own c.args.scope.now (plain c.part-item.result) (env_of c.args.env.now) ++ ys) h ∙ sym next, ap length w.append.ensures ∙ length-append c.own_value-low.result w.in-Some.high ∙ omega (arith, wide, k, c.own_value-low.ensures.width), c.own_value-low.ensures.noted)
     ]
