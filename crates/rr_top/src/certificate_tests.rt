@@ -70,7 +70,12 @@ fn run_case<R: Abort + AllocGlobal + Threads + Sync>(rt: &R, case: &Case<'_>) {
 }
 
 /// A proof with its verdict.
-fn finds<R: Abort + AllocGlobal + Threads + Sync>(rt: &R, proof: &str, status: u8, out: &str) {
+fn finds<'x, R: Abort + AllocGlobal + Threads + Sync>(
+    rt: &R,
+    proof: &'x str,
+    status: u8,
+    out: &'x str,
+) {
     run_case(
         rt,
         &Case {
@@ -83,11 +88,11 @@ fn finds<R: Abort + AllocGlobal + Threads + Sync>(rt: &R, proof: &str, status: u
 }
 
 /// A circuit and a proof that are refused.
-fn refuses<R: Abort + AllocGlobal + Threads + Sync>(
+fn refuses<'x, R: Abort + AllocGlobal + Threads + Sync>(
     rt: &R,
-    circuit: &str,
-    proof: &str,
-    notes: &str,
+    circuit: &'x str,
+    proof: &'x str,
+    notes: &'x str,
 ) {
     run_case(
         rt,
