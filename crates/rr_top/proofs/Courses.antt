@@ -1,24 +1,21 @@
 -- What follows from how a run ends.
-use Rattle.std.proofs.Common.{◌≡◌, ◌∙◌, ◌⊎◌, inl, inr, refl, sym, ap, subst, ◌<◌, ◌≤◌, ℕ, List, [], ◌∷◌, arith}
-use Rattle.std.specs.Prelude.{Option, Some, None, MatchOption}
+use Rattle.std.proofs.Common.{◌≡◌, ◌∙◌, ◌⊎◌, inl, inr, refl, sym, ap, subst, ◌<◌, ℕ, List, [], ◌∷◌, arith}
+use Rattle.std.specs.Prelude.{Option, Some, None, MatchOption, ⊤}
 use Rattle.std.specs.Io.KnownBytes.{Appends}
 use Rattle.rr_edge.specs.Held.{Held}
-use Rattle.rr_edge.specs.Faults.{Faulted, NoFault}
 use Rattle.rr_words.specs.Plan.{Plan, command_of, repair, run, sites, check, make}
 use Rattle.rr_words.specs.Plain.{IsPlain}
 use Rattle.rr_words.proofs.PlainCommands.{plain_command}
 use Rattle.rr_top.specs.declared.ending.Ending.{Ending}
 use Rattle.rr_top.specs.declared.ending.Ending.TheVariants.{Usage, NoMemory, Absent, ReadFault, OutFault, Refused, Done}
-use Rattle.rr_top.specs.declared.ending.Refusal.{Refusal}
-use Rattle.rr_top.specs.Thin.{thin_words}
-use Rattle.rr_top.specs.Choices.{instance}
-use Rattle.rr_top.specs.Patching.{edits}
-use Rattle.rr_top.specs.Texts.{usage_text, memory_text}
-use Rattle.rr_top.specs.Effects.{Outside, Answer, KeepsShelf, KeepsOut, AbsentAt, Gave}
-use Rattle.rr_top.specs.Verdicts.{reads_of, Due, DueGiven, Refuses, Repairs, Despairs, Verdict, absent, refused, mended, unmendable, IsMendable, IsUnmendable, WhereRepair, Judges, verdict_status}
+use Rattle.rr_check.specs.declared.verdict.Verdict.{Verdict as Finding}
+use Rattle.rr_top.specs.Texts.{usage_text, verdict_text}
+use Rattle.rr_top.specs.Effects.{Answer, KeepsShelf, KeepsOut, AbsentAt}
+use Rattle.rr_top.specs.Verdicts.{reads_of, Due, DueGiven, Refuses, Verdict, absent, refused, mended, unmendable, checked, Judges, verdict_status}
+use Rattle.rr_top.specs.Check.{DueCertificate, IsChecked, IsNeverTrue}
 use Rattle.rr_top.specs.Endings.{PlanEnds}
-use Rattle.rr_top.specs.Run.{Ends, IsUsage, SaysUsage, Reports, status_of, Course, IsCourse, IsRepaired, IsBeyondRepair, IsRefused, IsAbsent, IsExhausted, IsUnread, WhereCommand, SomeFault, ShowsVerdict, Follows, AllGiven, NoneRefuses, NoFaults}
-use Rattle.rr_lex.specs.Patch.{AreWords, patched}
+use Rattle.rr_top.specs.Run.{IsUsage, Reports, status_of, Course, IsCourse, IsRepaired, IsBeyondRepair, IsAccepted, IsRejected, HasDone, HasFailed, IsCheck, IsRefused, IsAbsent, IsExhausted, IsUnread, WhereCommand, SomeFault, ShowsVerdict, Follows, AllGiven, NoneRefuses, NoFaults}
+use Rattle.rr_top.proofs.Certificates.{status_low, status_zero, status_one, never_true}
 use Rattle.rr_top.proofs.Verdict.{one_verdict}
 
 -- no count of faults changed
@@ -100,7 +97,7 @@ due_status : (plan : Plan) (told : Option Held) (answer : Answer) → Due plan t
 due_status (repair d t cert top clock budget members) told answer due = elim due.due.answers [ inl p ↦ inl p.1.status | inr p ↦ inr p.status ]
 due_status (run d t top clock) told answer due = absurd due
 due_status (sites d top clock) told answer due = absurd due
-due_status (check c p) told answer due = absurd due
+due_status (check c p) told answer due = elim (status_low due.answers.verdict) [ inl e ↦ inl (due.answers.tells.status ∙ e) | inr e ↦ inr (due.answers.tells.status ∙ e) ]
 due_status (make s c) told answer due = absurd due
 
 module _ (r : Course) (answer : Answer) (calm : Calm r) (out : Appends r.before.out r.after.out answer.out) (notes : Appends r.notes_before r.notes_after answer.notes) where
@@ -143,26 +140,67 @@ module _ (r : Course) (answer : Answer) (calm : Calm r) (out : Appends r.before.
     }
   ]
 
-  mends_due : (plan : Plan) → Due plan r.before.held answer → answer.status ≡ 0 → WhereRepair plan (IsRepaired r)
-  mends_due (repair d t cert top clock budget members) due zero = mends_given d t top clock due zero
+  checked_of : (c p : List ℕ) (due : DueCertificate r.before.held c p answer) → IsChecked r.before.held c p due.answers.verdict
+  checked_of c p due = record { circuit = due.circuit; proof = due.proof; given = due.given; judged = due.answers.judged }
+
+  accepts_given : (c p : List ℕ) → DueCertificate r.before.held c p answer → answer.status ≡ 0 → IsAccepted r c p
+  accepts_given c p due zero =
+      let tells = due.answers.tells in
+      let is = status_zero due.answers.verdict (sym tells.status ∙ zero) in
+      let put : Appends r.before.out r.after.out (verdict_text due.answers.verdict) = rw tells.printed at out in
+      record {
+        accepted = subst (λ (v : Finding). IsChecked r.before.held c p v) is (checked_of c p due);
+        printed = subst (λ (v : Finding). Appends r.before.out r.after.out (verdict_text v)) is put;
+        reported = rw tells.notes at notes;
+        shelf = calm.shelf;
+      }
+
+  rejects_given : (c p : List ℕ) → DueCertificate r.before.held c p answer → answer.status ≡ 1 → IsRejected r c p
+  rejects_given c p due one =
+      let tells = due.answers.tells in
+      record {
+        verdict = due.answers.verdict;
+        rejected = checked_of c p due;
+        differs = status_one due.answers.verdict (sym tells.status ∙ one);
+        printed = rw tells.printed at out;
+        reported = rw tells.notes at notes;
+        shelf = calm.shelf;
+      }
+
+  mends_due : (plan : Plan) → Due plan r.before.held answer → answer.status ≡ 0 → HasDone r plan
+  mends_due (repair d t cert top clock budget members) due zero = inl (mends_given d t top clock due zero)
   mends_due (run d t top clock) due zero = absurd due
   mends_due (sites d top clock) due zero = absurd due
-  mends_due (check c p) due zero = absurd due
+  mends_due (check c p) due zero = inr (accepts_given c p due zero)
   mends_due (make s c) due zero = absurd due
 
-  despairs_due : (plan : Plan) → Due plan r.before.held answer → answer.status ≡ 1 → WhereRepair plan (IsBeyondRepair r)
-  despairs_due (repair d t cert top clock budget members) due one = despairs_given d t top clock due one
+  despairs_due : (plan : Plan) → Due plan r.before.held answer → answer.status ≡ 1 → HasFailed r plan
+  despairs_due (repair d t cert top clock budget members) due one = inl (despairs_given d t top clock due one)
   despairs_due (run d t top clock) due one = absurd due
   despairs_due (sites d top clock) due one = absurd due
-  despairs_due (check c p) due one = absurd due
+  despairs_due (check c p) due one = inr (rejects_given c p due one)
   despairs_due (make s c) due one = absurd due
 
+-- what the answer shows of a verdict
+abbrev ShowsBy : Verdict → Answer → Type 0
+ShowsBy (absent name) answer = ⊥
+ShowsBy (refused refusal) answer = ⊥
+ShowsBy mended answer = ⊤
+ShowsBy unmendable answer = ⊤
+ShowsBy (checked finding) answer = (answer.out ≡ verdict_text finding) × (answer.notes ≡ [])
+
 -- the verdict that an answer carries out
-due_verdict : (plan : Plan) (held : Held) (answer : Answer) → Due plan (Some held) answer
-    → (Judges plan held mended × (answer.status ≡ 0)) ⊎ (Judges plan held unmendable × (answer.status ≡ 1))
+record Carries (plan : Plan) (held : Held) (answer : Answer) : Type 0 where
+  verdict : Verdict
+  judged : Judges plan held verdict
+  status : answer.status ≡ verdict_status verdict
+  shows : ShowsBy verdict answer
+
+due_verdict : (plan : Plan) (held : Held) (answer : Answer) → Due plan (Some held) answer → Carries plan held answer
 due_verdict (repair d t cert top clock budget members) held answer due = elim due.due.answers [
-  | inl p ↦ inl (
-    record {
+  | inl p ↦ record {
+    verdict = mended;
+    judged = record {
       design = due.design;
       table = due.table;
       given = due.given;
@@ -172,11 +210,13 @@ due_verdict (repair d t cert top clock budget members) held answer due = elim du
       taken = due.due.taken;
       choice = p.0;
       mends = p.1.mends;
-    },
-    p.1.status,
-  )
-  | inr p ↦ inr (
-    record {
+    };
+    status = p.1.status;
+    shows = tt;
+  }
+  | inr p ↦ record {
+    verdict = unmendable;
+    judged = record {
       design = due.design;
       table = due.table;
       given = due.given;
@@ -185,14 +225,27 @@ due_verdict (repair d t cert top clock budget members) held answer due = elim du
       rows = due.due.rows;
       taken = due.due.taken;
       none = p.none;
-    },
-    p.status,
-  )
+    };
+    status = p.status;
+    shows = tt;
+  }
 ]
 due_verdict (run d t top clock) held answer due = absurd due
 due_verdict (sites d top clock) held answer due = absurd due
-due_verdict (check c p) held answer due = absurd due
+due_verdict (check c p) held answer due = record {
+  verdict = checked due.answers.verdict;
+  judged = record { circuit = due.circuit; proof = due.proof; given = due.given; judged = due.answers.judged };
+  status = due.answers.tells.status;
+  shows = (due.answers.tells.printed, due.answers.tells.notes);
+}
 due_verdict (make s c) held answer due = absurd due
+
+shown : (r : Course) (answer : Answer) (v : Verdict) → ShowsBy v answer → Appends r.before.out r.after.out answer.out → Appends r.notes_before r.notes_after answer.notes → ShowsVerdict v r
+shown r answer (absent name) shows out notes = absurd shows
+shown r answer (refused refusal) shows out notes = absurd shows
+shown r answer mended shows out notes = tt
+shown r answer unmendable shows out notes = tt
+shown r answer (checked finding) shows out notes = (rw shows.0 at out, rw shows.1 at notes)
 
 some_plan : {X : Type 0} (o : Option Plan) (plan : Plan) → o ≡ Some plan → o ≡ None → X
 some_plan o plan p q = absurd (cc)
@@ -201,7 +254,7 @@ same_plan : (o : Option Plan) (plan other : Plan) → o ≡ Some plan → o ≡ 
 same_plan o plan other p q = cc
 
 module _ (r : Course) (o : Option Plan) where
-  of_repaired : Came r o → r.status ≡ 0 → (plan : Plan) × (o ≡ Some plan) × WhereRepair plan (IsRepaired r)
+  of_repaired : Came r o → r.status ≡ 0 → (plan : Plan) × (o ≡ Some plan) × HasDone r plan
   of_repaired (came_fault f s h) is = absurd (omega arith)
   of_repaired (came_memory c m s) is = absurd (omega arith)
   of_repaired (came_usage c n k a s) is = absurd (omega arith)
@@ -209,7 +262,7 @@ module _ (r : Course) (o : Option Plan) where
   of_repaired (came_refused c plan p a s) is = absurd (omega arith)
   of_repaired (came_done c plan p answer due out notes s) is = (plan, p, mends_due r answer c out notes plan due (sym s ∙ is))
 
-  of_despaired : Came r o → r.status ≡ 1 → (plan : Plan) × (o ≡ Some plan) × WhereRepair plan (IsBeyondRepair r)
+  of_despaired : Came r o → r.status ≡ 1 → (plan : Plan) × (o ≡ Some plan) × HasFailed r plan
   of_despaired (came_fault f s h) is = absurd (omega arith)
   of_despaired (came_memory c m s) is = absurd (omega arith)
   of_despaired (came_usage c n k a s) is = absurd (omega arith)
@@ -275,11 +328,11 @@ module _ (r : Course) (o : Option Plan) where
   of_calm (came_done c plan p answer due out notes s) rose = absurd (rose c)
 
   module _ (plan : Plan) (is : o ≡ Some plan) (held : Held) (told : r.before.held ≡ Some held) where
-    done_follows : (v : Verdict) (answer : Answer) → Judges plan held v → Due plan (Some held) answer → r.status ≡ answer.status → Follows r v
-    done_follows v answer judged due s = elim (due_verdict plan held answer due) [
-      | inl p ↦ subst (λ (w : Verdict). Follows r w) (one_verdict plan held mended v p.0 judged) (inl (s ∙ p.1, tt))
-      | inr p ↦ subst (λ (w : Verdict). Follows r w) (one_verdict plan held unmendable v p.0 judged) (inl (s ∙ p.1, tt))
-    ]
+    done_follows : (v : Verdict) (answer : Answer) → Judges plan held v → Due plan (Some held) answer → Appends r.before.out r.after.out answer.out
+        → Appends r.notes_before r.notes_after answer.notes → r.status ≡ answer.status → Follows r v
+    done_follows v answer judged due out notes s =
+        let d = due_verdict plan held answer due in
+        subst (λ (w : Verdict). Follows r w) (one_verdict plan held d.verdict v d.judged judged) (inl (s ∙ d.status, shown r answer d.verdict d.shows out notes))
 
     absent_follows : (v : Verdict) → Judges plan held v → IsAbsent r plan → r.status ≡ 4 → Follows r v
     absent_follows v judged a s =
@@ -295,7 +348,7 @@ module _ (r : Course) (o : Option Plan) where
     of_verdict v judged (came_usage c n k a s) = some_plan o plan is n
     of_verdict v judged (came_absent c other p a s) = absent_follows v judged (rw (same_plan o other plan p is) at a) s
     of_verdict v judged (came_refused c other p a s) = refused_follows v judged (rw (same_plan o other plan p is) at a) s
-    of_verdict v judged (came_done c other p answer due out notes s) = done_follows v answer judged (rw (same_plan o other plan p is, told) at due) s
+    of_verdict v judged (came_done c other p answer due out notes s) = done_follows v answer judged (rw (same_plan o other plan p is, told) at due) out notes s
 
     no_absent : (reads : List (List ℕ × ℕ)) (name : List ℕ) → AllGiven (Some held) reads → AbsentAt (Some held) reads name → ⊥
     no_absent [] name all a = a
@@ -317,12 +370,23 @@ module _ (r : Course) (o : Option Plan) where
       | inr one ↦ inr (inl (s ∙ one))
     ]
 
-module _ {r : Course} (c : IsCourse r) where
-  pub course_repaired : r.status ≡ 0 → WhereCommand r.words (λ plan. WhereRepair plan (IsRepaired r))
-  course_repaired is = of_repaired r (command_of r.words) (course_came c) is
+-- an accepted certificate
+certified : (r : Course) (c p : List ℕ) → HasDone r (check c p) → IsNeverTrue r.before.held c
+certified r c p (inl none) = absurd none
+certified r c p (inr accepted) = never_true r.before.held c p accepted.accepted
 
-  pub course_beyond : r.status ≡ 1 → WhereCommand r.words (λ plan. WhereRepair plan (IsBeyondRepair r))
-  course_beyond is = of_despaired r (command_of r.words) (course_came c) is
+module _ {r : Course} (c : IsCourse r) where
+  pub course_done : r.status ≡ 0 → WhereCommand r.words (HasDone r)
+  course_done is = of_repaired r (command_of r.words) (course_came c) is
+
+  pub course_failed : r.status ≡ 1 → WhereCommand r.words (HasFailed r)
+  course_failed is = of_despaired r (command_of r.words) (course_came c) is
+
+  pub course_certified : r.status ≡ 0 → (circuit proof : List ℕ) → IsCheck r.words circuit proof → IsNeverTrue r.before.held circuit
+  course_certified is circuit proof words = of_certified (course_done is)
+    where
+      of_certified : WhereCommand r.words (HasDone r) → IsNeverTrue r.before.held circuit
+      of_certified (plan, p, done) = certified r circuit proof (rw (same_plan (command_of r.words) plan (check circuit proof) p words) at done)
 
   pub course_refused : r.status ≡ 3 → WhereCommand r.words (IsRefused r)
   course_refused is = of_refused r (command_of r.words) (course_came c) is

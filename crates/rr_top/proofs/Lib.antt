@@ -5,5 +5,7 @@ pub mod Leasts
 pub mod Places
 pub mod Patched
 pub mod Judged
+pub mod Readings
+pub mod Certificates
 pub mod Verdict
 pub mod Courses

@@ -1,7 +1,7 @@
 -- What a told shelf decides for a command, it decides once.
-use Rattle.std.proofs.Common.{◌≡◌, ◌≢◌, ◌∙◌, ◌⊎◌, inl, inr, ◌<◌, ◌≤◌, ℕ, List, [], ◌∷◌, length, refl, sym, ap, subst, arith, Bool, true, false, Option, Some, None}
+use Rattle.std.proofs.Common.{◌≡◌, ◌∙◌, ℕ, List, refl, sym, ap, subst, arith, Bool, true, false, Option}
 use Rattle.rr_edge.specs.Held.{Held}
-use Rattle.rr_syntax.specs.Words.{Word, Named, Digits}
+use Rattle.rr_syntax.specs.Words.{Word, Digits}
 use Rattle.rr_syntax.specs.declared.token.Number.{Number}
 use Rattle.rr_lex.specs.Tokens.{Lexeme, AreTokens, IsFirstFault, words_of}
 use Rattle.rr_lex.specs.declared.piece.Wrong.{Wrong}
@@ -13,15 +13,16 @@ use Rattle.rr_top.specs.declared.design.Right.TheVariants.{Copies, Constant, Mas
 use Rattle.rr_top.specs.declared.ending.Part.{Part}
 use Rattle.rr_top.specs.declared.ending.Part.TheVariants as part
 use Rattle.rr_top.specs.declared.ending.Refusal.{Refusal}
-use Rattle.rr_top.specs.declared.ending.Refusal.TheVariants.{TooManyBytes, Text, NotBuilt}
+use Rattle.rr_top.specs.declared.ending.Refusal.TheVariants.{TooManyBytes, Text, NotBuilt, Flawed}
 use Rattle.rr_top.specs.declared.search.Choice.{Choice}
 use Rattle.rr_top.specs.declared.table.Row.{Row}
 use Rattle.rr_top.specs.Thin.{Thin, IsThin, thin_words, right_words, bit, bit_number}
 use Rattle.rr_top.specs.Table.{IsTable}
 use Rattle.rr_top.specs.Choices.{Mends, NoneMends}
-use Rattle.rr_top.specs.Effects.{Gave, AbsentAt, TooLongAt}
-use Rattle.rr_top.specs.Verdicts.{reads_of, BothGiven, IsTaken, AreTaken, NoDesign, NoTable, RefusesFiles, RefusesGiven, Refuses, Verdict, absent, refused, mended, unmendable, IsMendable, IsUnmendable, Judges}
+use Rattle.rr_top.specs.Verdicts.{IsTaken, RefusesFiles, Verdict, absent, refused, mended, unmendable, checked, Judges}
 use Rattle.rr_top.proofs.Rows.{one_table}
+use Rattle.rr_top.proofs.Readings.{Reading, missing, long, given, IsReading, one_reading}
+use Rattle.rr_top.proofs.Certificates.{one_certificate}
 
 -- no words are two thin designs
 one_bit : (a b : Bool) → bit a ≡ bit b → a ≡ b
@@ -61,56 +62,6 @@ one_spelling t u is =
 
 pub one_thin : (ws : List Word) (t u : Thin) → IsThin ws t → IsThin ws u → t ≡ u
 one_thin ws t u p q = one_spelling t u (sym p.spelled ∙ q.spelled)
-
--- What the reads of two files give: a name that is absent, a file that is too long, or both files.
-data Reading : Type 0 where
-  missing : List ℕ → Reading
-  long : ℕ → Reading
-  given : List ℕ → List ℕ → Reading
-
-module _ (held : Held) (d t : List ℕ) where
-  abbrev reads : List (List ℕ × ℕ)
-  reads = (d, DESIGN_LIMIT) ∷ ((t, TABLE_LIMIT) ∷ [])
-
-  abbrev IsReading : Reading → Type 0
-  IsReading (missing name) = AbsentAt (Some held) reads name
-  IsReading (long count) = TooLongAt (Some held) reads count
-  IsReading (given design table) = BothGiven (Some held) d t design table
-
-  missing_missing : (a b : List ℕ) → AbsentAt (Some held) reads a → AbsentAt (Some held) reads b → a ≡ b
-  missing_missing a b p q = grind arith
-
-  missing_long : (a : List ℕ) (n : ℕ) → AbsentAt (Some held) reads a → TooLongAt (Some held) reads n → ⊥
-  missing_long a n p q = grind arith
-
-  missing_given : (a x y : List ℕ) → AbsentAt (Some held) reads a → BothGiven (Some held) d t x y → ⊥
-  missing_given a x y p q = grind arith
-
-  long_long : (n m : ℕ) → TooLongAt (Some held) reads n → TooLongAt (Some held) reads m → n ≡ m
-  long_long n m p q = grind arith
-
-  long_given : (n : ℕ) (x y : List ℕ) → TooLongAt (Some held) reads n → BothGiven (Some held) d t x y → ⊥
-  long_given n x y p q = grind arith
-
-  given_design : (x y v w : List ℕ) → BothGiven (Some held) d t x y → BothGiven (Some held) d t v w → x ≡ v
-  given_design x y v w p q = grind arith
-
-  given_table : (x y v w : List ℕ) → BothGiven (Some held) d t x y → BothGiven (Some held) d t v w → y ≡ w
-  given_table x y v w p q = grind arith
-
-  one_reading : (r s : Reading) → IsReading r → IsReading s → r ≡ s
-  one_reading (missing a) (missing b) p q = ap (λ (x : List ℕ). missing x) (missing_missing a b p q)
-  one_reading (missing a) (long n) p q = absurd (missing_long a n p q)
-  one_reading (missing a) (given x y) p q = absurd (missing_given a x y p q)
-  one_reading (long n) (missing a) p q = absurd (missing_long a n q p)
-  one_reading (long n) (long m) p q = ap (λ (x : ℕ). long x) (long_long n m p q)
-  one_reading (long n) (given x y) p q = absurd (long_given n x y p q)
-  one_reading (given x y) (missing a) p q = absurd (missing_given a x y q p)
-  one_reading (given x y) (long n) p q = absurd (long_given n x y q p)
-  one_reading (given x y) (given v w) p q =
-      let first : x ≡ v = given_design x y v w p q in
-      let second : y ≡ w = given_table x y v w p q in
-      cc
 
 module _ (top clock : Option (List ℕ)) where
   -- what the tokens of a design decide
@@ -179,7 +130,7 @@ module _ (top clock : Option (List ℕ)) where
 
     record IsRead (v : Verdict) : Type 0 where
       reading : Reading
-      is : IsReading held d t reading
+      is : IsReading held d t DESIGN_LIMIT TABLE_LIMIT reading
       on : OnReading reading v
 
     one_on_reading : (r : Reading) (v w : Verdict) → OnReading r v → OnReading r w → v ≡ w
@@ -188,7 +139,7 @@ module _ (top clock : Option (List ℕ)) where
     one_on_reading (given design table) v w p q = one_on_files design table v w p q
 
     one_read : (v w : Verdict) → IsRead v → IsRead w → v ≡ w
-    one_read v w p q = one_on_reading p.reading v w p.on (subst (λ (r : Reading). OnReading r w) (one_reading held d t q.reading p.reading q.is p.is) q.on)
+    one_read v w p q = one_on_reading p.reading v w p.on (subst (λ (r : Reading). OnReading r w) (one_reading held d t DESIGN_LIMIT TABLE_LIMIT q.reading p.reading q.is p.is) q.on)
 
     on_refused : (design table : List ℕ) (part : Part) → RefusesFiles top clock design table (NotBuilt part) → OnFiles design table (refused (NotBuilt part))
     on_refused design table part.Command none = absurd none
@@ -198,18 +149,20 @@ module _ (top clock : Option (List ℕ)) where
     is_read : (cert : List ℕ) (budget members : ℕ) (v : Verdict) → Judges (repair d t cert top clock budget members) held v → IsRead v
     is_read cert budget members (absent name) j = record { reading = missing name; is = j; on = refl }
     is_read cert budget members (refused (TooManyBytes count)) j = record { reading = long count; is = j; on = refl }
-    is_read cert budget members (refused (Text wrong at)) j = record { reading = given j.design j.table; is = j.given; on = on_fault wrong at j.refused refl }
-    is_read cert budget members (refused (NotBuilt part)) j = record { reading = given j.design j.table; is = j.given; on = on_refused j.design j.table part j.refused }
+    is_read cert budget members (refused (Text wrong at)) j = record { reading = given j.design j.table; is = (j.given.design_given, j.given.table_given); on = on_fault wrong at j.refused refl }
+    is_read cert budget members (refused (NotBuilt part)) j = record { reading = given j.design j.table; is = (j.given.design_given, j.given.table_given); on = on_refused j.design j.table part j.refused }
+    is_read cert budget members (refused (Flawed flaw line)) j = absurd j.refused
     is_read cert budget members mended j = record {
       reading = given j.design j.table;
-      is = j.given;
+      is = (j.given.design_given, j.given.table_given);
       on = on_tokens j.tokens j.taken.lexed (is_mended j.thin j.taken.taken j.rows j.taken.tabled j.choice j.mends refl);
     }
     is_read cert budget members unmendable j = record {
       reading = given j.design j.table;
-      is = j.given;
+      is = (j.given.design_given, j.given.table_given);
       on = on_tokens j.tokens j.taken.lexed (is_unmendable j.thin j.taken.taken j.rows j.taken.tabled j.none refl);
     }
+    is_read cert budget members (checked finding) j = absurd j
 
 -- the other commands are refused
 abbrev IsUnbuilt : Verdict → Type 0
@@ -220,36 +173,34 @@ unbuilt_run held design table top clock (absent name) j = absurd j
 unbuilt_run held design table top clock (refused (TooManyBytes count)) j = absurd j
 unbuilt_run held design table top clock (refused (Text wrong at)) j = ap (λ (r : Refusal). refused r) j
 unbuilt_run held design table top clock (refused (NotBuilt part)) j = ap (λ (r : Refusal). refused r) j
+unbuilt_run held design table top clock (refused (Flawed flaw line)) j = ap (λ (r : Refusal). refused r) j
 unbuilt_run held design table top clock mended j = absurd j
 unbuilt_run held design table top clock unmendable j = absurd j
+unbuilt_run held design table top clock (checked finding) j = absurd j
 
 unbuilt_sites : (held : Held) (design : List ℕ) (top clock : Option (List ℕ)) (v : Verdict) → Judges (sites design top clock) held v → IsUnbuilt v
 unbuilt_sites held design top clock (absent name) j = absurd j
 unbuilt_sites held design top clock (refused (TooManyBytes count)) j = absurd j
 unbuilt_sites held design top clock (refused (Text wrong at)) j = ap (λ (r : Refusal). refused r) j
 unbuilt_sites held design top clock (refused (NotBuilt part)) j = ap (λ (r : Refusal). refused r) j
+unbuilt_sites held design top clock (refused (Flawed flaw line)) j = ap (λ (r : Refusal). refused r) j
 unbuilt_sites held design top clock mended j = absurd j
 unbuilt_sites held design top clock unmendable j = absurd j
-
-unbuilt_check : (held : Held) (circuit proof : List ℕ) (v : Verdict) → Judges (check circuit proof) held v → IsUnbuilt v
-unbuilt_check held circuit proof (absent name) j = absurd j
-unbuilt_check held circuit proof (refused (TooManyBytes count)) j = absurd j
-unbuilt_check held circuit proof (refused (Text wrong at)) j = ap (λ (r : Refusal). refused r) j
-unbuilt_check held circuit proof (refused (NotBuilt part)) j = ap (λ (r : Refusal). refused r) j
-unbuilt_check held circuit proof mended j = absurd j
-unbuilt_check held circuit proof unmendable j = absurd j
+unbuilt_sites held design top clock (checked finding) j = absurd j
 
 unbuilt_make : (held : Held) (seed : ℕ) (cert : List ℕ) (v : Verdict) → Judges (make seed cert) held v → IsUnbuilt v
 unbuilt_make held seed cert (absent name) j = absurd j
 unbuilt_make held seed cert (refused (TooManyBytes count)) j = absurd j
 unbuilt_make held seed cert (refused (Text wrong at)) j = ap (λ (r : Refusal). refused r) j
 unbuilt_make held seed cert (refused (NotBuilt part)) j = ap (λ (r : Refusal). refused r) j
+unbuilt_make held seed cert (refused (Flawed flaw line)) j = ap (λ (r : Refusal). refused r) j
 unbuilt_make held seed cert mended j = absurd j
 unbuilt_make held seed cert unmendable j = absurd j
+unbuilt_make held seed cert (checked finding) j = absurd j
 
 pub one_verdict : (plan : Plan) (held : Held) (v w : Verdict) → Judges plan held v → Judges plan held w → v ≡ w
 one_verdict (repair d t cert top clock budget members) held v w p q = one_read top clock held d t v w (is_read top clock held d t cert budget members v p) (is_read top clock held d t cert budget members w q)
 one_verdict (run design table top clock) held v w p q = unbuilt_run held design table top clock v p ∙ sym (unbuilt_run held design table top clock w q)
 one_verdict (sites design top clock) held v w p q = unbuilt_sites held design top clock v p ∙ sym (unbuilt_sites held design top clock w q)
-one_verdict (check circuit proof) held v w p q = unbuilt_check held circuit proof v p ∙ sym (unbuilt_check held circuit proof w q)
+one_verdict (check circuit proof) held v w p q = one_certificate held circuit proof v w p q
 one_verdict (make seed cert) held v w p q = unbuilt_make held seed cert v p ∙ sym (unbuilt_make held seed cert w q)

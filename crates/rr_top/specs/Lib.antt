@@ -10,6 +10,7 @@ pub mod Patching
 pub mod Texts
 pub mod Effects
 pub mod Answers
+pub mod Check
 pub mod Verdicts
 pub mod Endings
 pub mod Run

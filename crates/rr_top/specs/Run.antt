@@ -1,23 +1,26 @@
 -- How a run ends, what it reports, and its status.
-use Rattle.std.specs.Prelude.{◌≡◌, ◌⊎◌, ℕ, List, [], ◌∷◌, Option, Some, None, MatchOption, ⊤}
+use Rattle.std.specs.Prelude.{◌≡◌, ◌≢◌, ◌⊎◌, ℕ, List, [], ◌∷◌, Option, Some, None, MatchOption, ⊤}
 use Rattle.std.specs.Io.KnownBytes.{Appends}
 use Rattle.rr_edge.specs.Held.{Held}
 use Rattle.rr_edge.specs.Faults.{Faulted, NoFault}
 use Rattle.rr_edge.specs.Sink.{AppendsFront}
 use Rattle.rr_lex.specs.Tokens.{Lexeme}
 use Rattle.rr_lex.specs.Patch.{patched, AreWords}
-use Rattle.rr_words.specs.Plan.{Plan, command_of, repair}
+use Rattle.rr_words.specs.Plan.{Plan, check, command_of}
 use Rattle.rr_top.specs.declared.ending.Ending.{Ending}
 use Rattle.rr_top.specs.declared.ending.Ending.TheVariants.{Usage, NoMemory, Absent, ReadFault, OutFault, Refused, Done}
 use Rattle.rr_top.specs.declared.ending.Refusal.{Refusal}
 use Rattle.rr_top.specs.declared.search.Choice.{Choice}
 use Rattle.rr_top.specs.declared.table.Row.{Row}
 use Rattle.rr_top.specs.Thin.{Thin, thin_words, site_count}
-use Rattle.rr_top.specs.Choices.{cost, instance, Matches, Mends, Least, NoneMends}
+use Rattle.rr_top.specs.Choices.{cost, instance, Mends, Least, NoneMends}
 use Rattle.rr_top.specs.Patching.{edits}
-use Rattle.rr_top.specs.Texts.{usage_text, memory_text, refused_text, absent_text, report, no_repair_text}
+use Rattle.rr_check.specs.declared.verdict.Verdict.{Verdict as Finding}
+use Rattle.rr_check.specs.declared.verdict.Verdict.TheVariants as found
+use Rattle.rr_top.specs.Texts.{usage_text, memory_text, refused_text, absent_text, report, no_repair_text, verdict_text}
 use Rattle.rr_top.specs.Effects.{Outside, KeepsShelf, KeepsOut, AbsentAt, Gave}
-use Rattle.rr_top.specs.Verdicts.{reads_of, BothGiven, AreTaken, Refuses, Verdict, absent, refused, mended, unmendable, WhereRepair, verdict_status}
+use Rattle.rr_top.specs.Verdicts.{reads_of, BothGiven, AreTaken, Refuses, Verdict, absent, refused, mended, unmendable, checked, WhereRepair, WhereCheck, verdict_status}
+use Rattle.rr_top.specs.Check.{IsChecked}
 use Rattle.rr_top.specs.Endings.{PlanEnds}
 
 -- the status that is due
@@ -99,6 +102,34 @@ pub record IsBeyondRepair (r : Course) (design_name table_name : List ℕ) (top 
   pub reported : Appends r.notes_before r.notes_after (no_repair_text (site_count thin.right))
   pub shelf : KeepsShelf r.before r.after
 
+-- Status 0 of `check`: both files were read, the proof refutes the circuit's formula, and `accepted` was put out.
+pub record IsAccepted (r : Course) (circuit_name proof_name : List ℕ) : Type 0 where
+  pub accepted : IsChecked r.before.held circuit_name proof_name found.Accepted
+  pub printed : Appends r.before.out r.after.out (verdict_text found.Accepted)
+  pub reported : Appends r.notes_before r.notes_after []
+  pub shelf : KeepsShelf r.before r.after
+
+-- Status 1 of `check`: both files were read, the proof does not refute the circuit's formula, and the verdict was put out.
+pub record IsRejected (r : Course) (circuit_name proof_name : List ℕ) : Type 0 where
+  pub verdict : Finding
+  pub rejected : IsChecked r.before.held circuit_name proof_name verdict
+  pub differs : verdict ≢ found.Accepted
+  pub printed : Appends r.before.out r.after.out (verdict_text verdict)
+  pub reported : Appends r.notes_before r.notes_after []
+  pub shelf : KeepsShelf r.before r.after
+
+-- the words ask for a check of these files
+abbrev pub IsCheck : List (List ℕ) → List ℕ → List ℕ → Type 0
+IsCheck words circuit proof = command_of words ≡ Some (check circuit proof)
+
+-- what `repair` has done, or `check`
+abbrev pub HasDone : Course → Plan → Type 0
+HasDone r plan = WhereRepair plan (IsRepaired r) ⊎ WhereCheck plan (IsAccepted r)
+
+-- what both found not to be so
+abbrev pub HasFailed : Course → Plan → Type 0
+HasFailed r plan = WhereRepair plan (IsBeyondRepair r) ⊎ WhereCheck plan (IsRejected r)
+
 -- Status 3: a refusal was due, it is printed, and all else stays.
 pub record IsRefused (r : Course) (plan : Plan) : Type 0 where
   pub refusal : Refusal
@@ -136,16 +167,17 @@ WhereCommand words P = (plan : Plan) × (command_of words ≡ Some plan) × P pl
 abbrev pub SomeFault : Course → Type 0
 SomeFault r = Faulted r.before.faults r.after.faults ⊎ (Faulted r.before.out_faults r.after.out_faults ⊎ Faulted r.notes_faults_before r.notes_faults_after)
 
--- the notes that a verdict alone decides
-abbrev pub ShowsVerdict : Verdict → Option (List ℕ) → Option (List ℕ) → Type 0
-ShowsVerdict (absent name) old new = Appends old new (absent_text name)
-ShowsVerdict (refused refusal) old new = Appends old new (refused_text refusal)
-ShowsVerdict mended old new = ⊤
-ShowsVerdict unmendable old new = ⊤
+-- the texts that a verdict alone decides
+abbrev pub ShowsVerdict : Verdict → Course → Type 0
+ShowsVerdict (absent name) r = Appends r.notes_before r.notes_after (absent_text name)
+ShowsVerdict (refused refusal) r = Appends r.notes_before r.notes_after (refused_text refusal)
+ShowsVerdict mended r = ⊤
+ShowsVerdict unmendable r = ⊤
+ShowsVerdict (checked finding) r = Appends r.before.out r.after.out (verdict_text finding) × Appends r.notes_before r.notes_after []
 
 -- the verdict was carried out and reported; or memory ran out; or something failed
 abbrev pub Follows : Course → Verdict → Type 0
-Follows r v = ((r.status ≡ verdict_status v) × ShowsVerdict v r.notes_before r.notes_after) ⊎ ((r.status ≡ 5) ⊎ ((r.status ≡ 4) × SomeFault r))
+Follows r v = ((r.status ≡ verdict_status v) × ShowsVerdict v r) ⊎ ((r.status ≡ 5) ⊎ ((r.status ≡ 4) × SomeFault r))
 
 abbrev pub course : List (List ℕ) → Outside → Outside → Option (List ℕ) → Option (List ℕ) → ℕ → ℕ → ℕ → Course
 course words before after notes_before notes_after notes_faults_before notes_faults_after status = record {

@@ -1,10 +1,8 @@
 -- What contracts see of the program's own types.
-use Rattle.std.specs.Prelude.{◌≡◌, ◌⊎◌, ℕ, ◌<◌, ◌≤◌, ⊤, List, [], Option, Some, None, map, length, string_bytes, IfSome, IsSomeAnd, Result, Ok, Err, Vec}
+use Rattle.std.specs.Prelude.{◌≡◌, ◌⊎◌, ℕ, ◌<◌, ⊤, List, [], Option, Some, None, length, string_bytes, IfSome, IsSomeAnd, Result, Ok, Err, Vec}
 use Rattle.std.specs.declared.alloc.Global.{Global}
 use Rattle.rr_edge.specs.Faults.{Faulted}
 use Rattle.rr_edge.specs.Held.{Held}
-use Rattle.rr_lex.specs.Tokens.{IsTextFault}
-use Rattle.rr_lex.specs.declared.lexer.TextFault.{TextFault}
 use Rattle.rr_top.specs.declared.design.Design.{Design}
 use Rattle.rr_top.specs.declared.answer.Piece.{Piece}
 use Rattle.rr_top.specs.declared.answer.Piece.TheVariants as piece
@@ -15,7 +13,7 @@ use Rattle.rr_top.specs.declared.ending.Text.{Text as RustText}
 use Rattle.rr_top.specs.declared.ending.Text.TheVariants.{Fixed, Made}
 use Rattle.rr_top.specs.declared.ending.Report.{Report}
 use Rattle.rr_top.specs.declared.ending.Refusal.{Refusal}
-use Rattle.rr_top.specs.declared.ending.Refusal.TheVariants.{TooManyBytes, Text, NotBuilt}
+use Rattle.rr_top.specs.declared.ending.Refusal.TheVariants.{TooManyBytes, Text, NotBuilt, Flawed}
 use Rattle.rr_top.specs.declared.ending.Ending.{Ending}
 use Rattle.rr_top.specs.declared.ending.Ending.TheVariants.{Usage, NoMemory, Absent, ReadFault, OutFault, Refused, Done}
 use Rattle.rr_words.specs.declared.read.WordsFault.{WordsFault}
@@ -23,7 +21,6 @@ use Rattle.rr_words.specs.declared.read.WordsFault.TheVariants as words_fault
 use Rattle.rr_top.specs.Thin.{Thin}
 use Rattle.rr_top.specs.Texts.{absent_text, read_fault_text, memory_text, usage_text, refused_text}
 use Rattle.rr_top.specs.Effects.{Answer, Gave}
-use Rattle.rr_top.specs.Verdicts.{RefusesFiles}
 
 abbrev pub thin_of : Design → Thin
 thin_of d = record { name = d.name.now; input = d.input.now; output = d.output.now; right = d.right }
@@ -39,6 +36,7 @@ abbrev pub piece_bytes : Piece → List ℕ
 piece_bytes piece.Nothing = []
 piece_bytes (piece.Source bytes) = bytes.now
 piece_bytes (piece.Patched bytes) = bytes.items
+piece_bytes (piece.Told text) = text_bytes text
 
 abbrev pub answer_view : RustAnswer → Answer
 answer_view answer = record { status = answer.status; out = piece_bytes answer.out; notes = text_bytes answer.notes }
@@ -52,6 +50,7 @@ FetchStops told before now name limit (Refused (TooManyBytes count)) text = (now
     × IfSome told (λ held. (bytes : List ℕ) × (held name ≡ Some bytes) × (length bytes ≡ count)) × (text ≡ refused_text (TooManyBytes count))
 FetchStops told before now name limit (Refused (Text wrong offset)) text = ⊥
 FetchStops told before now name limit (Refused (NotBuilt part)) text = ⊥
+FetchStops told before now name limit (Refused (Flawed flaw line)) text = ⊥
 FetchStops told before now name limit Usage text = ⊥
 FetchStops told before now name limit OutFault text = ⊥
 FetchStops told before now name limit (Done status) text = ⊥

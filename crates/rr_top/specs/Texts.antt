@@ -1,5 +1,5 @@
 -- The texts of the report, each line ended by LF.
-use Rattle.std.specs.Prelude.{ℕ, List, [], ◌∷◌, ◌++◌, codes, decimal, Bool, true, false, if◌then◌else◌}
+use Rattle.std.specs.Prelude.{ℕ, List, [], ◌∷◌, ◌++◌, codes, decimal, if◌then◌else◌}
 use Rattle.rr_lex.specs.Tokens.{Lexeme}
 use Rattle.rr_lex.specs.declared.piece.Wrong.{Wrong}
 use Rattle.rr_lex.specs.declared.piece.Wrong.TheVariants as wrong
@@ -7,9 +7,13 @@ use Rattle.rr_top.specs.declared.design.Right.{Right}
 use Rattle.rr_top.specs.declared.search.Choice.{Choice}
 use Rattle.rr_top.specs.declared.ending.Part.{Part}
 use Rattle.rr_top.specs.declared.ending.Part.TheVariants as part
+use Rattle.rr_top.specs.declared.ending.Flaw.{Flaw}
+use Rattle.rr_top.specs.declared.ending.Flaw.TheVariants as flaw
 use Rattle.rr_top.specs.declared.ending.Refusal.{Refusal}
-use Rattle.rr_top.specs.declared.ending.Refusal.TheVariants.{TooManyBytes, Text, NotBuilt}
-use Rattle.rr_top.specs.Thin.{site_token, site_count}
+use Rattle.rr_top.specs.declared.ending.Refusal.TheVariants.{TooManyBytes, Text, NotBuilt, Flawed}
+use Rattle.rr_check.specs.declared.verdict.Verdict.{Verdict}
+use Rattle.rr_check.specs.declared.verdict.Verdict.TheVariants as found
+use Rattle.rr_top.specs.Thin.{site_token}
 use Rattle.rr_top.specs.Choices.{cost}
 use Rattle.rr_top.specs.Patching.{new_bit, offset_of}
 
@@ -30,11 +34,18 @@ part_text part.Command = codes "command"
 part_text part.Design = codes "design"
 part_text part.Table = codes "table"
 
+-- number and name of a bad line of a certificate
+abbrev pub flaw_text : Flaw → List ℕ
+flaw_text flaw.Circuit = codes "34 BadCircuit"
+flaw_text flaw.Proof = codes "35 BadProof"
+flaw_text flaw.Rat = codes "36 RatLine"
+
 -- number, name and place
 abbrev pub refusal_text : Refusal → List ℕ
 refusal_text (TooManyBytes count) = codes "16 TooMany bytes " ++ decimal count
 refusal_text (Text wrong offset) = wrong_text wrong ++ (codes " at " ++ decimal offset)
 refusal_text (NotBuilt part) = codes "0 NotBuilt " ++ part_text part
+refusal_text (Flawed flaw n) = flaw_text flaw ++ (codes " line " ++ decimal n)
 
 abbrev pub refused_text : Refusal → List ℕ
 refused_text refusal = line (codes "refused " ++ refusal_text refusal)
@@ -68,3 +79,9 @@ report ts right c = if c.on then repaired_text (cost c) (offset_of ts (site_toke
 
 abbrev pub no_repair_text : ℕ → List ℕ
 no_repair_text count = line (codes "no repair") ++ line (codes "sites " ++ decimal count)
+
+-- the verdict on a certificate
+abbrev pub verdict_text : Verdict → List ℕ
+verdict_text found.Accepted = line (codes "accepted")
+verdict_text (found.Line n) = line (codes "refused addition " ++ decimal n)
+verdict_text found.NoEmptyClause = line (codes "no empty clause")

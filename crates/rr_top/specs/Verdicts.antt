@@ -4,26 +4,28 @@ use Rattle.rr_edge.specs.Held.{Held}
 use Rattle.rr_lex.specs.Tokens.{Lexeme, AreTokens, IsFirstFault, words_of}
 use Rattle.rr_lex.specs.Patch.{patched, AreWords}
 use Rattle.rr_words.specs.Plan.{Plan, repair, run, sites, check, make}
-use Rattle.rr_top.specs.declared.TheConstants.{DESIGN_LIMIT, TABLE_LIMIT}
+use Rattle.rr_top.specs.declared.TheConstants.{DESIGN_LIMIT, TABLE_LIMIT, CIRCUIT_LIMIT, PROOF_LIMIT}
 use Rattle.rr_top.specs.declared.ending.Part.{Part}
 use Rattle.rr_top.specs.declared.ending.Part.TheVariants as part
 use Rattle.rr_top.specs.declared.ending.Refusal.{Refusal}
-use Rattle.rr_top.specs.declared.ending.Refusal.TheVariants.{TooManyBytes, Text, NotBuilt}
+use Rattle.rr_top.specs.declared.ending.Refusal.TheVariants.{TooManyBytes, Text, NotBuilt, Flawed}
 use Rattle.rr_top.specs.declared.search.Choice.{Choice}
 use Rattle.rr_top.specs.declared.table.Row.{Row}
+use Rattle.rr_check.specs.declared.verdict.Verdict.{Verdict as Finding}
 use Rattle.rr_top.specs.Thin.{Thin, IsThin, thin_words, site_count}
 use Rattle.rr_top.specs.Table.{IsTable}
-use Rattle.rr_top.specs.Choices.{cost, instance, Matches, Mends, Least, NoneMends}
+use Rattle.rr_top.specs.Choices.{cost, instance, Mends, Least, NoneMends}
 use Rattle.rr_top.specs.Patching.{edits}
 use Rattle.rr_top.specs.Texts.{report, no_repair_text}
 use Rattle.rr_top.specs.Effects.{Answer, Gave, AbsentAt, TooLongAt}
+use Rattle.rr_top.specs.Check.{RefusesGivenCertificate, IsChecked, DueCertificate, certificate_status}
 
 -- the names that are read, in order, each with its limit
 abbrev pub reads_of : Plan → List (List ℕ × ℕ)
 reads_of (repair design table cert top clock budget members) = (design, DESIGN_LIMIT) ∷ ((table, TABLE_LIMIT) ∷ [])
 reads_of (run design table top clock) = []
 reads_of (sites design top clock) = []
-reads_of (check circuit proof) = []
+reads_of (check circuit proof) = (circuit, CIRCUIT_LIMIT) ∷ ((proof, PROOF_LIMIT) ∷ [])
 reads_of (make seed cert) = []
 
 -- both files were read
@@ -67,6 +69,7 @@ abbrev pub RefusesFiles : Option (List ℕ) → Option (List ℕ) → List ℕ �
 RefusesFiles top clock design table (TooManyBytes count) = ⊥
 RefusesFiles top clock design table (Text wrong offset) = IsFirstFault design wrong offset
 RefusesFiles top clock design table (NotBuilt part) = Lacks top clock design table part
+RefusesFiles top clock design table (Flawed flaw line) = ⊥
 
 pub record RefusesGiven (told : Option Held) (design_name table_name : List ℕ) (top clock : Option (List ℕ)) (refusal : Refusal) : Type 0 where
   pub design : List ℕ
@@ -74,12 +77,12 @@ pub record RefusesGiven (told : Option Held) (design_name table_name : List ℕ)
   pub given : BothGiven told design_name table_name design table
   pub refused : RefusesFiles top clock design table refusal
 
--- the refusal that is due once all files are read; every command but `repair` is refused without a read
+-- the refusal that is due once all files are read; every command but `repair` and `check` is refused without a read
 abbrev pub RefusesRead : Plan → Option Held → Refusal → Type 0
 RefusesRead (repair design table cert top clock budget members) told refusal = RefusesGiven told design table top clock refusal
 RefusesRead (run design table top clock) told refusal = refusal ≡ NotBuilt part.Command
 RefusesRead (sites design top clock) told refusal = refusal ≡ NotBuilt part.Command
-RefusesRead (check circuit proof) told refusal = refusal ≡ NotBuilt part.Command
+RefusesRead (check circuit proof) told refusal = RefusesGivenCertificate told circuit proof refusal
 RefusesRead (make seed cert) told refusal = refusal ≡ NotBuilt part.Command
 
 -- the refusal that is due
@@ -87,6 +90,7 @@ abbrev pub Refuses : Plan → Option Held → Refusal → Type 0
 Refuses plan told (TooManyBytes count) = TooLongAt told (reads_of plan) count
 Refuses plan told (Text wrong offset) = RefusesRead plan told (Text wrong offset)
 Refuses plan told (NotBuilt part) = RefusesRead plan told (NotBuilt part)
+Refuses plan told (Flawed flaw line) = RefusesRead plan told (Flawed flaw line)
 
 -- the answer prints the source under this choice, which mends at the least cost
 pub record Repairs (design : List ℕ) (ts : List Lexeme) (t : Thin) (rows : List Row) (c : Choice) (answer : Answer) : Type 0 where
@@ -126,7 +130,7 @@ abbrev pub Due : Plan → Option Held → Answer → Type 0
 Due (repair design table cert top clock budget members) told answer = DueGiven told design table top clock answer
 Due (run design table top clock) told answer = ⊥
 Due (sites design top clock) told answer = ⊥
-Due (check circuit proof) told answer = ⊥
+Due (check circuit proof) told answer = DueCertificate told circuit proof answer
 Due (make seed cert) told answer = ⊥
 
 -- how a command comes out, where nothing fails and memory suffices
@@ -135,6 +139,7 @@ pub data Verdict : Type 0 where
   refused : Refusal → Verdict
   mended : Verdict
   unmendable : Verdict
+  checked : Finding → Verdict
 
 -- all is taken, and whether some choice mends
 pub record IsMendable (told : Option Held) (design_name table_name : List ℕ) (top clock : Option (List ℕ)) : Type 0 where
@@ -165,15 +170,24 @@ WhereRepair (sites design top clock) P = ⊥
 WhereRepair (check circuit proof) P = ⊥
 WhereRepair (make seed cert) P = ⊥
 
+abbrev pub WhereCheck : Plan → (List ℕ → List ℕ → Type 0) → Type 0
+WhereCheck (repair design table cert top clock budget members) P = ⊥
+WhereCheck (run design table top clock) P = ⊥
+WhereCheck (sites design top clock) P = ⊥
+WhereCheck (check circuit proof) P = P circuit proof
+WhereCheck (make seed cert) P = ⊥
+
 -- what a told shelf decides
 abbrev pub Judges : Plan → Held → Verdict → Type 0
 Judges plan held (absent name) = AbsentAt (Some held) (reads_of plan) name
 Judges plan held (refused refusal) = Refuses plan (Some held) refusal
 Judges plan held mended = WhereRepair plan (IsMendable (Some held))
 Judges plan held unmendable = WhereRepair plan (IsUnmendable (Some held))
+Judges plan held (checked finding) = WhereCheck plan (λ circuit proof. IsChecked (Some held) circuit proof finding)
 
 abbrev pub verdict_status : Verdict → ℕ
 verdict_status (absent name) = 4
 verdict_status (refused refusal) = 3
 verdict_status mended = 0
 verdict_status unmendable = 1
+verdict_status (checked finding) = certificate_status finding

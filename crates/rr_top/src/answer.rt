@@ -31,6 +31,7 @@ pub(crate) enum Piece<'b> {
     Nothing,
     Source(&'b [u8]),
     Patched(Vec<u8>),
+    Told(Text),
 }
 
 impl Piece<'_> {
@@ -44,6 +45,7 @@ impl Piece<'_> {
             Piece::Nothing => &[],
             Piece::Source(bytes) => bytes,
             Piece::Patched(bytes) => bytes.as_slice(),
+            Piece::Told(text) => text.as_bytes(),
         }
     }
 }

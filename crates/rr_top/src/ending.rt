@@ -32,6 +32,32 @@ impl fmt::Display for Part {
     }
 }
 
+/// What a bad line of a certificate is.
+#[derive(Clone, Copy, Debug, PartialEq, Eq)]
+pub enum Flaw {
+    /// No line of a circuit's text.
+    Circuit,
+    /// No line of a proof over the circuit's formula.
+    Proof,
+    /// A RAT line of a proof.
+    Rat,
+}
+
+impl fmt::Display for Flaw {
+    ghost use Rattle.std.specs.Prelude.{Some};
+    ghost use Rattle.rr_top.specs.Texts.{flaw_text};
+
+    ghost output = { λ flaw. Some (flaw_text flaw) };
+
+    fn fmt<W: fmt::Write>(&self, f: &mut fmt::Formatter<W>) -> fmt::Result {
+        match self {
+            Flaw::Circuit => write!(f, "34 BadCircuit"),
+            Flaw::Proof => write!(f, "35 BadProof"),
+            Flaw::Rat => write!(f, "36 RatLine"),
+        }
+    }
+}
+
 /// Why the input is refused.
 #[derive(Clone, Copy, Debug, PartialEq, Eq)]
 pub enum Refusal {
@@ -41,6 +67,8 @@ pub enum Refusal {
     Text(Wrong, u32),
     /// This part is not built yet.
     NotBuilt(Part),
+    /// The first bad line of a certificate is this one, counted from 1.
+    Flawed(Flaw, u64),
 }
 
 impl fmt::Display for Refusal {
@@ -57,6 +85,7 @@ impl fmt::Display for Refusal {
             Refusal::Text(Wrong::Comment, at) => write!(f, "3 OpenComment at {at}"),
             Refusal::Text(Wrong::Directive, at) => write!(f, "4 Directive at {at}"),
             Refusal::NotBuilt(part) => write!(f, "0 NotBuilt {part}"),
+            Refusal::Flawed(flaw, line) => write!(f, "{flaw} line {line}"),
         }
     }
 }

@@ -6,9 +6,10 @@ ghost use Rattle.rr_edge.specs.Held.{Held};
 ghost use Rattle.rr_words.specs.Plan.{Plan, command_of, plan_of};
 ghost use Rattle.rr_words.specs.Plain.{IsPlain};
 ghost use Rattle.rr_top.specs.Effects.{outside};
-ghost use Rattle.rr_top.specs.Verdicts.{Verdict, Judges, WhereRepair, reads_of};
+ghost use Rattle.rr_top.specs.Check.{IsNeverTrue};
+ghost use Rattle.rr_top.specs.Verdicts.{Verdict, Judges, reads_of};
 ghost use Rattle.rr_top.specs.Endings.{PlanEnds};
-ghost use Rattle.rr_top.specs.Run.{Ends, course, IsCourse, IsRepaired, IsBeyondRepair, IsRefused, IsAbsent, IsExhausted, IsUnread, WhereCommand, SomeFault, Follows, AllGiven, NoneRefuses, NoFaults};
+ghost use Rattle.rr_top.specs.Run.{Ends, course, IsCourse, HasDone, HasFailed, IsCheck, IsRefused, IsAbsent, IsExhausted, IsUnread, WhereCommand, SomeFault, Follows, AllGiven, NoneRefuses, NoFaults};
 ghost use Rattle.rr_top.specs.Rust.{report_text, SaysWhy};
 
 use rr_edge::{Shelf, Sink};
@@ -17,6 +18,9 @@ use std::alloc::Global;
 use std::thread::Threads;
 
 mod answer;
+#[cfg(test)]
+mod certificate_tests;
+mod check;
 mod design;
 mod ending;
 mod laws;
@@ -27,8 +31,9 @@ mod table;
 mod tests;
 
 use answer::Options;
+use check::run_check;
 pub use design::Right;
-pub use ending::{Ending, Part, Refusal};
+pub use ending::{Ending, Flaw, Part, Refusal};
 use ending::{Report, Text, status};
 pub use laws::{one_thin_design, one_thin_table, one_verdict};
 use repair::{Names, out_of_memory, put_piece, refused, run_repair};
@@ -41,8 +46,15 @@ pub const DESIGN_LIMIT: u64 = 1048576;
 /// The most bytes of a table.
 pub const TABLE_LIMIT: u64 = 16777216;
 
-/// How the command ends. Every command but `repair` is refused.
-fn run_command<'a, H: Shelf, K: Sink>(
+/// The most bytes of a certificate's circuit.
+pub const CIRCUIT_LIMIT: u64 = 268435456;
+
+/// The most bytes of a certificate's proof.
+pub const PROOF_LIMIT: u64 = 1073741824;
+
+/// How the command ends. Every command but `repair` and `check` is refused.
+fn run_command<'a, R: Threads + Sync, H: Shelf, K: Sink>(
+    rt: &R,
     alloc: Global,
     command: Command<'a>,
     shelf: &mut H,
@@ -71,10 +83,10 @@ fn run_command<'a, H: Shelf, K: Sink>(
             };
             run_repair(alloc, names, shelf, out)
         }
-        Command::Run { .. }
-        | Command::Sites { .. }
-        | Command::Check { .. }
-        | Command::Make { .. } => refused(alloc, Refusal::NotBuilt(Part::Command)),
+        Command::Check { circuit, proof } => run_check(rt, alloc, circuit, proof, shelf, out),
+        Command::Run { .. } | Command::Sites { .. } | Command::Make { .. } => {
+            refused(alloc, Refusal::NotBuilt(Part::Command))
+        }
     }
 }
 
@@ -92,7 +104,8 @@ fn unread<'a>(fault: WordsFault) -> Report<'a>
 }
 
 /// How the command of these words ends.
-fn attempt<'a, H: Shelf, K: Sink>(
+fn attempt<'a, R: Threads + Sync, H: Shelf, K: Sink>(
+    rt: &R,
     alloc: Global,
     words: &'a [String],
     shelf: &mut H,
@@ -107,11 +120,12 @@ fn attempt<'a, H: Shelf, K: Sink>(
         Ok(command) => command,
         Err(fault) => return unread(fault),
     };
-    run_command(alloc, command, shelf, out)
+    run_command(rt, alloc, command, shelf, out)
 }
 
 /// Runs the command that the words name, and puts the report.
-fn conduct<H: Shelf, K: Sink, E: Sink>(
+fn conduct<R: Threads + Sync, H: Shelf, K: Sink, E: Sink>(
+    rt: &R,
     alloc: Global,
     words: &[String],
     shelf: &mut H,
@@ -123,7 +137,7 @@ fn conduct<H: Shelf, K: Sink, E: Sink>(
         (outside (H.told shelf.new) (H.faults shelf.new) (K.written out.new) (K.faults out.new))
         (E.written notes.old) (E.written notes.new) (E.faults notes.old) (E.faults notes.new) result) }
 {
-    let report = attempt(alloc, words, shelf, out);
+    let report = attempt(rt, alloc, words, shelf, out);
     match put_piece(notes, report.text.as_bytes()) {
         Ok(()) => status(report.ending),
         Err(_) => 4,
@@ -131,10 +145,11 @@ fn conduct<H: Shelf, K: Sink, E: Sink>(
 }
 
 /// Runs the command that the words name, the first of which is the program's own name, over a shelf,
-/// an output and a report, and answers the program's status: 0 done, 1 no repair, 3 refused input,
-/// 4 a fault or an absent name, 5 want of memory, 6 usage.
+/// an output and a report, and answers the program's status: 0 done, 1 no repair or a certificate that
+/// does not hold, 3 refused input, 4 a fault or an absent name, 5 want of memory, 6 usage.
 ///
-/// Of the commands `repair DESIGN TABLE CERT` alone is built, on thin designs; the shelf is only read.
+/// Of the commands `repair DESIGN TABLE CERT`, on thin designs, and `check CIRCUIT PROOF` are built; the
+/// shelf is only read.
 pub fn run<R: Threads + Sync, H: Shelf, K: Sink, E: Sink>(
     rt: &R,
     alloc: Global,
@@ -152,20 +167,25 @@ pub fn run<R: Threads + Sync, H: Shelf, K: Sink, E: Sink>(
     // The shelf is only read.
     ensures kept { H.told shelf.new ≡ H.told shelf.old }
 
-    // Status 0: the bytes put out are the tokens of an instance of the design with k changes, which matches
-    // every expected cell, and no instance with fewer does.
-    ensures repaired { result ≡ 0 → WhereCommand (map string_bytes words.now) (λ plan. WhereRepair plan (IsRepaired
+    // Status 0. Of `repair`: the bytes put out are the tokens of an instance of the design with k changes, which
+    // matches every expected cell, and no instance with fewer does. Of `check`: `accepted` is put out, and the proof
+    // that was read refutes the formula of the circuit that was read.
+    ensures done { result ≡ 0 → WhereCommand (map string_bytes words.now) (HasDone
         (course (map string_bytes words.now)
         (outside (H.told shelf.old) (H.faults shelf.old) (K.written out.old) (K.faults out.old))
         (outside (H.told shelf.new) (H.faults shelf.new) (K.written out.new) (K.faults out.new))
-        (E.written notes.old) (E.written notes.new) (E.faults notes.old) (E.faults notes.new) result))) }
+        (E.written notes.old) (E.written notes.new) (E.faults notes.old) (E.faults notes.new) result)) }
 
-    // Status 1: no instance matches.
-    ensures beyond_repair { result ≡ 1 → WhereCommand (map string_bytes words.now) (λ plan. WhereRepair plan (IsBeyondRepair
+    // Status 0 of `check`: no input makes every output of the circuit in the file true.
+    ensures certified { result ≡ 0 → (circuit proof : List ℕ) → IsCheck (map string_bytes words.now) circuit proof
+        → IsNeverTrue (H.told shelf.old) circuit }
+
+    // Status 1. Of `repair`: no instance matches. Of `check`: the verdict is put out, and the proof does not refute.
+    ensures failed { result ≡ 1 → WhereCommand (map string_bytes words.now) (HasFailed
         (course (map string_bytes words.now)
         (outside (H.told shelf.old) (H.faults shelf.old) (K.written out.old) (K.faults out.old))
         (outside (H.told shelf.new) (H.faults shelf.new) (K.written out.new) (K.faults out.new))
-        (E.written notes.old) (E.written notes.new) (E.faults notes.old) (E.faults notes.new) result))) }
+        (E.written notes.old) (E.written notes.new) (E.faults notes.old) (E.faults notes.new) result)) }
 
     // Status 3: the refusal that is due is printed.
     ensures refused { result ≡ 3 → WhereCommand (map string_bytes words.now) (IsRefused
@@ -205,8 +225,8 @@ pub fn run<R: Threads + Sync, H: Shelf, K: Sink, E: Sink>(
     ensures out_fault { K.faults out.old < K.faults out.new → result ≡ 4 }
     ensures notes_fault { E.faults notes.old < E.faults notes.new → result ≡ 4 }
 
-    // What a told shelf decides comes about: each absent name, each refusal, and the statuses 0 and 1, exactly
-    // where they are due. Otherwise memory ran out, or the status is 4 and a count of faults rose or stands at its end.
+    // What a told shelf decides comes about: each absent name, each refusal, each verdict on a certificate, and the
+    // statuses 0 and 1, exactly where they are due. Otherwise memory ran out, or the status is 4 and a count of faults rose or stands at its end.
     ensures decided { (plan : Plan) (held : Held) (verdict : Verdict) → command_of (map string_bytes words.now) ≡ Some plan → H.told shelf.old ≡ Some held
         → Judges plan held verdict → Follows
         (course (map string_bytes words.now)
@@ -222,6 +242,5 @@ pub fn run<R: Threads + Sync, H: Shelf, K: Sink, E: Sink>(
         (outside (H.told shelf.new) (H.faults shelf.new) (K.written out.new) (K.faults out.new))
         (E.written notes.old) (E.written notes.new) (E.faults notes.old) (E.faults notes.new) result) → (result ≡ 0) ⊎ ((result ≡ 1) ⊎ (result ≡ 5)) }
 {
-    let _ = rt;
-    conduct(alloc, words, shelf, out, notes)
+    conduct(rt, alloc, words, shelf, out, notes)
 }

@@ -48,7 +48,7 @@ pub(crate) fn refused<'a>(alloc: Global, refusal: Refusal) -> Report<'a>
 }
 
 /// The bytes under a name. The texts of its faults are made before the read.
-fn fetch<'a, H: Shelf>(
+pub(crate) fn fetch<'a, H: Shelf>(
     alloc: Global,
     shelf: &mut H,
     name: &'a str,
@@ -90,7 +90,7 @@ pub(crate) fn put_piece<K: Sink>(sink: &mut K, piece: &[u8]) -> Result<(), SinkF
 }
 
 /// Carries an answer out: it puts the piece for the output.
-fn deliver<'a, K: Sink>(answer: Answer<'_>, out: &mut K) -> Report<'a>
+pub(crate) fn deliver<'a, K: Sink>(answer: Answer<'_>, out: &mut K) -> Report<'a>
     ensures { (held : Option Held) (faults : ℕ) → Delivers (answer_view answer.entry)
         (outside held faults (K.written out.old) (K.faults out.old)) (outside held faults (K.written out.new) (K.faults out.new))
         result.ending (report_text result) }

@@ -48,11 +48,11 @@ const FAULT: Case = Case {
 const USAGE_NOTES: &str =
     "usage: rtl_repair repair DESIGN TABLE CERT, run DESIGN TABLE, sites DESIGN, check CIRCUIT PROOF, make SEED CERT\n";
 
-fn list<R: Abort + AllocGlobal>(rt: &R, number: u64) -> Vec<u64> {
+pub(crate) fn list<R: Abort + AllocGlobal>(rt: &R, number: u64) -> Vec<u64> {
     vec![in rt.alloc(); number].expect(rt, "room")
 }
 
-fn words_of<R: Abort + AllocGlobal>(rt: &R, line: &str) -> Vec<String> {
+pub(crate) fn words_of<R: Abort + AllocGlobal>(rt: &R, line: &str) -> Vec<String> {
     let alloc = rt.alloc();
     let mut words: Vec<String> = Vec::new(alloc);
     for word in line.split_whitespace() {
@@ -258,6 +258,7 @@ fn tables_are_refused(rt: HostRuntime) {
     no_table(&rt, "y,a\n0,0\n");
     no_table(&rt, "a,y\nx,0\n");
     no_table(&rt, "a,y\n0,2\n");
+    no_table(&rt, "");
 }
 
 #[test]
@@ -275,6 +276,10 @@ fn designs_are_refused(rt: HostRuntime) {
     no_design(
         &rt,
         "module m(input a, output y); assign y = a & 1'bx; endmodule",
+    );
+    no_design(
+        &rt,
+        "module m(input a, output y); assign y = a; endmodule ;",
     );
     no_design(&rt, "");
 }
@@ -335,7 +340,6 @@ fn texts_are_refused(rt: HostRuntime) {
 fn commands_are_refused(rt: HostRuntime) {
     unbuilt(&rt, "rtl_repair run none.v none.csv");
     unbuilt(&rt, "rtl_repair sites none.v");
-    unbuilt(&rt, "rtl_repair check none.aag none.lrat");
     unbuilt(&rt, "rtl_repair make 1 c");
 }
 
@@ -343,6 +347,11 @@ fn commands_are_refused(rt: HostRuntime) {
 fn names_are_absent(rt: HostRuntime) {
     is_absent(&rt, "rtl_repair repair none.v t.csv c", "absent none.v\n");
     is_absent(&rt, "rtl_repair repair d.v none.csv c", "absent none.csv\n");
+    is_absent(
+        &rt,
+        "rtl_repair repair none.v none.csv c",
+        "absent none.v\n",
+    );
 }
 
 #[test]
@@ -399,6 +408,8 @@ fn puts_fail(rt: HostRuntime) {
 fn words_name_no_command(rt: HostRuntime) {
     no_words(&rt, "rtl_repair");
     no_words(&rt, "rtl_repair repair");
+    no_words(&rt, "rtl_repair --help");
+    no_words(&rt, "rtl_repair check c.aag");
     no_words(&rt, "rtl_repair repair d.v t.csv c --budget 0");
 }
 
@@ -481,4 +492,17 @@ fn refused_allocation_prints_nothing(rt: HostRuntime) {
         assert!(rt; out.written().is_empty());
         assert!(rt; notes.written() == b"out of memory\n".as_slice());
     }
+}
+
+#[test]
+fn usage_can_not_be_told(rt: HostRuntime) {
+    check(
+        &rt,
+        &Case {
+            words: "rtl_repair",
+            notes_fails: 0,
+            notes: "",
+            ..FAULT
+        },
+    );
 }

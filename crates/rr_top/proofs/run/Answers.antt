@@ -1,11 +1,14 @@
-use Rattle.rr_top.proofs.Courses.{course_repaired, course_beyond, course_refused, course_faulty, course_exhausted, course_usage, course_not_plain, course_kept, course_shelf, course_out, course_notes, course_decided, course_complete}
+use Rattle.rr_top.proofs.Courses.{course_done, course_certified, course_failed, course_refused, course_faulty, course_exhausted, course_usage, course_not_plain, course_kept, course_shelf, course_out, course_notes, course_decided, course_complete}
 use Rattle.rr_top.proofs.run.Goals as goal
 
-pub returns-clause-repaired : goal.returns-clause-repaired
-returns-clause-repaired g c = course_repaired c.conduct.ensures
+pub returns-clause-done : goal.returns-clause-done
+returns-clause-done g c = course_done c.conduct.ensures
 
-pub returns-clause-beyond_repair : goal.returns-clause-beyond_repair
-returns-clause-beyond_repair g c = course_beyond c.conduct.ensures
+pub returns-clause-certified : goal.returns-clause-certified
+returns-clause-certified g c = course_certified c.conduct.ensures
+
+pub returns-clause-failed : goal.returns-clause-failed
+returns-clause-failed g c = course_failed c.conduct.ensures
 
 pub returns-clause-refused : goal.returns-clause-refused
 returns-clause-refused g c = course_refused c.conduct.ensures
