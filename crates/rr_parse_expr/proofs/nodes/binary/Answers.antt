@@ -1,0 +1,15 @@
+use Rattle.std.proofs.Common.{◌≡◌, refl, ap, ◌∙◌, ℕ, ◌+◌, max, arith}
+use Rattle.rr_syntax.specs.declared.tree.Expr.{Expr}
+use Rattle.rr_syntax.specs.Tree.{Tree, Trees, Bit, Part, Indexed, Unary, Binary, Cond, Concat, Repeat, Cast, Paren}
+use Rattle.rr_syntax.specs.View.{plain, plain_list}
+use Rattle.rr_syntax.proofs.Rows.{plain_bit, plain_part, plain_indexed, plain_unary, plain_binary, plain_cond, plain_concat, plain_repeat, plain_cast, plain_paren}
+use denote.MutBor.{as_bor}
+use Rattle.rr_parse_expr.proofs.nodes.binary.Goals as goal
+
+pub returns : goal.returns
+returns c = record {
+  tree = plain_binary (record { 0 = c.args.op }) (as_bor c.in_ok-first.first) (as_bor c.in_ok-second.second) ∙ ap (λ (x : Expr). Binary c.args.op (plain x) (plain c.in_ok-second.second.now)) c.in_ok-first.ensures ∙
+      ap (λ (x : Expr). Binary c.args.op (plain c.args.left.expr) (plain x)) c.in_ok-second.ensures;
+  next_is = refl;
+  depth_is = omega arith;
+}
