@@ -1,6 +1,6 @@
 -- What the functions of the reader answer, over plain values.
-use Rattle.std.proofs.Common.{◌≡◌, ℕ, zero, suc, ◌+◌, ◌-◌, ◌≤◌, ◌<◌, max, List, [], ◌∷◌, ◌++◌, length, codes, drop, get_or, refl, ap, ◌∙◌, sym, arith, Bool, true, false, cond, nat_eq, Option, Some, None, IfOk, Result, Ok, Err, length-append, length-drop, append_assoc, subst}
-use Rattle.std.proofs.lemmas.Bool.Decides.{Decides-eqb, nat_tests}
+use Rattle.std.proofs.Common.{◌≡◌, ℕ, zero, suc, ◌+◌, ◌-◌, ◌≤◌, ◌<◌, max, List, [], ◌∷◌, ◌++◌, length, drop, get_or, refl, ap, ◌∙◌, sym, arith, Bool, true, false, nat_eq, Option, Some, None, IfOk, Result, Ok, Err, length-append, length-drop, subst}
+use Rattle.std.proofs.lemmas.Bool.Decides.{nat_tests}
 use Rattle.std.proofs.Math.Seq.{drop-nil}
 use Rattle.rr_syntax.specs.declared.token.Token.{Token}
 use Rattle.rr_syntax.specs.declared.token.Number.{Number}
@@ -9,9 +9,9 @@ use Rattle.rr_syntax.specs.declared.token.Mark.{Mark}
 use Rattle.rr_syntax.specs.declared.token.Kind.TheVariants as kind
 use Rattle.rr_syntax.specs.declared.tree.Expr.{Expr}
 use Rattle.rr_syntax.specs.declared.tree.Expr.TheVariants as expr
-use Rattle.rr_syntax.specs.Words.{Word, word, words, mark_open_parenthesis, mark_close_parenthesis, mark_open_bracket, mark_close_bracket, mark_open_brace, mark_close_brace, mark_comma, mark_colon, mark_question}
-use Rattle.rr_syntax.specs.Tree.{Tree, Trees, Name, Literal, Bit, Unary, Binary, Cond, Concat, Repeat, Cast, Paren, End, More, bare, bare_parts}
-use Rattle.rr_syntax.specs.Expressions.{level, depth, height, spell, spell_parts, spell_more, Numbered, NumberedMore, infix_level, is_prefix, unary_level}
+use Rattle.rr_syntax.specs.Words.{Word, words, mark_open_parenthesis, mark_close_parenthesis, mark_open_bracket, mark_close_bracket, mark_open_brace, mark_close_brace, mark_comma, mark_colon, mark_question}
+use Rattle.rr_syntax.specs.Tree.{Tree, Trees, Bit, Unary, Binary, Cond, Concat, Repeat, Cast, Paren, End, More, bare, bare_parts}
+use Rattle.rr_syntax.specs.Expressions.{depth, height, spell, spell_more, Numbered, NumberedMore, infix_level, is_prefix, unary_level}
 use Rattle.rr_syntax.specs.View.{plain, plain_list}
 use Rattle.rr_syntax.proofs.BareExpressions.{depth-bare}
 use Rattle.rr_syntax.proofs.Equations.{spellings, spell-Name, spell-Literal, more-End}
@@ -19,14 +19,14 @@ use Rattle.rr_parse_expr.specs.declared.nodes.Read.{Read}
 use Rattle.rr_parse_expr.specs.declared.nodes.End as ending
 use Rattle.rr_parse_expr.specs.Made.{select_of}
 use Rattle.rr_parse_expr.specs.Reading.{Found, Reader, mapped, chain, mark, rest, no_mark, closed, is_between, after_index, select, named, cast_sign, system, snoc, parts, parts_from, repeated, after_first, braces, after_mark, operand, goes_on, turn, climb, reads, below}
-use Rattle.rr_parse_expr.specs.Answer.{form, forms, ReadAs, Finds, Answers, IsBelow, FindsBelow, AnswersBelow, FindsClosed, AnswersClosed, IsNode, Moves, Steps, PartsRead, Gathered, Gathers}
+use Rattle.rr_parse_expr.specs.Answer.{form, forms, ReadAs, Finds, Answers, IsBelow, FindsBelow, AnswersBelow, FindsClosed, AnswersClosed, IsNode, Moves, Steps, Gathered, Gathers}
 use Rattle.rr_parse_expr.specs.Loops.{Climbing, Collecting}
 use Rattle.rr_parse_expr.proofs.TokenWords.{words_at, words_past, length_words}
 use Rattle.rr_parse_expr.proofs.Facts.{infix-no_mark, goes_tells, goes_bare}
 use Rattle.rr_parse_expr.proofs.Selects.{IsSelect, is_select}
-use Rattle.rr_parse_expr.proofs.Steps.{reads-below, climb-stop, climb-none, climb-turn, reads_by-operand, reads_by-none, closed-some, closed-none, closed-other, turn-cond, named-select, named-alone, select-other, select-none, select-index, index-bit, index-part, index-open, index-other, cast-none, cast-other, cast-open, cast-some, parts-close, parts-comma, braces-none, braces-first, first-concat, first-open, first-repeat, repeated-none, repeated-open, repeated-other, repeated-some}
+use Rattle.rr_parse_expr.proofs.Steps.{reads-below, climb-stop, climb-none, climb-turn, reads_by-operand, reads_by-none, closed-some, closed-other, turn-cond, named-select, named-alone, select-other, select-none, select-index, index-bit, index-part, index-open, index-other, cast-other, cast-open, cast-some, parts-close, parts-comma, braces-first, first-concat, first-open, first-repeat, repeated-none, repeated-open, repeated-other, repeated-some}
 use Rattle.rr_parse_expr.proofs.Climbs.{turn_deeper}
-use Rattle.rr_parse_expr.proofs.Exactly.{below_zero, below_is}
+use Rattle.rr_parse_expr.proofs.Exactly.{below_is}
 use denote.Ref.{Bor}
 
 -- ---- what an answer says of an option
@@ -98,8 +98,8 @@ made T from limit found t next deep q n e d l i s m =
         low = omega (arith, n.depth_is);
         within = omega (arith, n.next_is);
         taken = omega (arith, n.next_is, ap (λ (x : Tree). length (spell x)) n.tree);
-        numbered = subst P (sym n.tree) m
-      }
+        numbered = subst P (sym n.tree) m;
+      };
     }
 
 len-Unary : (m : ℕ) (t : Tree) → length (spell (Unary m t)) ≡ 1 + length (spell t)
@@ -160,16 +160,16 @@ pub made_unary : (T : List Token) (from limit m : ℕ) (r q : Read) → is_prefi
 unfolding depth Numbered bare
 made_unary T from limit m r q p f n =
     made T from limit (after_mark (below limit) m (drop (from + 1) (words T))) (Unary m (plain r.expr)) r.next (r.depth + 1) q n
-      (prefix_some (below limit) m (drop (from + 1) (words T)) (form r.expr, drop r.next (words T)) p f.found_is)
-      (omega (arith, f.read.deep)) (omega (arith, f.read.deeper)) f.read.within (omega (arith, f.read.taken, len-Unary m (plain r.expr))) f.read.numbered
+    (prefix_some (below limit) m (drop (from + 1) (words T)) (form r.expr, drop r.next (words T)) p f.found_is)
+    (omega (arith, f.read.deep)) (omega (arith, f.read.deeper)) f.read.within (omega (arith, f.read.taken, len-Unary m (plain r.expr))) f.read.numbered
 
 pub made_paren : (T : List Token) (from limit m : ℕ) (r q : Read) → is_prefix m ≡ false → m ≡ mark_open_parenthesis → FindsClosed T (from + 1) limit (closed (below limit) mark_close_parenthesis (drop (from + 1) (words T))) r → IsNode (Paren (plain r.expr)) r.next (r.depth + 1) q →
     Finds T from limit (after_mark (below limit) m (drop (from + 1) (words T))) q
 unfolding depth Numbered bare
 made_paren T from limit m r q p h f n =
     made T from limit (after_mark (below limit) m (drop (from + 1) (words T))) (Paren (plain r.expr)) r.next (r.depth + 1) q n
-      (paren_some (below limit) m (drop (from + 1) (words T)) (form r.expr, drop r.next (words T)) p h f.found_is)
-      (omega (arith, f.deep)) (omega (arith, f.deeper)) f.within (omega (arith, f.taken, len-Paren (plain r.expr))) f.numbered
+    (paren_some (below limit) m (drop (from + 1) (words T)) (form r.expr, drop r.next (words T)) p h f.found_is)
+    (omega (arith, f.deep)) (omega (arith, f.deeper)) f.within (omega (arith, f.taken, len-Paren (plain r.expr))) f.numbered
 
 -- ---- an expression and the mark behind it
 
@@ -181,7 +181,7 @@ made_closed T from limit m r h e f = record {
   deep = f.read.deep;
   within = omega (arith, mark_inside T r.next m e h);
   taken = omega (arith, f.read.taken);
-  numbered = f.read.numbered
+  numbered = f.read.numbered;
 }
 
 pub closed_other : (T : List Token) (from limit m : ℕ) (r : Read) → (mark (drop r.next (words T)) ≡ m → ⊥) → FindsBelow T from limit (below limit 1 (drop from (words T))) r → closed (below limit) m (drop from (words T)) ≡ None
@@ -206,9 +206,9 @@ made_binary T from limit op low left right q a d o lv f n =
     let P : ℕ → Type 0 = λ (k : ℕ). Numbered (plain right.expr) k in
     let e : left.next + 1 ≡ from + length (spell (plain left.expr)) + 1 = omega (arith, a.taken) in
     made T from limit (turn (below limit) (form left.expr) op (drop (left.next + 1) (words T))) (Binary op (plain left.expr) (plain right.expr)) right.next (max left.depth right.depth + 1) q n
-      (binary_some (below limit) (form left.expr) op (drop (left.next + 1) (words T)) (form right.expr, drop right.next (words T)) o found)
-      (omega (arith, a.deep, f.read.deep)) (omega (arith, d, f.read.deeper)) f.read.within (omega (arith, a.taken, f.read.taken, len-Binary op (plain left.expr) (plain right.expr)))
-      (a.numbered, subst P e f.read.numbered)
+    (binary_some (below limit) (form left.expr) op (drop (left.next + 1) (words T)) (form right.expr, drop right.next (words T)) o found)
+    (omega (arith, a.deep, f.read.deep)) (omega (arith, d, f.read.deeper)) f.read.within (omega (arith, a.taken, f.read.taken, len-Binary op (plain left.expr) (plain right.expr)))
+    (a.numbered, subst P e f.read.numbered)
 
 pub cond_none : (sub : Reader) (t : Tree) (ws : List Word) → closed sub mark_colon ws ≡ None → turn sub t mark_question ws ≡ None
 unfolding turn chain
@@ -230,9 +230,9 @@ made_cond T from limit left middle last q a d f g n =
     let e : left.next + 1 ≡ from + length (spell (plain left.expr)) + 1 = omega (arith, a.taken) in
     let h : middle.next ≡ from + length (spell (plain left.expr)) + 1 + length (spell (plain middle.expr)) + 1 = omega (arith, a.taken, f.taken) in
     made T from limit (turn (below limit) (form left.expr) mark_question (drop (left.next + 1) (words T))) (Cond (plain left.expr) (plain middle.expr) (plain last.expr)) last.next (max left.depth (max middle.depth last.depth) + 1) q n
-      (turn-cond (below limit) (form left.expr) (drop (left.next + 1) (words T)) (form middle.expr, drop middle.next (words T)) (form last.expr, drop last.next (words T)) f.found_is g.found_is)
-      (omega (arith, a.deep, f.deep, g.read.deep)) (omega (arith, d, f.deeper, g.read.deeper)) g.read.within (omega (arith, a.taken, f.taken, g.read.taken, len-Cond (plain left.expr) (plain middle.expr) (plain last.expr)))
-      (a.numbered, subst P e f.numbered, subst Q h g.read.numbered)
+    (turn-cond (below limit) (form left.expr) (drop (left.next + 1) (words T)) (form middle.expr, drop middle.next (words T)) (form last.expr, drop last.next (words T)) f.found_is g.found_is)
+    (omega (arith, a.deep, f.deep, g.read.deep)) (omega (arith, d, f.deeper, g.read.deeper)) g.read.within (omega (arith, a.taken, f.taken, g.read.taken, len-Cond (plain left.expr) (plain middle.expr) (plain last.expr)))
+    (a.numbered, subst P e f.numbered, subst Q h g.read.numbered)
 
 -- ---- an operator goes on, or none does
 
@@ -250,7 +250,7 @@ step_of T from limit low left m (Some more) a e g h =
     record {
       goes = λ n. climb-turn (below limit) limit low n (form left.expr) (drop left.next (words T)) (form more.expr, drop more.next (words T)) (rw (← e) k) f;
       deeper = omega (arith, a.deep, h.read.deep, depth-bare (plain left.expr), depth-bare (plain more.expr), turn_deeper (below limit) (form left.expr) (mark (drop left.next (words T))) (rest (drop left.next (words T))) (form more.expr, drop more.next (words T)) f);
-      read = h.read
+      read = h.read;
     }
 
 -- an operator that goes on stands within the tokens
@@ -288,7 +288,7 @@ pub made_literal : (T : List Token) (from limit : ℕ) (t : Token) (d : Number) 
 unfolding operand plain depth Numbered bare
 made_literal T from limit t d h g k = record {
   found_is = rw (words_at T from t h g, k) refl;
-  read = record { deep = refl; low = omega arith; within = omega arith; taken = omega (arith, ap length (spell-Literal from d)); numbered = refl }
+  read = record { deep = refl; low = omega arith; within = omega arith; taken = omega (arith, ap length (spell-Literal from d)); numbered = refl };
 }
 
 -- ---- names and selects
@@ -298,7 +298,7 @@ pub made_name : (T : List Token) (from limit : ℕ) (s : Bor (List ℕ)) → fro
 unfolding plain depth Numbered bare
 made_name T from limit s h e = record {
   found_is = named-alone (below limit) s.now (drop (from + 1) (words T)) e;
-  read = record { deep = refl; low = omega arith; within = omega arith; taken = omega (arith, ap length (spell-Name from s.now)); numbered = refl }
+  read = record { deep = refl; low = omega arith; within = omega arith; taken = omega (arith, ap length (spell-Name from s.now)); numbered = refl };
 }
 
 pub made_named : (T : List Token) (from limit : ℕ) (s : List ℕ) (r : Read) → Finds T from limit (select (below limit) s (drop (from + 1) (words T))) r → Finds T from limit (named (below limit) s (drop (from + 1) (words T))) r
@@ -321,8 +321,8 @@ pub made_bit : (T : List Token) (from limit : ℕ) (s : List ℕ) (r q : Read) �
 unfolding depth Numbered bare
 made_bit T from limit s r q f m n =
     made T from limit (after_index (below limit) s (form r.expr) (mark (drop r.next (words T))) (drop (r.next + 1) (words T))) (Bit from s (plain r.expr)) (r.next + 1) (r.depth + 1) q n
-      (index-bit (below limit) s (form r.expr) (mark (drop r.next (words T))) (drop (r.next + 1) (words T)) m)
-      (omega (arith, f.deep)) (omega (arith, f.deeper)) (omega (arith, mark_inside T r.next mark_close_bracket m (omega arith))) (omega (arith, f.taken, len-Bit from s (plain r.expr))) (refl, f.numbered)
+    (index-bit (below limit) s (form r.expr) (mark (drop r.next (words T))) (drop (r.next + 1) (words T)) m)
+    (omega (arith, f.deep)) (omega (arith, f.deeper)) (omega (arith, mark_inside T r.next mark_close_bracket m (omega arith))) (omega (arith, f.taken, len-Bit from s (plain r.expr))) (refl, f.numbered)
 
 pub between_inside : (T : List Token) (i m : ℕ) → m ≡ mark (drop i (words T)) → is_between m ≡ true → i < length T
 unfolding is_between
@@ -342,9 +342,9 @@ made_part T from limit s m r u q f b g n =
     let P : ℕ → Type 0 = λ (j : ℕ). Numbered (plain u.expr) j in
     let e : r.next + 1 ≡ from + 2 + length (spell (plain r.expr)) + 1 = omega (arith, f.taken) in
     made T from limit (after_index (below limit) s (form r.expr) m (drop (r.next + 1) (words T))) (select_of from s m (plain r.expr) (plain u.expr)) u.next (max r.depth u.depth + 1) q n
-      (index-part (below limit) s (form r.expr) m (drop (r.next + 1) (words T)) (form u.expr, drop u.next (words T)) b g.found_is ∙ ap (λ (x : Tree). Some (x, drop u.next (words T))) (sym k.bared))
-      (omega (arith, f.deep, g.deep, k.deep)) (omega (arith, f.deeper, g.deeper)) g.within (omega (arith, f.taken, g.taken, len-select from s m (plain r.expr) (plain u.expr) (select_of from s m (plain r.expr) (plain u.expr)) k))
-      (k.numbered from refl f.numbered (subst P e g.numbered))
+    (index-part (below limit) s (form r.expr) m (drop (r.next + 1) (words T)) (form u.expr, drop u.next (words T)) b g.found_is ∙ ap (λ (x : Tree). Some (x, drop u.next (words T))) (sym k.bared))
+    (omega (arith, f.deep, g.deep, k.deep)) (omega (arith, f.deeper, g.deeper)) g.within (omega (arith, f.taken, g.taken, len-select from s m (plain r.expr) (plain u.expr) (select_of from s m (plain r.expr) (plain u.expr)) k))
+    (k.numbered from refl f.numbered (subst P e g.numbered))
 
 -- ---- casts
 
@@ -362,8 +362,8 @@ unfolding depth Numbered bare
 made_cast T from limit s signed r q e m f n =
     let g : closed (below limit) mark_close_parenthesis (rest (drop (from + 1) (words T))) ≡ Some (form r.expr, drop r.next (words T)) = rw (rest_next (words T) from) f.found_is in
     made T from limit (system (below limit) s (drop (from + 1) (words T))) (Cast signed (plain r.expr)) r.next (r.depth + 1) q n
-      (cast-some (below limit) s signed (drop (from + 1) (words T)) (form r.expr, drop r.next (words T)) e m g)
-      (omega (arith, f.deep)) (omega (arith, f.deeper)) f.within (omega (arith, f.taken, len-Cast signed (plain r.expr))) f.numbered
+    (cast-some (below limit) s signed (drop (from + 1) (words T)) (form r.expr, drop r.next (words T)) e m g)
+    (omega (arith, f.deep)) (omega (arith, f.deeper)) f.within (omega (arith, f.taken, len-Cast signed (plain r.expr))) f.numbered
 
 -- ---- the loop over operators
 
@@ -372,7 +372,7 @@ climb_start T from low limit first h = record {
   fuel = limit;
   enough = omega arith;
   whole = reads-below limit low (drop from (words T)) ∙ reads_by-operand (below limit) limit low (drop from (words T)) (form first.expr, drop first.next (words T)) h.found_is;
-  read = h.read
+  read = h.read;
 }
 
 climb_next : (T : List Token) (from low limit : ℕ) (left more : Read) (fuel : ℕ) → limit ≤ fuel + left.depth → reads limit low (drop from (words T)) ≡ climb (below limit) limit low fuel (form left.expr) (drop left.next (words T)) →
@@ -389,7 +389,7 @@ moves_deeper T from low limit left o more e h = let g = rw e at h in (g.deeper, 
 pub climb_end : (T : List Token) (from low room : ℕ) (left : Read) (o : Option Read) → 0 < room → o ≡ None → Climbing T from low (room - 1) left → Steps T from (below (room - 1)) (room - 1) low left o → FindsBelow T from room (below room low (drop from (words T))) left
 climb_end T from low room left o p e c h = let g = rw e at h in record {
   found_is = below_is room low (drop from (words T)) p ∙ c.whole ∙ g c.fuel;
-  read = record { deeper = omega (arith, c.read.low, p); deep = c.read.deep; within = c.read.within; taken = c.read.taken; numbered = c.read.numbered }
+  read = record { deeper = omega (arith, c.read.low, p); deep = c.read.deep; within = c.read.within; taken = c.read.taken; numbered = c.read.numbered };
 }
 
 pub below_none : (T : List Token) (from low room : ℕ) → 0 < room → operand (below (room - 1)) (drop from (words T)) ≡ None → below room low (drop from (words T)) ≡ None
@@ -412,8 +412,8 @@ collect_start T from limit first old items z e f = rw (e, z) (record {
     low = omega (arith, f.deeper);
     within = f.within;
     taken = simp (spellings, length-append) (omega (arith, f.taken));
-    numbered = (f.numbered, tt)
-  }
+    numbered = (f.numbered, tt);
+  };
 })
 
 plain_snoc : (es : List Expr) (e : Expr) → plain_list (es ++ (e ∷ [])) ≡ snoc (plain_list es) (plain e)
@@ -468,8 +468,8 @@ parts_turn T from limit found items next deepest part (suc n) c e m h =
         low = omega (arith, c.read.low, h.read.deeper);
         within = h.read.within;
         taken = omega (arith, c.read.taken, h.read.taken, ap (λ (us : Trees). length (spell_more us)) (plain_snoc items part.expr), more_snoc (plain_list items) (plain part.expr));
-        numbered = subst P (sym (plain_snoc items part.expr)) (numbered_snoc (plain_list items) (plain part.expr) from (next + 1) (omega (arith, c.read.taken)) c.read.numbered h.read.numbered)
-      }
+        numbered = subst P (sym (plain_snoc items part.expr)) (numbered_snoc (plain_list items) (plain part.expr) from (next + 1) (omega (arith, c.read.taken)) c.read.numbered h.read.numbered);
+      };
     }
 
 pub collect_more : (T : List Token) (from limit : ℕ) (found : Found Trees) (items new : List Expr) (next deepest deeper : ℕ) (part : Read) → Collecting T from limit found items next deepest → mark (drop next (words T)) ≡ mark_comma →
@@ -507,7 +507,7 @@ collect_end T from limit found items next deepest c m = record {
   low = c.read.low;
   within = omega (arith, mark_inside T next mark_close_brace m (omega arith));
   taken = omega (arith, c.read.taken);
-  numbered = c.read.numbered
+  numbered = c.read.numbered;
 }
 
 pub braces_first : (T : List Token) (from limit : ℕ) (r : Read) → FindsBelow T (from + 1) limit (below limit 1 (drop (from + 1) (words T))) r → braces (below limit) (drop (from + 1) (words T)) ≡ after_first (below limit) (form r.expr) (drop r.next (words T))
@@ -528,8 +528,8 @@ unfolding depth Numbered bare
 made_concat T from limit r ps items end q f m e g n =
     let k : IsNode (Concat (plain_list items)) end.next end.depth q = rw e at n in
     made T from limit (braces (below limit) (drop (from + 1) (words T))) (Concat (plain_list items)) end.next end.depth q k
-      (braces_first T from limit r f ∙ first-concat (below limit) (form r.expr) (drop r.next (words T)) (forms items, drop end.next (words T)) (not_equal (mark (drop r.next (words T))) mark_open_brace m) g.found_is)
-      g.deep g.low g.within (omega (arith, g.taken, len-Concat (plain_list items) g.first g.others g.some)) g.numbered
+    (braces_first T from limit r f ∙ first-concat (below limit) (form r.expr) (drop r.next (words T)) (forms items, drop end.next (words T)) (not_equal (mark (drop r.next (words T))) mark_open_brace m) g.found_is)
+    g.deep g.low g.within (omega (arith, g.taken, len-Concat (plain_list items) g.first g.others g.some)) g.numbered
 
 pub repeated_none : (T : List Token) (limit : ℕ) (t : Tree) (i : ℕ) → below limit 1 (drop i (words T)) ≡ None → repeated (below limit) t (drop i (words T)) ≡ None
 repeated_none T limit t i e = repeated-none (below limit) t (drop i (words T)) e
@@ -551,6 +551,6 @@ made_repeat T from limit count r ps items end q c f e g m n =
     let P : ℕ → Type 0 = λ (j : ℕ). NumberedMore (plain_list items) j in
     let h : count.next ≡ from + 1 + length (spell (plain count.expr)) = omega (arith, c.taken) in
     made T from limit (repeated (below limit) (form count.expr) (drop (count.next + 1) (words T))) (Repeat (plain count.expr) (plain_list items)) (end.next + 1) (max (count.depth + 1) end.depth) q k
-      (repeated-some (below limit) (form count.expr) (drop (count.next + 1) (words T)) (form r.expr, drop r.next (words T)) (forms items, drop end.next (words T)) f.found_is g.found_is m ∙ ap (λ (x : List Word). Some (Repeat (form count.expr) (forms items), x)) (rest_drop (words T) end.next))
-      (omega (arith, c.deep, g.deep)) (omega (arith, c.deeper, g.low)) (omega (arith, mark_inside T end.next mark_close_brace m (omega arith))) (omega (arith, c.taken, g.taken, len-Repeat (plain count.expr) (plain_list items) g.first g.others g.some))
-      (c.numbered, subst P h g.numbered)
+    (repeated-some (below limit) (form count.expr) (drop (count.next + 1) (words T)) (form r.expr, drop r.next (words T)) (forms items, drop end.next (words T)) f.found_is g.found_is m ∙ ap (λ (x : List Word). Some (Repeat (form count.expr) (forms items), x)) (rest_drop (words T) end.next))
+    (omega (arith, c.deep, g.deep)) (omega (arith, c.deeper, g.low)) (omega (arith, mark_inside T end.next mark_close_brace m (omega arith))) (omega (arith, c.taken, g.taken, len-Repeat (plain count.expr) (plain_list items) g.first g.others g.some))
+    (c.numbered, subst P h g.numbered)

@@ -1,12 +1,12 @@
 -- What a climb keeps: it always finds something at least as long, and its fuel does not matter.
-use Rattle.std.proofs.Common.{◌≡◌, ℕ, zero, suc, ◌+◌, ◌≤◌, ◌<◌, max, List, [], ◌∷◌, ◌++◌, length, refl, ap, ◌∙◌, sym, arith, Bool, true, false, cond, nat_eq, Option, Some, None, ◌⊎◌, inl, inr, length-append}
+use Rattle.std.proofs.Common.{◌≡◌, ℕ, zero, suc, ◌+◌, ◌≤◌, ◌<◌, List, length, refl, ap, ◌∙◌, sym, arith, Bool, true, false, cond, nat_eq, Some, None, ◌⊎◌, inl, inr, length-append}
 use Rattle.std.proofs.lemmas.Bool.Decides.{Decides-eqb}
 use Rattle.rr_syntax.specs.Words.{Word, mark_question, mark_colon}
 use Rattle.rr_syntax.specs.Tree.{Tree, Binary, Cond}
-use Rattle.rr_syntax.specs.Expressions.{level, depth, spell, infix_level}
+use Rattle.rr_syntax.specs.Expressions.{depth, spell, infix_level}
 use Rattle.rr_syntax.proofs.Equations.{spellings}
-use Rattle.rr_parse_expr.specs.Reading.{Found, Reader, mapped, chain, or_keep, mark, rest, expect, closed, goes_on, turn, climb}
-use Rattle.rr_parse_expr.proofs.Facts.{goes_deep, goes_tells}
+use Rattle.rr_parse_expr.specs.Reading.{Found, Reader, mapped, chain, mark, rest, expect, closed, goes_on, turn, climb}
+use Rattle.rr_parse_expr.proofs.Facts.{goes_deep}
 use Rattle.rr_parse_expr.proofs.Steps.{climb-stop, climb-turn, climb-none}
 
 -- ---- what a result tells of the parts
@@ -79,6 +79,7 @@ turn_split sub t m ws p false q f =
 pub turn_tells : (sub : Reader) (t : Tree) (m : ℕ) (ws : List Word) (p : Tree × List Word) → turn sub t m ws ≡ Some p → ByBinary sub t m ws p ⊎ ByCond sub t m ws p
 unfolding turn
 turn_tells sub t m ws p e = turn_split sub t m ws p (nat_eq m mark_question) refl e
+
 -- a turn makes a deeper and longer tree
 pub turn_deeper : (sub : Reader) (t : Tree) (m : ℕ) (ws : List Word) (p : Tree × List Word) → turn sub t m ws ≡ Some p → depth t < depth p.0
 unfolding depth
@@ -86,8 +87,9 @@ turn_deeper sub t m ws p e = elim (turn_tells sub t m ws p e) [ inl b ↦ omega 
 
 pub turn_longer : (sub : Reader) (t : Tree) (m : ℕ) (ws : List Word) (p : Tree × List Word) → turn sub t m ws ≡ Some p → length (spell t) ≤ length (spell p.0)
 turn_longer sub t m ws p e = elim (turn_tells sub t m ws p e) [
-    inl b ↦ rw (← b.tree) (simp (spellings, length-append) (omega arith))
-  | inr b ↦ rw (← b.tree) (simp (spellings, length-append) (omega arith)) ]
+  | inl b ↦ rw (← b.tree) (simp (spellings, length-append) (omega arith))
+  | inr b ↦ rw (← b.tree) (simp (spellings, length-append) (omega arith))
+]
 
 -- ---- a climb, a turn at a time
 
@@ -108,11 +110,12 @@ pub climb_any : (sub : Reader) (limit low n : ℕ) (t : Tree) (ws : List Word) �
 unfolding climb
 climb_any sub limit low zero t ws = ((t, ws), refl, omega arith)
 climb_any sub limit low (suc n) t ws = elim (look sub limit low t ws) [
-    stops e ↦ ((t, ws), climb-stop sub limit low (suc n) t ws e, omega arith)
+  | stops e ↦ ((t, ws), climb-stop sub limit low (suc n) t ws e, omega arith)
   | fails e f ↦ ((t, ws), climb-none sub limit low (suc n) t ws e f, omega arith)
   | turns p e f ↦
       let a = climb_any sub limit low n p.0 p.1 in
-      (a.0, climb-turn sub limit low n t ws p e f ∙ a.1, omega (arith, turn_longer sub t (mark ws) (rest ws) p f, a.2)) ]
+      (a.0, climb-turn sub limit low n t ws p e f ∙ a.1, omega (arith, turn_longer sub t (mark ws) (rest ws) p f, a.2))
+]
 
 -- with fuel for the depth that is left, the fuel does not matter
 pub same_climb : (sub : Reader) (limit low n k : ℕ) (t : Tree) (ws : List Word) → limit ≤ n + depth t → limit ≤ k + depth t → climb sub limit low n t ws ≡ climb sub limit low k t ws
@@ -123,8 +126,9 @@ same_climb sub limit low (suc n) zero t ws a b =
     let e = goes_deep limit low t (mark ws) (omega arith) in
     climb-stop sub limit low (suc n) t ws e ∙ sym (climb-stop sub limit low zero t ws e)
 same_climb sub limit low (suc n) (suc k) t ws a b = elim (look sub limit low t ws) [
-    stops e ↦ climb-stop sub limit low (suc n) t ws e ∙ sym (climb-stop sub limit low (suc k) t ws e)
+  | stops e ↦ climb-stop sub limit low (suc n) t ws e ∙ sym (climb-stop sub limit low (suc k) t ws e)
   | fails e f ↦ climb-none sub limit low (suc n) t ws e f ∙ sym (climb-none sub limit low (suc k) t ws e f)
   | turns p e f ↦
       let d = turn_deeper sub t (mark ws) (rest ws) p f in
-      climb-turn sub limit low n t ws p e f ∙ same_climb sub limit low n k p.0 p.1 (omega arith) (omega arith) ∙ sym (climb-turn sub limit low k t ws p e f) ]
+      climb-turn sub limit low n t ws p e f ∙ same_climb sub limit low n k p.0 p.1 (omega arith) (omega arith) ∙ sym (climb-turn sub limit low k t ws p e f)
+]

@@ -1,18 +1,18 @@
 -- Whatever is well-formed is read: the reading function comes to each tree within the depth.
-use Rattle.std.proofs.Common.{◌≡◌, ℕ, zero, suc, ◌+◌, ◌≤◌, ◌<◌, max, List, [], ◌∷◌, ◌++◌, length, codes, refl, ap, ◌∙◌, sym, arith, Bool, true, false, cond, nat_eq, Option, Some, None, length-append, append_assoc, subst}
+use Rattle.std.proofs.Common.{◌≡◌, ℕ, zero, suc, ◌+◌, ◌≤◌, ◌<◌, List, ◌∷◌, ◌++◌, length, codes, refl, ap, ◌∙◌, sym, arith, Bool, true, false, cond, nat_eq, Some, length-append, append_assoc}
 use Rattle.std.proofs.lemmas.Bool.Decides.{nat_tests}
 use Rattle.rr_syntax.specs.Words.{Word, Named, System, Digits, Marked, mark_open_parenthesis, mark_close_parenthesis, mark_open_bracket, mark_close_bracket, mark_open_brace, mark_close_brace, mark_comma, mark_colon, mark_question, mark_part_up, mark_part_down}
 use Rattle.rr_syntax.specs.Tree.{Tree, Trees, Name, Literal, Bit, Part, Indexed, Unary, Binary, Cond, Concat, Repeat, Cast, Paren, End, More, bare, bare_parts}
-use Rattle.rr_syntax.specs.Expressions.{level, depth, height, WellFormed, WellFormedMore, spell, spell_parts, spell_more, infix_level, is_prefix, unary_level, primary_level}
+use Rattle.rr_syntax.specs.Expressions.{level, depth, height, WellFormed, WellFormedMore, spell, spell_more, infix_level, unary_level, primary_level}
 use Rattle.rr_syntax.proofs.BareExpressions.{level-bare, depth-bare}
 use Rattle.rr_syntax.proofs.Equations.{spellings, spell-Name, spell-Literal, spell-Unary, more-End, more-More}
 use Rattle.rr_parse_expr.specs.Made.{select_of}
-use Rattle.rr_parse_expr.specs.Reading.{Found, Reader, mark, rest, is_between, snoc, closed, parts, parts_from, select, operand, goes_on, left_level, turn, climb, reads_by, reads, below}
+use Rattle.rr_parse_expr.specs.Reading.{mark, rest, is_between, snoc, parts, parts_from, operand, left_level, climb, reads, below}
 use Rattle.rr_parse_expr.proofs.Tables.{infix_below}
-use Rattle.rr_parse_expr.proofs.Facts.{follow_level, infix_follow, follow_primary, follow_bracket, follow_other, operator_other, infix-question, follow-question, follow-colon, follow-comma, follow-open_brace, follow-close_brace, follow-close_bracket, follow-close_parenthesis, tail_level, level_tail, below_tail, level_pos, goes_true, goes_false, left-question, left-binary}
+use Rattle.rr_parse_expr.proofs.Facts.{follow_level, infix_follow, follow_bracket, follow_other, operator_other, infix-question, follow-question, follow-colon, follow-comma, follow-open_brace, follow-close_brace, follow-close_bracket, follow-close_parenthesis, tail_level, level_tail, below_tail, level_pos, goes_true, goes_false, left-question, left-binary}
 use Rattle.rr_parse_expr.proofs.Selects.{IsSelect, is_select, part_is, indexed_is, between-colon, between-indexed}
 use Rattle.rr_parse_expr.proofs.Steps.{reads-below, climb-stop, climb-turn, reads_by-operand, closed-some, turn-binary, turn-cond, named-select, named-alone, select-other, select-index, index-bit, index-part, cast-some, sign-of, parts-close, parts-comma, braces-first, first-concat, first-repeat, repeated-some, operand-unary, operand-paren, operand-braces, operand-named, operand-system, operand-literal}
-use Rattle.rr_parse_expr.proofs.Climbs.{climb_any, same_climb}
+use Rattle.rr_parse_expr.proofs.Climbs.{same_climb}
 
 -- after an operand
 finish : (limit low n : ℕ) (t : Tree) (left ws : List Word) → operand (below limit) ws ≡ Some (bare t, left) → limit ≤ n + depth t → reads limit low ws ≡ climb (below limit) limit low n (bare t) left
@@ -103,8 +103,9 @@ operator_below m l p h = rw (follow_other m (operator_other m p)) (below_tail l 
 
 no_bracket : (m : ℕ) → follow_level m < primary_level → nat_eq m mark_open_bracket ≡ false
 no_bracket m h = elim (nat_eq m mark_open_bracket) as (λ b. nat_eq m mark_open_bracket ≡ b → nat_eq m mark_open_bracket ≡ false) [
-    true ↦ λ e. absurd (let f : m ≡ mark_open_bracket = grind (arith, nat_tests) in omega (arith, follow_bracket m f))
-  | false ↦ λ e. e ] refl
+  | true ↦ λ e. absurd (let f : m ≡ mark_open_bracket = grind (arith, nat_tests) in omega (arith, follow_bracket m f))
+  | false ↦ λ e. e
+] refl
 
 -- a mark that nothing takes leaves the last operand alone
 pub before : (t : Tree) → WellFormed t → (last : List Word) → follow_level (mark last) ≡ 0 → follow_level (mark last) < tail_level t
@@ -147,12 +148,12 @@ mutual
   passes (Part i s t u) w (suc k) low a b c d n f left g =
       let h : IsSelect i s mark_colon t u (Part i s t u) = rw (part_is i s t u) (is_select i s mark_colon t u between-colon) in
       rw (words-Select i s mark_colon t u (Part i s t u) left h) (finish (suc k) low n (Part i s t u) left (Named s ∷ (Marked mark_open_bracket ∷ (spell t ++ (Marked mark_colon ∷ (spell u ++ (Marked mark_close_bracket ∷ left))))))
-        (select_pass t u k s mark_colon between-colon left (ends t w.0 k (Marked mark_colon ∷ (spell u ++ (Marked mark_close_bracket ∷ left))) h.follows (passes t w.0 k 1 (omega arith) (level_pos t w.0) (omega arith) (omega (arith, d)) k (omega arith) (Marked mark_colon ∷ (spell u ++ (Marked mark_close_bracket ∷ left))) (before t w.0 (Marked mark_colon ∷ (spell u ++ (Marked mark_close_bracket ∷ left))) h.follows))) (ends u w.1 k (Marked mark_close_bracket ∷ left) follow-close_bracket (passes u w.1 k 1 (omega arith) (level_pos u w.1) (omega arith) (omega (arith, d)) k (omega arith) (Marked mark_close_bracket ∷ left) (before u w.1 (Marked mark_close_bracket ∷ left) follow-close_bracket))) ∙ ap (λ (x : Tree). Some (x, left)) (sym (part_is 0 s (bare t) (bare u)))) f)
+      (select_pass t u k s mark_colon between-colon left (ends t w.0 k (Marked mark_colon ∷ (spell u ++ (Marked mark_close_bracket ∷ left))) h.follows (passes t w.0 k 1 (omega arith) (level_pos t w.0) (omega arith) (omega (arith, d)) k (omega arith) (Marked mark_colon ∷ (spell u ++ (Marked mark_close_bracket ∷ left))) (before t w.0 (Marked mark_colon ∷ (spell u ++ (Marked mark_close_bracket ∷ left))) h.follows))) (ends u w.1 k (Marked mark_close_bracket ∷ left) follow-close_bracket (passes u w.1 k 1 (omega arith) (level_pos u w.1) (omega arith) (omega (arith, d)) k (omega arith) (Marked mark_close_bracket ∷ left) (before u w.1 (Marked mark_close_bracket ∷ left) follow-close_bracket))) ∙ ap (λ (x : Tree). Some (x, left)) (sym (part_is 0 s (bare t) (bare u)))) f)
   passes (Indexed i s t u up) w zero low a b c d n f left g = absurd (omega (arith, d))
   passes (Indexed i s t u up) w (suc k) low a b c d n f left g =
       let h : IsSelect i s (cond up mark_part_up mark_part_down) t u (Indexed i s t u up) = rw (indexed_is i s t u up) (is_select i s (cond up mark_part_up mark_part_down) t u (between-indexed up)) in
       rw (words-Select i s (cond up mark_part_up mark_part_down) t u (Indexed i s t u up) left h) (finish (suc k) low n (Indexed i s t u up) left (Named s ∷ (Marked mark_open_bracket ∷ (spell t ++ (Marked (cond up mark_part_up mark_part_down) ∷ (spell u ++ (Marked mark_close_bracket ∷ left))))))
-        (select_pass t u k s (cond up mark_part_up mark_part_down) (between-indexed up) left (ends t w.0 k (Marked (cond up mark_part_up mark_part_down) ∷ (spell u ++ (Marked mark_close_bracket ∷ left))) h.follows (passes t w.0 k 1 (omega arith) (level_pos t w.0) (omega arith) (omega (arith, d)) k (omega arith) (Marked (cond up mark_part_up mark_part_down) ∷ (spell u ++ (Marked mark_close_bracket ∷ left))) (before t w.0 (Marked (cond up mark_part_up mark_part_down) ∷ (spell u ++ (Marked mark_close_bracket ∷ left))) h.follows))) (ends u w.1 k (Marked mark_close_bracket ∷ left) follow-close_bracket (passes u w.1 k 1 (omega arith) (level_pos u w.1) (omega arith) (omega (arith, d)) k (omega arith) (Marked mark_close_bracket ∷ left) (before u w.1 (Marked mark_close_bracket ∷ left) follow-close_bracket))) ∙ ap (λ (x : Tree). Some (x, left)) (sym (indexed_is 0 s (bare t) (bare u) up))) f)
+      (select_pass t u k s (cond up mark_part_up mark_part_down) (between-indexed up) left (ends t w.0 k (Marked (cond up mark_part_up mark_part_down) ∷ (spell u ++ (Marked mark_close_bracket ∷ left))) h.follows (passes t w.0 k 1 (omega arith) (level_pos t w.0) (omega arith) (omega (arith, d)) k (omega arith) (Marked (cond up mark_part_up mark_part_down) ∷ (spell u ++ (Marked mark_close_bracket ∷ left))) (before t w.0 (Marked (cond up mark_part_up mark_part_down) ∷ (spell u ++ (Marked mark_close_bracket ∷ left))) h.follows))) (ends u w.1 k (Marked mark_close_bracket ∷ left) follow-close_bracket (passes u w.1 k 1 (omega arith) (level_pos u w.1) (omega arith) (omega (arith, d)) k (omega arith) (Marked mark_close_bracket ∷ left) (before u w.1 (Marked mark_close_bracket ∷ left) follow-close_bracket))) ∙ ap (λ (x : Tree). Some (x, left)) (sym (indexed_is 0 s (bare t) (bare u) up))) f)
   passes (Unary m t) w zero low a b c d n f left g = absurd (omega (arith, d))
   passes (Unary m t) w (suc k) low a b c d n f left g =
       let e = stopped k unary_level t left (spell t ++ left) (infix_below (mark left)) (passes t w.1 k unary_level (omega arith) w.2 (omega arith) (omega arith) k (omega arith) left (omega (arith, g, w.2, level_tail t))) in

@@ -1,19 +1,19 @@
 -- What the reading function finds is the longest tree, and where it finds none there is none.
-use Rattle.std.proofs.Common.{◌≡◌, ℕ, zero, suc, ◌+◌, ◌-◌, ◌≤◌, ◌<◌, List, [], ◌∷◌, ◌++◌, length, drop, refl, ap, ◌∙◌, sym, arith, Option, Some, None, subst}
+use Rattle.std.proofs.Common.{◌≡◌, ℕ, zero, suc, ◌+◌, ◌-◌, ◌≤◌, ◌<◌, List, ◌++◌, length, drop, refl, ap, ◌∙◌, sym, arith, Option, Some, None, subst}
 use Rattle.rr_syntax.specs.declared.token.Token.{Token}
 use Rattle.rr_syntax.specs.declared.tree.Expr.{Expr}
 use Rattle.rr_syntax.specs.Words.{Word, words}
-use Rattle.rr_syntax.specs.Tree.{Tree, bare}
-use Rattle.rr_syntax.specs.Expressions.{spell, level, depth, unary_level, WellFormed, Numbered}
+use Rattle.rr_syntax.specs.Tree.{Tree}
+use Rattle.rr_syntax.specs.Expressions.{spell, level, unary_level, WellFormed}
 use Rattle.rr_syntax.specs.View.{plain}
 use Rattle.rr_syntax.proofs.BareExpressions.{level-bare, depth-bare, spell-bare, WellFormed-bare}
 use Rattle.rr_parse_expr.specs.declared.nodes.Read.{Read}
-use Rattle.rr_parse_expr.specs.Reading.{Found, reads, below}
-use Rattle.rr_parse_expr.specs.Answer.{form, IsBelow, FindsBelow, AnswersBelow}
+use Rattle.rr_parse_expr.specs.Reading.{reads, below}
+use Rattle.rr_parse_expr.specs.Answer.{form, FindsBelow, AnswersBelow}
 use Rattle.rr_parse_expr.specs.Exact.{IsExpression, IsOperand, Begins, IsLongest, NoneBegins}
 use Rattle.rr_parse_expr.proofs.Facts.{level_pos}
 use Rattle.rr_parse_expr.proofs.Longest.{reaches, Reaches}
-use Rattle.rr_parse_expr.proofs.Sound.{Fits, reads_sound}
+use Rattle.rr_parse_expr.proofs.Sound.{reads_sound}
 
 pub below_zero : (room low : ℕ) (ws : List Word) → room ≡ 0 → below room low ws ≡ None
 unfolding below
@@ -69,7 +69,7 @@ longest_of Class low c limit T from r f =
       taken = f.read.taken;
       within = f.read.within;
       numbered = f.read.numbered;
-      longest = λ t b. omega (arith, at_most limit low ws t (form r.expr) (drop r.next (words T)) e (c.finds limit ws t b), ap length (spell-bare (plain r.expr)))
+      longest = λ t b. omega (arith, at_most limit low ws t (form r.expr) (drop r.next (words T)) e (c.finds limit ws t b), ap length (spell-bare (plain r.expr)));
     }
 
 pub is_longest : (Class : Tree → Type 0) (low : ℕ) → IsRead Class low → (limit : ℕ) (T : List Token) (from : ℕ) (o : Option Read) (r : Read) (e : Expr) → o ≡ Some r → e ≡ r.expr →

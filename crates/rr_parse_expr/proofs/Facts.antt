@@ -1,9 +1,9 @@
 -- What may follow an operand, and the test of whether an operator goes on.
-use Rattle.std.proofs.Common.{◌≡◌, ℕ, suc, ◌+◌, ◌≤◌, ◌<◌, refl, ap, ◌∙◌, sym, arith, Bool, true, false, nat_eq, if◌then◌else◌}
+use Rattle.std.proofs.Common.{◌≡◌, ℕ, suc, ◌≤◌, ◌<◌, refl, ap, ◌∙◌, arith, Bool, true, false, nat_eq, if◌then◌else◌}
 use Rattle.std.proofs.lemmas.Bool.Decides.{nat_tests, Decides-eqb}
 use Rattle.rr_syntax.specs.Words.{mark_close_parenthesis, mark_open_bracket, mark_close_bracket, mark_open_brace, mark_close_brace, mark_comma, mark_colon, mark_question, mark_part_up, mark_part_down}
 use Rattle.rr_syntax.specs.Tree.{Tree, Name, Literal, Bit, Part, Indexed, Unary, Binary, Cond, Concat, Repeat, Cast, Paren, bare}
-use Rattle.rr_syntax.specs.Expressions.{level, depth, WellFormed, infix_level, is_prefix, unary_level, primary_level}
+use Rattle.rr_syntax.specs.Expressions.{level, depth, WellFormed, infix_level, unary_level, primary_level}
 use Rattle.rr_syntax.proofs.BareExpressions.{level-bare, depth-bare}
 use Rattle.rr_parse_expr.specs.Reading.{no_mark, goes_on, left_level}
 use Rattle.rr_parse_expr.proofs.Tables.{infix_below}

@@ -1,18 +1,17 @@
 -- What is read is the longest, and no words have two trees.
-use Rattle.std.proofs.Common.{◌≡◌, ℕ, zero, suc, ◌+◌, ◌≤◌, ◌<◌, max, List, [], ◌∷◌, ◌++◌, length, refl, ap, ◌∙◌, sym, arith, Bool, true, false, nat_eq, Option, Some, None, length-append, append_assoc}
-use Rattle.std.proofs.lemmas.Bool.Decides.{Decides-eqb}
-use Rattle.rr_syntax.specs.Words.{Word, Named, Marked, mark_open_bracket, mark_colon, mark_question}
-use Rattle.rr_syntax.specs.Tree.{Tree, Trees, Name, Literal, Bit, Part, Indexed, Unary, Binary, Cond, Concat, Repeat, Cast, Paren, bare}
-use Rattle.rr_syntax.specs.Expressions.{level, depth, WellFormed, spell, infix_level, unary_level, primary_level}
+use Rattle.std.proofs.Common.{◌≡◌, ℕ, zero, suc, ◌≤◌, ◌<◌, max, List, [], ◌∷◌, ◌++◌, length, refl, ap, ◌∙◌, sym, arith, Some, None, length-append}
+use Rattle.rr_syntax.specs.Words.{Word, Named, Marked, mark_colon, mark_question}
+use Rattle.rr_syntax.specs.Tree.{Tree, Name, Literal, Bit, Part, Indexed, Unary, Binary, Cond, Concat, Repeat, Cast, Paren, bare}
+use Rattle.rr_syntax.specs.Expressions.{level, depth, WellFormed, spell, infix_level, unary_level}
 use Rattle.rr_syntax.proofs.BareExpressions.{level-bare, depth-bare, spell-bare}
 use Rattle.rr_syntax.proofs.Equations.{spellings, spell-Name, spell-Unary}
 use Rattle.rr_syntax.proofs.Nonempty.{spell-some}
-use Rattle.rr_parse_expr.specs.Reading.{Found, Reader, mark, rest, no_mark, closed, named, select, operand, left_level, climb, reads, below}
+use Rattle.rr_parse_expr.specs.Reading.{Reader, mark, rest, named, select, operand, left_level, climb, reads, below}
 use Rattle.rr_parse_expr.proofs.Tables.{infix_below}
-use Rattle.rr_parse_expr.proofs.Facts.{follow_level, infix_follow, follow_primary, follow-question, follow-colon, follow-no_mark, infix-question, tail_level, level_tail, level_pos, goes_true, left-question, left-binary}
+use Rattle.rr_parse_expr.proofs.Facts.{follow_level, follow_primary, follow-question, follow-colon, follow-no_mark, infix-question, tail_level, level_tail, level_pos, goes_true, left-question, left-binary}
 use Rattle.rr_parse_expr.proofs.Steps.{reads-below, reads_by-operand, climb-turn, closed-some, turn-binary, turn-cond, named-select, named-alone, operand-named, operand-unary}
 use Rattle.rr_parse_expr.proofs.Climbs.{climb_any}
-use Rattle.rr_parse_expr.proofs.Complete.{passes, stopped, ends, before, operator_below, words-Binary, words-Cond}
+use Rattle.rr_parse_expr.proofs.Complete.{passes, ends, before, operator_below, words-Binary, words-Cond}
 
 -- something at least as long is read
 abbrev pub Reaches : ℕ → ℕ → List Word → Tree → Type 0
@@ -30,8 +29,9 @@ plainly u w limit low a b c d left g = reached limit low limit u (bare u) left (
 -- a name is read, or a select of it
 named_any : (sub : Reader) (s : List ℕ) (left : List Word) → (p : Tree × List Word) × (named sub s left ≡ Some p)
 named_any sub s left = elim (select sub s left) as (λ o. select sub s left ≡ o → (p : Tree × List Word) × (named sub s left ≡ Some p)) [
-    None ↦ λ e. ((Name 0 s, left), named-alone sub s left e)
-  | Some p ↦ λ e. (p, named-select sub s left p e) ] refl
+  | None ↦ λ e. ((Name 0 s, left), named-alone sub s left e)
+  | Some p ↦ λ e. (p, named-select sub s left p e)
+] refl
 
 after_operand : (limit low : ℕ) (u : Tree) (ws : List Word) (p : Tree × List Word) → operand (below limit) ws ≡ Some p → length (spell u) ≤ length (spell p.0) → Reaches limit low ws u
 after_operand limit low u ws p e h = reached limit low limit u p.0 p.1 ws h (reads-below limit low ws ∙ reads_by-operand (below limit) limit low ws p e)

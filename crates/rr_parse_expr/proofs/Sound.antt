@@ -1,5 +1,5 @@
 -- What is read is well-formed, within the depth, without token numbers, and spelled by the words that were taken.
-use Rattle.std.proofs.Common.{◌≡◌, ℕ, zero, suc, ◌+◌, ◌≤◌, ◌<◌, max, List, [], ◌∷◌, ◌++◌, length, codes, refl, ap, ◌∙◌, sym, arith, Bool, true, false, cond, nat_eq, Option, Some, None, ◌⊎◌, inl, inr, length-append, append_assoc, subst}
+use Rattle.std.proofs.Common.{◌≡◌, ℕ, zero, suc, ◌≤◌, ◌<◌, List, [], ◌∷◌, ◌++◌, length, codes, refl, ap, ◌∙◌, sym, arith, Bool, true, false, cond, nat_eq, Some, None, inl, inr, subst}
 use Rattle.std.specs.Str.{bytes_eq}
 use Rattle.std.proofs.lemmas.Slice.Eq.{bytes_eq-Decides}
 use Rattle.std.proofs.lemmas.Bool.Decides.{Decides-eqb, nat_tests}
@@ -8,12 +8,12 @@ use Rattle.rr_syntax.specs.Tree.{Tree, Trees, Name, Literal, Bit, Unary, Binary,
 use Rattle.rr_syntax.specs.Expressions.{level, depth, height, WellFormed, WellFormedMore, spell, spell_more, infix_level, is_prefix, unary_level}
 use Rattle.rr_syntax.proofs.Equations.{spell-Name, spell-Literal, spell-Unary, more-End}
 use Rattle.rr_parse_expr.specs.Made.{select_of}
-use Rattle.rr_parse_expr.specs.Reading.{Found, Reader, mapped, chain, or_keep, mark, rest, no_mark, expect, closed, is_between, after_index, select, named, cast_sign, cast_by, system, snoc, parts, parts_from, repeated, after_first, braces, after_mark, operand, left_level, turn, climb, reads_by, reads, nothing}
+use Rattle.rr_parse_expr.specs.Reading.{Reader, mapped, chain, or_keep, mark, rest, no_mark, expect, closed, is_between, after_index, select, named, cast_sign, cast_by, system, snoc, parts, parts_from, repeated, after_first, braces, after_mark, operand, left_level, turn, climb, reads_by, reads, nothing}
 use Rattle.rr_parse_expr.proofs.Tables.{infix_below, level_one}
 use Rattle.rr_parse_expr.proofs.Facts.{infix-no_mark, infix-question, goes_tells, left-binary, left-question}
-use Rattle.rr_parse_expr.proofs.Selects.{IsSelect, is_select}
+use Rattle.rr_parse_expr.proofs.Selects.{is_select}
 use Rattle.rr_parse_expr.proofs.Steps.{climb-stop, climb-none, climb-turn}
-use Rattle.rr_parse_expr.proofs.Climbs.{mapped_tells, chain_tells, expect_tells, if_tells, if_splits, closed_tells, turn_tells, ByClosed, ByBinary, ByCond, Looks, stops, fails, turns, look}
+use Rattle.rr_parse_expr.proofs.Climbs.{mapped_tells, chain_tells, expect_tells, if_tells, if_splits, closed_tells, turn_tells, stops, fails, turns, look}
 use Rattle.rr_parse_expr.proofs.Complete.{words-Binary, words-Cond, words-Paren, words-Cast, words-Bit, words-Select, words-Concat, words-Repeat, words-More, appended, appended-snoc, appended-End}
 
 -- the tree t stands before the words left, at this level and within this depth
@@ -53,7 +53,7 @@ closed_sound sub limit s m h ws p e =
       well = let P : Tree → Type 0 = λ (x : Tree). WellFormed x in subst P b.tree f.1.well;
       deeper = omega (arith, f.0, ap depth b.tree);
       bared = ap bare (sym b.tree) ∙ f.1.bared ∙ b.tree;
-      spelled = f.1.spelled ∙ ap (λ (x : List Word). spell b.inner.0 ++ x) (marked m b.inner.1 b.marked h) ∙ ap (λ (x : Tree). spell x ++ (Marked m ∷ rest b.inner.1)) b.tree ∙ ap (λ (x : List Word). spell p.0 ++ (Marked m ∷ x)) b.left
+      spelled = f.1.spelled ∙ ap (λ (x : List Word). spell b.inner.0 ++ x) (marked m b.inner.1 b.marked h) ∙ ap (λ (x : Tree). spell x ++ (Marked m ∷ rest b.inner.1)) b.tree ∙ ap (λ (x : List Word). spell p.0 ++ (Marked m ∷ x)) b.left;
     }
 
 record PartsFit (limit : ℕ) (have : Trees) (ws : List Word) (p : Trees × List Word) : Type 0 where
@@ -68,7 +68,7 @@ parts_sound : (sub : Reader) (limit : ℕ) → Sound sub limit → (fuel : ℕ) 
 unfolding parts WellFormed height bare
 parts_sound sub limit s zero have ws p e = absurd cc
 parts_sound sub limit s (suc n) have ws p e = elim (if_splits (nat_eq (mark ws) mark_close_brace) (Some (have, rest ws)) (cond (nat_eq (mark ws) mark_comma) (chain (sub 1 (rest ws)) (λ t left. parts sub n (snoc have t) left)) None) p e) [
-    inl h ↦
+  | inl h ↦
       let q : (have, rest ws) ≡ p = cc (h.1) in
       record {
         new = End;
@@ -76,7 +76,7 @@ parts_sound sub limit s (suc n) have ws p e = elim (if_splits (nat_eq (mark ws) 
         well = tt;
         low = omega arith;
         bared = refl;
-        spelled = marked mark_close_brace ws ((Decides-eqb (mark ws) mark_close_brace).0 h.0) (omega arith) ∙ ap (λ (x : Trees × List Word). Marked mark_close_brace ∷ x.1) q ∙ rw more-End refl
+        spelled = marked mark_close_brace ws ((Decides-eqb (mark ws) mark_close_brace).0 h.0) (omega arith) ∙ ap (λ (x : Trees × List Word). Marked mark_close_brace ∷ x.1) q ∙ rw more-End refl;
       }
   | inr h ↦
       let g = if_tells (nat_eq (mark ws) mark_comma) (chain (sub 1 (rest ws)) (λ t left. parts sub n (snoc have t) left)) p h.1 in
@@ -89,8 +89,9 @@ parts_sound sub limit s (suc n) have ws p e = elim (if_splits (nat_eq (mark ws) 
         well = (f.1.well, r.well);
         low = omega (arith, f.0, r.low);
         bared = ap (λ (x : Tree). More x (bare_parts r.new)) f.1.bared ∙ ap (More a.0.0) r.bared;
-        spelled = marked mark_comma ws ((Decides-eqb (mark ws) mark_comma).0 g.0) (omega arith) ∙ ap (λ (x : List Word). Marked mark_comma ∷ x) (f.1.spelled ∙ ap (λ (x : List Word). spell a.0.0 ++ x) r.spelled) ∙ sym (words-More a.0.0 r.new (Marked mark_close_brace ∷ p.1))
-      } ]
+        spelled = marked mark_comma ws ((Decides-eqb (mark ws) mark_comma).0 g.0) (omega arith) ∙ ap (λ (x : List Word). Marked mark_comma ∷ x) (f.1.spelled ∙ ap (λ (x : List Word). spell a.0.0 ++ x) r.spelled) ∙ sym (words-More a.0.0 r.new (Marked mark_close_brace ∷ p.1));
+      }
+]
 
 moved : (limit low : ℕ) (ws : List Word) (t : Tree) (left : List Word) (p : Tree × List Word) → t ≡ p.0 → left ≡ p.1 → Fits limit low ws t left → Fits limit low ws p.0 p.1
 moved limit low ws t left p e f h = record {
@@ -98,7 +99,7 @@ moved limit low ws t left p e f h = record {
   high = omega (arith, ap level e, h.high);
   deep = omega (arith, ap depth e, h.deep);
   bared = ap bare (sym e) ∙ h.bared ∙ e;
-  spelled = h.spelled ∙ ap (λ (x : Tree). spell x ++ left) e ∙ ap (λ (x : List Word). spell p.0 ++ x) f
+  spelled = h.spelled ∙ ap (λ (x : Tree). spell x ++ left) e ∙ ap (λ (x : List Word). spell p.0 ++ x) f;
 }
 
 at_pair : (limit low : ℕ) (ws : List Word) (t : Tree) (left : List Word) (p : Tree × List Word) → Some (t, left) ≡ Some p → Fits limit low ws t left → Fits limit low ws p.0 p.1
@@ -112,14 +113,14 @@ index_sound : (sub : Reader) (limit : ℕ) → Sound sub limit → (s : List ℕ
     Fits limit unary_level (Named s ∷ (Marked mark_open_bracket ∷ (spell t ++ (Marked m ∷ ws)))) p.0 p.1
 unfolding after_index WellFormed level depth bare
 index_sound sub limit s n t m ws p r w d b e = elim (if_splits (nat_eq m mark_close_bracket) (Some (Bit 0 n t, ws)) (cond (is_between m) (mapped (select_of 0 n m t) (closed sub mark_close_bracket ws)) None) p e) [
-    inl h ↦
+  | inl h ↦
       let f : m ≡ mark_close_bracket = (Decides-eqb m mark_close_bracket).0 h.0 in
       at_pair limit unary_level (Named n ∷ (Marked mark_open_bracket ∷ (spell t ++ (Marked m ∷ ws)))) (Bit 0 n t) ws p h.1 (record {
         well = w;
         high = omega arith;
         deep = omega arith;
         bared = ap (Bit 0 n) b;
-        spelled = ap (λ (x : ℕ). Named n ∷ (Marked mark_open_bracket ∷ (spell t ++ (Marked x ∷ ws)))) f ∙ sym (words-Bit 0 n t ws)
+        spelled = ap (λ (x : ℕ). Named n ∷ (Marked mark_open_bracket ∷ (spell t ++ (Marked x ∷ ws)))) f ∙ sym (words-Bit 0 n t ws);
       })
   | inr h ↦
       let g = if_tells (is_between m) (mapped (select_of 0 n m t) (closed sub mark_close_bracket ws)) p h.1 in
@@ -131,8 +132,9 @@ index_sound sub limit s n t m ws p r w d b e = elim (if_splits (nat_eq m mark_cl
         high = omega (arith, k.high);
         deep = omega (arith, k.deep, f.deeper);
         bared = k.bared ∙ ap (λ (x : Tree). select_of 0 n m x (bare c.0.0)) b ∙ ap (select_of 0 n m t) f.bared;
-        spelled = ap (λ (x : List Word). Named n ∷ (Marked mark_open_bracket ∷ (spell t ++ (Marked m ∷ x)))) f.spelled ∙ sym (words-Select 0 n m t c.0.0 (select_of 0 n m t c.0.0) c.0.1 k)
-      }) ]
+        spelled = ap (λ (x : List Word). Named n ∷ (Marked mark_open_bracket ∷ (spell t ++ (Marked m ∷ x)))) f.spelled ∙ sym (words-Select 0 n m t c.0.0 (select_of 0 n m t c.0.0) c.0.1 k);
+      })
+]
 
 between_less : (m : ℕ) → is_between m ≡ true → m < no_mark
 unfolding is_between
@@ -147,8 +149,9 @@ index_mark sub s t (System n ∷ ws) us p e = absurd cc
 index_mark sub s t (Digits n ∷ ws) us p e = absurd cc
 index_mark sub s t (Reserved n ∷ ws) us p e = absurd cc
 index_mark sub s t (Marked m ∷ ws) us p e = elim (nat_eq m mark_close_bracket) as (λ b. nat_eq m mark_close_bracket ≡ b → cond b (Some (Bit 0 s t, us)) (cond (is_between m) (mapped (select_of 0 s m t) (closed sub mark_close_bracket us)) None) ≡ Some p → m < no_mark) [
-    true ↦ λ f g. grind (arith, nat_tests)
-  | false ↦ λ f g. let h = if_tells (is_between m) (mapped (select_of 0 s m t) (closed sub mark_close_bracket us)) p g in between_less m h.0 ] refl e
+  | true ↦ λ f g. grind (arith, nat_tests)
+  | false ↦ λ f g. let h = if_tells (is_between m) (mapped (select_of 0 s m t) (closed sub mark_close_bracket us)) p g in between_less m h.0
+] refl e
 
 select_sound : (sub : Reader) (limit : ℕ) → Sound sub limit → (s : List ℕ) (ws : List Word) (p : Tree × List Word) → select sub s ws ≡ Some p → Fits limit unary_level (Named s ∷ ws) p.0 p.1
 unfolding select
@@ -163,24 +166,27 @@ select_sound sub limit s n ws p e =
       high = g.high;
       deep = g.deep;
       bared = g.bared;
-      spelled = ap (λ (x : List Word). Named n ∷ x) (marked mark_open_bracket ws a.0 (omega arith) ∙ ap (λ (x : List Word). Marked mark_open_bracket ∷ x) (f.1.spelled ∙ ap (λ (x : List Word). spell b.0.0 ++ x) (marked (mark b.0.1) b.0.1 refl l))) ∙ g.spelled
+      spelled = ap (λ (x : List Word). Named n ∷ x) (marked mark_open_bracket ws a.0 (omega arith) ∙ ap (λ (x : List Word). Marked mark_open_bracket ∷ x) (f.1.spelled ∙ ap (λ (x : List Word). spell b.0.0 ++ x) (marked (mark b.0.1) b.0.1 refl l))) ∙ g.spelled;
     }
 
 named_sound : (sub : Reader) (limit : ℕ) → Sound sub limit → (s : List ℕ) (ws : List Word) (p : Tree × List Word) → named sub s ws ≡ Some p → Fits limit unary_level (Named s ∷ ws) p.0 p.1
 unfolding named or_keep WellFormed level depth bare
 named_sound sub limit s n ws p e = elim (select sub n ws) as (λ o. select sub n ws ≡ o → or_keep o (Some (Name 0 n, ws)) (λ t left. Some (t, left)) ≡ Some p → Fits limit unary_level (Named n ∷ ws) p.0 p.1) [
-    None ↦ λ f g. at_pair limit unary_level (Named n ∷ ws) (Name 0 n) ws p g (record { well = tt; high = omega arith; deep = omega arith; bared = refl; spelled = rw spell-Name refl })
-  | Some q ↦ λ f g. at_pair limit unary_level (Named n ∷ ws) q.0 q.1 p g (select_sound sub limit s n ws q f) ] refl e
+  | None ↦ λ f g. at_pair limit unary_level (Named n ∷ ws) (Name 0 n) ws p g (record { well = tt; high = omega arith; deep = omega arith; bared = refl; spelled = rw spell-Name refl })
+  | Some q ↦ λ f g. at_pair limit unary_level (Named n ∷ ws) q.0 q.1 p g (select_sound sub limit s n ws q f)
+] refl e
 
 -- ---- casts
 
 sign_tells : (s : List ℕ) (signed : Bool) → cast_sign s ≡ Some signed → s ≡ cond signed (codes "signed") (codes "unsigned")
 unfolding cast_sign
 sign_tells s signed e = elim (bytes_eq s (codes "signed")) as (λ b. bytes_eq s (codes "signed") ≡ b → cond b (Some true) (cond (bytes_eq s (codes "unsigned")) (Some false) None) ≡ Some signed → s ≡ cond signed (codes "signed") (codes "unsigned")) [
-    true ↦ λ f g. let h : true ≡ signed = cc (g) in (bytes_eq-Decides s (codes "signed")).0 f ∙ ap (λ (b : Bool). cond b (codes "signed") (codes "unsigned")) h
+  | true ↦ λ f g. let h : true ≡ signed = cc (g) in (bytes_eq-Decides s (codes "signed")).0 f ∙ ap (λ (b : Bool). cond b (codes "signed") (codes "unsigned")) h
   | false ↦ λ f g. elim (bytes_eq s (codes "unsigned")) as (λ b. bytes_eq s (codes "unsigned") ≡ b → cond b (Some false) None ≡ Some signed → s ≡ cond signed (codes "signed") (codes "unsigned")) [
-        true ↦ λ k l. let h : false ≡ signed = cc (l) in (bytes_eq-Decides s (codes "unsigned")).0 k ∙ ap (λ (b : Bool). cond b (codes "signed") (codes "unsigned")) h
-      | false ↦ λ k l. absurd (cc (l)) ] refl g ] refl e
+    | true ↦ λ k l. let h : false ≡ signed = cc (l) in (bytes_eq-Decides s (codes "unsigned")).0 k ∙ ap (λ (b : Bool). cond b (codes "signed") (codes "unsigned")) h
+    | false ↦ λ k l. absurd (cc (l))
+  ] refl g
+] refl e
 
 cast_sound : (sub : Reader) (limit : ℕ) → Sound sub limit → (s : List ℕ) (signed : Bool) (ws : List Word) (p : Tree × List Word) → s ≡ cond signed (codes "signed") (codes "unsigned") → cast_by sub (Some signed) ws ≡ Some p → Fits limit unary_level (System s ∷ ws) p.0 p.1
 unfolding cast_by WellFormed level depth bare
@@ -193,7 +199,7 @@ cast_sound sub limit s n signed ws p h e =
       high = omega arith;
       deep = omega (arith, f.deeper);
       bared = ap (Cast signed) f.bared;
-      spelled = ap (λ (x : List ℕ). System x ∷ ws) h ∙ ap (λ (x : List Word). System (cond signed (codes "signed") (codes "unsigned")) ∷ x) (marked mark_open_parenthesis ws a.0 (omega arith) ∙ ap (λ (x : List Word). Marked mark_open_parenthesis ∷ x) f.spelled) ∙ sym (words-Cast signed c.0.0 c.0.1)
+      spelled = ap (λ (x : List ℕ). System x ∷ ws) h ∙ ap (λ (x : List Word). System (cond signed (codes "signed") (codes "unsigned")) ∷ x) (marked mark_open_parenthesis ws a.0 (omega arith) ∙ ap (λ (x : List Word). Marked mark_open_parenthesis ∷ x) f.spelled) ∙ sym (words-Cast signed c.0.0 c.0.1);
     })
 
 no_cast : (sub : Reader) (ws : List Word) (p : Tree × List Word) → cast_by sub None ws ≡ Some p → ⊥
@@ -203,8 +209,9 @@ no_cast sub ws p e = cc
 system_sound : (sub : Reader) (limit : ℕ) → Sound sub limit → (s : List ℕ) (ws : List Word) (p : Tree × List Word) → system sub s ws ≡ Some p → Fits limit unary_level (System s ∷ ws) p.0 p.1
 unfolding system
 system_sound sub limit s n ws p e = elim (cast_sign n) as (λ o. cast_sign n ≡ o → cast_by sub o ws ≡ Some p → Fits limit unary_level (System n ∷ ws) p.0 p.1) [
-    None ↦ λ f g. absurd (no_cast sub ws p g)
-  | Some signed ↦ λ f g. cast_sound sub limit s n signed ws p (sign_tells n signed f) g ] refl e
+  | None ↦ λ f g. absurd (no_cast sub ws p g)
+  | Some signed ↦ λ f g. cast_sound sub limit s n signed ws p (sign_tells n signed f) g
+] refl e
 
 -- ---- braces
 
@@ -219,7 +226,7 @@ concat_sound sub limit s t ws p w d b e =
       high = omega arith;
       deep = omega (arith, r.low);
       bared = ap (λ (x : Tree). Concat (More x (bare_parts r.new))) b ∙ ap (λ (x : Trees). Concat (More t x)) r.bared;
-      spelled = ap (λ (x : List Word). Marked mark_open_brace ∷ (spell t ++ x)) r.spelled ∙ sym (words-Concat t r.new c.0.1)
+      spelled = ap (λ (x : List Word). Marked mark_open_brace ∷ (spell t ++ x)) r.spelled ∙ sym (words-Concat t r.new c.0.1);
     })
 
 repeat_sound : (sub : Reader) (limit : ℕ) → Sound sub limit → (t : Tree) (ws : List Word) (p : Tree × List Word) → WellFormed t → depth t < limit → bare t ≡ t → repeated sub t ws ≡ Some p →
@@ -237,7 +244,7 @@ repeat_sound sub limit s t ws p w d b e =
       high = omega arith;
       deep = omega (arith, f.0, r.low);
       bared = ap (λ (x : Tree). Repeat x (More (bare a.0.0) (bare_parts r.new))) b ∙ ap (λ (x : Tree). Repeat t (More x (bare_parts r.new))) f.1.bared ∙ ap (λ (x : Trees). Repeat t (More a.0.0 x)) r.bared;
-      spelled = ap (λ (x : List Word). Marked mark_open_brace ∷ (spell t ++ (Marked mark_open_brace ∷ x))) (f.1.spelled ∙ ap (λ (x : List Word). spell a.0.0 ++ x) (r.spelled ∙ ap (λ (x : List Word). spell_more r.new ++ (Marked mark_close_brace ∷ x)) (marked mark_close_brace c.0.1 k.0 (omega arith)))) ∙ sym (words-Repeat t a.0.0 r.new (rest c.0.1))
+      spelled = ap (λ (x : List Word). Marked mark_open_brace ∷ (spell t ++ (Marked mark_open_brace ∷ x))) (f.1.spelled ∙ ap (λ (x : List Word). spell a.0.0 ++ x) (r.spelled ∙ ap (λ (x : List Word). spell_more r.new ++ (Marked mark_close_brace ∷ x)) (marked mark_close_brace c.0.1 k.0 (omega arith)))) ∙ sym (words-Repeat t a.0.0 r.new (rest c.0.1));
     })
 
 braces_sound : (sub : Reader) (limit : ℕ) → Sound sub limit → (ws : List Word) (p : Tree × List Word) → braces sub ws ≡ Some p → Fits limit unary_level (Marked mark_open_brace ∷ ws) p.0 p.1
@@ -246,23 +253,30 @@ braces_sound sub limit s ws p e =
     let a = chain_tells (sub 1 ws) (λ t left. after_first sub t left) p e in
     let f = s 1 ws a.0 (omega arith) (omega arith) a.1 in
     elim (if_splits (nat_eq (mark a.0.1) mark_open_brace) (repeated sub a.0.0 (rest a.0.1)) (mapped Concat (parts_from sub a.0.0 a.0.1)) p a.2) [
-        inl h ↦
+      | inl h ↦
           let g = repeat_sound sub limit s a.0.0 (rest a.0.1) p f.1.well f.0 f.1.bared h.1 in
           record {
-            well = g.well; high = g.high; deep = g.deep; bared = g.bared;
-            spelled = ap (λ (x : List Word). Marked mark_open_brace ∷ x) (f.1.spelled ∙ ap (λ (x : List Word). spell a.0.0 ++ x) (marked mark_open_brace a.0.1 ((Decides-eqb (mark a.0.1) mark_open_brace).0 h.0) (omega arith))) ∙ g.spelled
+            well = g.well;
+            high = g.high;
+            deep = g.deep;
+            bared = g.bared;
+            spelled = ap (λ (x : List Word). Marked mark_open_brace ∷ x) (f.1.spelled ∙ ap (λ (x : List Word). spell a.0.0 ++ x) (marked mark_open_brace a.0.1 ((Decides-eqb (mark a.0.1) mark_open_brace).0 h.0) (omega arith))) ∙ g.spelled;
           }
       | inr h ↦
           let g = concat_sound sub limit s a.0.0 a.0.1 p f.1.well f.0 f.1.bared h.1 in
           record {
-            well = g.well; high = g.high; deep = g.deep; bared = g.bared;
-            spelled = ap (λ (x : List Word). Marked mark_open_brace ∷ x) f.1.spelled ∙ g.spelled
-          } ]
+            well = g.well;
+            high = g.high;
+            deep = g.deep;
+            bared = g.bared;
+            spelled = ap (λ (x : List Word). Marked mark_open_brace ∷ x) f.1.spelled ∙ g.spelled;
+          }
+    ]
 
 after_mark_sound : (sub : Reader) (limit : ℕ) → Sound sub limit → (m : ℕ) (ws : List Word) (p : Tree × List Word) → after_mark sub m ws ≡ Some p → Fits limit unary_level (Marked m ∷ ws) p.0 p.1
 unfolding after_mark WellFormed level depth bare
 after_mark_sound sub limit s m ws p e = elim (if_splits (is_prefix m) (mapped (Unary m) (sub unary_level ws)) (cond (nat_eq m mark_open_parenthesis) (mapped Paren (closed sub mark_close_parenthesis ws)) (cond (nat_eq m mark_open_brace) (braces sub ws) None)) p e) [
-    inl h ↦
+  | inl h ↦
       let c = mapped_tells (Unary m) (sub unary_level ws) p h.1 in
       let f = s unary_level ws c.0 (omega arith) (omega arith) c.1 in
       moved limit unary_level (Marked m ∷ ws) (Unary m c.0.0) c.0.1 p c.2 c.3 (record {
@@ -270,26 +284,31 @@ after_mark_sound sub limit s m ws p e = elim (if_splits (is_prefix m) (mapped (U
         high = omega arith;
         deep = omega (arith, f.0);
         bared = ap (Unary m) f.1.bared;
-        spelled = ap (λ (x : List Word). Marked m ∷ x) f.1.spelled ∙ rw spell-Unary refl
+        spelled = ap (λ (x : List Word). Marked m ∷ x) f.1.spelled ∙ rw spell-Unary refl;
       })
   | inr h ↦ elim (if_splits (nat_eq m mark_open_parenthesis) (mapped Paren (closed sub mark_close_parenthesis ws)) (cond (nat_eq m mark_open_brace) (braces sub ws) None) p h.1) [
-        inl g ↦
-          let c = mapped_tells Paren (closed sub mark_close_parenthesis ws) p g.1 in
-          let f = closed_sound sub limit s mark_close_parenthesis (omega arith) ws c.0 c.1 in
-          moved limit unary_level (Marked m ∷ ws) (Paren c.0.0) c.0.1 p c.2 c.3 (record {
-            well = f.well;
-            high = omega arith;
-            deep = omega (arith, f.deeper);
-            bared = ap Paren f.bared;
-            spelled = ap (λ (x : ℕ). Marked x ∷ ws) ((Decides-eqb m mark_open_parenthesis).0 g.0) ∙ ap (λ (x : List Word). Marked mark_open_parenthesis ∷ x) f.spelled ∙ sym (words-Paren c.0.0 c.0.1)
-          })
-      | inr g ↦
-          let k = if_tells (nat_eq m mark_open_brace) (braces sub ws) p g.1 in
-          let f = braces_sound sub limit s ws p k.1 in
-          record {
-            well = f.well; high = f.high; deep = f.deep; bared = f.bared;
-            spelled = ap (λ (x : ℕ). Marked x ∷ ws) ((Decides-eqb m mark_open_brace).0 k.0) ∙ f.spelled
-          } ] ]
+    | inl g ↦
+        let c = mapped_tells Paren (closed sub mark_close_parenthesis ws) p g.1 in
+        let f = closed_sound sub limit s mark_close_parenthesis (omega arith) ws c.0 c.1 in
+        moved limit unary_level (Marked m ∷ ws) (Paren c.0.0) c.0.1 p c.2 c.3 (record {
+          well = f.well;
+          high = omega arith;
+          deep = omega (arith, f.deeper);
+          bared = ap Paren f.bared;
+          spelled = ap (λ (x : ℕ). Marked x ∷ ws) ((Decides-eqb m mark_open_parenthesis).0 g.0) ∙ ap (λ (x : List Word). Marked mark_open_parenthesis ∷ x) f.spelled ∙ sym (words-Paren c.0.0 c.0.1);
+        })
+    | inr g ↦
+        let k = if_tells (nat_eq m mark_open_brace) (braces sub ws) p g.1 in
+        let f = braces_sound sub limit s ws p k.1 in
+        record {
+          well = f.well;
+          high = f.high;
+          deep = f.deep;
+          bared = f.bared;
+          spelled = ap (λ (x : ℕ). Marked x ∷ ws) ((Decides-eqb m mark_open_brace).0 k.0) ∙ f.spelled;
+        }
+  ]
+]
 
 operand_sound : (sub : Reader) (limit : ℕ) → Sound sub limit → (ws : List Word) (p : Tree × List Word) → operand sub ws ≡ Some p → Fits limit unary_level ws p.0 p.1
 unfolding operand WellFormed level depth bare
@@ -320,14 +339,15 @@ operator low (Marked m ∷ ws) a b = refl
 
 above_one : (m : ℕ) → nat_eq m mark_question ≡ false → 1 ≤ infix_level m → 1 < infix_level m
 above_one m e h = elim (nat_eq (infix_level m) 1) as (λ b. nat_eq (infix_level m) 1 ≡ b → 1 < infix_level m) [
-    true ↦ λ f. absurd (other m e (level_one m ((Decides-eqb (infix_level m) 1).0 f)))
-  | false ↦ λ f. apart (infix_level m) f h ] refl
+  | true ↦ λ f. absurd (other m e (level_one m ((Decides-eqb (infix_level m) 1).0 f)))
+  | false ↦ λ f. apart (infix_level m) f h
+] refl
 
 turn_sound : (sub : Reader) (limit low : ℕ) → Sound sub limit → 1 ≤ low → (t : Tree) (m : ℕ) (ws : List Word) (p : Tree × List Word) → WellFormed t → bare t ≡ t → low ≤ infix_level m → left_level m ≤ level t → depth t < limit →
     turn sub t m ws ≡ Some p → Fits limit low (spell t ++ (Marked m ∷ ws)) p.0 p.1
 unfolding WellFormed level depth bare
 turn_sound sub limit low s a t m ws p w v h l d e = elim (turn_tells sub t m ws p e) [
-    inl b ↦
+  | inl b ↦
       let pos : 1 < infix_level m = above_one m b.other (omega (arith, h)) in
       let f = s (suc (infix_level m)) ws b.right (omega arith) (omega (arith, infix_below m)) b.read in
       moved limit low (spell t ++ (Marked m ∷ ws)) (Binary m t b.right.0) b.right.1 p b.tree b.left (record {
@@ -335,7 +355,7 @@ turn_sound sub limit low s a t m ws p w v h l d e = elim (turn_tells sub t m ws 
         high = h;
         deep = omega (arith, f.0, d);
         bared = ap (λ (x : Tree). Binary m x (bare b.right.0)) v ∙ ap (Binary m t) f.1.bared;
-        spelled = ap (λ (x : List Word). spell t ++ (Marked m ∷ x)) f.1.spelled ∙ sym (words-Binary m t b.right.0 b.right.1)
+        spelled = ap (λ (x : List Word). spell t ++ (Marked m ∷ x)) f.1.spelled ∙ sym (words-Binary m t b.right.0 b.right.1);
       })
   | inr b ↦
       let f = closed_sound sub limit s mark_colon (omega arith) ws b.middle b.read in
@@ -345,24 +365,29 @@ turn_sound sub limit low s a t m ws p w v h l d e = elim (turn_tells sub t m ws 
         high = omega (arith, ap infix_level b.is_question, infix-question, h);
         deep = omega (arith, f.deeper, g.0, d);
         bared = ap (λ (x : Tree). Cond x (bare b.middle.0) (bare b.last.0)) v ∙ ap (λ (x : Tree). Cond t x (bare b.last.0)) f.bared ∙ ap (Cond t b.middle.0) g.1.bared;
-        spelled = ap (λ (x : ℕ). spell t ++ (Marked x ∷ ws)) b.is_question ∙ ap (λ (x : List Word). spell t ++ (Marked mark_question ∷ x)) (f.spelled ∙ ap (λ (x : List Word). spell b.middle.0 ++ (Marked mark_colon ∷ x)) g.1.spelled) ∙ sym (words-Cond t b.middle.0 b.last.0 b.last.1)
-      }) ]
+        spelled = ap (λ (x : ℕ). spell t ++ (Marked x ∷ ws)) b.is_question ∙ ap (λ (x : List Word). spell t ++ (Marked mark_question ∷ x)) (f.spelled ∙ ap (λ (x : List Word). spell b.middle.0 ++ (Marked mark_colon ∷ x)) g.1.spelled) ∙ sym (words-Cond t b.middle.0 b.last.0 b.last.1);
+      })
+]
 
 climb_sound : (sub : Reader) (limit low : ℕ) → Sound sub limit → 1 ≤ low → (n : ℕ) (t : Tree) (ws : List Word) (p : Tree × List Word) → WellFormed t → bare t ≡ t → low ≤ level t → depth t ≤ limit →
     climb sub limit low n t ws ≡ Some p → Fits limit low (spell t ++ ws) p.0 p.1
 unfolding climb
 climb_sound sub limit low s a zero t ws p w v h d e = at_pair limit low (spell t ++ ws) t ws p e (record { well = w; high = h; deep = d; bared = v; spelled = refl })
 climb_sound sub limit low s a (suc n) t ws p w v h d e = elim (look sub limit low t ws) [
-    stops g ↦ at_pair limit low (spell t ++ ws) t ws p (sym (climb-stop sub limit low (suc n) t ws g) ∙ e) (record { well = w; high = h; deep = d; bared = v; spelled = refl })
+  | stops g ↦ at_pair limit low (spell t ++ ws) t ws p (sym (climb-stop sub limit low (suc n) t ws g) ∙ e) (record { well = w; high = h; deep = d; bared = v; spelled = refl })
   | fails g f ↦ at_pair limit low (spell t ++ ws) t ws p (sym (climb-none sub limit low (suc n) t ws g f) ∙ e) (record { well = w; high = h; deep = d; bared = v; spelled = refl })
   | turns q g f ↦
       let told = goes_tells limit low t (mark ws) g in
       let r = turn_sound sub limit low s a t (mark ws) (rest ws) q w v told.0 told.1 told.2 f in
       let k = climb_sound sub limit low s a n q.0 q.1 p r.well r.bared r.high r.deep (sym (climb-turn sub limit low n t ws q g f) ∙ e) in
       record {
-        well = k.well; high = k.high; deep = k.deep; bared = k.bared;
-        spelled = ap (λ (x : List Word). spell t ++ x) (operator low ws a told.0) ∙ r.spelled ∙ k.spelled
-      } ]
+        well = k.well;
+        high = k.high;
+        deep = k.deep;
+        bared = k.bared;
+        spelled = ap (λ (x : List Word). spell t ++ x) (operator low ws a told.0) ∙ r.spelled ∙ k.spelled;
+      }
+]
 
 reads_by_sound : (sub : Reader) (limit low : ℕ) → Sound sub limit → 1 ≤ low → low ≤ unary_level → (ws : List Word) (p : Tree × List Word) → reads_by sub limit low ws ≡ Some p → Fits limit low ws p.0 p.1
 unfolding reads_by

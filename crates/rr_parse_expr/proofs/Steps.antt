@@ -1,13 +1,13 @@
 -- The equations of the reading function, a step at a time.
-use Rattle.std.proofs.Common.{◌≡◌, ℕ, zero, suc, ◌<◌, List, [], ◌∷◌, length, codes, refl, ap, ◌∙◌, sym, arith, Bool, true, false, cond, nat_eq, Option, Some, None}
+use Rattle.std.proofs.Common.{◌≡◌, ℕ, zero, suc, ◌<◌, List, ◌∷◌, codes, refl, Bool, true, false, cond, nat_eq, Some, None}
 use Rattle.rr_syntax.specs.declared.token.Number.{Number}
-use Rattle.rr_syntax.specs.Words.{Word, Named, System, Digits, Marked, Reserved, mark_open_parenthesis, mark_close_parenthesis, mark_open_bracket, mark_close_bracket, mark_open_brace, mark_close_brace, mark_comma, mark_colon, mark_question}
-use Rattle.rr_syntax.specs.Tree.{Tree, Trees, Name, Literal, Bit, Unary, Binary, Cond, Concat, Repeat, Cast, Paren, End, More}
+use Rattle.rr_syntax.specs.Words.{Word, Named, System, Digits, Marked, mark_open_parenthesis, mark_close_parenthesis, mark_open_bracket, mark_close_bracket, mark_open_brace, mark_close_brace, mark_comma, mark_colon, mark_question}
+use Rattle.rr_syntax.specs.Tree.{Tree, Trees, Name, Literal, Bit, Unary, Binary, Cond, Concat, Repeat, Cast, Paren}
 use Rattle.rr_syntax.specs.Expressions.{infix_level, is_prefix, unary_level}
 use Rattle.rr_parse_expr.specs.Made.{select_of}
-use Rattle.rr_parse_expr.specs.Reading.{Found, Reader, mapped, chain, or_keep, mark, rest, no_mark, expect, closed, is_between, after_index, select, named, cast_sign, cast_by, system, snoc, parts, parts_from, repeated, after_first, braces, after_mark, operand, goes_on, left_level, turn, climb, reads_by, reads, below, nothing}
+use Rattle.rr_parse_expr.specs.Reading.{Reader, mapped, chain, or_keep, mark, rest, expect, closed, is_between, after_index, select, named, cast_sign, cast_by, system, snoc, parts, parts_from, repeated, after_first, braces, after_mark, operand, goes_on, turn, climb, reads_by, reads, below}
 use Rattle.std.proofs.lemmas.Bool.Decides.{Decides-eqb}
-use Rattle.rr_parse_expr.proofs.Facts.{goes_deep, binary-other}
+use Rattle.rr_parse_expr.proofs.Facts.{binary-other}
 
 pub reads-below : (limit low : ℕ) (ws : List Word) → reads limit low ws ≡ reads_by (below limit) limit low ws
 unfolding reads below
@@ -92,8 +92,9 @@ index-bit sub s t m ws e = rw e refl
 not_close : (m : ℕ) → is_between m ≡ true → nat_eq m mark_close_bracket ≡ false
 unfolding is_between
 not_close m e = elim (nat_eq m mark_close_bracket) as (λ b. nat_eq m mark_close_bracket ≡ b → nat_eq m mark_close_bracket ≡ false) [
-    true ↦ λ f. absurd (let h : m ≡ mark_close_bracket = (Decides-eqb m mark_close_bracket).0 f in cc (rw h at e))
-  | false ↦ λ f. f ] refl
+  | true ↦ λ f. absurd (let h : m ≡ mark_close_bracket = (Decides-eqb m mark_close_bracket).0 f in cc (rw h at e))
+  | false ↦ λ f. f
+] refl
 
 pub index-part : (sub : Reader) (s : List ℕ) (t : Tree) (m : ℕ) (ws : List Word) (p : Tree × List Word) → is_between m ≡ true → closed sub mark_close_bracket ws ≡ Some p →
     after_index sub s t m ws ≡ Some (select_of 0 s m t p.0, p.1)

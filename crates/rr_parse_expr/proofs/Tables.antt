@@ -1,5 +1,5 @@
 -- Rules of the table of levels, each from a test that computes over the whole of it.
-use Rattle.std.proofs.Common.{◌≡◌, ℕ, zero, suc, ◌+◌, ◌≤◌, sym, ap, ◌<◌, List, [], ◌∷◌, get_or, refl, arith, Bool, true, false, ◌&&◌, ◌||◌, nat_lt, nat_eq, not}
+use Rattle.std.proofs.Common.{◌≡◌, ℕ, zero, suc, ◌+◌, ◌≤◌, ap, ◌<◌, List, [], ◌∷◌, get_or, refl, arith, Bool, true, false, ◌&&◌, ◌||◌, nat_lt, nat_eq, not}
 use Rattle.std.proofs.lemmas.List.{get_or_past}
 use Rattle.std.proofs.lemmas.Bool.Decides.{nat_tests}
 use Rattle.rr_syntax.specs.Words.{mark_question}

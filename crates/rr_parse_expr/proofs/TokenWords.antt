@@ -2,7 +2,7 @@
 use Rattle.std.proofs.Common.{◌≡◌, ℕ, zero, suc, ◌+◌, ◌≤◌, ◌<◌, List, [], ◌∷◌, length, get_or, drop, refl, ap, sym, arith}
 use Rattle.std.proofs.Math.Seq.{drop-nil}
 use Rattle.rr_syntax.specs.declared.token.Token.{Token}
-use Rattle.rr_syntax.specs.Words.{Word, word, words}
+use Rattle.rr_syntax.specs.Words.{word, words}
 
 pub length_words : (ts : List Token) → length (words ts) ≡ length ts
 unfolding words

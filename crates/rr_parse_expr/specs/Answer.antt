@@ -8,7 +8,7 @@ use Rattle.rr_syntax.specs.Expressions.{spell, spell_more, depth, height, Number
 use Rattle.rr_syntax.specs.View.{plain, plain_list}
 use Rattle.rr_parse_expr.specs.declared.nodes.Read.{Read}
 use Rattle.rr_parse_expr.specs.declared.nodes.End as ending
-use Rattle.rr_parse_expr.specs.Reading.{Found, Reader, climb, below}
+use Rattle.rr_parse_expr.specs.Reading.{Found, Reader, climb}
 
 -- the tree of a node with every token number 0
 abbrev pub form : Expr → Tree

@@ -59,7 +59,6 @@ closed sub m ws = chain (sub 1 ws) (λ t left. expect m (λ after. Some (t, afte
 unfoldable pub is_between : ℕ → Bool
 is_between m = (m == mark_colon) || (m == mark_part_up) || (m == mark_part_down)
 
-
 -- after the first expression of a select, and the mark behind it
 unfoldable pub after_index : Reader → List ℕ → Tree → ℕ → List Word → Found Tree
 after_index sub s t m ws =

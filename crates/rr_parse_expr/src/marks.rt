@@ -11,16 +11,27 @@ use rr_syntax::{Expr, Kind, Token};
 
 /// What stands for the mark where no mark stands.
 pub(crate) const NO_MARK: u8 = 255;
+
 pub(crate) const OPEN_PARENTHESIS: u8 = 0;
+
 pub(crate) const CLOSE_PARENTHESIS: u8 = 1;
+
 pub(crate) const OPEN_BRACKET: u8 = 2;
+
 pub(crate) const CLOSE_BRACKET: u8 = 3;
+
 pub(crate) const OPEN_BRACE: u8 = 4;
+
 pub(crate) const CLOSE_BRACE: u8 = 5;
+
 pub(crate) const COMMA: u8 = 6;
+
 pub(crate) const COLON: u8 = 8;
+
 pub(crate) const QUESTION: u8 = 12;
+
 pub(crate) const PART_UP: u8 = 43;
+
 pub(crate) const PART_DOWN: u8 = 44;
 
 /// The level of an operator before one operand, above those between two.
@@ -53,7 +64,11 @@ pub(crate) fn is_prefix(mark: u8) -> bool
     ensures { result ≡ prefix_of mark }
 {
     let at = mark as usize;
-    if at < PREFIXES.len() { PREFIXES[at] == 1 } else { false }
+    if at < PREFIXES.len() {
+        PREFIXES[at] == 1
+    } else {
+        false
+    }
 }
 
 /// How tightly the outermost node binds.
@@ -97,7 +112,11 @@ pub(crate) fn goes_on(left: &Read, mark: u8, low: u8, limit: u32) -> bool
     requires { left.now.depth ≡ depth_of (plain left.now.expr) }
     ensures { result ≡ goes_on_of limit low (plain left.now.expr) mark }
 {
-    let needed = if mark == QUESTION { 2 } else { infix_level(mark) };
+    let needed = if mark == QUESTION {
+        2
+    } else {
+        infix_level(mark)
+    };
     low <= infix_level(mark) && needed <= level(&left.expr) && left.depth < limit
 }
 

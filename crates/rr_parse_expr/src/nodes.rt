@@ -106,11 +106,22 @@ pub(crate) fn part<'a>(
     let depth = first.depth.max(second.depth) + 1;
     let next = second.next;
     if mark == COLON {
-        let expr = Expr::Part { token, name, left, right };
+        let expr = Expr::Part {
+            token,
+            name,
+            left,
+            right,
+        };
         Ok(Read { expr, next, depth })
     } else {
         let up = mark == PART_UP;
-        let expr = Expr::Indexed { token, name, from: left, width: right, up };
+        let expr = Expr::Indexed {
+            token,
+            name,
+            from: left,
+            width: right,
+            up,
+        };
         Ok(Read { expr, next, depth })
     }
 }
@@ -139,7 +150,10 @@ pub(crate) fn repeat<'a>(
 {
     let times = arena.try_alloc(count.expr)?;
     Ok(Read {
-        expr: Expr::Repeat { count: times, parts },
+        expr: Expr::Repeat {
+            count: times,
+            parts,
+        },
         next: end.next + 1,
         depth: (count.depth + 1).max(end.depth),
     })
@@ -159,7 +173,11 @@ pub(crate) fn binary<'a>(
     let first = arena.try_alloc(left.expr)?;
     let second = arena.try_alloc(right.expr)?;
     Ok(Read {
-        expr: Expr::Binary { op: Mark(op), left: first, right: second },
+        expr: Expr::Binary {
+            op: Mark(op),
+            left: first,
+            right: second,
+        },
         next: right.next,
         depth: left.depth.max(right.depth) + 1,
     })
@@ -188,7 +206,10 @@ pub(crate) fn cond<'a>(
 }
 
 /// Adds a part of a list.
-pub(crate) fn add_part<'a>(parts: &mut Vec<Expr<'a>, &'a Bump>, part: Expr<'a>) -> Result<(), AllocError>
+pub(crate) fn add_part<'a>(
+    parts: &mut Vec<Expr<'a>, &'a Bump>,
+    part: Expr<'a>,
+) -> Result<(), AllocError>
     ensures { IfOk result (λ _. parts.new.items ≡ parts.old.items ++ (part.entry ∷ [])) }
 {
     parts.push(part)?;

@@ -69,7 +69,11 @@ fn closed<'a>(
                 return Ok(None);
             }
             let next = inner.next + 1;
-            Ok(Some(Read { expr: inner.expr, next, depth: inner.depth }))
+            Ok(Some(Read {
+                expr: inner.expr,
+                next,
+                depth: inner.depth,
+            }))
         }
     }
 }
@@ -91,8 +95,15 @@ fn operand<'a>(
             Kind::Name(name) => named(tokens, from, name, limit, arena),
             Kind::System(name) => system(tokens, from, name, limit, arena),
             Kind::Number(number) => {
-                let expr = Expr::Literal { token: from, number };
-                Ok(Some(Read { expr, next: from + 1, depth: 0 }))
+                let expr = Expr::Literal {
+                    token: from,
+                    number,
+                };
+                Ok(Some(Read {
+                    expr,
+                    next: from + 1,
+                    depth: 0,
+                }))
             }
             Kind::Keyword(_) => Ok(None),
             Kind::Mark(mark) => after_mark(tokens, from, mark, limit, arena),
@@ -148,7 +159,11 @@ fn named<'a>(
     match select(tokens, from, name, limit, arena)? {
         None => {
             let expr = Expr::Name { token: from, name };
-            Ok(Some(Read { expr, next: from + 1, depth: 0 }))
+            Ok(Some(Read {
+                expr,
+                next: from + 1,
+                depth: 0,
+            }))
         }
         Some(read) => Ok(Some(read)),
     }
@@ -324,7 +339,10 @@ fn parts_from<'a>(
         }
     }
     if mark_at(tokens, next) == CLOSE_BRACE {
-        Ok(Some(End { next: next + 1, depth }))
+        Ok(Some(End {
+            next: next + 1,
+            depth,
+        }))
     } else {
         Ok(None)
     }

@@ -1,5 +1,4 @@
 use Rattle.std.proofs.Common.{refl}
-use Rattle.rr_syntax.specs.Expressions.{unary_level}
 use Rattle.rr_parse_expr.specs.Exact.{IsExpression}
 use Rattle.rr_parse_expr.proofs.Exactly.{expressions_read, is_longest, none_begins}
 use Rattle.rr_parse_expr.proofs.expression.expr_within.Goals as goal

@@ -1,8 +1,8 @@
-use Rattle.std.proofs.Common.{◌≡◌, refl, ap, ◌∙◌, ℕ, ◌+◌, max, nat_eq, List}
+use Rattle.std.proofs.Common.{refl, ap, ◌∙◌}
 use Rattle.rr_syntax.specs.declared.tree.Expr.{Expr}
-use Rattle.rr_syntax.specs.Tree.{Tree, Trees, Bit, Part, Indexed, Unary, Binary, Cond, Concat, Repeat, Cast, Paren}
-use Rattle.rr_syntax.specs.View.{plain, plain_list}
-use Rattle.rr_syntax.proofs.Rows.{plain_bit, plain_part, plain_indexed, plain_unary, plain_binary, plain_cond, plain_concat, plain_repeat, plain_cast, plain_paren}
+use Rattle.rr_syntax.specs.Tree.{Unary}
+use Rattle.rr_syntax.specs.View.{plain}
+use Rattle.rr_syntax.proofs.Rows.{plain_unary}
 use denote.MutBor.{as_bor}
 use Rattle.rr_parse_expr.proofs.nodes.unary.Goals as goal
 

@@ -1,4 +1,4 @@
-use Rattle.std.proofs.Common.{rules, ◌≡◌, ◌<◌, ◌≤◌, ◌^◌, length, ℕ, ◌+◌, ◌-◌, drop, refl, sym, ap, ◌∙◌, suc, subst, arith, Option, Some, None, Bool, true, false}
+use Rattle.std.proofs.Common.{◌≡◌, ◌<◌, ℕ, ◌+◌, ◌-◌, drop, refl, sym, ap, ◌∙◌, suc, subst, arith, Option}
 use Rattle.rr_syntax.specs.Words.{words, mark_close_parenthesis, mark_open_parenthesis, mark_open_bracket, mark_close_bracket, mark_open_brace, mark_close_brace, mark_comma, mark_colon}
 use Rattle.rr_syntax.specs.Expressions.{infix_level, unary_level}
 use Rattle.rr_syntax.specs.View.{plain}
@@ -27,7 +27,7 @@ pub after_index-returns-in-None : goal.after_index-returns-in-None
 after_index-returns-in-None t c = index_open c.args.tokens.now c.args.limit c.args.name.now (form c.args.first.expr) (mark (drop c.args.first.next (words c.args.tokens.now))) (c.args.first.next + 1) (ap is_between (sym c.mark_at-between.ensures) ∙ sym c.is_between.ensures ∙ c.if-not-is_between.false) (none_closed c.args.tokens.now (c.args.first.next + 1) c.args.limit mark_close_bracket c.in_ok-closed.field-0 c.in-None.is c.in_ok-closed.ensures)
 
 pub after_index-returns-in_ok-part-in-Some : goal.after_index-returns-in_ok-part-in-Some
-after_index-returns-in_ok-part-in-Some t c = 
+after_index-returns-in_ok-part-in-Some t c =
     let P : ℕ → Type 0 = λ (m : ℕ). Finds c.args.tokens.now c.args.from c.args.limit (after_index (below c.args.limit) c.args.name.now (form c.args.first.expr) m (drop (c.args.first.next + 1) (words c.args.tokens.now))) c.in_ok-part-in-Some.field-0 in
     subst P c.mark_at-between.ensures (made_part c.args.tokens.now c.args.from c.args.limit c.args.name.now c.mark_at-between.result c.args.first c.in-Some.second c.in_ok-part-in-Some.field-0 c.requires.1.1.1.1 (sym c.is_between.ensures ∙ c.if-not-is_between.false) (picks_closed c.args.tokens.now (c.args.first.next + 1) c.args.limit mark_close_bracket c.in_ok-closed.field-0 c.in-Some.second c.in-Some.is c.in_ok-closed.ensures) c.in_ok-part-in-Some.ensures)
 
@@ -53,7 +53,7 @@ pub braces-returns-in-None : goal.braces-returns-in-None
 braces-returns-in-None t c = braces-none (below c.args.limit) (drop (c.args.from + 1) (words c.args.tokens.now)) (none_below c.args.tokens.now (c.args.from + 1) c.args.limit 1 c.in_ok-read_at.field-0 c.in-None.is c.in_ok-read_at.ensures)
 
 pub braces-repeated-requires : goal.braces-repeated-requires
-braces-repeated-requires t c = 
+braces-repeated-requires t c =
     let f = (picks_below c.args.tokens.now (c.args.from + 1) c.args.limit 1 c.in_ok-read_at.field-0 c.in-Some.first c.in-Some.is c.in_ok-read_at.ensures) in
     let h = mark_inside c.args.tokens.now c.in-Some.first.next mark_open_brace (sym c.mark_at.ensures ∙ c.if-mark_at-eq-OPEN_BRACE.true) (omega arith) in
     grind (arith, f.read, h)
@@ -83,7 +83,7 @@ pub conditional-returns-in-None : goal.conditional-returns-in-None
 conditional-returns-in-None t c = cond_none (below c.args.limit) (form c.args.left.expr) (drop (c.args.left.next + 1) (words c.args.tokens.now)) (none_closed c.args.tokens.now (c.args.left.next + 1) c.args.limit mark_colon c.in_ok-closed.field-0 c.in-None.is c.in_ok-closed.ensures)
 
 pub conditional-returns-in-None-2 : goal.conditional-returns-in-None-2
-conditional-returns-in-None-2 t c = 
+conditional-returns-in-None-2 t c =
     let f = (picks_closed c.args.tokens.now (c.args.left.next + 1) c.args.limit mark_colon c.in_ok-closed.field-0 c.in-Some.middle c.in-Some.is c.in_ok-closed.ensures) in
     cond_half (below c.args.limit) (form c.args.left.expr) (drop (c.args.left.next + 1) (words c.args.tokens.now)) (form c.in-Some.middle.expr, (drop c.in-Some.middle.next (words c.args.tokens.now))) f.found_is (none_below c.args.tokens.now c.in-Some.middle.next c.args.limit 1 c.in_ok-read_at-in-Some.field-0 c.in-None-2.is c.in_ok-read_at-in-Some.ensures)
 
@@ -121,12 +121,12 @@ pub operation-read_at-requires : goal.operation-read_at-requires
 operation-read_at-requires t c = grind (arith, infix_below c.args.op, c.infix_level.ensures)
 
 pub operation-returns-in-None : goal.operation-returns-in-None
-operation-returns-in-None t c = 
+operation-returns-in-None t c =
     let n : c.infix_level.result + 1 ≡ suc (infix_level c.args.op) = omega (arith, c.infix_level.ensures) in
     binary_none (below c.args.limit) (form c.args.left.expr) c.args.op (c.infix_level.result + 1) (drop (c.args.left.next + 1) (words c.args.tokens.now)) c.requires.is_operator.1 n (none_below c.args.tokens.now (c.args.left.next + 1) c.args.limit (c.infix_level.result + 1) c.in_ok-read_at.field-0 c.in-None.is c.in_ok-read_at.ensures)
 
 pub operation-returns-in_ok-binary-in-Some : goal.operation-returns-in_ok-binary-in-Some
-operation-returns-in_ok-binary-in-Some t c = 
+operation-returns-in_ok-binary-in-Some t c =
     let n : c.infix_level.result + 1 ≡ suc (infix_level c.args.op) = omega (arith, c.infix_level.ensures) in
     made_binary c.args.tokens.now c.args.from c.args.limit c.args.op (c.infix_level.result + 1) c.args.left c.in-Some.right c.in_ok-binary-in-Some.field-0 c.requires.left_read c.requires.room c.requires.is_operator.1 n (picks_below c.args.tokens.now (c.args.left.next + 1) c.args.limit (c.infix_level.result + 1) c.in_ok-read_at.field-0 c.in-Some.right c.in-Some.is c.in_ok-read_at.ensures) c.in_ok-binary-in-Some.ensures
 
@@ -173,7 +173,7 @@ pub repeated-returns-in-None-2 : goal.repeated-returns-in-None-2
 repeated-returns-in-None-2 t c = repeated_open c.args.tokens.now c.args.limit (form c.args.count.expr) (c.args.count.next + 1) c.in-Some.first (picks_below c.args.tokens.now (c.args.count.next + 1) c.args.limit 1 c.in_ok-read_at.field-0 c.in-Some.first c.in-Some.is c.in_ok-read_at.ensures) (gathers_none c.args.tokens.now c.args.count.next c.args.limit (parts_from (below c.args.limit) (form c.in-Some.first.expr) (drop c.in-Some.first.next (words c.args.tokens.now))) c.parts_from.new.parts.items c.in_ok-parts_from-in-Some.field-0 c.in-None-2.is c.in_ok-parts_from-in-Some.ensures)
 
 pub repeated-returns-then-mark_at-ne-CLOSE_BRACE : goal.repeated-returns-then-mark_at-ne-CLOSE_BRACE
-repeated-returns-then-mark_at-ne-CLOSE_BRACE t c = 
+repeated-returns-then-mark_at-ne-CLOSE_BRACE t c =
     let k = (gathers_some c.args.tokens.now c.args.count.next c.args.limit (parts_from (below c.args.limit) (form c.in-Some.first.expr) (drop c.in-Some.first.next (words c.args.tokens.now))) c.parts_from.new.parts.items c.in_ok-parts_from-in-Some.field-0 c.in-Some-2.end c.in-Some-2.is c.in_ok-parts_from-in-Some.ensures) in
     repeated_other c.args.tokens.now c.args.limit (form c.args.count.expr) (c.args.count.next + 1) c.in-Some.first c.parts_from.new.parts.items c.in-Some-2.end (picks_below c.args.tokens.now (c.args.count.next + 1) c.args.limit 1 c.in_ok-read_at.field-0 c.in-Some.first c.in-Some.is c.in_ok-read_at.ensures) k.found_is (λ e. c.if-mark_at-ne-CLOSE_BRACE.true (c.mark_at.ensures ∙ e))
 
@@ -199,24 +199,24 @@ pub step-returns-then-not-goes_on : goal.step-returns-then-not-goes_on
 step-returns-then-not-goes_on t c = step_none c.args.tokens.now c.args.from c.args.limit c.args.low c.args.left (ap (goes_on c.args.limit c.args.low (plain c.args.left.expr)) (sym c.mark_at-op.ensures) ∙ sym c.goes_on.ensures ∙ c.if-not-goes_on.true)
 
 pub step-conditional-requires : goal.step-conditional-requires
-step-conditional-requires t c = 
+step-conditional-requires t c =
     let h = goes_inside c.args.tokens.now c.args.limit c.args.low c.args.left c.mark_at-op.result c.requires.low_level.0 c.requires.left_read.deep c.mark_at-op.ensures (sym c.goes_on.ensures ∙ c.if-not-goes_on.false) in
     grind (arith, c.requires.left_read)
 
 pub step-operation-requires : goal.step-operation-requires
-step-operation-requires t c = 
+step-operation-requires t c =
     let h = goes_inside c.args.tokens.now c.args.limit c.args.low c.args.left c.mark_at-op.result c.requires.low_level.0 c.requires.left_read.deep c.mark_at-op.ensures (sym c.goes_on.ensures ∙ c.if-not-goes_on.false) in
     grind (arith, c.requires.left_read)
 
 pub step-returns-then-op-eq-QUESTION : goal.step-returns-then-op-eq-QUESTION
-step-returns-then-op-eq-QUESTION t c = 
+step-returns-then-op-eq-QUESTION t c =
     if_ok_map (λ (o : Option Read). Answers c.args.tokens.now c.args.from c.args.limit (turn (below c.args.limit) (form c.args.left.expr) c.mark_at-op.result (drop (c.args.left.next + 1) (words c.args.tokens.now))) o) (λ (o : Option Read). Steps c.args.tokens.now c.args.from (below c.args.limit) c.args.limit c.args.low c.args.left o) c.conditional.result
-      (λ o h. step_of c.args.tokens.now c.args.from c.args.limit c.args.low c.args.left c.mark_at-op.result o c.requires.left_read c.mark_at-op.ensures (sym c.goes_on.ensures ∙ c.if-not-goes_on.false) h) (rw (← c.if-op-eq-QUESTION.true) at c.conditional.ensures)
+    (λ o h. step_of c.args.tokens.now c.args.from c.args.limit c.args.low c.args.left c.mark_at-op.result o c.requires.left_read c.mark_at-op.ensures (sym c.goes_on.ensures ∙ c.if-not-goes_on.false) h) (rw (← c.if-op-eq-QUESTION.true) at c.conditional.ensures)
 
 pub step-returns-else-op-eq-QUESTION : goal.step-returns-else-op-eq-QUESTION
-step-returns-else-op-eq-QUESTION t c = 
+step-returns-else-op-eq-QUESTION t c =
     if_ok_map (λ (o : Option Read). Answers c.args.tokens.now c.args.from c.args.limit (turn (below c.args.limit) (form c.args.left.expr) c.mark_at-op.result (drop (c.args.left.next + 1) (words c.args.tokens.now))) o) (λ (o : Option Read). Steps c.args.tokens.now c.args.from (below c.args.limit) c.args.limit c.args.low c.args.left o) c.operation.result
-      (λ o h. step_of c.args.tokens.now c.args.from c.args.limit c.args.low c.args.left c.mark_at-op.result o c.requires.left_read c.mark_at-op.ensures (sym c.goes_on.ensures ∙ c.if-not-goes_on.false) h) c.operation.ensures
+    (λ o h. step_of c.args.tokens.now c.args.from c.args.limit c.args.low c.args.left c.mark_at-op.result o c.requires.left_read c.mark_at-op.ensures (sym c.goes_on.ensures ∙ c.if-not-goes_on.false) h) c.operation.ensures
 
 pub system-returns-then-mark_at-ne-OPEN_PARENTHESIS : goal.system-returns-then-mark_at-ne-OPEN_PARENTHESIS
 system-returns-then-mark_at-ne-OPEN_PARENTHESIS t c = cast_other c.args.tokens.now c.args.from c.args.limit c.args.name.now c.in-Some.signed (sym c.cast_sign.ensures ∙ c.in-Some.is) (λ e. c.if-mark_at-ne-OPEN_PARENTHESIS.true (c.mark_at.ensures ∙ e))

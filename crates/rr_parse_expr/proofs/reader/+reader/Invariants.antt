@@ -1,4 +1,4 @@
-use Rattle.std.proofs.Common.{◌≡◌, ℕ, ◌+◌, ◌*◌, ◌-◌, ◌≤◌, length, drop}
+use Rattle.std.proofs.Common.{◌+◌, ◌*◌, ◌-◌, length, drop}
 use Rattle.rr_syntax.specs.Words.{words}
 use Rattle.rr_parse_expr.specs.Reading.{below, parts_from}
 use Rattle.rr_parse_expr.specs.Answer.{form}
