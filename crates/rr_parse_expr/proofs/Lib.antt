@@ -1,0 +1,11 @@
+pub mod Answered
+pub mod Climbs
+pub mod Complete
+pub mod Exactly
+pub mod Facts
+pub mod Longest
+pub mod Selects
+pub mod Sound
+pub mod Steps
+pub mod Tables
+pub mod TokenWords

@@ -1,0 +1,49 @@
+-- Which expression begins at a token.
+use Rattle.std.specs.Prelude.{ℕ, ◌+◌, ◌≡◌, ◌≤◌, List, ◌++◌, length, drop}
+use Rattle.rr_syntax.specs.declared.token.Token.{Token}
+use Rattle.rr_syntax.specs.declared.tree.Expr.{Expr}
+use Rattle.rr_syntax.specs.Words.{Word, words}
+use Rattle.rr_syntax.specs.Tree.{Tree}
+use Rattle.rr_syntax.specs.Expressions.{spell, depth, level, unary_level, WellFormed, Numbered}
+use Rattle.rr_syntax.specs.View.{plain}
+use Rattle.rr_parse_expr.specs.declared.expression.ParseFault.{ParseFault}
+use Rattle.rr_parse_expr.specs.declared.expression.ParseFault.TheVariants.{Unsupported, Syntax, Memory}
+
+-- the greatest depth of an expression, its root counted as 0
+abbrev pub max_depth : ℕ
+max_depth = 500
+
+-- an expression (IEEE 1364-2005 section 5, annex A.8.3)
+abbrev pub IsExpression : Tree → Type 0
+IsExpression t = WellFormed t
+
+-- an operand: a primary, or an operator before one (annex A.8.3, A.8.4)
+abbrev pub IsOperand : Tree → Type 0
+IsOperand t = WellFormed t × (unary_level ≤ level t)
+
+-- the first of these words spell this tree, which is of the class and at most so deep
+pub record Begins (Class : Tree → Type 0) (limit : ℕ) (ws : List Word) (t : Tree) : Type 0 where
+  pub is : Class t
+  pub shallow : depth t ≤ limit
+  pub left : List Word
+  pub spelled : ws ≡ spell t ++ left
+
+-- at the token `from` the longest tree of the class and depth begins, each leaf has its token's number, and `next` is the token after it
+pub record IsLongest (Class : Tree → Type 0) (limit : ℕ) (tokens : List Token) (from : ℕ) (e : Expr) (next : ℕ) : Type 0 where
+  pub is : Class (plain e)
+  pub shallow : depth (plain e) ≤ limit
+  pub spelled : drop from (words tokens) ≡ spell (plain e) ++ drop next (words tokens)
+  pub taken : next ≡ from + length (spell (plain e))
+  pub within : next ≤ length tokens
+  pub numbered : Numbered (plain e) from
+  pub longest : (t : Tree) → Begins Class limit (drop from (words tokens)) t → length (spell t) ≤ length (spell (plain e))
+
+-- no tree of the class and depth begins at the token `from`
+abbrev pub NoneBegins : (Tree → Type 0) → ℕ → List Token → ℕ → Type 0
+NoneBegins Class limit tokens from = (t : Tree) → Begins Class limit (drop from (words tokens)) t → ⊥
+
+-- the fault is `Syntax` at the token `from`, at which no tree of the class and depth begins; want of memory is free
+abbrev pub Fails : (Tree → Type 0) → ℕ → List Token → ℕ → ParseFault → Type 0
+Fails Class limit tokens from (Syntax at) = (at ≡ from) × NoneBegins Class limit tokens from
+Fails Class limit tokens from (Unsupported at) = ⊥
+Fails Class limit tokens from Memory = Unit {0}

@@ -1,0 +1,5 @@
+pub mod Answer
+pub mod Exact
+pub mod Loops
+pub mod Made
+pub mod Reading
