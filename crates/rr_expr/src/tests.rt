@@ -1,6 +1,5 @@
 //! Vectors of IEEE 1364-2005 section 5.
 use crate::{Entity, Env, ExprFault, Scope, constant, shape, value};
-use rr_bits::Bits;
 use rr_syntax::{Expr, Mark, Number};
 use std::alloc::{AllocError, Global};
 use std::test::Fail;
@@ -336,43 +335,4 @@ fn unknown_digits(rt: HostRuntime) {
     let scope = Scope::new(rt.alloc());
     assert!(rt; is_constant(&all, &scope, &(1, false, 0)));
     assert!(rt; is_constant(&some, &scope, &(1, false, 1)));
-}
-
-/// Parts of a parameter within the bounds of parts are each evaluated once or twice, however deep
-/// they nest: each bound is the lowest bit of the parameter's part that the next one names.
-fn nested<'a>(inner: &'a Expr<'a>, levels: u32, scope: &Scope) -> Option<u128> {
-    if levels == 0 {
-        return match constant(inner, scope) {
-            Ok((bits, _)) => Some(bits.to_u128()),
-            Err(_) => None,
-        };
-    }
-    let zero = literal(9, &(32, true, 0));
-    let part = Expr::Part {
-        token: levels,
-        name: "p",
-        left: inner,
-        right: &zero,
-    };
-    let one = literal(10, &(1, false, 0));
-    let sum = Expr::Binary {
-        op: Mark::PLUS,
-        left: &part,
-        right: &one,
-    };
-    nested(&sum, levels - 1, scope)
-}
-
-#[test]
-fn nests(rt: HostRuntime) -> Result<(), Fail> {
-    let alloc = rt.alloc();
-    let mut scope = Scope::new(alloc);
-    let entity = Entity::Constant {
-        bits: Bits::from_u128(8, 2),
-        signed: false,
-    };
-    scope.add("p", entity)?;
-    let first = literal(0, &(32, true, 1));
-    assert_eq!(rt; nested(&first, 60, &scope), Some(2));
-    Ok(())
 }
