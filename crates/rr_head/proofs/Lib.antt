@@ -1,0 +1,4 @@
+pub mod Steps
+pub mod Firsts
+pub mod Listings
+pub mod HeadLemmas

@@ -1,0 +1,8 @@
+pub mod Plain
+pub mod Faults
+pub mod Values
+pub mod Parameters
+pub mod Declarations
+pub mod Heads
+pub mod View
+pub mod Sound

@@ -1,0 +1,9 @@
+pub mod Answered
+pub mod Before
+pub mod Complete
+pub mod Exactly
+pub mod FromExpressions
+pub mod Names
+pub mod Sound
+pub mod Steps
+pub mod Targets

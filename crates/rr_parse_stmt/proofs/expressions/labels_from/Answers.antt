@@ -1,0 +1,31 @@
+use Rattle.std.proofs.Common.{◌≡◌, ◌<◌, ◌+◌, ◌-◌, ◌∙◌, ℕ, suc, [], length, drop, refl, sym, ap, arith}
+use Rattle.rr_syntax.specs.Words.{words, mark_close_parenthesis, mark_colon, mark_comma, mark_open_parenthesis}
+use Rattle.rr_parse_expr.specs.Reading.{below}
+use Rattle.rr_parse_expr.proofs.Answered.{mark_inside}
+use Rattle.rr_parse_stmt.specs.Reading.{labels}
+use Rattle.rr_parse_stmt.proofs.Answered.{tree_some, tree_none, labelling_start, labelling_more, labelling_fail, labelling_other, labelling_end}
+use Rattle.rr_parse_stmt.proofs.expressions.labels_from.Goals as goal
+
+pub loop-from-init : goal.loop-from-init
+loop-from-init c = labelling_start c.args.tokens.now c.args.from c.args.room c.args.first c.args.labels.now.items c.add_label.new.labels.items c.requires.empty c.in_ok-add_label.ensures c.requires.first_read
+
+pub overflow_add-next : goal.overflow_add-next
+overflow_add-next c = let h = mark_inside c.args.tokens.now c.loop-from.next mark_comma (sym c.mark_at.ensures ∙ c.loop-from-test.true) (omega arith) in omega arith
+
+pub returns-in-None : goal.returns-in-None
+returns-in-None c = labelling_fail c.args.tokens.now c.args.from c.args.room (labels (below c.args.room) (drop c.args.from (words c.args.tokens.now))) c.loop-from.labels.items c.loop-from.next c.loop-from.invariant (sym c.mark_at.ensures ∙ c.loop-from-test.true) (tree_none c.args.tokens.now (c.loop-from.next + 1) 0 (below c.args.room 1 (drop (c.loop-from.next + 1) (words c.args.tokens.now))) c.in_ok-expression.field-0 c.in-None.is c.in_ok-expression.ensures)
+
+pub loop-from-preserved : goal.loop-from-preserved
+loop-from-preserved c = labelling_more c.args.tokens.now c.args.from c.args.room (labels (below c.args.room) (drop c.args.from (words c.args.tokens.now))) c.loop-from.labels.items c.add_label-in-Some.new.labels.items c.loop-from.next c.in-Some.label c.loop-from.invariant (sym c.mark_at.ensures ∙ c.loop-from-test.true) (tree_some c.args.tokens.now (c.loop-from.next + 1) 0 (below c.args.room 1 (drop (c.loop-from.next + 1) (words c.args.tokens.now))) c.in_ok-expression.field-0 c.in-Some.label c.in-Some.is c.in_ok-expression.ensures) c.in_ok-add_label-in-Some.ensures
+
+pub loop-from-smaller : goal.loop-from-smaller
+loop-from-smaller c = let f = (tree_some c.args.tokens.now (c.loop-from.next + 1) 0 (below c.args.room 1 (drop (c.loop-from.next + 1) (words c.args.tokens.now))) c.in_ok-expression.field-0 c.in-Some.label c.in-Some.is c.in_ok-expression.ensures) in omega (arith, f.taken, f.within)
+
+pub overflow_add-result : goal.overflow_add-result
+overflow_add-result c = let h = mark_inside c.args.tokens.now c.loop-from.next mark_colon (sym c.mark_at-2.ensures ∙ c.if-mark_at-eq-COLON.true) (omega arith) in omega arith
+
+pub returns-then-mark_at-eq-COLON : goal.returns-then-mark_at-eq-COLON
+returns-then-mark_at-eq-COLON c = labelling_end c.args.tokens.now c.args.from c.args.room (labels (below c.args.room) (drop c.args.from (words c.args.tokens.now))) c.loop-from.labels.items c.loop-from.next c.loop-from.invariant (sym c.mark_at-2.ensures ∙ c.if-mark_at-eq-COLON.true)
+
+pub returns-else-mark_at-eq-COLON : goal.returns-else-mark_at-eq-COLON
+returns-else-mark_at-eq-COLON c = labelling_other c.args.tokens.now c.args.from c.args.room (labels (below c.args.room) (drop c.args.from (words c.args.tokens.now))) c.loop-from.labels.items c.loop-from.next c.loop-from.invariant (λ e. c.loop-from-test.false (c.mark_at.ensures ∙ e)) (λ e. c.if-mark_at-eq-COLON.false (c.mark_at-2.ensures ∙ e))

@@ -1,0 +1,4 @@
+pub mod Answer
+pub mod Exact
+pub mod Loops
+pub mod Reading

@@ -1,0 +1,180 @@
+//! What stands at a token: marks, reserved words and names.
+
+ghost use Rattle.std.specs.Prelude.{◌≡◌, ◌≤◌, ◌<◌, ◌+◌, [], ◌∷◌, ◌++◌, length, drop, IfOk};
+ghost use Rattle.rr_syntax.specs.Words.{words};
+ghost use Rattle.rr_syntax.specs.Expressions.{is_target as is_target_of, are_targets as are_targets_of};
+ghost use Rattle.rr_syntax.specs.Statements.{defaults as defaults_of};
+ghost use Rattle.rr_syntax.specs.Tree.{MoreArms, NoArms};
+ghost use Rattle.rr_syntax.specs.View.{plain, plain_arm, plain_list};
+ghost use Rattle.rr_parse_expr.specs.Reading.{mark};
+ghost use Rattle.rr_parse_stmt.specs.Reading.{keyword, sign};
+ghost use Rattle.rr_parse_stmt.specs.Answer.{AnswersName};
+ghost use Rattle.rr_parse_stmt.specs.Loops.{at_most_one};
+
+use bumpalo::Bump;
+use rr_syntax::{Arm, Expr, Kind, Named, Stmt, Token};
+use std::alloc::AllocError;
+
+/// What stands for the mark or the reserved word where none stands.
+pub(crate) const NONE: u8 = 255;
+
+pub(crate) const OPEN_PARENTHESIS: u8 = 0;
+
+pub(crate) const CLOSE_PARENTHESIS: u8 = 1;
+
+pub(crate) const COMMA: u8 = 6;
+
+pub(crate) const SEMICOLON: u8 = 7;
+
+pub(crate) const COLON: u8 = 8;
+
+pub(crate) const EQUALS: u8 = 13;
+
+pub(crate) const LESS_OR_EQUAL: u8 = 31;
+
+pub(crate) const BEGIN: u8 = 4;
+
+pub(crate) const CASE: u8 = 8;
+
+pub(crate) const CASEX: u8 = 9;
+
+pub(crate) const CASEZ: u8 = 10;
+
+pub(crate) const DEFAULT: u8 = 15;
+
+pub(crate) const ELSE: u8 = 20;
+
+pub(crate) const END: u8 = 21;
+
+pub(crate) const ENDCASE: u8 = 22;
+
+pub(crate) const IF: u8 = 41;
+
+/// The mark that stands at a place, if one does.
+#[tactic(auto, using(rr_parse_expr::proofs::TokenWords::words_at, rr_parse_expr::proofs::TokenWords::words_past), unfolding(rr_parse_expr::specs::Reading::mark))]
+pub(crate) fn mark_at(tokens: &[Token], at: u32) -> u8
+    ensures { result ≡ mark (drop at (words tokens.now)) }
+{
+    match tokens.get(at as usize) {
+        Some(token) => match token.kind {
+            Kind::Mark(found) => found.0,
+            _ => NONE,
+        },
+        None => NONE,
+    }
+}
+
+/// The reserved word that stands at a place, if one does.
+#[tactic(auto, using(rr_parse_expr::proofs::TokenWords::words_at, rr_parse_expr::proofs::TokenWords::words_past), unfolding(crate::specs::Reading::keyword))]
+pub(crate) fn keyword_at(tokens: &[Token], at: u32) -> u8
+    ensures { result ≡ keyword (drop at (words tokens.now)) }
+{
+    match tokens.get(at as usize) {
+        Some(token) => match token.kind {
+            Kind::Keyword(found) => found.0,
+            _ => NONE,
+        },
+        None => NONE,
+    }
+}
+
+/// Whether the mark at a place is `=`, where it is `=` or `<=`.
+#[tactic(auto, unfolding(crate::specs::Reading::sign))]
+pub(crate) fn sign_at(tokens: &[Token], at: u32) -> Option<bool>
+    ensures { result ≡ sign (drop at (words tokens.now)) }
+{
+    let mark = mark_at(tokens, at);
+    if mark == EQUALS {
+        Some(true)
+    } else if mark == LESS_OR_EQUAL {
+        Some(false)
+    } else {
+        None
+    }
+}
+
+/// The name that stands at a place, if one does.
+pub(crate) fn name_at<'a>(tokens: &'a [Token<'a>], at: u32) -> Option<Named<'a>>
+    ensures { AnswersName tokens.now at result }
+{
+    match tokens.get(at as usize) {
+        Some(token) => match token.kind {
+            Kind::Name(name) => Some(Named { token: at, name }),
+            _ => None,
+        },
+        None => None,
+    }
+}
+
+/// Whether a tree may be assigned (IEEE 1364-2005 annex A.8.5).
+#[tactic(auto, using(crate::proofs::Targets::target_forms))]
+#[cycle(targets)]
+pub(crate) fn is_target(expr: &Expr) -> bool
+    ensures { result ≡ is_target_of (plain expr.now) }
+{
+    match expr {
+        Expr::Name { .. } | Expr::Bit { .. } | Expr::Part { .. } | Expr::Indexed { .. } => true,
+        Expr::Concat { parts } => are_targets(parts),
+        Expr::Literal { .. }
+        | Expr::Unary { .. }
+        | Expr::Binary { .. }
+        | Expr::Cond { .. }
+        | Expr::Repeat { .. }
+        | Expr::Cast { .. }
+        | Expr::Paren { .. } => false,
+    }
+}
+
+#[tactic(auto, using(crate::proofs::Targets::target_forms))]
+#[cycle(targets)]
+fn are_targets(parts: &[Expr]) -> bool
+    ensures { result ≡ are_targets_of (plain_list parts.now) }
+{
+    for part in parts.iter() {
+        if !is_target(part) {
+            return false;
+        }
+    }
+    true
+}
+
+/// The number of default arms with this one, where it is not the second.
+pub(crate) fn counted(arm: &Arm, defaults: u32) -> Option<u32>
+    requires once { defaults ≤ 1 }
+    ensures { result ≡ at_most_one (defaults + defaults_of (MoreArms (plain_arm arm.now) NoArms)) }
+{
+    if !arm.labels.is_empty() {
+        Some(defaults)
+    } else if defaults == 0 {
+        Some(1)
+    } else {
+        None
+    }
+}
+
+pub(crate) fn add_label<'a>(
+    labels: &mut Vec<Expr<'a>, &'a Bump>,
+    label: Expr<'a>,
+) -> Result<(), AllocError>
+    ensures { IfOk result (λ _. labels.new.items ≡ labels.old.items ++ (label.entry ∷ [])) }
+{
+    labels.push(label)?;
+    Ok(())
+}
+
+pub(crate) fn add_statement<'a>(
+    body: &mut Vec<Stmt<'a>, &'a Bump>,
+    stmt: Stmt<'a>,
+) -> Result<(), AllocError>
+    ensures { IfOk result (λ _. body.new.items ≡ body.old.items ++ (stmt.entry ∷ [])) }
+{
+    body.push(stmt)?;
+    Ok(())
+}
+
+pub(crate) fn add_arm<'a>(arms: &mut Vec<Arm<'a>, &'a Bump>, arm: Arm<'a>) -> Result<(), AllocError>
+    ensures { IfOk result (λ _. arms.new.items ≡ arms.old.items ++ (arm.entry ∷ [])) }
+{
+    arms.push(arm)?;
+    Ok(())
+}

@@ -1,0 +1,335 @@
+//! Statements at tokens.
+
+use crate::stmt;
+use bumpalo::Bump;
+use rr_parse_expr::ParseFault;
+use rr_syntax::{Arm, Expr, KEYWORDS, Keyword, Kind, MARKS, Mark, Number, Span, Stmt, Token};
+use std::alloc::{AllocError, Global};
+use std::test::Fail;
+
+/// The place of a text in a table.
+fn place_in(table: &[&str], text: &str) -> Option<u8> {
+    for (at, entry) in table.iter().enumerate() {
+        if *entry == text {
+            return u8::try_from(at).ok();
+        }
+    }
+    None
+}
+
+fn kind_of(text: &str) -> Kind<'_> {
+    if let Some(at) = place_in(&MARKS, text) {
+        return Kind::Mark(Mark(at));
+    }
+    if let Some(at) = place_in(&KEYWORDS, text) {
+        return Kind::Keyword(Keyword(at));
+    }
+    match text.parse::<u128>() {
+        Ok(value) => Kind::Number(Number {
+            width: 32,
+            signed: true,
+            value,
+            any: 0,
+            unknown: 0,
+        }),
+        Err(_) => Kind::Name(text),
+    }
+}
+
+fn add<'a>(tokens: &mut Vec<Token<'a>, Global>, text: &'a str) -> Result<(), AllocError> {
+    let span = Span { start: 0, end: 0 };
+    tokens.push(Token {
+        kind: kind_of(text),
+        span,
+    })?;
+    Ok(())
+}
+
+/// Puts the pieces of a text, between which blanks stand, behind the tokens.
+fn add_all<'a>(tokens: &mut Vec<Token<'a>, Global>, text: &'a str) -> Result<(), AllocError> {
+    for piece in text.split_ascii_whitespace() {
+        add(tokens, piece)?;
+    }
+    Ok(())
+}
+
+fn show_expr(expr: &Expr, out: &mut String<Global>) -> Result<(), AllocError> {
+    match expr {
+        Expr::Name { name, .. } => out.push_str(*name),
+        _ => out.push_str("*"),
+    }
+}
+
+/// Writes a statement with a pair of brackets for each part of an `if`.
+#[cycle(show)]
+fn show(stmt: &Stmt, out: &mut String<Global>) -> Result<(), AllocError> {
+    match stmt {
+        Stmt::Null => out.push_str(";"),
+        Stmt::Block { label, body } => {
+            out.push_str("{")?;
+            if let Some(name) = label {
+                out.push_str(name.name)?;
+                out.push_str(":")?;
+            }
+            for part in body.iter() {
+                show(part, out)?;
+            }
+            out.push_str("}")
+        }
+        Stmt::If { test, yes, no } => {
+            out.push_str("if ")?;
+            show_expr(test, out)?;
+            out.push_str("(")?;
+            show(yes, out)?;
+            out.push_str(")")?;
+            match no {
+                None => Ok(()),
+                Some(other) => {
+                    out.push_str("else(")?;
+                    show(other, out)?;
+                    out.push_str(")")
+                }
+            }
+        }
+        Stmt::Case { kind, on, arms } => {
+            out.push_str(if *kind == Keyword::CASE {
+                "case "
+            } else {
+                "casez "
+            })?;
+            show_expr(on, out)?;
+            for arm in arms.iter() {
+                show_arm(arm, out)?;
+            }
+            out.push_str(" end")
+        }
+        Stmt::Assign { target, now, value } => {
+            show_expr(target, out)?;
+            out.push_str(if *now { "=" } else { "<=" })?;
+            show_expr(value, out)?;
+            out.push_str(";")
+        }
+    }
+}
+
+#[cycle(show)]
+fn show_arm(arm: &Arm, out: &mut String<Global>) -> Result<(), AllocError> {
+    out.push_str("|")?;
+    for label in arm.labels.iter() {
+        show_expr(label, out)?;
+        out.push_str(",")?;
+    }
+    out.push_str(if arm.colon { ":" } else { "" })?;
+    show(arm.body, out)
+}
+
+/// The statement at the front of a text and the number of its tokens, written as one text.
+fn shown(alloc: Global, text: &str) -> Result<String<Global>, Fail> {
+    let arena = Bump::new(alloc);
+    let mut tokens = Vec::new(alloc);
+    add_all(&mut tokens, text)?;
+    let mut out = String::new(alloc);
+    if tokens.len() >= 1_000_000 {
+        return Ok(out);
+    }
+    match stmt(&tokens, 0, 500, &arena) {
+        Err(ParseFault::Syntax(at)) => {
+            let place = format!(in alloc; "fault {at}")?;
+            out.push_str(place.as_str())?;
+        }
+        Err(_) => out.push_str("other fault")?,
+        Ok((tree, next)) => {
+            show(tree, &mut out)?;
+            let count = format!(in alloc; " {next}")?;
+            out.push_str(count.as_str())?;
+        }
+    }
+    Ok(out)
+}
+
+#[test]
+fn each_statement(rt: HostRuntime) -> Result<(), Fail> {
+    let cases: [(&str, &str); 20] = [
+        ("; ;", "; 1"),
+        ("begin end", "{} 2"),
+        ("begin : b ; a = b ; end", "{b:;a=b;} 9"),
+        ("begin begin end ; end end", "{{};} 5"),
+        ("a = b ; c", "a=b; 4"),
+        ("a <= b ;", "a<=b; 4"),
+        ("a <= b <= c ;", "a<=*; 6"),
+        ("a [ 2 ] <= b ;", "*<=b; 7"),
+        ("a [ 2 : 1 ] = b ;", "*=b; 9"),
+        ("{ a , { b [ i ] } } = c + d ;", "*=*; 15"),
+        ("if ( a ) ; end", "if a(;) 5"),
+        ("if ( a ) b = c ; else ;", "if a(b=c;)else(;) 10"),
+        ("if ( a ) if ( b ) ; else ;", "if a(if b(;)else(;)) 11"),
+        (
+            "if ( a ) begin if ( b ) ; end else ;",
+            "if a({if b(;)})else(;) 13",
+        ),
+        (
+            "if ( a ) ; else if ( b ) ; else ;",
+            "if a(;)else(if b(;)else(;)) 13",
+        ),
+        ("case ( a ) b : ; endcase", "case a|b,:; end 8"),
+        (
+            "casez ( a ) b , 2 : ; default ; endcase",
+            "casez a|b,*,:;|; end 12",
+        ),
+        (
+            "case ( a ) default : if ( b ) ; c : ; endcase",
+            "case a|:if b(;)|c,:; end 15",
+        ),
+        ("case ( a ) b ? c : d : ; endcase", "case a|*,:; end 12"),
+        (
+            "casex ( { a , b } ) default begin end endcase",
+            "casez *|{} end 12",
+        ),
+    ];
+    for (text, wanted) in cases {
+        assert!(rt; shown(rt.alloc(), text)?.as_str() == wanted, "{text}");
+    }
+    Ok(())
+}
+
+/// A fault of a statement stands at its first token.
+#[test]
+fn no_statement(rt: HostRuntime) -> Result<(), Fail> {
+    for text in [
+        "",
+        "end",
+        "else ;",
+        "begin",
+        "begin : ; end",
+        "begin : 2 end",
+        "begin a = b end",
+        "a",
+        "a = ;",
+        "a = b",
+        "a + b = c ;",
+        "2 = a ;",
+        "( a ) = b ;",
+        "{ a , 2 } = b ;",
+        "{ 2 { a } } = b ;",
+        "- a = b ;",
+        "a == b ;",
+        "if a ;",
+        "if ( ) ;",
+        "if ( a ; )",
+        "if ( a )",
+        "if ( a ) else ;",
+        "if ( a ) ; else",
+        "case a b : ; endcase",
+        "case ( a ) endcase",
+        "case ( a ) b ; endcase",
+        "case ( a ) b , : ; endcase",
+        "case ( a ) b : endcase",
+        "case ( a ) b : ;",
+        "case ( a ) default : ; default ; endcase",
+        "case ( a ) default : ; b : ; default : ; endcase",
+        "for ( a = b ; a ; a = b ) ;",
+    ] {
+        assert!(rt; shown(rt.alloc(), text)?.as_str() == "fault 0", "{text}");
+    }
+    Ok(())
+}
+
+/// Whether a statement of `deep` times a front, a middle, and as many ends is read within a depth.
+fn nested(
+    alloc: Global,
+    front: &str,
+    middle: &str,
+    end: &str,
+    deep: u32,
+    depth: u32,
+) -> Result<bool, Fail> {
+    let arena = Bump::new(alloc);
+    let mut tokens = Vec::new(alloc);
+    for _ in 0..deep {
+        add_all(&mut tokens, front)?;
+    }
+    add_all(&mut tokens, middle)?;
+    for _ in 0..deep {
+        add_all(&mut tokens, end)?;
+    }
+    if tokens.len() >= 1_000_000 || depth > 500 {
+        return Ok(false);
+    }
+    Ok(stmt(&tokens, 0, depth, &arena).is_ok())
+}
+
+/// The levels of statements, arms and expressions count together.
+#[test]
+fn depths(rt: HostRuntime) -> Result<(), Fail> {
+    assert!(rt; nested(rt.alloc(), "begin", ";", "end", 500, 500)?);
+    assert!(rt; !nested(rt.alloc(), "begin", ";", "end", 501, 500)?);
+    assert!(rt; nested(rt.alloc(), "if ( a )", ";", "", 500, 500)?);
+    assert!(rt; !nested(rt.alloc(), "if ( a )", ";", "", 501, 500)?);
+    assert!(rt; nested(rt.alloc(), "if ( a ) ; else", "b = c ;", "", 499, 500)?);
+    assert!(rt; !nested(rt.alloc(), "if ( a ) ; else", "b = c ;", "", 500, 500)?);
+    assert!(rt; nested(rt.alloc(), "case ( a ) b :", ";", "endcase", 250, 500)?);
+    assert!(rt; !nested(rt.alloc(), "case ( a ) b :", ";", "endcase", 251, 500)?);
+    assert!(rt; nested(rt.alloc(), "begin", "a = ( ( b ) ) ;", "end", 497, 500)?);
+    assert!(rt; !nested(rt.alloc(), "begin", "a = ( ( b ) ) ;", "end", 498, 500)?);
+    assert!(rt; nested(rt.alloc(), "", ";", "", 1, 0)?);
+    assert!(rt; !nested(rt.alloc(), "", "a = b ;", "", 1, 0)?);
+    assert!(rt; nested(rt.alloc(), "", "a = b ;", "", 1, 1)?);
+    Ok(())
+}
+
+/// Leaves and names have the numbers of their tokens, also where a statement begins later.
+#[test]
+fn token_numbers(rt: HostRuntime) -> Result<(), Fail> {
+    let arena = Bump::new(rt.alloc());
+    let mut tokens = Vec::new(rt.alloc());
+    add_all(&mut tokens, "; begin : b a <= c ; end")?;
+    if tokens.len() >= 1_000_000 {
+        return Ok(());
+    }
+    match stmt(&tokens, 1, 500, &arena) {
+        Ok(
+            (
+                Stmt::Block {
+                    label: Some(name),
+                    body,
+                },
+                9,
+            ),
+        ) => {
+            assert!(rt; name.token == 3);
+            assert!(rt;
+                matches!(
+                    body.get(0),
+                    Some(Stmt::Assign {
+                        target: Expr::Name { token: 4, .. },
+                        now: false,
+                        value: Expr::Name { token: 6, .. }
+                    })
+                )
+            );
+        }
+        _ => assert!(rt; false),
+    }
+    Ok(())
+}
+
+/// A block of many statements and a `case` of many labels.
+#[test]
+fn many_parts(rt: HostRuntime) -> Result<(), Fail> {
+    let arena = Bump::new(rt.alloc());
+    let mut tokens = Vec::new(rt.alloc());
+    add_all(&mut tokens, "begin case ( a ) b")?;
+    for _ in 0..50_000 {
+        add_all(&mut tokens, ", b")?;
+    }
+    add_all(&mut tokens, ": ; endcase")?;
+    for _ in 0..50_000 {
+        add_all(&mut tokens, "; ;")?;
+    }
+    add_all(&mut tokens, "end")?;
+    if tokens.len() >= 1_000_000 {
+        return Ok(());
+    }
+    assert!(rt; matches!(stmt(&tokens, 0, 500, &arena), Ok((_, 200_010))));
+    Ok(())
+}

@@ -1,0 +1,10 @@
+pub mod EntryLaws
+pub mod TrailLaws
+pub mod ListLaws
+pub mod StateLaws
+pub mod StateSteps
+pub mod Choices
+pub mod AdvanceLaws
+pub mod PlaceLaws
+pub mod NumberLaws
+pub mod TestLaws

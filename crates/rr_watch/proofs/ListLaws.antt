@@ -1,0 +1,230 @@
+-- lists of watchers that change, and the clauses that want a watch
+use Rattle.std.proofs.Common.{◌≡◌, ◌⊎◌, inl, inr, ℕ, suc, zero, ◌+◌, ◌-◌, ◌*◌, ◌<◌, ◌≤◌, ◌||◌, Bool, true, false, cond, eqb, List, [], ◌∷◌, ◌++◌, length, get_or, set, take, map, refl, sym, ◌∙◌, ap, subst, arith}
+use Rattle.std.specs.Prelude.{All, Contains}
+use Rattle.std.specs.List.{list_any, sum_by, swap_remove}
+use Rattle.std.proofs.Math.Seq.{get_or-append_seam, map-set_same}
+use Rattle.std.proofs.lemmas.List.{get_or_append_left, get_or-take, length-take-le, length_push, length-map, length-set, get_or-map, map_push, get_or_default, get_or-set_same, get_or-set_other}
+use Rattle.std.proofs.lemmas.List.Elements.{All-contains, Contains-append_left, Contains-push, Contains-push_cases, Contains-get_or}
+use Rattle.std.proofs.lemmas.List.Folds.{list_any_at}
+use Rattle.std.proofs.lemmas.List.Sums.{sum_by-set, sum_by_push}
+use Rattle.std.proofs.lemmas.Bool.{cases_lt, cases_eq, eq-eqb, ne_eqb}
+use Rattle.rr_cnf.specs.Clauses.{Literal}
+use Rattle.rr_cnf.specs.Codes.{code_of, same_code}
+use Rattle.rr_watch.specs.Watches.{Numbered, Named, bare}
+use Rattle.rr_watch.specs.WatchLists.{WatchList}
+use Rattle.rr_watch.specs.Lists.{literal_at, held_at, list_at, first_of, second_of, numbered, all_numbered, has, wants, wanted}
+use Rattle.rr_watch.specs.declared.propagator.Held.{Held}
+
+-- a list without the element at a place, into which the last moves
+module _ (xs : List ℕ) (at : ℕ) (h : at < length xs) where
+  abbrev moved : List ℕ
+  moved = set xs at (get_or xs (length xs - 1) 0)
+
+  length_moved : length moved ≡ length xs
+  length_moved = length-set xs at (get_or xs (length xs - 1) 0)
+
+  pub length_removed : length (swap_remove xs at 0) + 1 ≡ length xs
+  length_removed = omega (arith, length-take-le (length xs - 1) moved (omega (arith, length_moved)))
+
+  read_removed : (k : ℕ) → k < length xs - 1 → get_or (swap_remove xs at 0) k 0 ≡ get_or moved k 0
+  read_removed k b = get_or-take (length xs - 1) moved k 0 b
+
+  pub removed_before : (k : ℕ) → k < at → get_or (swap_remove xs at 0) k 0 ≡ get_or xs k 0
+  removed_before k b = read_removed k (omega arith) ∙ get_or-set_other xs at k (get_or xs (length xs - 1) 0) 0 (λ e. omega arith)
+
+  to_contains : (ys : List ℕ) (k x : ℕ) → k < length ys → get_or ys k 0 ≡ x → Contains ys x
+  to_contains ys k x b e = subst (Contains ys) e (Contains-get_or ys k 0 b)
+
+  pub removed_other : (x : ℕ) → Contains xs x → (get_or xs at 0 ≡ x → ⊥) → Contains (swap_remove xs at 0) x
+  removed_other x c n =
+      let e : get_or xs c.0 0 ≡ x = get_or_default xs c.0 0 x c.1 ∙ c.2 in
+      let apart : c.0 ≡ at → ⊥ = λ q. n (ap (λ i. get_or xs i 0) (sym q) ∙ e) in
+      elim (cases_lt c.0 (length xs - 1)) [
+        | inl b ↦ to_contains (swap_remove xs at 0) c.0 x (omega (arith, length_removed)) (read_removed c.0 b ∙ get_or-set_other xs at c.0 (get_or xs (length xs - 1) 0) 0 apart ∙ e)
+        | inr b ↦ (let last : c.0 ≡ length xs - 1 = omega (arith, c.1) in
+            let before : at < length xs - 1 = elim (cases_lt at (length xs - 1)) [ inl y ↦ y | inr y ↦ absurd (apart (omega (arith, c.1))) ] in
+            to_contains (swap_remove xs at 0) at x (omega (arith, length_removed)) (read_removed at before ∙ get_or-set_same xs at (get_or xs (length xs - 1) 0) 0 h ∙ ap (λ i. get_or xs i 0) (sym last) ∙ e))
+      ]
+
+  pub removed_old : (x : ℕ) → Contains (swap_remove xs at 0) x → Contains xs x
+  removed_old x c =
+      let b : c.0 < length xs - 1 = omega (arith, length_removed, c.1) in
+      let e : get_or moved c.0 0 ≡ x = sym (read_removed c.0 b) ∙ get_or_default (swap_remove xs at 0) c.0 0 x c.1 ∙ c.2 in
+      elim (cases_eq c.0 at) [
+        | inl q ↦ to_contains xs (length xs - 1) x (omega arith) (sym (get_or-set_same xs at (get_or xs (length xs - 1) 0) 0 h) ∙ ap (λ i. get_or moved i 0) (sym q) ∙ e)
+        | inr q ↦ to_contains xs c.0 x (omega arith) (sym (get_or-set_other xs at c.0 (get_or xs (length xs - 1) 0) 0 q) ∙ e)
+      ]
+
+-- a clause taken off one list
+pub record Unlisted (ls new : List WatchList) (from at : ℕ) : Type 0 where
+  pub long : length new ≡ length ls
+  pub entries : (list_at new from).entries ≡ swap_remove (list_at ls from).entries at 0
+  pub uses : (list_at new from).uses ≡ (list_at ls from).uses
+  pub others : (c : ℕ) → (c ≡ from → ⊥) → list_at new c ≡ list_at ls c
+
+-- a clause put on one list
+pub record Listed (ls new : List WatchList) (to i : ℕ) : Type 0 where
+  pub long : length new ≡ length ls
+  pub entries : (list_at new to).entries ≡ (list_at ls to).entries ++ i ∷ []
+  pub uses : (list_at new to).uses ≡ (list_at ls to).uses
+  pub others : (c : ℕ) → (c ≡ to → ⊥) → list_at new c ≡ list_at ls c
+
+pub Unlisted-set : (ls : List WatchList) (from at : ℕ) (w old : WatchList) → from < length ls → old ≡ get_or ls from old → w.entries ≡ swap_remove old.entries at 0 → w.uses ≡ old.uses → Unlisted ls (set ls from w) from at
+Unlisted-set ls from at w old h e p q =
+    let same : list_at (set ls from w) from ≡ w = get_or-set_same ls from w _ h in
+    let was : old ≡ list_at ls from = e ∙ get_or_default ls from old _ h in
+    record {
+      long = length-set ls from w;
+      entries = ap (λ x. x.entries) same ∙ p ∙ ap (λ x. swap_remove x.entries at 0) was;
+      uses = ap (λ x. x.uses) same ∙ q ∙ ap (λ x. x.uses) was;
+      others = λ c n. get_or-set_other ls from c w _ n;
+    }
+
+pub Listed-set : (ls : List WatchList) (to i : ℕ) (w old : WatchList) → to < length ls → old ≡ get_or ls to old → w.entries ≡ old.entries ++ i ∷ [] → w.uses ≡ old.uses → Listed ls (set ls to w) to i
+Listed-set ls to i w old h e p q =
+    let same : list_at (set ls to w) to ≡ w = get_or-set_same ls to w _ h in
+    let was : old ≡ list_at ls to = e ∙ get_or_default ls to old _ h in
+    record {
+      long = length-set ls to w;
+      entries = ap (λ x. x.entries) same ∙ p ∙ ap (λ x. x.entries ++ i ∷ []) was;
+      uses = ap (λ x. x.uses) same ∙ q ∙ ap (λ x. x.uses) was;
+      others = λ c n. get_or-set_other ls to c w _ n;
+    }
+
+module _ (ls new : List WatchList) (to i : ℕ) (r : Listed ls new to i) where
+  pub listed_more : (c k : ℕ) → Contains (list_at ls c).entries k → Contains (list_at new c).entries k
+  listed_more c k m = elim (cases_eq c to) [
+    | inl q ↦ (let z : Contains (list_at new to).entries k = subst (λ e. Contains e k) (sym r.entries) (Contains-append_left (list_at ls to).entries (i ∷ []) k (subst (λ x. Contains (list_at ls x).entries k) q m)) in
+        subst (λ x. Contains (list_at new x).entries k) (sym q) z)
+    | inr q ↦ subst (λ w. Contains w.entries k) (sym (r.others c q)) m
+  ]
+
+  pub listed_new : Contains (list_at new to).entries i
+  listed_new = subst (λ e. Contains e i) (sym r.entries) (Contains-push (list_at ls to).entries i)
+
+  pub listed_cases : (c k : ℕ) → Contains (list_at new c).entries k → Contains (list_at ls c).entries k ⊎ (i ≡ k)
+  listed_cases c k m = elim (cases_eq c to) [
+    | inl q ↦ elim (Contains-push_cases (list_at ls to).entries i k (subst (λ e. Contains e k) r.entries (subst (λ x. Contains (list_at new x).entries k) q m))) [
+      | inl y ↦ inl (subst (λ x. Contains (list_at ls x).entries k) (sym q) y)
+      | inr y ↦ inr y
+    ]
+    | inr q ↦ inl (subst (λ w. Contains w.entries k) (r.others c q) m)
+  ]
+
+  pub listed_length : (c : ℕ) → ((c ≡ to) × (length (list_at new c).entries ≡ length (list_at ls c).entries + 1) × ((list_at new c).uses ≡ (list_at ls c).uses)) ⊎ ((c ≡ to → ⊥) × (list_at new c ≡ list_at ls c))
+  listed_length c = elim (cases_eq c to) [
+    | inl q ↦ inl (q, ap (λ x. length (list_at new x).entries) q ∙ ap length r.entries ∙ length_push (list_at ls to).entries i ∙ ap (λ x. length (list_at ls x).entries + 1) (sym q), ap (λ x. (list_at new x).uses) q ∙ r.uses ∙ ap (λ x. (list_at ls x).uses) (sym q))
+    | inr q ↦ inr (q, r.others c q)
+  ]
+
+module _ (ls new : List WatchList) (from at : ℕ) (r : Unlisted ls new from at) (h : at < length (list_at ls from).entries) where
+  pub unlisted_old : (c k : ℕ) → Contains (list_at new c).entries k → Contains (list_at ls c).entries k
+  unlisted_old c k m = elim (cases_eq c from) [
+    | inl q ↦ subst (λ x. Contains (list_at ls x).entries k) (sym q) (removed_old (list_at ls from).entries at h k (subst (λ e. Contains e k) r.entries (subst (λ x. Contains (list_at new x).entries k) q m)))
+    | inr q ↦ subst (λ w. Contains w.entries k) (r.others c q) m
+  ]
+
+  -- another clause, or another list
+  pub unlisted_other : (c k : ℕ) → ((c ≡ from) → get_or (list_at ls from).entries at 0 ≡ k → ⊥) → Contains (list_at ls c).entries k → Contains (list_at new c).entries k
+  unlisted_other c k n m = elim (cases_eq c from) [
+    | inl q ↦ subst (λ x. Contains (list_at new x).entries k) (sym q) (subst (λ e. Contains e k) (sym r.entries) (removed_other (list_at ls from).entries at h k (subst (λ x. Contains (list_at ls x).entries k) q m) (n q)))
+    | inr q ↦ subst (λ w. Contains w.entries k) (sym (r.others c q)) m
+  ]
+
+  pub unlisted_length : (c : ℕ) → ((c ≡ from) × (length (list_at new c).entries + 1 ≡ length (list_at ls c).entries) × ((list_at new c).uses ≡ (list_at ls c).uses)) ⊎ ((c ≡ from → ⊥) × (list_at new c ≡ list_at ls c))
+  unlisted_length c = elim (cases_eq c from) [
+    | inl q ↦ inl (q, ap (λ x. length (list_at new x).entries + 1) q ∙ ap (λ e. length e + 1) r.entries ∙ length_removed (list_at ls from).entries at h ∙ ap (λ x. length (list_at ls x).entries) (sym q), ap (λ x. (list_at new x).uses) q ∙ r.uses ∙ ap (λ x. (list_at ls x).uses) (sym q))
+    | inr q ↦ inr (q, r.others c q)
+  ]
+
+pub unlisted_count : (ls new : List WatchList) (from at : ℕ) → Unlisted ls new from at → at < length (list_at ls from).entries → length (list_at new from).entries + 1 ≡ length (list_at ls from).entries
+unlisted_count ls new from at r h = ap (λ e. length e + 1) r.entries ∙ length_removed (list_at ls from).entries at h
+
+-- clauses that want a watch
+cond_first : (a b : Bool) (x y : ℕ) → (a ≡ true) ⊎ (b ≡ true) → cond (a || b) x y ≡ x
+cond_first true b x y h = refl
+cond_first false true x y h = refl
+cond_first false false x y (inl h) = (let z : false ≡ true = h in cc)
+cond_first false false x y (inr h) = (let z : false ≡ true = h in cc)
+
+cond_second : (a b : Bool) (x y : ℕ) → a ≡ false → b ≡ false → cond (a || b) x y ≡ y
+cond_second true b x y h k = (let z : true ≡ false = h in cc)
+cond_second false true x y h k = (let z : true ≡ false = k in cc)
+cond_second false false x y h k = refl
+
+cond_least : (a : Bool) (y : ℕ) → cond a 0 y ≤ y
+cond_least true y = omega arith
+cond_least false y = omega arith
+
+abbrev pub bit : Bool → ℕ
+bit b = cond b 1 0
+
+pub bit_le : (b : Bool) → bit b ≤ 1
+bit_le true = omega arith
+bit_le false = omega arith
+
+module _ (c : ℕ) (h : Held) where
+  pub wants_watched : (code_of (first_of h) ≡ c) ⊎ (code_of (second_of h) ≡ c) → wants c h ≡ 0
+  wants_watched w = cond_first (eqb (code_of (first_of h)) c) (eqb (code_of (second_of h)) c) 0 (bit (has h.clause c)) (elim w [ inl e ↦ inl (eq-eqb (code_of (first_of h)) c e) | inr e ↦ inr (eq-eqb (code_of (second_of h)) c e) ])
+
+  pub wants_unwatched : (code_of (first_of h) ≡ c → ⊥) → (code_of (second_of h) ≡ c → ⊥) → wants c h ≡ bit (has h.clause c)
+  wants_unwatched p q = cond_second (eqb (code_of (first_of h)) c) (eqb (code_of (second_of h)) c) 0 (bit (has h.clause c)) (ne_eqb (code_of (first_of h)) c p) (ne_eqb (code_of (second_of h)) c q)
+
+  pub wants_least : wants c h ≤ bit (has h.clause c)
+  wants_least = cond_least (eqb (code_of (first_of h)) c || eqb (code_of (second_of h)) c) (bit (has h.clause c))
+
+  pub wants_few : wants c h ≤ 1
+  wants_few = omega (arith, wants_least, bit_le (has h.clause c))
+
+pub has_member : (c : List Literal) (l : Literal) → Contains c l → has c (code_of l) ≡ true
+has_member c l m = list_any_at (λ x. eqb (code_of x) (code_of l)) c m.0 l m.1 (eq-eqb (code_of (get_or c m.0 l)) (code_of l) (ap code_of m.2))
+
+pub has_bit : (c : List Literal) (l : Literal) → Contains c l → bit (has c (code_of l)) ≡ 1
+has_bit c l m = ap bit (has_member c l m)
+
+pub wanted_set : (hs : List Held) (i c : ℕ) (h : Held) → i < length hs → wanted (set hs i h) c + wants c (held_at hs i) ≡ wanted hs c + wants c h
+wanted_set hs i c h b = sum_by-set (wants c) hs i h _ b
+
+pub wanted_push : (hs : List Held) (c : ℕ) (h : Held) → wanted (hs ++ h ∷ []) c ≡ wanted hs c + wants c h
+wanted_push hs c h = sum_by_push (wants c) hs h
+
+-- places and names of clauses
+pub held_old : (hs : List Held) (h : Held) (k : ℕ) → k < length hs → held_at (hs ++ h ∷ []) k ≡ held_at hs k
+held_old hs h k b = get_or_append_left hs (h ∷ []) _ k b
+
+pub held_new : (hs : List Held) (h : Held) → held_at (hs ++ h ∷ []) (length hs) ≡ h
+held_new hs h = get_or-append_seam hs h [] _
+
+pub held_same : (hs : List Held) (i : ℕ) (h : Held) → i < length hs → held_at (set hs i h) i ≡ h
+held_same hs i h b = get_or-set_same hs i h _ b
+
+pub held_other : (hs : List Held) (i k : ℕ) (h : Held) → (k ≡ i → ⊥) → held_at (set hs i h) k ≡ held_at hs k
+held_other hs i k h n = get_or-set_other hs i k h _ n
+
+pub named_at : (hs : List Held) (k : ℕ) → k < length hs → Named (all_numbered hs) (held_at hs k).id (held_at hs k).clause
+named_at hs k b = (k, omega (arith, length-map hs numbered), get_or-map numbered hs k _ (numbered (held_at hs k)) b)
+
+pub named_place : (hs : List Held) (id : ℕ) (c : List Literal) → Named (all_numbered hs) id c → (k : ℕ) × ((k < length hs) × ((held_at hs k).id ≡ id) × ((held_at hs k).clause ≡ c))
+named_place hs id c m =
+    let b : m.0 < length hs = omega (arith, length-map hs numbered, m.1) in
+    let e : numbered (held_at hs m.0) ≡ record { id = id; clause = c } = sym (get_or-map numbered hs m.0 _ (record { id = id; clause = c }) b) ∙ m.2 in
+    (m.0, (b, ap (λ n. n.id) e, ap (λ n. n.clause) e))
+
+pub bare_place : (hs : List Held) (c : List Literal) → Contains (bare (all_numbered hs)) c → (k : ℕ) × ((k < length hs) × ((held_at hs k).clause ≡ c))
+bare_place hs c m =
+    let b : m.0 < length (all_numbered hs) = omega (arith, length-map (all_numbered hs) (λ (n : Numbered). n.clause), m.1) in
+    let b2 : m.0 < length hs = omega (arith, length-map hs numbered) in
+    let e : (numbered (held_at hs m.0)).clause ≡ c = sym (ap (λ n. n.clause) (get_or-map numbered hs m.0 _ (record { id = 0; clause = [] }) b2)) ∙ sym (get_or-map (λ (n : Numbered). n.clause) (all_numbered hs) m.0 _ c b) ∙ m.2 in
+    (m.0, (b2, e))
+
+pub numbered_set : (hs : List Held) (i : ℕ) (h : Held) → h.id ≡ (held_at hs i).id → h.clause ≡ (held_at hs i).clause → all_numbered (set hs i h) ≡ all_numbered hs
+numbered_set hs i h p q = map-set_same numbered hs i h _ (ap (λ x. record { id = x; clause = h.clause }) p ∙ ap (λ x. record { id = (held_at hs i).id; clause = x }) q)
+
+pub numbered_push : (hs : List Held) (h : Held) → all_numbered (hs ++ h ∷ []) ≡ all_numbered hs ++ numbered h ∷ []
+numbered_push hs h = map_push numbered hs h
+
+pub ids_below : (hs : List Held) (n k : ℕ) → All (λ x. x.id < n) (all_numbered hs) → k < length hs → (held_at hs k).id < n
+ids_below hs n k a b = All-contains (λ x. x.id < n) (all_numbered hs) (numbered (held_at hs k)) a (named_at hs k b)
+
+pub code_same : (l m : Literal) → code_of l ≡ code_of m → (l ≡ m → ⊥) → ⊥
+code_same l m e n = n (same_code l m e)

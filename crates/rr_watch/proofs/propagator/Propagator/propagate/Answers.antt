@@ -1,0 +1,26 @@
+use Rattle.std.proofs.Common.{◌≡◌, ◌∙◌, ◌<◌, ◌≤◌, ap, sym, subst, arith, length}
+use Rattle.rr_watch.specs.Lists.{AreForcedShort}
+use Rattle.rr_watch.proofs.EntryLaws.{length_lits}
+use Rattle.rr_watch.proofs.AdvanceLaws.{Advances-trans, forced_more}
+use Rattle.rr_watch.proofs.StateLaws.{quiet_at_rest}
+use Rattle.rr_watch.proofs.propagator.Propagator.propagate.Goals as goal
+
+pub loop-self-preserved : goal.loop-self-preserved
+loop-self-preserved c =
+    let i = c.loop-self.invariant in
+    let s = c.loop-self.self in
+    let n = c.visit.new.self in
+    let e = c.visit.ensures in
+    let f = forced_more s n i.whole e.advances e.short (length s.short.items) (omega arith) i.short in
+    record {
+      whole = e.whole;
+      advances = Advances-trans c.args.self.now s n i.advances e.advances;
+      short = subst (λ x. AreForcedShort n (length x)) (sym e.short) f;
+    }
+
+pub returns-clause-quiet : goal.returns-clause-quiet
+returns-clause-quiet c =
+    let i = c.loop-self.invariant in
+    let s = c.loop-self.self in
+    let len = ap length c.lits.ensures.lits ∙ length_lits s.trail.entries in
+    quiet_at_rest s.trail s.held.items s.lists.items s.short.items s.settled s.head s.late i.whole (omega (arith, len, c.loop-self-test.false)) i.short

@@ -1,0 +1,4 @@
+pub mod Trails
+pub mod WatchLists
+pub mod Lists
+pub mod Watches
