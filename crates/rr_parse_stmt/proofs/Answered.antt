@@ -1,5 +1,5 @@
 -- What the functions of the reader answer, over plain values.
-use Rattle.std.proofs.Common.{◌≡◌, ℕ, zero, suc, ◌+◌, ◌-◌, ◌^◌, ◌≤◌, ◌<◌, max, List, [], ◌∷◌, ◌++◌, length, drop, get_or, refl, ap, ◌∙◌, sym, arith, Bool, true, false, cond, nat_eq, nat_le, Option, Some, None, length-append, length-drop, append_assoc, subst}
+use Rattle.std.proofs.Common.{◌≡◌, ℕ, zero, suc, ◌+◌, ◌-◌, ◌^◌, ◌≤◌, ◌<◌, List, [], ◌∷◌, ◌++◌, length, drop, refl, ap, ◌∙◌, sym, arith, Bool, true, false, cond, nat_eq, nat_le, Option, Some, None, length-append, length-drop, subst}
 use Rattle.std.proofs.lemmas.Bool.Decides.{Decides-eqb, nat_tests}
 use Rattle.std.proofs.Math.Seq.{drop-nil}
 use Rattle.rr_syntax.specs.declared.token.Token.{Token}
@@ -8,7 +8,6 @@ use Rattle.rr_syntax.specs.declared.tree.Stmt.{Stmt}
 use Rattle.rr_syntax.specs.declared.tree.Stmt.TheVariants as stmt
 use Rattle.rr_syntax.specs.declared.tree.Arm.{Arm as Branch}
 use Rattle.rr_syntax.specs.declared.tree.Named.{Named as NamedToken}
-use Rattle.rr_syntax.specs.declared.token.Keyword.{Keyword}
 use Rattle.rr_syntax.specs.Words.{Word, words, keyword_begin, keyword_default, keyword_else, keyword_end, keyword_endcase, keyword_if, mark_open_parenthesis, mark_close_parenthesis, mark_comma, mark_colon, mark_semicolon, mark_equals, mark_less_or_equal}
 use Rattle.rr_syntax.specs.Tree.{Tree, Trees, End, More, Identifier, Statement, Statements, Arm, Arms, Null, Block, If, IfElse, Case, Assign, Done, Then, CaseItem, NoArms, MoreArms, bare, bare_parts, bare_identifier, bare_label, bare_statement, bare_statements, bare_arm, bare_arms}
 use Rattle.rr_syntax.specs.Expressions.{spell, spell_more, Numbered, NumberedMore, is_target, unary_level}
@@ -17,21 +16,21 @@ use Rattle.rr_syntax.specs.View.{plain, plain_list, plain_identifier, plain_labe
 use Rattle.rr_syntax.proofs.BareExpressions.{is_target-bare}
 use Rattle.rr_syntax.proofs.Equations.{spellings, statement_spellings, more-End}
 use Rattle.rr_syntax.proofs.Nonempty.{spell_statement-some, spell_arm-some}
-use Rattle.rr_syntax.proofs.Rows.{plain_block, plain_if_none, plain_if_some, plain_case}
+use Rattle.rr_syntax.proofs.Rows.{plain_block, plain_case}
 use Rattle.rr_parse_expr.specs.Reading.{Found, Reader, mapped, chain, mark, rest, no_mark, expect, closed, snoc, reads}
 use Rattle.rr_parse_expr.specs.Reading as expressions
 use Rattle.rr_parse_expr.proofs.TokenWords.{length_words}
-use Rattle.rr_parse_expr.proofs.Steps.{closed-some, closed-none, closed-other}
+use Rattle.rr_parse_expr.proofs.Steps.{closed-some, closed-other}
 use Rattle.rr_parse_expr.proofs.Answered.{not_equal, mark_inside, rest_drop, rest_next}
 use Rattle.rr_parse_stmt.specs.declared.expressions.Placed.{Placed}
 use Rattle.rr_parse_stmt.specs.declared.expressions.LabelList.{LabelList}
 use Rattle.rr_parse_stmt.specs.declared.nodes.Piece.{Piece}
 use Rattle.rr_parse_stmt.specs.declared.nodes.ArmPiece.{ArmPiece}
 use Rattle.rr_parse_stmt.specs.declared.nodes.LabelPiece.{LabelPiece}
-use Rattle.rr_parse_stmt.specs.Reading.{keyword, no_word, name, label, labelled, snoc_statement, snoc_arm, body, block, tested, after_then, conditional, labels_after, labels, default_arm, labelled_arm, arm_by, arms, cases, sign, assigned, target, assignment, statement_by, statement, arm, below_statement, below_arm}
+use Rattle.rr_parse_stmt.specs.Reading.{keyword, no_word, name, label, snoc_statement, snoc_arm, body, block, tested, after_then, conditional, labels_after, labels, default_arm, labelled_arm, arm_by, arms, cases, sign, assigned, target, assignment, statement_by, below_statement, below_arm}
 use Rattle.rr_parse_stmt.specs.Answer.{IsPiece, IsArmPiece, FindsTree, AnswersTree, FindsTarget, AnswersTarget, GathersLabels, AnswersLabelling, FindsLabels, AnswersLabels, FindsStatement, AnswersStatement, FindsArm, AnswersArm, FindsLabel, AnswersLabel, FindsBody, AnswersBody, FindsArms, AnswersArms, AnswersName}
 use Rattle.rr_parse_stmt.specs.Loops.{at_most_one, Labelling, Bodied, Armed}
-use Rattle.rr_parse_stmt.proofs.Steps.{statement-below, arm-below, body-end, body-next, body-none, label-none, label-some, label-fail, block-some, block-open, block-none, tested-some, tested-open, tested-other, if-then, if-none, if-open, then-alone, then-else, then-open, labels-end, labels-comma, labels-first, labels-none, default-colon, default-alone, labelled-some, arm-default, arm-labelled, go_on, arms-step, case-some, assigned-now, assigned-later, target-is, target-not, assignment-some, assignment-none, by-null, by-begin, by-if, by-case, by-assignment}
+use Rattle.rr_parse_stmt.proofs.Steps.{statement-below, arm-below, body-end, body-next, body-none, label-none, label-some, label-fail, block-some, block-open, tested-some, tested-open, tested-other, if-then, if-open, then-alone, then-else, then-open, labels-end, labels-comma, labels-first, default-colon, default-alone, labelled-some, arm-default, arm-labelled, go_on, arms-step, case-some, assigned-now, assigned-later, target-is, target-not, assignment-some, assignment-none, by-null, by-begin, by-if, by-case, by-assignment}
 use denote.Ref.{Bor}
 
 -- ---- what an answer says of an option

@@ -1,14 +1,13 @@
 -- Expressions before the marks that stand behind them in statements.
-use Rattle.std.proofs.Common.{◌≡◌, ℕ, suc, ◌+◌, ◌≤◌, ◌<◌, List, [], ◌∷◌, ◌++◌, refl, ap, ◌∙◌, sym, arith, Bool, true, false, nat_eq, Option, Some, None, append_assoc, IsTrue}
-use Rattle.rr_syntax.specs.Words.{Word, Named, System, Digits, Marked, Reserved, mark_open_parenthesis, mark_close_parenthesis, mark_semicolon, mark_colon, mark_comma, mark_equals, mark_less_or_equal}
-use Rattle.rr_syntax.specs.Tree.{Tree, Trees, Name, Literal, Bit, Part, Indexed, Unary, Binary, Cond, Concat, Repeat, Cast, Paren, End, More, bare}
+use Rattle.std.proofs.Common.{◌≡◌, ℕ, ◌≤◌, ◌<◌, List, ◌∷◌, ◌++◌, refl, ap, ◌∙◌, arith, true, false, nat_eq, Some, append_assoc}
+use Rattle.rr_syntax.specs.Words.{Word, Marked, mark_open_parenthesis, mark_close_parenthesis, mark_semicolon, mark_colon, mark_equals, mark_less_or_equal}
+use Rattle.rr_syntax.specs.Tree.{Tree, Name, Literal, Bit, Part, Indexed, Unary, Binary, Cond, Concat, Repeat, Cast, Paren, bare}
 use Rattle.rr_syntax.specs.Expressions.{level, depth, WellFormed, spell, infix_level, is_target, unary_level, primary_level}
-use Rattle.rr_syntax.proofs.Equations.{spellings}
-use Rattle.rr_parse_expr.specs.Reading.{Found, Reader, mark, rest, closed, expect, reads}
-use Rattle.rr_parse_expr.proofs.Facts.{follow_level, infix_follow, level_tail, level_pos, tail_level}
+use Rattle.rr_parse_expr.specs.Reading.{mark, rest, closed, expect, reads}
+use Rattle.rr_parse_expr.proofs.Facts.{follow_level, infix_follow, level_tail, level_pos}
 use Rattle.rr_parse_expr.proofs.Steps.{closed-some}
 use Rattle.rr_parse_expr.proofs.Complete.{passes, stopped, ends, before}
-use Rattle.rr_parse_stmt.specs.Reading.{keyword, keyword_of, no_word, tested}
+use Rattle.rr_parse_stmt.specs.Reading.{keyword, no_word, tested}
 
 pub follow-semicolon : follow_level mark_semicolon ≡ 0
 unfolding follow_level infix_level

@@ -1,16 +1,16 @@
 -- Whatever is well-formed is read: the reading function finds each statement that ends where it ends.
-use Rattle.std.proofs.Common.{◌≡◌, ℕ, zero, suc, ◌+◌, ◌≤◌, ◌<◌, max, List, [], ◌∷◌, ◌++◌, length, refl, ap, ◌∙◌, sym, arith, Bool, true, false, cond, nat_eq, nat_le, ◌||◌, Option, Some, None, length-append, append_assoc, IsTrue, subst}
+use Rattle.std.proofs.Common.{◌≡◌, ℕ, zero, suc, ◌+◌, ◌≤◌, ◌<◌, List, [], ◌∷◌, ◌++◌, length, refl, ap, ◌∙◌, sym, arith, Bool, true, false, cond, nat_eq, Option, Some, None, length-append, append_assoc}
 use Rattle.std.proofs.lemmas.Bool.Decides.{nat_tests, Decides-eqb}
-use Rattle.rr_syntax.specs.Words.{Word, Named, Marked, Reserved, keyword_begin, keyword_case, keyword_casex, keyword_casez, keyword_default, keyword_else, keyword_end, keyword_endcase, keyword_if, mark_open_parenthesis, mark_close_parenthesis, mark_comma, mark_colon, mark_semicolon, mark_equals, mark_less_or_equal}
+use Rattle.rr_syntax.specs.Words.{Word, Named, Marked, Reserved, keyword_begin, keyword_default, keyword_else, keyword_end, keyword_endcase, keyword_if, mark_open_parenthesis, mark_close_parenthesis, mark_comma, mark_colon, mark_semicolon, mark_equals, mark_less_or_equal}
 use Rattle.rr_syntax.specs.Tree.{Tree, Trees, End, More, Identifier, Statement, Statements, Arm, Arms, Null, Block, If, IfElse, Case, Assign, Done, Then, CaseItem, NoArms, MoreArms, bare, bare_parts, bare_identifier, bare_label, bare_statement, bare_statements, bare_arm, bare_arms}
-use Rattle.rr_syntax.specs.Expressions.{depth, height, WellFormed, WellFormedMore, spell, spell_parts, spell_more, is_target, unary_level}
+use Rattle.rr_syntax.specs.Expressions.{depth, height, WellFormed, WellFormedMore, spell, spell_more, is_target, unary_level}
 use Rattle.rr_syntax.specs.Statements.{is_open, spell_label, spell_labels, spell_statement, spell_statements, spell_arm, spell_arms, is_case, HasColon, defaults, HasArms, WellFormedStatement, WellFormedStatements, WellFormedArm, WellFormedArms, depth_statement, height_statements, depth_arm, height_arms}
 use Rattle.rr_syntax.proofs.BareExpressions.{is_target-bare}
-use Rattle.rr_syntax.proofs.Equations.{spellings, statement_spellings, more-End, more-More, parts-More, labels-End, labels-More, statement-Null, arm-CaseItem, arms-NoArms, arms-MoreArms, statements-Done, statements-Then}
+use Rattle.rr_syntax.proofs.Equations.{spellings, statement_spellings, more-End, more-More, labels-End, statement-Null, arms-NoArms, statements-Done}
 use Rattle.rr_parse_expr.specs.Reading.{Found, Reader, mapped, chain, mark, rest, expect, closed, snoc, reads, nothing}
 use Rattle.rr_parse_expr.proofs.Facts.{follow_level, follow-colon, follow-comma}
 use Rattle.rr_parse_expr.proofs.Complete.{appended, appended-snoc, appended-End}
-use Rattle.rr_parse_stmt.specs.Reading.{keyword, no_word, StatementReader, ArmReader, name, label, snoc_statement, snoc_arm, body, block, tested, after_then, conditional, labels_after, labels, default_arm, labelled_arm, arm_by, arms, cases, assigned, assignment, statement_by, statement, arm, below_statement, below_arm, no_statement, no_arm}
+use Rattle.rr_parse_stmt.specs.Reading.{keyword, no_word, name, label, snoc_statement, snoc_arm, body, labels_after, labels, arms, assigned, statement, arm, below_statement, below_arm, no_statement, no_arm}
 use Rattle.rr_parse_stmt.specs.Exact.{Closes}
 use Rattle.rr_syntax.proofs.Nonempty.{spell_statement-some, spell_arm-some}
 use Rattle.rr_parse_expr.specs.Reading as expressions

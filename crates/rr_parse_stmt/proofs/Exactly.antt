@@ -1,16 +1,16 @@
 -- What the reading function finds is the statement that stands there, and where it finds none, none stands.
-use Rattle.std.proofs.Common.{◌≡◌, ℕ, zero, suc, ◌+◌, ◌≤◌, max, List, ◌++◌, length, drop, refl, ap, ◌∙◌, sym, arith, true, Option, Some, None, subst}
+use Rattle.std.proofs.Common.{◌≡◌, ℕ, suc, ◌+◌, max, List, ◌++◌, drop, refl, ap, ◌∙◌, sym, arith, Option, Some, None, subst}
 use Rattle.rr_syntax.specs.declared.token.Token.{Token}
 use Rattle.rr_syntax.specs.declared.tree.Stmt.{Stmt}
-use Rattle.rr_syntax.specs.Words.{Word, words, keyword_else}
+use Rattle.rr_syntax.specs.Words.{Word, words}
 use Rattle.rr_syntax.specs.Tree.{Statement, bare_statement, IsSameStatement}
-use Rattle.rr_syntax.specs.Statements.{spell_statement, depth_statement, is_open, WellFormedStatement}
+use Rattle.rr_syntax.specs.Statements.{spell_statement, depth_statement, WellFormedStatement}
 use Rattle.rr_syntax.specs.View.{plain_statement}
 use Rattle.rr_syntax.proofs.BareStatements.{is_open-bare, spell_statement-bare, WellFormedStatement-bare, depth_statement-bare}
 use Rattle.rr_parse_stmt.specs.declared.nodes.Piece.{Piece}
-use Rattle.rr_parse_stmt.specs.Reading.{keyword, statement, below_statement}
+use Rattle.rr_parse_stmt.specs.Reading.{statement, below_statement}
 use Rattle.rr_parse_stmt.specs.Answer.{FindsStatement, AnswersStatement}
-use Rattle.rr_parse_stmt.specs.Exact.{Closes, Stands, IsStatement, NoneStands}
+use Rattle.rr_parse_stmt.specs.Exact.{Closes, IsStatement, NoneStands}
 use Rattle.rr_parse_stmt.proofs.Complete.{reads_statement}
 use Rattle.rr_parse_stmt.proofs.Sound.{statement_sound}
 

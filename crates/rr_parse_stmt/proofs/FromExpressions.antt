@@ -1,18 +1,18 @@
 -- The longest expression at a token is what the reading function of expressions finds.
-use Rattle.std.proofs.Common.{◌≡◌, ℕ, zero, suc, ◌+◌, ◌-◌, ◌≤◌, ◌<◌, List, [], ◌∷◌, ◌++◌, length, drop, refl, ap, ◌∙◌, sym, arith, Option, Some, None, subst}
+use Rattle.std.proofs.Common.{◌≡◌, ℕ, ◌≤◌, List, [], ◌∷◌, ◌++◌, length, drop, refl, ap, ◌∙◌, sym, arith, Some, None}
 use Rattle.rr_syntax.specs.declared.token.Token.{Token}
 use Rattle.rr_syntax.specs.declared.tree.Expr.{Expr}
 use Rattle.rr_syntax.specs.Words.{Word, words}
 use Rattle.rr_syntax.specs.Tree.{Tree, bare}
-use Rattle.rr_syntax.specs.Expressions.{spell, level, depth, unary_level, WellFormed, Numbered}
+use Rattle.rr_syntax.specs.Expressions.{spell, WellFormed}
 use Rattle.rr_syntax.specs.View.{plain}
-use Rattle.rr_parse_expr.specs.Reading.{Found, reads, below}
+use Rattle.rr_parse_expr.specs.Reading.{Found, reads}
 use Rattle.rr_parse_expr.specs.Exact.{IsExpression, IsOperand, Begins, IsLongest, NoneBegins, Fails}
 use Rattle.rr_parse_expr.specs.declared.expression.ParseFault.{ParseFault}
 use Rattle.rr_parse_expr.specs.declared.expression.ParseFault.TheVariants.{Unsupported, Syntax, Memory}
-use Rattle.rr_parse_expr.proofs.Exactly.{IsRead, expressions_read, operands_read, below_is}
-use Rattle.rr_parse_expr.proofs.Longest.{unique, Reaches}
-use Rattle.rr_parse_expr.proofs.Sound.{Fits, reads_sound}
+use Rattle.rr_parse_expr.proofs.Exactly.{IsRead}
+use Rattle.rr_parse_expr.proofs.Longest.{unique}
+use Rattle.rr_parse_expr.proofs.Sound.{reads_sound}
 
 same_front : (xs ys us vs : List Word) → length xs ≡ length ys → xs ++ us ≡ ys ++ vs → (xs ≡ ys) × (us ≡ vs)
 same_front [] [] us vs n e = (refl, e)

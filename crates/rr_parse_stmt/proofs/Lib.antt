@@ -7,3 +7,4 @@ pub mod Names
 pub mod Sound
 pub mod Steps
 pub mod Targets
+pub mod WholeSources

@@ -1,9 +1,8 @@
 -- A name at a token.
-use Rattle.std.proofs.Common.{◌≡◌, ℕ, ◌+◌, ◌≤◌, ◌<◌, List, [], ◌∷◌, length, drop, get_or, refl, Option, Some, None}
+use Rattle.std.proofs.Common.{◌≡◌, ℕ, ◌+◌, ◌≤◌, ◌<◌, List, ◌∷◌, length, drop, get_or, refl, Some, None}
 use Rattle.rr_syntax.specs.declared.token.Token.{Token}
 use Rattle.rr_syntax.specs.declared.token.Kind.TheVariants as kind
 use Rattle.rr_syntax.specs.Words.{Word, word, words, Named, System, Digits, Reserved, Marked}
-use Rattle.rr_syntax.specs.Tree.{Identifier}
 use Rattle.rr_parse_expr.proofs.TokenWords.{words_at, words_past}
 use Rattle.rr_parse_stmt.specs.Reading.{name}
 use denote.Ref.{Bor}

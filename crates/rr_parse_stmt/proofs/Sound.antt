@@ -1,19 +1,18 @@
 -- What is read is well-formed, within the depth, without token numbers, spelled by the words that were taken, and ends there.
-use Rattle.std.proofs.Common.{◌≡◌, ℕ, zero, suc, ◌+◌, ◌≤◌, ◌<◌, max, List, [], ◌∷◌, ◌++◌, length, refl, ap, ◌∙◌, sym, arith, Bool, true, false, cond, nat_eq, nat_le, ◌||◌, Option, Some, None, ◌⊎◌, inl, inr, append_assoc, subst}
+use Rattle.std.proofs.Common.{◌≡◌, ℕ, zero, suc, ◌≤◌, ◌<◌, List, [], ◌∷◌, ◌++◌, length, refl, ap, ◌∙◌, sym, arith, Bool, true, false, cond, nat_eq, nat_le, Option, Some, None, inl, inr, append_assoc, subst}
 use Rattle.std.proofs.lemmas.Bool.Decides.{Decides-eqb, nat_tests}
 use Rattle.rr_syntax.specs.Words.{Word, Named, System, Digits, Marked, Reserved, keyword_begin, keyword_default, keyword_else, keyword_end, keyword_endcase, keyword_if, mark_open_parenthesis, mark_close_parenthesis, mark_comma, mark_colon, mark_semicolon, mark_equals, mark_less_or_equal}
 use Rattle.rr_syntax.specs.Tree.{Tree, Trees, End, More, Identifier, Statement, Statements, Arm, Arms, Null, Block, If, IfElse, Case, Assign, Done, Then, CaseItem, NoArms, MoreArms, bare, bare_parts, bare_identifier, bare_label, bare_statement, bare_statements, bare_arm, bare_arms}
-use Rattle.rr_syntax.specs.Expressions.{level, depth, height, WellFormed, WellFormedMore, spell, spell_more, is_target, unary_level}
-use Rattle.rr_syntax.specs.Statements.{is_open, spell_label, spell_labels, spell_statement, spell_statements, spell_arm, spell_arms, is_case, HasColon, defaults, HasArms, WellFormedStatement, WellFormedStatements, WellFormedArm, WellFormedArms, depth_statement, height_statements, depth_arm, height_arms}
-use Rattle.rr_syntax.proofs.Equations.{spellings, statement_spellings, more-End, labels-End, statement-Null, statements-Done, arms-NoArms}
-use Rattle.rr_parse_expr.specs.Reading.{Found, Reader, mapped, chain, mark, rest, no_mark, expect, closed, snoc, reads, nothing}
-use Rattle.rr_parse_expr.specs.Reading as expressions
+use Rattle.rr_syntax.specs.Expressions.{depth, height, WellFormed, WellFormedMore, spell, spell_more, is_target, unary_level}
+use Rattle.rr_syntax.specs.Statements.{is_open, spell_label, spell_labels, spell_statement, spell_statements, spell_arm, spell_arms, is_case, HasColon, defaults, WellFormedStatement, WellFormedStatements, WellFormedArm, WellFormedArms, depth_statement, height_statements, depth_arm, height_arms}
+use Rattle.rr_syntax.proofs.Equations.{spellings, statement_spellings, more-End, statement-Null, statements-Done}
+use Rattle.rr_parse_expr.specs.Reading.{Reader, mapped, chain, mark, rest, no_mark, closed, snoc, reads, nothing}
 use Rattle.rr_parse_expr.proofs.Climbs.{mapped_tells, chain_tells, if_tells, if_splits, expect_tells, closed_tells}
 use Rattle.rr_parse_expr.proofs.Complete.{appended, appended-snoc, appended-End}
 use Rattle.rr_parse_expr.proofs.Sound.{Fits, reads_sound}
 use Rattle.rr_parse_stmt.specs.Reading.{keyword, no_word, StatementReader, ArmReader, name, label, labelled, snoc_statement, snoc_arm, body, block, tested, after_then, conditional, labels_after, labels, default_arm, labelled_arm, arm_by, arms, cases, assigned, only_target, target, assignment, statement_by, statement, arm, no_statement, no_arm}
 use Rattle.rr_parse_stmt.specs.Exact.{Closes}
-use Rattle.rr_parse_stmt.proofs.Complete.{words-Block, words-If, words-IfElse, words-Case, words-Assign, words-Arm, words-Then, words-Arms, words-More, appended_statements, appended_snoc_statement, appended_Done, appended_arms, appended_snoc_arm, appended_NoArms}
+use Rattle.rr_parse_stmt.proofs.Complete.{words-Block, words-If, words-IfElse, words-Case, words-Assign, words-Arm, words-Then, words-Arms, words-More, appended_statements, appended_snoc_statement, appended_Done, appended_arms, appended_snoc_arm}
 
 -- what the readers of expressions keep
 abbrev SoundReader : Reader → ℕ → Type 0

@@ -1,13 +1,13 @@
 -- The equations of the reading function, a step at a time.
-use Rattle.std.proofs.Common.{◌≡◌, ◌≤◌, ◌<◌, ℕ, zero, suc, List, [], ◌∷◌, length, refl, ap, ◌∙◌, sym, arith, Bool, true, false, cond, nat_eq, nat_le, ◌||◌, Option, Some, None}
-use Rattle.std.proofs.lemmas.Bool.Decides.{nat_tests, Decides-eqb}
-use Rattle.rr_syntax.specs.Words.{Word, Named, Marked, Reserved, keyword_begin, keyword_case, keyword_casex, keyword_casez, keyword_default, keyword_else, keyword_end, keyword_endcase, keyword_if, mark_open_parenthesis, mark_close_parenthesis, mark_comma, mark_colon, mark_semicolon, mark_equals, mark_less_or_equal}
+use Rattle.std.proofs.Common.{◌≡◌, ◌≤◌, ℕ, zero, suc, List, length, refl, arith, true, false, cond, nat_eq, nat_le, Option, Some, None}
+use Rattle.std.proofs.lemmas.Bool.Decides.{nat_tests}
+use Rattle.rr_syntax.specs.Words.{Word, keyword_begin, keyword_default, keyword_else, keyword_end, keyword_endcase, keyword_if, mark_open_parenthesis, mark_close_parenthesis, mark_comma, mark_colon, mark_semicolon, mark_equals, mark_less_or_equal}
 use Rattle.rr_syntax.specs.Tree.{Tree, Trees, End, More, Identifier, Statement, Statements, Arm, Arms, Null, Block, If, IfElse, Case, Assign, Done, CaseItem, NoArms}
 use Rattle.rr_syntax.specs.Expressions.{is_target, unary_level}
 use Rattle.rr_syntax.specs.Statements.{is_case, defaults}
 use Rattle.rr_parse_expr.specs.Reading.{Found, Reader, mapped, chain, mark, rest, expect, closed, snoc, reads, nothing}
 use Rattle.rr_parse_expr.specs.Reading as expressions
-use Rattle.rr_parse_stmt.specs.Reading.{keyword, no_word, StatementReader, ArmReader, name, label, labelled, snoc_statement, snoc_arm, body, block, tested, after_then, conditional, labels_after, labels, default_arm, labelled_arm, arm_by, arms, cases, assigned, target, assignment, statement_by, statement, arm, below_statement, below_arm, no_statement, no_arm}
+use Rattle.rr_parse_stmt.specs.Reading.{keyword, StatementReader, ArmReader, name, label, snoc_statement, snoc_arm, body, block, tested, after_then, conditional, labels_after, labels, default_arm, labelled_arm, arm_by, arms, cases, assigned, target, assignment, statement_by, statement, arm, below_statement, below_arm}
 
 pub statement-below : (n : ℕ) (ws : List Word) → statement n ws ≡ statement_by (expressions.below n) (below_statement n) (below_arm n) ws
 unfolding statement expressions.below below_statement below_arm

@@ -5,7 +5,6 @@ use Rattle.rr_syntax.specs.declared.token.Mark.{Mark}
 use Rattle.rr_syntax.specs.declared.token.Number.{Number}
 use Rattle.rr_syntax.specs.declared.tree.Expr.{Expr, the_lemmas}
 use Rattle.rr_syntax.specs.declared.tree.Expr.TheVariants as expr
-use Rattle.rr_syntax.specs.Tree.{Tree}
 use Rattle.rr_syntax.specs.Expressions.{is_target, are_targets}
 use Rattle.rr_syntax.specs.View.{plain, plain_list}
 use Rattle.rr_syntax.proofs.Rows.{plain_concat}

@@ -1,9 +1,18 @@
 //! Statements at tokens.
 
+ghost use Rattle.std.specs.Prelude.{◌≡◌, ◌+◌, length, IfOk};
+ghost use Rattle.rr_syntax.specs.Items.{depth_source, spell_source};
+ghost use Rattle.rr_syntax.specs.Statements.{depth_statement, spell_statement};
+ghost use Rattle.rr_syntax.specs.View.{plain_source, plain_statement};
+
 use crate::stmt;
 use bumpalo::Bump;
+use bumpalo::collections::into_bump_slice;
 use rr_parse_expr::ParseFault;
-use rr_syntax::{Arm, Expr, KEYWORDS, Keyword, Kind, MARKS, Mark, Number, Span, Stmt, Token};
+use rr_syntax::{
+    Arm, Events, Expr, Item, KEYWORDS, Keyword, Kind, MARKS, Mark, Module, Number, Source, Span,
+    Stmt, Token, depth, spell_len,
+};
 use std::alloc::{AllocError, Global};
 use std::test::Fail;
 
@@ -331,5 +340,57 @@ fn many_parts(rt: HostRuntime) -> Result<(), Fail> {
         return Ok(());
     }
     assert!(rt; matches!(stmt(&tokens, 0, 500, &arena), Ok((_, 200_010))));
+    Ok(())
+}
+
+/// A source whose one module has one item, `always @*` and this statement.
+fn source_of<'a>(body: &'a Stmt<'a>, arena: &'a Bump) -> Result<Source<'a>, AllocError>
+    ensures lengths { IfOk result (λ s. length (spell_source (plain_source s)) ≡ length (spell_statement (plain_statement body.now)) + 7) }
+    ensures levels { IfOk result (λ s. depth_source (plain_source s) ≡ depth_statement (plain_statement body.now) + 3) }
+{
+    let mut items = Vec::new(arena);
+    items.push(Item::Always {
+        events: Events::Star { brackets: false },
+        body,
+        token: 0,
+    })?;
+    let mut modules = Vec::new(arena);
+    modules.push(Module {
+        name: "m",
+        token: 0,
+        params: into_bump_slice(Vec::new(arena)),
+        header: None,
+        groups: into_bump_slice(Vec::new(arena)),
+        items: into_bump_slice(items),
+    })?;
+    Ok(Source {
+        modules: into_bump_slice(modules),
+    })
+}
+
+/// The number of tokens and the depth of a whole source with `deep` times `if (a)` in one another.
+fn measures(alloc: Global, deep: u32) -> Result<Option<(u64, u32)>, Fail> {
+    let arena = Bump::new(alloc);
+    let mut tokens = Vec::new(alloc);
+    for _ in 0..deep {
+        add_all(&mut tokens, "if ( a )")?;
+    }
+    add_all(&mut tokens, ";")?;
+    if tokens.len() >= 1_000_000 {
+        return Ok(None);
+    }
+    match stmt(&tokens, 0, 500, &arena) {
+        Err(_) => Ok(None),
+        Ok((body, _)) => {
+            let source = source_of(body, &arena)?;
+            Ok(Some((spell_len(&source), depth(&source))))
+        }
+    }
+}
+
+/// A source of the greatest depth, made in the arena, on the default stack.
+#[test]
+fn whole_source(rt: HostRuntime) -> Result<(), Fail> {
+    assert!(rt; measures(rt.alloc(), 497)? == Some((1996, 500)));
     Ok(())
 }

@@ -1,6 +1,5 @@
-use Rattle.std.proofs.Common.{◌≡◌, ◌<◌, ◌-◌, ◌∙◌, ℕ, drop, arith}
+use Rattle.std.proofs.Common.{◌<◌, ◌-◌, ◌∙◌, drop, arith}
 use Rattle.rr_syntax.specs.Words.{words}
-use Rattle.rr_syntax.specs.Expressions.{unary_level}
 use Rattle.rr_parse_expr.specs.Exact.{IsExpression}
 use Rattle.rr_parse_expr.proofs.Exactly.{expressions_read, below_zero, below_is}
 use Rattle.rr_parse_stmt.proofs.FromExpressions.{expressions_well, longest_read, none_read, fails_none, syntax_memory}

@@ -1,5 +1,5 @@
-use Rattle.std.proofs.Common.{◌≡◌, ◌<◌, ◌+◌, ◌-◌, ◌∙◌, ℕ, suc, [], length, drop, refl, sym, ap, arith}
-use Rattle.rr_syntax.specs.Words.{words, mark_close_parenthesis, mark_colon, mark_comma, mark_open_parenthesis}
+use Rattle.std.proofs.Common.{drop}
+use Rattle.rr_syntax.specs.Words.{words}
 use Rattle.rr_parse_expr.specs.Reading.{below}
 use Rattle.rr_parse_stmt.specs.Reading.{labels}
 use Rattle.rr_parse_stmt.proofs.Steps.{labels-none}

@@ -1,4 +1,4 @@
-use Rattle.std.proofs.Common.{◌≡◌, ◌<◌, ◌-◌, ◌∙◌, ℕ, drop, arith}
+use Rattle.std.proofs.Common.{◌<◌, ◌-◌, ◌∙◌, drop, arith}
 use Rattle.rr_syntax.specs.Words.{words}
 use Rattle.rr_syntax.specs.Expressions.{unary_level}
 use Rattle.rr_parse_expr.specs.Exact.{IsOperand}

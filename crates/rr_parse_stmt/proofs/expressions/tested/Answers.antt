@@ -1,5 +1,5 @@
-use Rattle.std.proofs.Common.{◌≡◌, ◌<◌, ◌+◌, ◌-◌, ◌∙◌, ℕ, suc, [], length, drop, refl, sym, ap, arith}
-use Rattle.rr_syntax.specs.Words.{words, mark_close_parenthesis, mark_colon, mark_comma, mark_open_parenthesis}
+use Rattle.std.proofs.Common.{◌+◌, ◌∙◌, drop, sym, arith}
+use Rattle.rr_syntax.specs.Words.{words, mark_close_parenthesis, mark_open_parenthesis}
 use Rattle.std.proofs.Common.{Option}
 use Rattle.rr_parse_expr.specs.Reading.{below, closed}
 use Rattle.rr_parse_expr.proofs.Answered.{mark_inside, if_ok_map}

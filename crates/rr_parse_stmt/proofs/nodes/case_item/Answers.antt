@@ -1,8 +1,7 @@
 use Rattle.std.proofs.Common.{refl, ap, ◌∙◌}
 use Rattle.rr_syntax.specs.declared.tree.Stmt.{Stmt}
-use Rattle.rr_syntax.specs.Tree.{If, IfElse, CaseItem}
-use Rattle.rr_syntax.specs.View.{plain, plain_list, plain_statement, plain_arm}
-use Rattle.rr_syntax.proofs.Rows.{plain_if_none, plain_if_some}
+use Rattle.rr_syntax.specs.Tree.{CaseItem}
+use Rattle.rr_syntax.specs.View.{plain_list, plain_statement}
 use Rattle.rr_parse_stmt.proofs.Answered.{case_item_is}
 use denote.MutBor.{as_bor}
 use Rattle.rr_parse_stmt.proofs.nodes.case_item.Goals as goal

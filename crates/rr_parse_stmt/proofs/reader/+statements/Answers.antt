@@ -1,4 +1,4 @@
-use Rattle.std.proofs.Common.{◌≡◌, ◌<◌, ℕ, suc, ◌+◌, ◌-◌, length, drop, refl, sym, ap, ◌∙◌, arith}
+use Rattle.std.proofs.Common.{◌<◌, suc, ◌+◌, length, drop, refl, sym, ap, ◌∙◌, arith}
 use Rattle.rr_syntax.specs.Words.{words, keyword_begin, keyword_default, keyword_else, keyword_end, keyword_endcase, keyword_if, mark_semicolon}
 use Rattle.rr_syntax.specs.Tree.{Done, NoArms, MoreArms}
 use Rattle.rr_syntax.specs.Statements.{is_case, defaults}

@@ -1,4 +1,4 @@
-use Rattle.std.proofs.Common.{◌≡◌, ℕ, suc, ◌+◌, ◌*◌, ◌-◌, ◌≤◌, length, drop}
+use Rattle.std.proofs.Common.{suc, ◌+◌, ◌*◌, ◌-◌, length, drop}
 use Rattle.rr_syntax.specs.Words.{words}
 use Rattle.rr_syntax.specs.Tree.{Done, NoArms}
 use Rattle.rr_parse_stmt.specs.Reading.{body, arms, below_statement, below_arm}

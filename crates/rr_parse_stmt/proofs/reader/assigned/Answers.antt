@@ -1,5 +1,5 @@
-use Rattle.std.proofs.Common.{◌≡◌, ◌<◌, ◌+◌, ◌-◌, ◌∙◌, ℕ, suc, [], length, drop, refl, sym, ap, arith}
-use Rattle.rr_syntax.specs.Words.{words, mark_close_parenthesis, mark_colon, mark_comma, mark_open_parenthesis, mark_semicolon}
+use Rattle.std.proofs.Common.{◌+◌, drop, arith}
+use Rattle.rr_syntax.specs.Words.{words, mark_semicolon}
 use Rattle.rr_parse_expr.specs.Reading.{below, closed}
 use Rattle.rr_parse_stmt.proofs.Answered.{tree_some, tree_none, sign_inside, assign_fails, made_assign}
 use Rattle.rr_parse_stmt.proofs.reader.assigned.Goals as goal

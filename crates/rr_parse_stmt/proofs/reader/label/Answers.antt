@@ -1,4 +1,4 @@
-use Rattle.std.proofs.Common.{sym, ◌∙◌, ◌+◌, arith}
+use Rattle.std.proofs.Common.{sym, ◌∙◌, arith}
 use Rattle.rr_syntax.specs.Words.{mark_colon}
 use Rattle.rr_parse_expr.proofs.Answered.{mark_inside}
 use Rattle.rr_parse_stmt.proofs.Answered.{label_absent, label_there, label_missing}

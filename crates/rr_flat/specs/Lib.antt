@@ -1,0 +1,13 @@
+pub mod Plain
+pub mod Tables
+pub mod Walk
+pub mod View
+pub mod Sound
+pub mod Targets
+pub mod Reads
+pub mod Writers
+pub mod Latches
+pub mod Clocks
+pub mod Lawful
+pub mod Ordered
+pub mod Kept

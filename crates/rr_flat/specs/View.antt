@@ -1,0 +1,66 @@
+-- What the parts of a flat design stand for as plain data.
+use Rattle.std.specs.Prelude.{ℕ, List, map}
+use Rattle.rr_syntax.specs.View.{plain, plain_statement, plain_edge}
+use Rattle.rr_expr.specs.Scopes.{Names}
+use Rattle.rr_head.specs.declared.signal.Signal.{Signal}
+use Rattle.rr_head.specs.View.{plain_signal}
+use Rattle.rr_flat.specs.declared.design.Side as declared_side
+use Rattle.rr_flat.specs.declared.design.Side.TheVariants as side
+use Rattle.rr_flat.specs.declared.design.Driver.{Driver}
+use Rattle.rr_flat.specs.declared.design.Block.{Block}
+use Rattle.rr_flat.specs.declared.design.Part as part
+use Rattle.rr_flat.specs.declared.settings.Checked.{Checked as DeclaredChecked}
+use Rattle.rr_flat.specs.declared.settings.Connected.{Connected as DeclaredConnected}
+use Rattle.rr_flat.specs.Walk.{Checked, Connected}
+use Rattle.rr_flat.specs.Plain as plain_design
+use denote.Ref.{Bor}
+use Rattle.rr_flat.specs.Plain.{Written, Whole}
+
+-- the texts of names
+abbrev pub texts : List (Bor (List ℕ)) → List (List ℕ)
+texts names = map (λ n. n.now) names
+
+abbrev pub plain_checked : DeclaredChecked → Checked
+plain_checked c = record { found = c.found; seen = c.seen; given = c.given }
+
+abbrev pub plain_connected : DeclaredConnected → Connected
+plain_connected c = record { found = c.found; seen = c.seen }
+
+abbrev pub plain_side : declared_side.Side → plain_design.Side
+plain_side (side.Text e scope) = Written (plain e.now) scope
+plain_side (side.Whole id) = Whole id
+
+abbrev pub plain_driver : Driver → plain_design.Driver
+plain_driver d = record { target = plain_side d.target; value = plain_side d.value; token = d.token }
+
+abbrev pub plain_block : Block → plain_design.Block
+plain_block b = record { body = plain_statement b.body.now; edges = map plain_edge b.edges.now; scope = b.scope; token = b.token }
+
+-- a flat design as its lists, with references to trees
+pub record Design : Type 0 where
+  pub top : ℕ
+  pub signals : List Signal
+  pub scopes : List Names
+  pub drivers : List Driver
+  pub clocked : List Block
+  pub combinational : List Block
+  pub walk : List part.Part
+  pub inputs : List ℕ
+  pub outputs : List ℕ
+  pub owners : List ℕ
+  pub reached : List ℕ
+
+abbrev pub plain_flat : Design → plain_design.Flat
+plain_flat d = record {
+  top = d.top;
+  signals = map plain_signal d.signals;
+  scopes = d.scopes;
+  drivers = map plain_driver d.drivers;
+  clocked = map plain_block d.clocked;
+  combinational = map plain_block d.combinational;
+  walk = d.walk;
+  inputs = d.inputs;
+  outputs = d.outputs;
+  owners = d.owners;
+  reached = d.reached;
+}

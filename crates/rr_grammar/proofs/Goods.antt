@@ -1,0 +1,143 @@
+-- What is well-formed and within the depth is good.
+use Rattle.std.proofs.Common.{◌≡◌, ℕ, zero, suc, ◌+◌, ◌≤◌, ◌<◌, max, List, [], ◌∷◌, length, refl, sym, ◌∙◌, arith, Bool, true, false, not, Option, Some, None, ◌⊎◌, inl, inr}
+use Rattle.std.specs.List.{AllByRecursion}
+use Rattle.rr_syntax.specs.Tree.{Tree, Trees, End, More, Identifier, Range, PortDeclaration, ParamAssignment, ParameterDeclaration, NetIdentifier, NetAssignment, EdgeEvent, EventControl, Star, Edges, Levels, NamedConnection, Connections, Positions, Names, ModuleInstance, ModuleItem, Ports, Nets, Variables, Integers, Parameters, Assigns, Always, Instances, ModuleDeclaration}
+use Rattle.rr_syntax.specs.Expressions.{WellFormed, WellFormedMore, depth, height, is_target}
+use Rattle.rr_syntax.specs.Statements.{WellFormedStatement, depth_statement}
+use Rattle.rr_syntax.specs.Items.{count, greatest, IsTypedOnce, IsHeader, WellFormedRange, WellFormedPort, WellFormedAssignment, WellFormedParameter, WellFormedValue, WellFormedNet, WellFormedPair, WellFormedEvents, WellFormedConnection, WellFormedConnections, WellFormedOverrides, WellFormedInstance, WellFormedItem, WellFormedHead, WellFormedModule, depth_range, depth_port, depth_assignment, depth_parameter, depth_value, depth_net, depth_pair, depth_events, depth_connection, depth_connections, depth_overrides, depth_instance, depth_item, height_item, depth_module, height_module}
+use Rattle.rr_grammar.specs.Formats.{Format, list}
+use Rattle.rr_grammar.specs.Leaves.{identifier, expression, range, AllOption}
+use Rattle.rr_grammar.specs.Declarations.{port, setting, net, pair, parameter, head_parameter}
+use Rattle.rr_grammar.specs.Parts.{AllTrees, edge, events}
+use Rattle.rr_grammar.specs.Connections.{optional_closed, connection, connections, overrides, one_instance}
+use Rattle.rr_grammar.specs.ItemForms.{item}
+use Rattle.rr_grammar.specs.ModuleForms.{IsNil, heads, port_list, one_module}
+
+-- each of a list is at most the greatest
+all_by : {A : Type 0} (W G : A → Type 0) (f : A → ℕ) (n : ℕ) → ((a : A) → W a → f a ≤ n → G a) → (xs : List A) → AllByRecursion W xs → greatest f xs ≤ n → AllByRecursion G xs
+unfolding greatest
+all_by W G f n h [] w d = tt
+all_by W G f n h (x ∷ xs) w d = (h x w.0 (omega (arith, d)), all_by W G f n h xs w.1 (omega (arith, d)))
+
+every : {A : Type 0} (G : A → Type 0) → ((a : A) → G a) → (xs : List A) → AllByRecursion G xs
+every G h [] = tt
+every G h (x ∷ xs) = (h x, every G h xs)
+
+names_good : (ns : List Identifier) → 0 < length ns → (list identifier).Good ns
+names_good ns h = (h, every identifier.Good (λ n. tt) ns)
+
+range_good : (k : ℕ) (r : Option Range) → WellFormedRange r → depth_range r ≤ suc k → (range k).Good r
+unfolding WellFormedRange depth_range
+range_good k None w d = tt
+range_good k (Some r) w d = ((w.0, omega (arith, d)), (w.1, omega (arith, d)))
+
+port_good : (k : ℕ) (p : PortDeclaration) → WellFormedPort p → depth_port p ≤ suc k → (port k).Good p
+unfolding WellFormedPort depth_port
+port_good k p w d = (tt, ((tt, range_good k p.range w.0 d), names_good p.names w.1))
+
+setting_good : (k : ℕ) (a : ParamAssignment) → WellFormedAssignment a → depth_assignment a ≤ suc k → (setting k).Good a
+unfolding WellFormedAssignment depth_assignment
+setting_good k a w d = (tt, (w, omega (arith, d)))
+
+parameter_good : (k : ℕ) (p : ParameterDeclaration) → WellFormedParameter p → depth_parameter p ≤ suc k → (parameter k).Good p
+unfolding WellFormedParameter depth_parameter
+parameter_good k p w d =
+    (tt, ((w.0, (tt, range_good k p.range w.1 (omega (arith, d)))), (w.2, all_by WellFormedAssignment (setting k).Good depth_assignment (suc k) (setting_good k) p.sets w.3 (omega (arith, d)))))
+
+no_local : (b : Bool) → b ≡ false → not b ≡ true
+no_local true h = absurd cc
+no_local false h = refl
+
+head_good : (k : ℕ) (p : ParameterDeclaration) → WellFormedHead p → depth_parameter p ≤ suc k → (head_parameter k).Good p
+unfolding WellFormedHead
+head_good k p w d = (parameter_good k p w.1 d, no_local p.local w.0)
+
+value_good : (k : ℕ) (v : Option Tree) → WellFormedValue v → depth_value v ≤ suc k → AllOption (expression k).Good v
+unfolding WellFormedValue depth_value
+value_good k None w d = tt
+value_good k (Some t) w d = (w, omega (arith, d))
+
+net_good : (k : ℕ) (n : NetIdentifier) → WellFormedNet n → depth_net n ≤ suc k → (net k).Good n
+unfolding WellFormedNet depth_net
+net_good k n w d = (tt, value_good k n.value w d)
+
+pair_good : (k : ℕ) (p : NetAssignment) → WellFormedPair p → depth_pair p ≤ suc k → (pair k).Good p
+unfolding WellFormedPair depth_pair
+pair_good k p w d = ((w.0, w.1, omega (arith, d)), (w.2, omega (arith, d)))
+
+trees_good : (k : ℕ) (ts : Trees) → WellFormedMore ts → height ts ≤ suc k → AllTrees (expression k).Good ts
+unfolding WellFormed depth
+trees_good k End w d = tt
+trees_good k (More t ts) w d = ((w.0, omega (arith, d)), trees_good k ts w.1 (omega (arith, d)))
+
+events_good : (k : ℕ) (e : EventControl) → WellFormedEvents e → depth_events e ≤ suc k → (events k).Good e
+unfolding WellFormedEvents depth_events
+events_good k (Star false) w d = inl refl
+events_good k (Star true) w d = inr (inl refl)
+events_good k (Edges list commas) w d = inr (inr (inl w))
+events_good k (Levels list commas) w d = inr (inr (inr (w.0, trees_good k list w.1 d)))
+
+closed_good : (k : ℕ) (v : Option Tree) → WellFormedValue v → depth_value v ≤ suc k → (optional_closed k).Good v
+unfolding WellFormedValue depth_value
+closed_good k None w d = inl tt
+closed_good k (Some t) w d = inr (w, omega (arith, d))
+
+connection_good : (k : ℕ) (c : NamedConnection) → WellFormedConnection c → depth_connection c ≤ suc k → (connection k).Good c
+unfolding WellFormedConnection depth_connection
+connection_good k c w d = (tt, closed_good k c.value w d)
+
+connections_good : (k : ℕ) (c : Connections) → WellFormedConnections c → depth_connections c ≤ suc k → (connections k).Good c
+unfolding WellFormedConnections depth_connections
+connections_good k (Positions End) w d = inl tt
+connections_good k (Positions (More t ts)) w d = inr (inr (trees_good k (More t ts) w d))
+connections_good k (Names cs) w d = inr (inl (w.0, all_by WellFormedConnection (connection k).Good depth_connection (suc k) (connection_good k) cs w.1 d))
+
+overrides_good : (k : ℕ) (o : Option Connections) → WellFormedOverrides o → depth_overrides o ≤ suc k → (overrides k).Good o
+unfolding WellFormedOverrides depth_overrides
+overrides_good k None w d = tt
+overrides_good k (Some c) w d = connections_good k c w d
+
+instance_good : (k : ℕ) (i : ModuleInstance) → WellFormedInstance i → depth_instance i ≤ suc k → (one_instance k).Good i
+unfolding WellFormedInstance depth_instance
+instance_good k i w d = (tt, connections_good k i.connections w d)
+
+pub item_good : (k : ℕ) (i : ModuleItem) → WellFormedItem i → depth_item i ≤ suc k → (item k).Good i
+unfolding WellFormedItem depth_item
+item_good k (Ports p) w d = inl (port_good k p w d)
+item_good k (Nets s r ns) w d = inr (inl ((tt, range_good k r w.0 (omega (arith, d))), (w.1, all_by WellFormedNet (net k).Good depth_net (suc k) (net_good k) ns w.2 (omega (arith, d)))))
+item_good k (Variables s r ns) w d = inr (inr (inl ((tt, range_good k r w.0 d), names_good ns w.1)))
+item_good k (Integers ns) w d = inr (inr (inr (inl (names_good ns w))))
+item_good k (Parameters p) w d = inr (inr (inr (inr (inl (parameter_good k p w d)))))
+item_good k (Assigns ps) w d = inr (inr (inr (inr (inr (inl (w.0, all_by WellFormedPair (pair k).Good depth_pair (suc k) (pair_good k) ps w.1 d))))))
+item_good k (Always e s n) w d = inr (inr (inr (inr (inr (inr (inl (tt, (events_good k e w.0 (omega (arith, d)), (w.1, omega (arith, d))))))))))
+item_good k (Instances m n o is) w d = inr (inr (inr (inr (inr (inr (inr (tt, (overrides_good k o w.0 (omega (arith, d)), (w.1, all_by WellFormedInstance (one_instance k).Good depth_instance (suc k) (instance_good k) is w.2 (omega (arith, d)))))))))))
+
+heads_good : (k : ℕ) (ps : List ParameterDeclaration) → AllByRecursion WellFormedHead ps → greatest depth_parameter ps ≤ suc k → (heads k).Good ps
+heads_good k [] w d = inr refl
+heads_good k (p ∷ ps) w d = inl (omega arith, all_by WellFormedHead (head_parameter k).Good depth_parameter (suc k) (head_good k) (p ∷ ps) w d)
+
+ports_good : (k : ℕ) (h : Option (List Identifier)) (g : List PortDeclaration) → IsHeader h g → AllByRecursion WellFormedPort g → greatest depth_port g ≤ suc k → (port_list k).Good (h, g)
+ports_good k None g w a d = inr w
+ports_good k (Some (n ∷ ns)) g (inl w) a d = absurd (omega (arith, w))
+ports_good k (Some (n ∷ ns)) g (inr w) a d = inl (inr (inr (names_good (n ∷ ns) (omega arith), w)))
+ports_good k (Some []) [] w a d = inl (inl (refl, refl))
+ports_good k (Some []) (p ∷ g) w a d = inl (inr (inl (refl, (omega arith, all_by WellFormedPort (port k).Good depth_port (suc k) (port_good k) (p ∷ g) a d))))
+
+-- the depth of what stands in the brackets and that of the items
+pub module_good : (k j : ℕ) (m : ModuleDeclaration) → WellFormedModule m → depth_module m ≤ suc k → depth_module m ≤ suc (suc j) → (one_module k j).Good m
+unfolding WellFormedModule depth_module height_item
+module_good k j m w d e = (
+  tt,
+  (
+    heads_good k m.params w.0 (omega (arith, d)),
+    (
+      ports_good k m.header m.groups w.1 w.2 (omega (arith, d)),
+      all_by WellFormedItem (item j).Good height_item (suc (suc j)) (λ i v n. item_good j i v (omega (arith, n))) m.items w.3 (omega (arith, e)),
+    ),
+  ),
+)
+
+pub modules_good : (k j : ℕ) (ms : List ModuleDeclaration) → AllByRecursion WellFormedModule ms → greatest height_module ms ≤ suc (suc k) → greatest height_module ms ≤ suc (suc (suc j)) → AllByRecursion (one_module k j).Good ms
+unfolding greatest height_module
+modules_good k j [] w d e = tt
+modules_good k j (m ∷ ms) w d e = (module_good k j m w.0 (omega (arith, d)) (omega (arith, e)), modules_good k j ms w.1 (omega (arith, d)) (omega (arith, e)))

@@ -1,0 +1,9 @@
+pub mod ConnectionsExact
+pub mod DeclarationsExact
+pub mod Exacts
+pub mod Goods
+pub mod ItemsExact
+pub mod LeavesExact
+pub mod ModulesExact
+pub mod OneSource
+pub mod PartsExact

@@ -1,0 +1,6 @@
+pub mod Walk
+pub mod FreshSteps
+pub mod LogSteps
+pub mod EngineSteps
+pub mod Values
+pub mod Ends

@@ -1,0 +1,9 @@
+use Rattle.rr_watch.specs.Watches.{bare}
+use Rattle.rr_solver.proofs.EngineSteps.{AllStand-grown, Engine-trail}
+use Rattle.rr_solver.proofs.engine.Engine.propagate.Goals as goal
+
+pub returns-clause-whole : goal.returns-clause-whole
+returns-clause-whole c =
+    let o = c.args.self.now in
+    Engine-trail o.watch o.inputs o.count o.last o.journal o.handed.items o.status o.assignment.items c.requires c.propagate.new.self c.propagate.ensures.vars c.propagate.ensures.clauses
+    (AllStand-grown (bare o.watch.clauses) o.inputs o.watch.trail c.propagate.new.self.trail c.propagate.ensures.grown c.requires.stands)

@@ -1,0 +1,4 @@
+pub mod Analysis
+pub mod Searches
+pub mod Engines
+pub mod Outcomes
