@@ -1,0 +1,9 @@
+pub mod Walks
+pub mod PartsOfNodes
+pub mod WildNodes
+pub mod NamesOfParts
+pub mod TargetNodes
+pub mod Covering
+pub mod LabelLaw
+pub mod AimLaw
+pub mod Fusion
