@@ -22,6 +22,7 @@ use notes::Notes;
 use rr_bits::Bits;
 use rr_syntax::Expr;
 pub use scope::Scope;
+pub use selects::{Index, below_index, index_of, near_place};
 use shapes::shape_in;
 pub use types::{Bit, Entity, Env, ExprFault, Shape};
 use values::value_in;

@@ -7,15 +7,15 @@ ghost use Rattle.rr_expr.specs.Indices.{integer_of};
 use crate::entities::capped;
 use rr_bits::Bits;
 
-/// A number with a sign, of up to 128 bits besides it.
+/// A number with a sign, of up to 128 bits besides it: what an index, a bound or a count is.
 #[derive(Clone, Copy)]
-pub(crate) struct Index {
-    negative: bool,
-    size: u128,
+pub struct Index {
+    pub negative: bool,
+    pub size: u128,
 }
 
 /// The number that a word writes, signed where that is said.
-pub(crate) fn index_of(bits: Bits, signed: bool) -> Index
+pub fn index_of(bits: Bits, signed: bool) -> Index
     ensures { integer_of result ≡ reading signed bits }
 {
     if bits.is_negative(signed) {
@@ -75,8 +75,9 @@ pub(crate) fn is_against(range: (u32, u32), left: Index, right: Index) -> bool
     }
 }
 
-/// The place of an index that is within 2^40 of 0.
-fn near_place(range: (u32, u32), index: Index) -> Option<i64>
+/// The place of an index in a range `[left:right]`, where the index is within 2^40 of 0; the right
+/// bound has place 0, and a place below 0 or past the width names no bit (section 5.2.1).
+pub fn near_place(range: (u32, u32), index: Index) -> Option<i64>
     ensures some { IfSome result (λ p. p ≡ place range (integer_of index)) }
     ensures close { IfSome result (λ p. unsigned_abs p < 1103806595072) }
     ensures none { IfNone result (1099511627776 ≤ unsigned_abs (integer_of index)) }
@@ -123,9 +124,9 @@ pub(crate) fn picked(word: Bits, range: (u32, u32), index: Index, width: u32) ->
     selected(word, range, index, 0, width)
 }
 
-/// How many places the lowest of `count` bits, counted from an index up or down, is below that of the
-/// index.
-fn below_index(range: (u32, u32), count: u32, up: bool) -> u32
+/// How many places the lowest of `count` bits, counted from an index up or down (`[i +: count]` or
+/// `[i -: count]`), is below that of the index.
+pub fn below_index(range: (u32, u32), count: u32, up: bool) -> u32
     requires { 1 ≤ count }
     ensures place { (i : ℤ) → place range i -ℤ pos result ≡ lowest_place range up i count }
     ensures near { result < count }

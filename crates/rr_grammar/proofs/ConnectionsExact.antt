@@ -131,7 +131,7 @@ to_trees_good : (k : ℕ) (ts : List Tree) → AllByRecursion (expression k).Goo
 to_trees_good k [] w = tt
 to_trees_good k (t ∷ ts) w = (w.0, to_trees_good k ts w.1)
 
-each_words : (ts : List Tree) → spell_more (trees ts) ≡ spell_each spell ts
+pub each_words : (ts : List Tree) → spell_more (trees ts) ≡ spell_each spell ts
 unfolding spell_more spell_each
 each_words [] = refl
 each_words (t ∷ ts) = ap (λ (us : List Word). Marked mark_comma ∷ (spell t ++ us)) (each_words ts)
@@ -157,12 +157,12 @@ positions_well : (k : ℕ) (ts : List Tree) → (list (expression k)).Good ts �
 positions_well k [] w = absurd (omega (arith, w.0))
 positions_well k (t ∷ ts) w = (w.1.0, to_trees_good k ts w.1.1)
 
-positions_words : (k : ℕ) (ts : List Tree) → (list (expression k)).Good ts → behind (to_positions ts) ≡ spell_separated spell ts ++ (Marked mark_close_parenthesis ∷ [])
+pub positions_words : (k : ℕ) (ts : List Tree) → (list (expression k)).Good ts → behind (to_positions ts) ≡ spell_separated spell ts ++ (Marked mark_close_parenthesis ∷ [])
 unfolding spell_connections spell_parts rest spell_separated
 positions_words k [] w = absurd (omega (arith, w.0))
 positions_words k (t ∷ ts) w = ap (λ (us : List Word). (spell t ++ us) ++ (Marked mark_close_parenthesis ∷ [])) (each_words ts)
 
-trees_bare : (ts : List Tree) → bare_parts (trees ts) ≡ trees (map bare ts)
+pub trees_bare : (ts : List Tree) → bare_parts (trees ts) ≡ trees (map bare ts)
 unfolding bare
 trees_bare [] = refl
 trees_bare (t ∷ ts) = ap (More (bare t)) (trees_bare ts)
@@ -198,11 +198,11 @@ positions_front k (Positions (More t ts)) w left =
 
 pub connected_exact : (k : ℕ) → IsExact (connected k)
 connected_exact k =
-    let e = imaged_exact (after_mark mark_close_parenthesis (nothing_of false)) (after_mark_exact (nothing_of false) (nothing_exact false) mark_close_parenthesis (omega arith)) (λ b. Positions End) behind bare_connections IsEmpty empty_image in
-    let n = imaged_exact (before_mark (list (connection k)) mark_close_parenthesis)
+    let e : IsExact empty_closed = imaged_exact (after_mark mark_close_parenthesis (nothing_of false)) (after_mark_exact (nothing_of false) (nothing_exact false) mark_close_parenthesis (omega arith)) (λ b. Positions End) behind bare_connections IsEmpty empty_image in
+    let n : IsExact (names_closed k) = imaged_exact (before_mark (list (connection k)) mark_close_parenthesis)
     (before_mark_exact (list (connection k)) (list_exact (connection k) (connection_exact k) (λ left. (tt, tt))) mark_close_parenthesis (omega arith) (λ left. ((tt, tt), no_comma (connection k).read left)))
     to_names behind bare_connections (AreNames (list (connection k)).Good) (names_image k) in
-    let p = imaged_exact (before_mark (list (expression k)) mark_close_parenthesis)
+    let p : IsExact (positions_closed k) = imaged_exact (before_mark (list (expression k)) mark_close_parenthesis)
     (before_mark_exact (list (expression k)) (list_exact (expression k) (expression_exact k) comma_ends) mark_close_parenthesis (omega arith) (λ left. (close_ends left, no_comma (expression k).read left)))
     to_positions behind bare_connections (ArePositions (expression k).Good) (positions_image k) in
     let l = choose_exact front_dot (names_closed k) (positions_closed k) n p (λ a. refl) (λ a. refl)
@@ -211,7 +211,7 @@ connected_exact k =
     (record { at_front = λ a w left v. empty_front a w left })
     (tells_choose front_close front_dot (names_closed k) (positions_closed k) false (λ a. refl) (record { at_front = λ a w left v. (names_front k a w left).0 }) (record { at_front = λ a w left v. (positions_front k a w left).0 }))
 
-connections_words : (c : Connections) → spell_connections c ≡ Marked mark_open_parenthesis ∷ behind c
+pub connections_words : (c : Connections) → spell_connections c ≡ Marked mark_open_parenthesis ∷ behind c
 unfolding spell_connections rest
 connections_words (Positions ts) = refl
 connections_words (Names cs) = refl
@@ -219,12 +219,12 @@ connections_words (Names cs) = refl
 pub connections_exact : (k : ℕ) → IsExact (connections k)
 connections_exact k = respelled_exact (after_mark mark_open_parenthesis (connected k)) (after_mark_exact (connected k) (connected_exact k) mark_open_parenthesis (omega arith)) spell_connections bare_connections connections_words (λ a. refl)
 
-overrides_words : (o : Option Connections) → spell_overrides o ≡ spell_option mark_hash spell_connections o
+pub overrides_words : (o : Option Connections) → spell_overrides o ≡ spell_option mark_hash spell_connections o
 unfolding spell_overrides
 overrides_words None = refl
 overrides_words (Some c) = refl
 
-overrides_bare : (o : Option Connections) → bare_overrides o ≡ bare_option bare_connections o
+pub overrides_bare : (o : Option Connections) → bare_overrides o ≡ bare_option bare_connections o
 unfolding bare_overrides
 overrides_bare None = refl
 overrides_bare (Some c) = refl

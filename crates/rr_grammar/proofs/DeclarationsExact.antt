@@ -117,11 +117,11 @@ unfolding bare_value
 value_bare None = refl
 value_bare (Some t) = refl
 
-net_words : (n : NetIdentifier) → spell_net n ≡ Named n.text ∷ spell_option mark_equals spell n.value
+pub net_words : (n : NetIdentifier) → spell_net n ≡ Named n.text ∷ spell_option mark_equals spell n.value
 unfolding spell_net
 net_words n = ap (λ (us : List Word). Named n.text ∷ us) (value_words n.value)
 
-net_bare : (n : NetIdentifier) → bare_net n ≡ to_net (record { token = 0; text = n.text }, bare_option bare n.value)
+pub net_bare : (n : NetIdentifier) → bare_net n ≡ to_net (record { token = 0; text = n.text }, bare_option bare n.value)
 unfolding bare_net
 net_bare n = ap (λ (v : Option Tree). to_net (record { token = 0; text = n.text }, v)) (value_bare n.value)
 

@@ -287,7 +287,7 @@ module _ {A : Type 0} (t : List Word → Bool) (F G : Format A) (f : IsExact F) 
 
 -- ---- another type
 
-pub imaged_exact : {A B : Type 0} (F : Format A) → IsExact F → (g : A → B) (spell : B → List Word) (bare : B → B) (Good : B → Type 0) → IsImage F g spell bare Good → IsExact (imaged F g spell bare Good)
+pub imaged_exact : {A B : Type 0} (F : Format A) → IsExact F → (g : A → B) (spell : B → List Word) (bare : B → B) (Good : B → Type 0) {N : B → ℕ → Type 0} → IsImage F g spell bare Good → IsExact (imaged F g spell bare Good N)
 imaged_exact F f g spell bare Good i = record {
   finds = λ b w left v.
       let a = i.from b w in
@@ -311,7 +311,7 @@ nothing_exact a = record {
 
 -- ---- other words, and tests
 
-pub respelled_exact : {A : Type 0} (F : Format A) → IsExact F → (spell : A → List Word) (bare : A → A) → ((a : A) → spell a ≡ F.spell a) → ((a : A) → bare a ≡ F.bare a) → IsExact (respelled F spell bare)
+pub respelled_exact : {A : Type 0} (F : Format A) → IsExact F → (spell : A → List Word) (bare : A → A) {N : A → ℕ → Type 0} → ((a : A) → spell a ≡ F.spell a) → ((a : A) → bare a ≡ F.bare a) → IsExact (respelled F spell bare N)
 respelled_exact F f spell bare s b = record {
   finds = λ a w left v. ap (λ (us : List Word). F.read (us ++ left)) (s a) ∙ f.finds a w left v ∙ ap (λ x. Some (x, left)) (sym (b a));
   good = f.good;

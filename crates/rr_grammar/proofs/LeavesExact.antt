@@ -153,12 +153,12 @@ level-close_bracket : infix_level mark_close_bracket ≡ 0
 unfolding infix_level
 level-close_bracket = refl
 
-range_words : (o : Option Range) → spell_range o ≡ spell_option mark_open_bracket (λ (r : Range). (spell r.left ++ (Marked mark_colon ∷ [])) ++ (spell r.right ++ (Marked mark_close_bracket ∷ []))) o
+pub range_words : (o : Option Range) → spell_range o ≡ spell_option mark_open_bracket (λ (r : Range). (spell r.left ++ (Marked mark_colon ∷ [])) ++ (spell r.right ++ (Marked mark_close_bracket ∷ []))) o
 unfolding spell_range
 range_words None = refl
 range_words (Some r) = ap (λ (us : List Word). Marked mark_open_bracket ∷ us) (sym (append_assoc (spell r.left) (Marked mark_colon ∷ []) (spell r.right ++ (Marked mark_close_bracket ∷ []))))
 
-range_bare : (o : Option Range) → bare_range o ≡ bare_option (λ (r : Range). to_range (bare r.left, bare r.right)) o
+pub range_bare : (o : Option Range) → bare_range o ≡ bare_option (λ (r : Range). to_range (bare r.left, bare r.right)) o
 unfolding bare_range
 range_bare None = refl
 range_bare (Some r) = refl

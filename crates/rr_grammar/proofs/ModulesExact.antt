@@ -4,7 +4,7 @@ use Rattle.rr_syntax.specs.declared.tree.Dir.{Dir}
 use Rattle.rr_syntax.specs.declared.tree.Dir.TheVariants as dir
 use Rattle.rr_syntax.specs.Words.{Word, Named, Marked, Reserved, keyword_else, keyword_endmodule, keyword_input, keyword_localparam, keyword_module, keyword_output, keyword_parameter, mark_close_parenthesis, mark_comma, mark_hash, mark_open_parenthesis, mark_semicolon}
 use Rattle.rr_syntax.specs.Tree.{Identifier, PortDeclaration, ParameterDeclaration, ModuleItem, ModuleDeclaration, SourceText, bare_header, bare_identifier, bare_parameter, bare_port, bare_item, bare_module}
-use Rattle.rr_syntax.specs.Items.{spell_identifier, spell_dir, spell_type, spell_port, spell_parameter, spell_parameters, spell_ports, spell_item, spell_module, spell_separated, spell_each, spell_all}
+use Rattle.rr_syntax.specs.Items.{spell_identifier, spell_dir, spell_type, spell_port, spell_parameter, spell_parameters, spell_ports, spell_item, spell_module, spell_separated, spell_each, spell_all, NumberedParameters}
 use Rattle.rr_syntax.proofs.Nonempty.{spell_item-some, spell_module-some}
 use Rattle.rr_parse_expr.specs.Reading.{Found, mapped, chain, mark, rest, no_mark, expect}
 use Rattle.rr_parse_expr.proofs.Answered.{not_equal}
@@ -14,7 +14,7 @@ use Rattle.rr_grammar.specs.Leaves.{identifier}
 use Rattle.rr_grammar.specs.Declarations.{port, setting, head_parameter}
 use Rattle.rr_grammar.specs.Connections.{front_close}
 use Rattle.rr_grammar.specs.ItemForms.{NoElse, item, begins_ports, front_ports}
-use Rattle.rr_grammar.specs.ModuleForms.{front_hash, NoHash, as_they_are, IsNil, some_heads, no_heads, heads, PortList, ports_words, ports_inside, bare_ports, BothNil, AreGroups, AreNames, to_groups, to_names, empty_ports, group_ports, name_ports, ports_in, front_open, NoOpen, same_ports, with_ports, NoPorts, without_ports, port_list, Parts, to_module, of_module, module_words, one_module, modules}
+use Rattle.rr_grammar.specs.ModuleForms.{front_hash, NoHash, as_they_are, IsNil, some_heads, no_heads, heads, PortList, ports_words, ports_inside, bare_ports, BothNil, AreGroups, AreNames, to_groups, to_names, empty_ports, group_ports, name_ports, ports_in, front_open, NoOpen, same_ports, with_ports, NoPorts, without_ports, port_list, Parts, to_module, of_module, module_words, one_module, modules, ports_numbered}
 use Rattle.rr_grammar.proofs.Exacts.{both_exact, after_mark_exact, after_word_exact, before_mark_exact, before_word_exact, shaped_exact, respelled_exact, narrowed_exact, imaged_exact, list_exact, list_exact_by, expect_marked, repeated_exact, choose_exact, nothing_exact, Tells, tells_choose}
 use Rattle.rr_grammar.proofs.LeavesExact.{identifier_exact}
 use Rattle.rr_grammar.proofs.DeclarationsExact.{OpensNamed, names_open, named_word, named_mark, no_keyword, no_mark_at, comma_ends, port_exact, head_parameter_exact}
@@ -56,22 +56,25 @@ name_stops : (p : PortDeclaration) (left : List Word) → expect mark_comma name
 unfolding spell_port
 name_stops p left = expect_comma name _ (ap name (append_assoc (spell_dir p.dir) (spell_type p.signed p.range ++ spell_separated spell_identifier p.names) left) ∙ dir_name p.dir _)
 
-heads_words : (k : ℕ) (ps : List ParameterDeclaration) → (list (head_parameter k)).Good ps → spell_parameters ps ≡ Marked mark_hash ∷ (Marked mark_open_parenthesis ∷ (spell_separated spell_parameter ps ++ (Marked mark_close_parenthesis ∷ [])))
+pub heads_words : (k : ℕ) (ps : List ParameterDeclaration) → (list (head_parameter k)).Good ps → spell_parameters ps ≡ Marked mark_hash ∷ (Marked mark_open_parenthesis ∷ (spell_separated spell_parameter ps ++ (Marked mark_close_parenthesis ∷ [])))
 unfolding spell_parameters
 heads_words k [] w = absurd (omega (arith, w.0))
 heads_words k (p ∷ ps) w = refl
 
+pub heads_list_exact : (k : ℕ) → IsExact (list (head_parameter k))
+heads_list_exact k = list_exact_by (head_parameter k) (head_parameter_exact k) (λ p g left. (comma_ends (spell_parameter p ++ left), comma_stops k p left))
+
 some_heads_exact : (k : ℕ) → IsExact (some_heads k)
 some_heads_exact k = imaged_exact (after_mark mark_hash (after_mark mark_open_parenthesis (before_mark (list (head_parameter k)) mark_close_parenthesis)))
     (after_mark_exact (after_mark mark_open_parenthesis (before_mark (list (head_parameter k)) mark_close_parenthesis)) (after_mark_exact (before_mark (list (head_parameter k)) mark_close_parenthesis)
-    (before_mark_exact (list (head_parameter k)) (list_exact_by (head_parameter k) (head_parameter_exact k) (λ p g left. (comma_ends (spell_parameter p ++ left), comma_stops k p left))) mark_close_parenthesis (omega arith) (λ left. ((close_ends left, no_comma _ left), no_comma (head_parameter k).read left)))
+    (before_mark_exact (list (head_parameter k)) (heads_list_exact k) mark_close_parenthesis (omega arith) (λ left. ((close_ends left, no_comma _ left), no_comma (head_parameter k).read left)))
     mark_open_parenthesis (omega arith)) mark_hash (omega arith))
     as_they_are spell_parameters (map bare_parameter) (list (head_parameter k)).Good
     (record { from = λ b w. b; from_good = λ b w. w; from_is = λ b w. refl; good = λ a w. w; spelled = heads_words k; bared = λ a. refl })
 
 no_heads_exact : IsExact no_heads
 unfolding spell_parameters
-no_heads_exact = narrowed_exact (imaged (nothing_of false) (λ b. []) spell_parameters (map bare_parameter) IsNil)
+no_heads_exact = narrowed_exact (imaged (nothing_of false) (λ b. []) spell_parameters (map bare_parameter) IsNil NumberedParameters)
     (imaged_exact (nothing_of false) (nothing_exact false) (λ b. []) spell_parameters (map bare_parameter) IsNil
     (record { from = λ b w. false; from_good = λ b w. refl; from_is = λ b w. nil_is b w; good = λ a w. refl; spelled = λ a w. refl; bared = λ a. refl })) NoHash (λ ws v. tt)
 
@@ -175,7 +178,7 @@ name_word (Some (n ∷ ns)) g w left = (refl, refl)
 not_close : (ws : List Word) → mark ws ≡ no_mark → nat_eq (mark ws) mark_close_parenthesis ≡ false
 not_close ws e = rw e refl
 
-ports_in_exact : (k : ℕ) → IsExact (ports_in k)
+pub ports_in_exact : (k : ℕ) → IsExact (ports_in k)
 ports_in_exact k =
     let l = choose_exact front_ports (group_ports k) name_ports (group_exact k) name_exact (λ a. refl) (λ a. refl)
     (record { at_front = λ a w left v. (group_word (list (port k)).Good (λ gs g. g.0) a.0 a.1 w left).1 }) (record { at_front = λ a w left v. (name_word a.0 a.1 w left).1 }) in
@@ -185,7 +188,7 @@ ports_in_exact k =
     (record { at_front = λ a w left v. not_close (rest (spell_ports a.0 a.1) ++ left) (group_word (list (port k)).Good (λ gs g. g.0) a.0 a.1 w left).0 })
     (record { at_front = λ a w left v. not_close (rest (spell_ports a.0 a.1) ++ left) (name_word a.0 a.1 w left).0 }))
 
-in_words : (k : ℕ) (h : Option (List Identifier)) (g : List PortDeclaration) → (ports_in k).Good (h, g) → spell_ports h g ≡ Marked mark_open_parenthesis ∷ rest (spell_ports h g)
+pub in_words : (k : ℕ) (h : Option (List Identifier)) (g : List PortDeclaration) → (ports_in k).Good (h, g) → spell_ports h g ≡ Marked mark_open_parenthesis ∷ rest (spell_ports h g)
 unfolding spell_ports rest
 in_words k (Some names) g w = refl
 in_words k None g (inl w) = absurd w
@@ -202,7 +205,7 @@ none_is (Some names) g w = absurd w
 
 without_exact : IsExact without_ports
 unfolding spell_ports bare_header
-without_exact = narrowed_exact (imaged (nothing_of false) (λ b. (None, [])) ports_words bare_ports (λ x. NoPorts x.0 x.1))
+without_exact = narrowed_exact (imaged (nothing_of false) (λ b. (None, [])) ports_words bare_ports (λ x. NoPorts x.0 x.1) ports_numbered)
     (imaged_exact (nothing_of false) (nothing_exact false) (λ b. (None, [])) ports_words bare_ports (λ x. NoPorts x.0 x.1)
     (record { from = λ b w. false; from_good = λ b w. refl; from_is = λ b w. none_is b.0 b.1 w; good = λ a w. refl; spelled = λ a w. refl; bared = λ a. refl })) NoOpen (λ ws v. tt)
 

@@ -89,12 +89,12 @@ as_many : {A : Type 0} (xs : List (Bool × A)) → length (seconds xs) ≡ lengt
 as_many [] = refl
 as_many (x ∷ xs) = ap suc (as_many xs)
 
-edges_words : (xs : List (Bool × EdgeEvent)) → spell_more_edges (seconds xs) (firsts xs) ≡ spell_all (both separator_of edge).spell xs
+pub edges_words : (xs : List (Bool × EdgeEvent)) → spell_more_edges (seconds xs) (firsts xs) ≡ spell_all (both separator_of edge).spell xs
 unfolding spell_more_edges separator items.rest spell_all
 edges_words [] = refl
 edges_words (x ∷ xs) = ap (λ (us : List Word). cond x.0 (Marked mark_comma) (Reserved keyword_or) ∷ (spell_edge x.1 ++ us)) (edges_words xs)
 
-edges_bare : (xs : List (Bool × EdgeEvent)) → (map bare_edge (seconds xs) ≡ seconds (map (both separator_of edge).bare xs)) × (firsts xs ≡ firsts (map (both separator_of edge).bare xs))
+pub edges_bare : (xs : List (Bool × EdgeEvent)) → (map bare_edge (seconds xs) ≡ seconds (map (both separator_of edge).bare xs)) × (firsts xs ≡ firsts (map (both separator_of edge).bare xs))
 edges_bare [] = (refl, refl)
 edges_bare (x ∷ xs) = let r = edges_bare xs in (ap (λ (ys : List EdgeEvent). bare_edge x.1 ∷ ys) r.0, ap (λ (ys : List Bool). x.0 ∷ ys) r.1)
 
@@ -150,7 +150,7 @@ edges_image = record {
   bared = λ a. (let r = edges_bare a.1 in ap (λ (xs : List EdgeEvent). Edges (bare_edge a.0 ∷ xs) (firsts a.1)) r.0 ∙ ap (λ (cs : List Bool). Edges (bare_edge a.0 ∷ seconds (map (both separator_of edge).bare a.1)) cs) r.1);
 }
 
-edge_some : (e : EdgeEvent) → 0 < length (spell_edge e)
+pub edge_some : (e : EdgeEvent) → 0 < length (spell_edge e)
 unfolding spell_edge
 edge_some e = omega arith
 
@@ -189,12 +189,12 @@ unfolding count
 trees_count [] = refl
 trees_count (x ∷ xs) = ap suc (trees_count xs)
 
-levels_words : (k : ℕ) (xs : List (Bool × Tree)) → spell_more_levels (trees (seconds xs)) (firsts xs) ≡ spell_all (both separator_of (expression k)).spell xs
+pub levels_words : (k : ℕ) (xs : List (Bool × Tree)) → spell_more_levels (trees (seconds xs)) (firsts xs) ≡ spell_all (both separator_of (expression k)).spell xs
 unfolding spell_more_levels separator items.rest spell_all
 levels_words k [] = refl
 levels_words k (x ∷ xs) = ap (λ (us : List Word). cond x.0 (Marked mark_comma) (Reserved keyword_or) ∷ (spell x.1 ++ us)) (levels_words k xs)
 
-levels_bare : (k : ℕ) (xs : List (Bool × Tree)) → (bare_parts (trees (seconds xs)) ≡ trees (seconds (map (both separator_of (expression k)).bare xs))) × (firsts xs ≡ firsts (map (both separator_of (expression k)).bare xs))
+pub levels_bare : (k : ℕ) (xs : List (Bool × Tree)) → (bare_parts (trees (seconds xs)) ≡ trees (seconds (map (both separator_of (expression k)).bare xs))) × (firsts xs ≡ firsts (map (both separator_of (expression k)).bare xs))
 unfolding bare
 levels_bare k [] = (refl, refl)
 levels_bare k (x ∷ xs) = let r = levels_bare k xs in (ap (More (bare x.1)) r.0, ap (λ (ys : List Bool). x.0 ∷ ys) r.1)
@@ -340,7 +340,7 @@ bracketed_exact k =
     (record { at_front = λ a w left v. star_front a w left })
     (tells_choose front_star front_edge edge_list (level_list k) false (λ a. refl) (record { at_front = λ a w left v. (edge_front a w left).0 }) (record { at_front = λ a w left v. (level_front k a w left).0 }))
 
-bracketed_words : (k : ℕ) (b : EventControl) → (bracketed k).Good b → spell_events b ≡ Marked mark_open_parenthesis ∷ inside b
+pub bracketed_words : (k : ℕ) (b : EventControl) → (bracketed k).Good b → spell_events b ≡ Marked mark_open_parenthesis ∷ inside b
 unfolding spell_events rest
 bracketed_words k (Star true) w = refl
 bracketed_words k (Star false) (inl w) = absurd (cc w)

@@ -3,7 +3,7 @@ use Rattle.std.specs.Prelude.{ℕ, suc, ◌+◌, ◌≤◌, ◌<◌, ◌≡◌, 
 use Rattle.rr_syntax.specs.declared.tree.Dir.{Dir}
 use Rattle.rr_syntax.specs.Words.{Word, Reserved, keyword_integer, keyword_localparam, keyword_parameter, keyword_signed, mark_open_bracket, mark_equals}
 use Rattle.rr_syntax.specs.Tree.{Tree, Identifier, Range, PortDeclaration, ParamAssignment, ParameterDeclaration, NetIdentifier, NetAssignment, bare_port, bare_assignment, bare_parameter, bare_net, bare_pair}
-use Rattle.rr_syntax.specs.Items.{spell_where, spell_port, spell_assignment, spell_parameter, spell_net, spell_pair, IsTypedOnce, NumberedType}
+use Rattle.rr_syntax.specs.Items.{spell_where, spell_port, spell_assignment, spell_parameter, spell_net, spell_pair, IsTypedOnce, NumberedType, NumberedPort, NumberedAssignment, NumberedParameter, NumberedNet, NumberedPair}
 use Rattle.rr_parse_expr.specs.Reading.{Found, mapped, mark, rest}
 use Rattle.rr_parse_stmt.specs.Reading.{keyword}
 use Rattle.rr_grammar.specs.Formats.{Format, both, after_mark, shaped, respelled, guarded, list}
@@ -17,7 +17,7 @@ of_port p = (p.dir, ((p.signed, p.range), p.names))
 
 -- section 12.3.3, annex A.2.1.2
 abbrev pub port : ℕ → Format PortDeclaration
-port k = respelled (shaped (both direction (both (typed k) (list identifier))) to_port of_port) spell_port bare_port
+port k = respelled (shaped (both direction (both (typed k) (list identifier))) to_port of_port) spell_port bare_port NumberedPort
 
 abbrev pub to_setting : Identifier × Tree → ParamAssignment
 to_setting x = record { token = x.0.token; text = x.0.text; value = x.1 }
@@ -27,7 +27,7 @@ of_setting a = (record { token = a.token; text = a.text }, a.value)
 
 -- annex A.2.4
 abbrev pub setting : ℕ → Format ParamAssignment
-setting k = respelled (shaped (both identifier (after_mark mark_equals (expression k))) to_setting of_setting) spell_assignment bare_assignment
+setting k = respelled (shaped (both identifier (after_mark mark_equals (expression k))) to_setting of_setting) spell_assignment bare_assignment NumberedAssignment
 
 abbrev pub to_net : Identifier × Option Tree → NetIdentifier
 to_net x = record { token = x.0.token; text = x.0.text; value = x.1 }
@@ -37,7 +37,7 @@ of_net n = (record { token = n.token; text = n.text }, n.value)
 
 -- section 6.1.1
 abbrev pub net : ℕ → Format NetIdentifier
-net k = respelled (shaped (both identifier (where_mark mark_equals (expression k))) to_net of_net) spell_net bare_net
+net k = respelled (shaped (both identifier (where_mark mark_equals (expression k))) to_net of_net) spell_net bare_net NumberedNet
 
 abbrev pub to_pair : Tree × Tree → NetAssignment
 to_pair x = record { target = x.0; value = x.1 }
@@ -47,7 +47,7 @@ of_pair p = (p.target, p.value)
 
 -- section 6.1, annex A.6.1
 abbrev pub pair : ℕ → Format NetAssignment
-pair k = respelled (shaped (both (target_of k) (after_mark mark_equals (expression k))) to_pair of_pair) spell_pair bare_pair
+pair k = respelled (shaped (both (target_of k) (after_mark mark_equals (expression k))) to_pair of_pair) spell_pair bare_pair NumberedPair
 
 -- `integer`, or `signed` and a range
 abbrev pub of_kind : ℕ → List Word → Found (Bool × (Bool × Option Range))
@@ -72,7 +72,7 @@ of_parameter p = (p.local, ((p.integer, (p.signed, p.range)), p.sets))
 
 -- section 12.2, annex A.2.1.1
 abbrev pub parameter : ℕ → Format ParameterDeclaration
-parameter k = respelled (shaped (both (choice keyword_localparam keyword_parameter) (both (kind k) (list (setting k)))) to_parameter of_parameter) spell_parameter bare_parameter
+parameter k = respelled (shaped (both (choice keyword_localparam keyword_parameter) (both (kind k) (list (setting k)))) to_parameter of_parameter) spell_parameter bare_parameter NumberedParameter
 
 abbrev pub is_global : ParameterDeclaration → Bool
 is_global p = not p.local

@@ -104,13 +104,13 @@ shaped F g h = record {
   read = λ ws. mapped g (F.read ws);
 }
 
--- the same parts, whose words and whose form without token numbers are said otherwise
-abbrev pub respelled : {A : Type 0} → Format A → (A → List Word) → (A → A) → Format A
-respelled F spell bare = record {
+-- the same parts, whose words, form without token numbers and numbers are said otherwise
+abbrev pub respelled : {A : Type 0} → Format A → (A → List Word) → (A → A) → (A → ℕ → Type 0) → Format A
+respelled F spell bare Numbered = record {
   spell = spell;
   bare = bare;
   Good = F.Good;
-  Numbered = F.Numbered;
+  Numbered = Numbered;
   Before = F.Before;
   read = F.read;
 }
@@ -191,13 +191,17 @@ choose t F G = record {
   read = λ ws. if t ws then F.read ws else G.read ws;
 }
 
+-- the numbers of what stands behind a mark, where those of the whole are said from the mark on
+abbrev pub behind_mark : {A : Type 0} → (A → ℕ → Type 0) → A → ℕ → Type 0
+behind_mark N a next = (at : ℕ) → at + 1 ≡ next → N a at
+
 -- parts of another type, by these words
-abbrev pub imaged : {A B : Type 0} → Format A → (A → B) → (B → List Word) → (B → B) → (B → Type 0) → Format B
-imaged F g spell bare Good = record {
+abbrev pub imaged : {A B : Type 0} → Format A → (A → B) → (B → List Word) → (B → B) → (B → Type 0) → (B → ℕ → Type 0) → Format B
+imaged F g spell bare Good Numbered = record {
   spell = spell;
   bare = bare;
   Good = Good;
-  Numbered = λ b at. Unit {0};
+  Numbered = Numbered;
   Before = F.Before;
   read = λ ws. mapped g (F.read ws);
 }
@@ -230,14 +234,5 @@ pub record Finds {A : Type 0} (F : Format A) (tokens : List Token) (begin : ℕ)
   pub numbered : F.Numbered a begin
 
 -- no part is found at the token `begin`
-abbrev pub FindsNone : {A : Type 0} → Format A → List Token → ℕ → Type 0
-FindsNone F tokens begin = F.read (drop begin (words tokens)) ≡ None
-
--- after some parts of a list that begins at the token `begin`
-pub record Listed {A : Type 0} (F : Format A) (tokens : List Token) (begin : ℕ) (xs : List A) (next : ℕ) : Type 0 where
-  pub fuel : ℕ
-  pub enough : length tokens < fuel + next
-  pub whole : some_of F.read (drop begin (words tokens)) ≡ more F.read fuel (map F.bare xs) (drop next (words tokens))
-  pub within : next ≤ length tokens
-  pub taken : next ≡ begin + length (spell_separated F.spell xs)
-  pub numbered : NumberedSeparated F.spell F.Numbered xs begin
+pub record FindsNone {A : Type 0} (F : Format A) (tokens : List Token) (begin : ℕ) : Type 0 where
+  pub none_is : F.read (drop begin (words tokens)) ≡ None

@@ -4,7 +4,7 @@ use Rattle.std.specs.Prelude.{ℕ, ◌≤◌, ◌<◌, ◌≡◌, List, [], ◌�
 use Rattle.rr_syntax.specs.Words.{Word, Marked, keyword_always, keyword_assign, keyword_else, keyword_endmodule, keyword_input, keyword_integer, keyword_localparam, keyword_module, keyword_output, keyword_parameter, keyword_reg, keyword_wire, mark_at, mark_close_parenthesis, mark_hash, mark_open_parenthesis, mark_semicolon}
 use Rattle.rr_syntax.specs.Tree.{Tree, Identifier, Range, PortDeclaration, ParameterDeclaration, NetIdentifier, NetAssignment, EventControl, Connections, ModuleInstance, ModuleItem, Ports, Nets, Variables, Integers, Parameters, Assigns, Always, Instances, Statement, ModuleDeclaration, SourceText, bare_statement, bare_item, bare_parameter, bare_module, bare_source}
 use Rattle.rr_syntax.specs.Statements.{spell_statement, depth_statement, WellFormedStatement, NumberedStatement}
-use Rattle.rr_syntax.specs.Items.{spell_item, spell_parameters, spell_module, spell_source}
+use Rattle.rr_syntax.specs.Items.{spell_item, spell_parameters, spell_module, spell_source, NumberedItem}
 use Rattle.rr_parse_expr.specs.Reading.{mark}
 use Rattle.rr_parse_stmt.specs.Reading.{keyword, statement}
 use Rattle.rr_grammar.specs.Formats.{Format, both, after_mark, after_word, before_mark, before_word, position, shaped, respelled, imaged, list, repeated, choose, nothing_of}
@@ -30,7 +30,7 @@ Good_ports P (Ports p) = P p
 Good_ports P i = ⊥
 
 abbrev pub ports_item : ℕ → Format ModuleItem
-ports_item k = imaged (words_of_ports k) to_ports spell_item bare_item (Good_ports (words_of_ports k).Good)
+ports_item k = imaged (words_of_ports k) to_ports spell_item bare_item (Good_ports (words_of_ports k).Good) NumberedItem
 
 abbrev pub words_of_nets : ℕ → Format ((Bool × Option Range) × List NetIdentifier)
 words_of_nets k = after_word keyword_wire (both (typed k) (before_mark (list (net k)) mark_semicolon))
@@ -43,7 +43,7 @@ Good_nets P (Nets s r ns) = P ((s, r), ns)
 Good_nets P i = ⊥
 
 abbrev pub nets_item : ℕ → Format ModuleItem
-nets_item k = imaged (words_of_nets k) to_nets spell_item bare_item (Good_nets (words_of_nets k).Good)
+nets_item k = imaged (words_of_nets k) to_nets spell_item bare_item (Good_nets (words_of_nets k).Good) NumberedItem
 
 abbrev pub words_of_variables : ℕ → Format ((Bool × Option Range) × List Identifier)
 words_of_variables k = after_word keyword_reg (both (typed k) (before_mark (list identifier) mark_semicolon))
@@ -56,7 +56,7 @@ Good_variables P (Variables s r ns) = P ((s, r), ns)
 Good_variables P i = ⊥
 
 abbrev pub variables_item : ℕ → Format ModuleItem
-variables_item k = imaged (words_of_variables k) to_variables spell_item bare_item (Good_variables (words_of_variables k).Good)
+variables_item k = imaged (words_of_variables k) to_variables spell_item bare_item (Good_variables (words_of_variables k).Good) NumberedItem
 
 abbrev pub words_of_integers : ℕ → Format (List Identifier)
 words_of_integers k = after_word keyword_integer (before_mark (list identifier) mark_semicolon)
@@ -69,7 +69,7 @@ Good_integers P (Integers ns) = P ns
 Good_integers P i = ⊥
 
 abbrev pub integers_item : ℕ → Format ModuleItem
-integers_item k = imaged (words_of_integers k) to_integers spell_item bare_item (Good_integers (words_of_integers k).Good)
+integers_item k = imaged (words_of_integers k) to_integers spell_item bare_item (Good_integers (words_of_integers k).Good) NumberedItem
 
 abbrev pub words_of_parameters : ℕ → Format (ParameterDeclaration)
 words_of_parameters k = before_mark (parameter k) mark_semicolon
@@ -82,7 +82,7 @@ Good_parameters P (Parameters p) = P p
 Good_parameters P i = ⊥
 
 abbrev pub parameters_item : ℕ → Format ModuleItem
-parameters_item k = imaged (words_of_parameters k) to_parameters spell_item bare_item (Good_parameters (words_of_parameters k).Good)
+parameters_item k = imaged (words_of_parameters k) to_parameters spell_item bare_item (Good_parameters (words_of_parameters k).Good) NumberedItem
 
 abbrev pub words_of_assigns : ℕ → Format (List NetAssignment)
 words_of_assigns k = after_word keyword_assign (before_mark (list (pair k)) mark_semicolon)
@@ -95,7 +95,7 @@ Good_assigns P (Assigns ps) = P ps
 Good_assigns P i = ⊥
 
 abbrev pub assigns_item : ℕ → Format ModuleItem
-assigns_item k = imaged (words_of_assigns k) to_assigns spell_item bare_item (Good_assigns (words_of_assigns k).Good)
+assigns_item k = imaged (words_of_assigns k) to_assigns spell_item bare_item (Good_assigns (words_of_assigns k).Good) NumberedItem
 
 abbrev pub words_of_always : ℕ → Format (ℕ × (EventControl × Statement))
 words_of_always k = both position (after_word keyword_always (after_mark mark_at (both (events k) (statement_of k))))
@@ -108,7 +108,7 @@ Good_always P (Always e s n) = P (n, (e, s))
 Good_always P i = ⊥
 
 abbrev pub always_item : ℕ → Format ModuleItem
-always_item k = imaged (words_of_always k) to_always spell_item bare_item (Good_always (words_of_always k).Good)
+always_item k = imaged (words_of_always k) to_always spell_item bare_item (Good_always (words_of_always k).Good) NumberedItem
 
 abbrev pub words_of_instances : ℕ → Format (Identifier × (Option Connections × List ModuleInstance))
 words_of_instances k = both identifier (both (overrides k) (before_mark (list (one_instance k)) mark_semicolon))
@@ -121,7 +121,7 @@ Good_instances P (Instances m n o is) = P (record { token = n; text = m }, (o, i
 Good_instances P i = ⊥
 
 abbrev pub instances_item : ℕ → Format ModuleItem
-instances_item k = imaged (words_of_instances k) to_instances spell_item bare_item (Good_instances (words_of_instances k).Good)
+instances_item k = imaged (words_of_instances k) to_instances spell_item bare_item (Good_instances (words_of_instances k).Good) NumberedItem
 
 abbrev pub begins_ports : ℕ → Bool
 begins_ports k = k == keyword_input || k == keyword_output

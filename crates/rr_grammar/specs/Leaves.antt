@@ -7,7 +7,7 @@ use Rattle.rr_syntax.specs.Words.{Word, Marked, Reserved, keyword_else, keyword_
 use Rattle.rr_syntax.specs.Tree.{Tree, Identifier, Range, PortDeclaration, ParamAssignment, NetIdentifier, NetAssignment, Statement, bare, bare_identifier, bare_port, bare_assignment, bare_net, bare_pair, bare_range, bare_statement}
 use Rattle.rr_syntax.specs.Expressions.{spell, depth, is_target, infix_level, unary_level, WellFormed, Numbered}
 use Rattle.rr_syntax.specs.Statements.{spell_statement, depth_statement, WellFormedStatement, NumberedStatement}
-use Rattle.rr_syntax.specs.Items.{spell_identifier, spell_where, spell_dir, spell_range, NumberedIdentifier}
+use Rattle.rr_syntax.specs.Items.{spell_identifier, spell_where, spell_dir, spell_range, NumberedIdentifier, NumberedRange}
 use Rattle.rr_parse_expr.specs.Reading.{Found, mapped, chain, mark, rest, reads}
 use Rattle.rr_parse_stmt.specs.Reading.{keyword, name, target, statement}
 use Rattle.rr_grammar.specs.Formats.{Format, Anything, both, after_mark, before_mark, shaped, respelled, narrowed, list}
@@ -80,7 +80,7 @@ of_range r = (r.left, r.right)
 
 -- `[left:right]`, where it stands (annex A.2.5)
 abbrev pub range : ℕ → Format (Option Range)
-range k = respelled (where_mark mark_open_bracket (shaped (both (before_mark (expression k) mark_colon) (before_mark (expression k) mark_close_bracket)) to_range of_range)) spell_range bare_range
+range k = respelled (where_mark mark_open_bracket (shaped (both (before_mark (expression k) mark_colon) (before_mark (expression k) mark_close_bracket)) to_range of_range)) spell_range bare_range NumberedRange
 
 -- no type goes on here
 abbrev pub NoType : List Word → Type 0

@@ -3,10 +3,10 @@
 use Rattle.std.specs.Prelude.{ℕ, ◌≤◌, ◌<◌, ◌≡◌, List, [], ◌∷◌, ◌++◌, length, map, Bool, true, false, ◌==◌, Option, Some, None}
 use Rattle.rr_syntax.specs.Words.{Word, Marked, keyword_endmodule, keyword_module, mark_close_parenthesis, mark_hash, mark_open_parenthesis, mark_semicolon}
 use Rattle.rr_syntax.specs.Tree.{Identifier, PortDeclaration, ParameterDeclaration, ModuleItem, ModuleDeclaration, SourceText, bare_header, bare_parameter, bare_port, bare_module, bare_source}
-use Rattle.rr_syntax.specs.Items.{spell_parameters, spell_ports, spell_module, spell_source}
+use Rattle.rr_syntax.specs.Items.{spell_parameters, spell_ports, spell_module, spell_source, NumberedParameters, NumberedPorts, NumberedModule}
 use Rattle.rr_parse_expr.specs.Reading.{mark, rest}
 use Rattle.rr_parse_stmt.specs.Reading.{keyword}
-use Rattle.rr_grammar.specs.Formats.{Format, both, after_mark, after_word, before_mark, before_word, shaped, respelled, narrowed, imaged, list, repeated, choose, nothing_of}
+use Rattle.rr_grammar.specs.Formats.{Format, both, after_mark, after_word, before_mark, before_word, shaped, respelled, narrowed, behind_mark, imaged, list, repeated, choose, nothing_of}
 use Rattle.rr_grammar.specs.Leaves.{identifier}
 use Rattle.rr_grammar.specs.Declarations.{port, head_parameter}
 use Rattle.rr_grammar.specs.Connections.{front_close}
@@ -25,10 +25,10 @@ abbrev pub IsNil : {A : Type 0} → List A → Type 0
 IsNil xs = length xs ≡ 0
 
 abbrev pub some_heads : ℕ → Format (List ParameterDeclaration)
-some_heads k = imaged (after_mark mark_hash (after_mark mark_open_parenthesis (before_mark (list (head_parameter k)) mark_close_parenthesis))) as_they_are spell_parameters (map bare_parameter) (list (head_parameter k)).Good
+some_heads k = imaged (after_mark mark_hash (after_mark mark_open_parenthesis (before_mark (list (head_parameter k)) mark_close_parenthesis))) as_they_are spell_parameters (map bare_parameter) (list (head_parameter k)).Good NumberedParameters
 
 abbrev pub no_heads : Format (List ParameterDeclaration)
-no_heads = narrowed (imaged (nothing_of false) (λ b. []) spell_parameters (map bare_parameter) IsNil) NoHash
+no_heads = narrowed (imaged (nothing_of false) (λ b. []) spell_parameters (map bare_parameter) IsNil NumberedParameters) NoHash
 
 -- the parameters of a module, where it has any
 abbrev pub heads : ℕ → Format (List ParameterDeclaration)
@@ -45,6 +45,9 @@ ports_inside x = rest (spell_ports x.0 x.1)
 
 abbrev pub bare_ports : PortList → PortList
 bare_ports x = (bare_header x.0, map bare_port x.1)
+
+abbrev pub ports_numbered : PortList → ℕ → Type 0
+ports_numbered x at = NumberedPorts x.0 x.1 at
 
 abbrev pub BothNil : Option (List Identifier) → List PortDeclaration → Type 0
 BothNil None groups = ⊥
@@ -65,13 +68,13 @@ abbrev pub to_names : List Identifier → PortList
 to_names ns = (Some ns, [])
 
 abbrev pub empty_ports : Format PortList
-empty_ports = imaged (after_mark mark_close_parenthesis (nothing_of false)) (λ b. (Some [], [])) ports_inside bare_ports (λ x. BothNil x.0 x.1)
+empty_ports = imaged (after_mark mark_close_parenthesis (nothing_of false)) (λ b. (Some [], [])) ports_inside bare_ports (λ x. BothNil x.0 x.1) (behind_mark ports_numbered)
 
 abbrev pub group_ports : ℕ → Format PortList
-group_ports k = imaged (before_mark (list (port k)) mark_close_parenthesis) to_groups ports_inside bare_ports (λ x. AreGroups (list (port k)).Good x.0 x.1)
+group_ports k = imaged (before_mark (list (port k)) mark_close_parenthesis) to_groups ports_inside bare_ports (λ x. AreGroups (list (port k)).Good x.0 x.1) (behind_mark ports_numbered)
 
 abbrev pub name_ports : Format PortList
-name_ports = imaged (before_mark (list identifier) mark_close_parenthesis) to_names ports_inside bare_ports (λ x. AreNames (list identifier).Good x.0 x.1)
+name_ports = imaged (before_mark (list identifier) mark_close_parenthesis) to_names ports_inside bare_ports (λ x. AreNames (list identifier).Good x.0 x.1) (behind_mark ports_numbered)
 
 abbrev pub ports_in : ℕ → Format PortList
 ports_in k = choose front_close empty_ports (choose front_ports (group_ports k) name_ports)
@@ -86,14 +89,14 @@ abbrev pub same_ports : PortList → PortList
 same_ports x = x
 
 abbrev pub with_ports : ℕ → Format PortList
-with_ports k = imaged (after_mark mark_open_parenthesis (ports_in k)) same_ports ports_words bare_ports (ports_in k).Good
+with_ports k = imaged (after_mark mark_open_parenthesis (ports_in k)) same_ports ports_words bare_ports (ports_in k).Good ports_numbered
 
 abbrev pub NoPorts : Option (List Identifier) → List PortDeclaration → Type 0
 NoPorts None groups = IsNil groups
 NoPorts (Some names) groups = ⊥
 
 abbrev pub without_ports : Format PortList
-without_ports = narrowed (imaged (nothing_of false) (λ b. (None, [])) ports_words bare_ports (λ x. NoPorts x.0 x.1)) NoOpen
+without_ports = narrowed (imaged (nothing_of false) (λ b. (None, [])) ports_words bare_ports (λ x. NoPorts x.0 x.1) ports_numbered) NoOpen
 
 -- the port brackets of a module, where it has them
 abbrev pub port_list : ℕ → Format PortList
@@ -113,7 +116,7 @@ module_words k j = both (after_word keyword_module identifier) (both (heads k) (
 
 -- section 12.1, annex A.1.2
 abbrev pub one_module : ℕ → ℕ → Format ModuleDeclaration
-one_module k j = respelled (shaped (module_words k j) to_module of_module) spell_module bare_module
+one_module k j = respelled (shaped (module_words k j) to_module of_module) spell_module bare_module NumberedModule
 
 -- annex A.1.2
 abbrev pub modules : ℕ → ℕ → Format (List ModuleDeclaration)

@@ -4,10 +4,10 @@ use Rattle.std.specs.Prelude.{ℕ, suc, ◌+◌, ◌≤◌, ◌<◌, ◌≡◌, 
 use Rattle.rr_syntax.specs.Words.{Word, Marked, Reserved, keyword_always, keyword_assign, keyword_else, keyword_input, keyword_integer, keyword_localparam, keyword_negedge, keyword_or, keyword_output, keyword_parameter, keyword_posedge, keyword_reg, keyword_wire, mark_at, mark_comma, mark_close_parenthesis, mark_dot, mark_hash, mark_open_parenthesis, mark_semicolon, mark_star}
 use Rattle.rr_syntax.specs.Tree.{Tree, Trees, End, More, Identifier, Range, PortDeclaration, ParameterDeclaration, NetIdentifier, NetAssignment, EdgeEvent, EventControl, Star, Edges, Levels, NamedConnection, Connections, Positions, Names, ModuleInstance, ModuleItem, Ports, Nets, Variables, Integers, Parameters, Assigns, Always, Instances, Statement, bare_statement, bare_edge, bare_events, bare_connection, bare_connections, bare_instance, bare_item}
 use Rattle.rr_syntax.specs.Statements.{spell_statement, depth_statement, WellFormedStatement, NumberedStatement}
-use Rattle.rr_syntax.specs.Items.{spell_edge, spell_events, spell_connection, spell_connections, spell_instance, spell_item, count}
+use Rattle.rr_syntax.specs.Items.{spell_edge, spell_events, spell_connection, spell_connections, spell_instance, spell_item, count, NumberedEdge, NumberedEvents}
 use Rattle.rr_parse_expr.specs.Reading.{Found, mark, rest}
 use Rattle.rr_parse_stmt.specs.Reading.{keyword, statement}
-use Rattle.rr_grammar.specs.Formats.{Format, Anything, both, after_mark, before_mark, shaped, respelled, narrowed, imaged, list, repeated, choose, nothing_of}
+use Rattle.rr_grammar.specs.Formats.{Format, Anything, both, after_mark, before_mark, shaped, respelled, narrowed, behind_mark, imaged, list, repeated, choose, nothing_of}
 use Rattle.rr_grammar.specs.Leaves.{identifier, expression, where_mark, range, NoType, typed, choice}
 use Rattle.rr_grammar.specs.Declarations.{port, net, pair, parameter}
 
@@ -34,7 +34,7 @@ of_edge e = (e.rising, record { token = e.token; text = e.text })
 
 -- section 9.7.2
 abbrev pub edge : Format EdgeEvent
-edge = respelled (shaped (both (choice keyword_posedge keyword_negedge) identifier) to_edge of_edge) spell_edge bare_edge
+edge = respelled (shaped (both (choice keyword_posedge keyword_negedge) identifier) to_edge of_edge) spell_edge bare_edge NumberedEdge
 
 abbrev pub seconds : {A : Type 0} → List (Bool × A) → List A
 seconds [] = []
@@ -74,10 +74,10 @@ abbrev pub inside : EventControl → List Word
 inside e = rest (spell_events e)
 
 abbrev pub edge_list : Format EventControl
-edge_list = imaged (before_mark (separated edge) mark_close_parenthesis) to_edges inside bare_events GoodEdges
+edge_list = imaged (before_mark (separated edge) mark_close_parenthesis) to_edges inside bare_events GoodEdges (behind_mark NumberedEvents)
 
 abbrev pub level_list : ℕ → Format EventControl
-level_list k = imaged (before_mark (separated (expression k)) mark_close_parenthesis) to_levels inside bare_events (GoodLevels (expression k).Good)
+level_list k = imaged (before_mark (separated (expression k)) mark_close_parenthesis) to_levels inside bare_events (GoodLevels (expression k).Good) (behind_mark NumberedEvents)
 
 abbrev pub stars : Bool → EventControl
 stars b = Star b
@@ -94,16 +94,16 @@ abbrev pub front_edge : List Word → Bool
 front_edge ws = keyword ws == keyword_posedge || keyword ws == keyword_negedge
 
 abbrev pub star_alone : Format EventControl
-star_alone = imaged (after_mark mark_star (nothing_of false)) stars spell_events bare_events (GoodStar false)
+star_alone = imaged (after_mark mark_star (nothing_of false)) stars spell_events bare_events (GoodStar false) NumberedEvents
 
 abbrev pub star_closed : Format EventControl
-star_closed = imaged (after_mark mark_star (after_mark mark_close_parenthesis (nothing_of true))) stars inside bare_events (GoodStar true)
+star_closed = imaged (after_mark mark_star (after_mark mark_close_parenthesis (nothing_of true))) stars inside bare_events (GoodStar true) (behind_mark NumberedEvents)
 
 abbrev pub bracketed : ℕ → Format EventControl
 bracketed k = choose front_star star_closed (choose front_edge edge_list (level_list k))
 
 abbrev pub in_brackets : ℕ → Format EventControl
-in_brackets k = imaged (after_mark mark_open_parenthesis (bracketed k)) (λ e. e) spell_events bare_events (bracketed k).Good
+in_brackets k = imaged (after_mark mark_open_parenthesis (bracketed k)) (λ e. e) spell_events bare_events (bracketed k).Good NumberedEvents
 
 -- what stands behind `@` (sections 9.7.3 to 9.7.5, annex A.6.5)
 abbrev pub events : ℕ → Format EventControl

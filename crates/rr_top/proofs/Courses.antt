@@ -9,11 +9,13 @@ use Rattle.rr_words.proofs.PlainCommands.{plain_command}
 use Rattle.rr_top.specs.declared.ending.Ending.{Ending}
 use Rattle.rr_top.specs.declared.ending.Ending.TheVariants.{Usage, NoMemory, Absent, ReadFault, OutFault, Refused, Done}
 use Rattle.rr_check.specs.declared.verdict.Verdict.{Verdict as Finding}
-use Rattle.rr_top.specs.Texts.{usage_text, verdict_text}
+use Rattle.rr_top.specs.Texts.{usage_text, refused_text, verdict_text}
 use Rattle.rr_top.specs.Effects.{Answer, KeepsShelf, KeepsOut, AbsentAt}
-use Rattle.rr_top.specs.Verdicts.{reads_of, Due, DueGiven, Refuses, Verdict, absent, refused, mended, unmendable, checked, Judges, verdict_status}
+use Rattle.rr_top.specs.Verdicts.{reads_of, Due, DueGiven, IsPlaced, Refuses, Verdict, absent, refused, unparsed, mended, unmendable, checked, Judges, verdict_status}
 use Rattle.rr_top.specs.Check.{DueCertificate, IsChecked, IsNeverTrue}
 use Rattle.rr_top.specs.Endings.{PlanEnds}
+use Rattle.rr_top.specs.declared.ending.Refusal.{Refusal}
+use Rattle.rr_top.specs.declared.ending.Refusal.TheVariants.{TooManyBytes, Text, Unsupported, Syntax, NotBuilt, Flawed}
 use Rattle.rr_top.specs.Run.{IsUsage, Reports, status_of, Course, IsCourse, IsRepaired, IsBeyondRepair, IsAccepted, IsRejected, HasDone, HasFailed, IsCheck, IsRefused, IsAbsent, IsExhausted, IsUnread, WhereCommand, SomeFault, ShowsVerdict, Follows, AllGiven, NoneRefuses, NoFaults}
 use Rattle.rr_top.proofs.Certificates.{status_low, status_zero, status_one, never_true}
 use Rattle.rr_top.proofs.Verdict.{one_verdict}
@@ -185,6 +187,7 @@ module _ (r : Course) (answer : Answer) (calm : Calm r) (out : Appends r.before.
 abbrev ShowsBy : Verdict → Answer → Type 0
 ShowsBy (absent name) answer = ⊥
 ShowsBy (refused refusal) answer = ⊥
+ShowsBy unparsed answer = ⊥
 ShowsBy mended answer = ⊤
 ShowsBy unmendable answer = ⊤
 ShowsBy (checked finding) answer = (answer.out ≡ verdict_text finding) × (answer.notes ≡ [])
@@ -243,6 +246,7 @@ due_verdict (make s c) held answer due = absurd due
 shown : (r : Course) (answer : Answer) (v : Verdict) → ShowsBy v answer → Appends r.before.out r.after.out answer.out → Appends r.notes_before r.notes_after answer.notes → ShowsVerdict v r
 shown r answer (absent name) shows out notes = absurd shows
 shown r answer (refused refusal) shows out notes = absurd shows
+shown r answer unparsed shows out notes = absurd shows
 shown r answer mended shows out notes = tt
 shown r answer unmendable shows out notes = tt
 shown r answer (checked finding) shows out notes = (rw shows.0 at out, rw shows.1 at notes)
@@ -338,9 +342,24 @@ module _ (r : Course) (o : Option Plan) where
     absent_follows v judged a s =
         subst (λ (w : Verdict). Follows r w) (one_verdict plan held (absent a.name) v (rw told at a.due) judged) (inl (s, a.reported))
 
+    -- a refusal whose place is decided, and one of a text without a tree
+    placed_follows : (v : Verdict) (refusal : Refusal) → IsPlaced refusal → Judges plan held v → Refuses plan (Some held) refusal
+        → Appends r.notes_before r.notes_after (refused_text refusal) → r.status ≡ 3 → Follows r v
+    placed_follows v refusal placed judged due reported s =
+        subst (λ (w : Verdict). Follows r w) (one_verdict plan held (refused refusal) v (placed, due) judged) (inl (s, reported))
+
+    by_refusal : (v : Verdict) (refusal : Refusal) → Judges plan held v → Refuses plan (Some held) refusal
+        → Appends r.notes_before r.notes_after (refused_text refusal) → r.status ≡ 3 → Follows r v
+    by_refusal v (TooManyBytes count) judged due reported s = placed_follows v (TooManyBytes count) tt judged due reported s
+    by_refusal v (Text wrong offset) judged due reported s = placed_follows v (Text wrong offset) tt judged due reported s
+    by_refusal v (Unsupported offset) judged due reported s = placed_follows v (Unsupported offset) tt judged due reported s
+    by_refusal v (Syntax offset) judged due reported s =
+        subst (λ (w : Verdict). Follows r w) (one_verdict plan held unparsed v (offset, due) judged) (inl (s, (offset, reported)))
+    by_refusal v (NotBuilt part) judged due reported s = placed_follows v (NotBuilt part) tt judged due reported s
+    by_refusal v (Flawed flaw line) judged due reported s = placed_follows v (Flawed flaw line) tt judged due reported s
+
     refused_follows : (v : Verdict) → Judges plan held v → IsRefused r plan → r.status ≡ 3 → Follows r v
-    refused_follows v judged a s =
-        subst (λ (w : Verdict). Follows r w) (one_verdict plan held (refused a.refusal) v (rw told at a.due) judged) (inl (s, a.reported))
+    refused_follows v judged a s = by_refusal v a.refusal judged (rw told at a.due) a.reported s
 
     of_verdict : (v : Verdict) → Judges plan held v → Came r o → Follows r v
     of_verdict v judged (came_fault f s h) = inr (inr (s, f))

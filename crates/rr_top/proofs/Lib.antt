@@ -7,5 +7,7 @@ pub mod Patched
 pub mod Judged
 pub mod Readings
 pub mod Certificates
+pub mod Parsed
+pub mod ThinTrees
 pub mod Verdict
 pub mod Courses

@@ -13,16 +13,19 @@ use Rattle.rr_top.specs.declared.design.Right.TheVariants.{Copies, Constant, Mas
 use Rattle.rr_top.specs.declared.ending.Part.{Part}
 use Rattle.rr_top.specs.declared.ending.Part.TheVariants as part
 use Rattle.rr_top.specs.declared.ending.Refusal.{Refusal}
-use Rattle.rr_top.specs.declared.ending.Refusal.TheVariants.{TooManyBytes, Text, NotBuilt, Flawed}
+use Rattle.rr_top.specs.declared.ending.Refusal.TheVariants.{TooManyBytes, Text, Unsupported, Syntax, NotBuilt, Flawed}
 use Rattle.rr_top.specs.declared.search.Choice.{Choice}
 use Rattle.rr_top.specs.declared.table.Row.{Row}
 use Rattle.rr_top.specs.Thin.{Thin, IsThin, thin_words, right_words, bit, bit_number}
 use Rattle.rr_top.specs.Table.{IsTable}
 use Rattle.rr_top.specs.Choices.{Mends, NoneMends}
-use Rattle.rr_top.specs.Verdicts.{IsTaken, RefusesFiles, Verdict, absent, refused, mended, unmendable, checked, Judges}
+use Rattle.rr_top.specs.Verdicts.{IsTaken, RefusesFiles, Verdict, absent, refused, unparsed, mended, unmendable, checked, Judges}
 use Rattle.rr_top.proofs.Rows.{one_table}
 use Rattle.rr_top.proofs.Readings.{Reading, missing, long, given, IsReading, one_reading}
+use Rattle.rr_top.specs.Trees.{AllHaveRules, HasTree, OutsideAt}
 use Rattle.rr_top.proofs.Certificates.{one_certificate}
+use Rattle.rr_top.proofs.ThinTrees.{thin_rules, thin_tree}
+use Rattle.rr_top.proofs.Parsed.{one_outside, no_outside}
 
 -- no words are two thin designs
 one_bit : (a b : Bool) → bit a ≡ bit b → a ≡ b
@@ -72,9 +75,14 @@ module _ (top clock : Option (List ℕ)) where
     is_unmendable : (t : Thin) → IsTaken top clock ts t → (rows : List Row) → IsTable t table rows → NoneMends t rows → v ≡ unmendable → OnTokens table ts v
 
   -- what two files decide
+  data OnWords (table : List ℕ) (ts : List Lexeme) (v : Verdict) : Type 0 where
+    on_outside : (at : ℕ) → OutsideAt ts at → v ≡ refused (Unsupported at) → OnWords table ts v
+    on_none : AllHaveRules ts → (HasTree ts → ⊥) → v ≡ unparsed → OnWords table ts v
+    on_tree : AllHaveRules ts → HasTree ts → OnTokens table ts v → OnWords table ts v
+
   data OnFiles (design table : List ℕ) (v : Verdict) : Type 0 where
     on_fault : (wrong : Wrong) (at : ℕ) → IsFirstFault design wrong at → v ≡ refused (Text wrong at) → OnFiles design table v
-    on_tokens : (ts : List Lexeme) → AreTokens design ts → OnTokens table ts v → OnFiles design table v
+    on_words : (ts : List Lexeme) → AreTokens design ts → OnWords table ts v → OnFiles design table v
 
   module _ (table : List ℕ) (ts : List Lexeme) where
     one_taken : (t u : Thin) → IsTaken top clock ts t → IsTaken top clock ts u → t ≡ u
@@ -108,6 +116,21 @@ module _ (top clock : Option (List ℕ)) where
     one_on_tokens v w (is_unmendable t p a i n e) (is_mended u q b j d m f) = other_mends u t b a d q p j i m n
     one_on_tokens v w (is_unmendable t p a i n e) (is_unmendable u q b j m f) = e ∙ sym f
 
+    one_on_words : (v w : Verdict) → OnWords table ts v → OnWords table ts w → v ≡ w
+    one_on_words v w (on_outside i p e) (on_outside j q f) = e ∙ ap (λ (k : ℕ). refused (Unsupported k)) (one_outside ts i j p q) ∙ sym f
+    one_on_words v w (on_outside i p e) (on_none r n f) = no_outside ts i p r
+    one_on_words v w (on_outside i p e) (on_tree r t q) = no_outside ts i p r
+    one_on_words v w (on_none r n e) (on_outside j q f) = no_outside ts j q r
+    one_on_words v w (on_none r n e) (on_none s m f) = e ∙ sym f
+    one_on_words v w (on_none r n e) (on_tree s t q) = absurd (n t)
+    one_on_words v w (on_tree r t p) (on_outside j q f) = no_outside ts j q r
+    one_on_words v w (on_tree r t p) (on_none s m f) = absurd (m t)
+    one_on_words v w (on_tree r t p) (on_tree s u q) = one_on_tokens v w p q
+
+    -- a thin design is a tree
+    of_thin : (t : Thin) → IsTaken top clock ts t → (v : Verdict) → OnTokens table ts v → OnWords table ts v
+    of_thin t taken v on = on_tree (thin_rules ts t taken.thin.spelled) (thin_tree ts t taken.thin.spelled) on
+
   module _ (design table : List ℕ) where
     one_on_files : (v w : Verdict) → OnFiles design table v → OnFiles design table w → v ≡ w
     one_on_files v w (on_fault x i p e) (on_fault y j q f) =
@@ -116,10 +139,10 @@ module _ (top clock : Option (List ℕ)) where
         let i_is : i ≡ j = both.1 in
         let same : refused (Text x i) ≡ refused (Text y j) = cc in
         e ∙ same ∙ sym f
-    one_on_files v w (on_fault x i p e) (on_tokens ts q f) = absurd (one_answer design ts x i q p)
-    one_on_files v w (on_tokens ts p e) (on_fault x i q f) = absurd (one_answer design ts x i p q)
-    one_on_files v w (on_tokens ts p e) (on_tokens us q f) =
-        one_on_tokens table ts v w e (subst (λ (l : List Lexeme). OnTokens table l w) (sym (one_list design ts us p q)) f)
+    one_on_files v w (on_fault x i p e) (on_words ts q f) = absurd (one_answer design ts x i q p)
+    one_on_files v w (on_words ts p e) (on_fault x i q f) = absurd (one_answer design ts x i p q)
+    one_on_files v w (on_words ts p e) (on_words us q f) =
+        one_on_words table ts v w e (subst (λ (l : List Lexeme). OnWords table l w) (sym (one_list design ts us p q)) f)
 
   module _ (held : Held) (d t : List ℕ) where
     -- what a reading decides
@@ -143,24 +166,32 @@ module _ (top clock : Option (List ℕ)) where
 
     on_refused : (design table : List ℕ) (part : Part) → RefusesFiles top clock design table (NotBuilt part) → OnFiles design table (refused (NotBuilt part))
     on_refused design table part.Command none = absurd none
-    on_refused design table part.Design lacks = on_tokens lacks.tokens lacks.lexed (no_design lacks.none refl)
-    on_refused design table part.Table lacks = on_tokens lacks.tokens lacks.lexed (no_table lacks.thin lacks.taken lacks.none refl)
+    on_refused design table part.Design lacks = on_words lacks.tokens lacks.lexed (on_tree lacks.rules lacks.spelled (no_design lacks.none refl))
+    on_refused design table part.Table lacks =
+        on_words lacks.tokens lacks.lexed (of_thin table lacks.tokens lacks.thin lacks.taken (refused (NotBuilt part.Table)) (no_table lacks.thin lacks.taken lacks.none refl))
 
     is_read : (cert : List ℕ) (budget members : ℕ) (v : Verdict) → Judges (repair d t cert top clock budget members) held v → IsRead v
     is_read cert budget members (absent name) j = record { reading = missing name; is = j; on = refl }
-    is_read cert budget members (refused (TooManyBytes count)) j = record { reading = long count; is = j; on = refl }
-    is_read cert budget members (refused (Text wrong at)) j = record { reading = given j.design j.table; is = (j.given.design_given, j.given.table_given); on = on_fault wrong at j.refused refl }
-    is_read cert budget members (refused (NotBuilt part)) j = record { reading = given j.design j.table; is = (j.given.design_given, j.given.table_given); on = on_refused j.design j.table part j.refused }
-    is_read cert budget members (refused (Flawed flaw line)) j = absurd j.refused
+    is_read cert budget members (refused (TooManyBytes count)) j = record { reading = long count; is = j.1; on = refl }
+    is_read cert budget members (refused (Text wrong at)) j =
+        record { reading = given j.1.design j.1.table; is = (j.1.given.design_given, j.1.given.table_given); on = on_fault wrong at j.1.refused refl }
+    is_read cert budget members (refused (Unsupported at)) j =
+        record { reading = given j.1.design j.1.table; is = (j.1.given.design_given, j.1.given.table_given); on = on_words j.1.refused.tokens j.1.refused.lexed (on_outside at j.1.refused.outside refl) }
+    is_read cert budget members (refused (Syntax at)) j = absurd j.0
+    is_read cert budget members (refused (NotBuilt part)) j =
+        record { reading = given j.1.design j.1.table; is = (j.1.given.design_given, j.1.given.table_given); on = on_refused j.1.design j.1.table part j.1.refused }
+    is_read cert budget members (refused (Flawed flaw line)) j = absurd j.1.refused
+    is_read cert budget members unparsed j =
+        record { reading = given j.1.design j.1.table; is = (j.1.given.design_given, j.1.given.table_given); on = on_words j.1.refused.tokens j.1.refused.lexed (on_none j.1.refused.rules j.1.refused.none refl) }
     is_read cert budget members mended j = record {
       reading = given j.design j.table;
       is = (j.given.design_given, j.given.table_given);
-      on = on_tokens j.tokens j.taken.lexed (is_mended j.thin j.taken.taken j.rows j.taken.tabled j.choice j.mends refl);
+      on = on_words j.tokens j.taken.lexed (of_thin j.table j.tokens j.thin j.taken.taken mended (is_mended j.thin j.taken.taken j.rows j.taken.tabled j.choice j.mends refl));
     }
     is_read cert budget members unmendable j = record {
       reading = given j.design j.table;
       is = (j.given.design_given, j.given.table_given);
-      on = on_tokens j.tokens j.taken.lexed (is_unmendable j.thin j.taken.taken j.rows j.taken.tabled j.none refl);
+      on = on_words j.tokens j.taken.lexed (of_thin j.table j.tokens j.thin j.taken.taken unmendable (is_unmendable j.thin j.taken.taken j.rows j.taken.tabled j.none refl));
     }
     is_read cert budget members (checked finding) j = absurd j
 
@@ -170,30 +201,39 @@ IsUnbuilt v = v ≡ refused (NotBuilt part.Command)
 
 unbuilt_run : (held : Held) (design table : List ℕ) (top clock : Option (List ℕ)) (v : Verdict) → Judges (run design table top clock) held v → IsUnbuilt v
 unbuilt_run held design table top clock (absent name) j = absurd j
-unbuilt_run held design table top clock (refused (TooManyBytes count)) j = absurd j
-unbuilt_run held design table top clock (refused (Text wrong at)) j = ap (λ (r : Refusal). refused r) j
-unbuilt_run held design table top clock (refused (NotBuilt part)) j = ap (λ (r : Refusal). refused r) j
-unbuilt_run held design table top clock (refused (Flawed flaw line)) j = ap (λ (r : Refusal). refused r) j
+unbuilt_run held design table top clock (refused (TooManyBytes count)) j = absurd j.1
+unbuilt_run held design table top clock (refused (Text wrong at)) j = ap (λ (r : Refusal). refused r) j.1
+unbuilt_run held design table top clock (refused (Unsupported at)) j = ap (λ (r : Refusal). refused r) j.1
+unbuilt_run held design table top clock (refused (Syntax at)) j = absurd j.0
+unbuilt_run held design table top clock (refused (NotBuilt part)) j = ap (λ (r : Refusal). refused r) j.1
+unbuilt_run held design table top clock (refused (Flawed flaw line)) j = ap (λ (r : Refusal). refused r) j.1
+unbuilt_run held design table top clock unparsed j = let other = j.1 in absurd (cc)
 unbuilt_run held design table top clock mended j = absurd j
 unbuilt_run held design table top clock unmendable j = absurd j
 unbuilt_run held design table top clock (checked finding) j = absurd j
 
 unbuilt_sites : (held : Held) (design : List ℕ) (top clock : Option (List ℕ)) (v : Verdict) → Judges (sites design top clock) held v → IsUnbuilt v
 unbuilt_sites held design top clock (absent name) j = absurd j
-unbuilt_sites held design top clock (refused (TooManyBytes count)) j = absurd j
-unbuilt_sites held design top clock (refused (Text wrong at)) j = ap (λ (r : Refusal). refused r) j
-unbuilt_sites held design top clock (refused (NotBuilt part)) j = ap (λ (r : Refusal). refused r) j
-unbuilt_sites held design top clock (refused (Flawed flaw line)) j = ap (λ (r : Refusal). refused r) j
+unbuilt_sites held design top clock (refused (TooManyBytes count)) j = absurd j.1
+unbuilt_sites held design top clock (refused (Text wrong at)) j = ap (λ (r : Refusal). refused r) j.1
+unbuilt_sites held design top clock (refused (Unsupported at)) j = ap (λ (r : Refusal). refused r) j.1
+unbuilt_sites held design top clock (refused (Syntax at)) j = absurd j.0
+unbuilt_sites held design top clock (refused (NotBuilt part)) j = ap (λ (r : Refusal). refused r) j.1
+unbuilt_sites held design top clock (refused (Flawed flaw line)) j = ap (λ (r : Refusal). refused r) j.1
+unbuilt_sites held design top clock unparsed j = let other = j.1 in absurd (cc)
 unbuilt_sites held design top clock mended j = absurd j
 unbuilt_sites held design top clock unmendable j = absurd j
 unbuilt_sites held design top clock (checked finding) j = absurd j
 
 unbuilt_make : (held : Held) (seed : ℕ) (cert : List ℕ) (v : Verdict) → Judges (make seed cert) held v → IsUnbuilt v
 unbuilt_make held seed cert (absent name) j = absurd j
-unbuilt_make held seed cert (refused (TooManyBytes count)) j = absurd j
-unbuilt_make held seed cert (refused (Text wrong at)) j = ap (λ (r : Refusal). refused r) j
-unbuilt_make held seed cert (refused (NotBuilt part)) j = ap (λ (r : Refusal). refused r) j
-unbuilt_make held seed cert (refused (Flawed flaw line)) j = ap (λ (r : Refusal). refused r) j
+unbuilt_make held seed cert (refused (TooManyBytes count)) j = absurd j.1
+unbuilt_make held seed cert (refused (Text wrong at)) j = ap (λ (r : Refusal). refused r) j.1
+unbuilt_make held seed cert (refused (Unsupported at)) j = ap (λ (r : Refusal). refused r) j.1
+unbuilt_make held seed cert (refused (Syntax at)) j = absurd j.0
+unbuilt_make held seed cert (refused (NotBuilt part)) j = ap (λ (r : Refusal). refused r) j.1
+unbuilt_make held seed cert (refused (Flawed flaw line)) j = ap (λ (r : Refusal). refused r) j.1
+unbuilt_make held seed cert unparsed j = let other = j.1 in absurd (cc)
 unbuilt_make held seed cert mended j = absurd j
 unbuilt_make held seed cert unmendable j = absurd j
 unbuilt_make held seed cert (checked finding) j = absurd j

@@ -10,6 +10,7 @@ use Rattle.rr_words.specs.Plan.{Plan, check, command_of}
 use Rattle.rr_top.specs.declared.ending.Ending.{Ending}
 use Rattle.rr_top.specs.declared.ending.Ending.TheVariants.{Usage, NoMemory, Absent, ReadFault, OutFault, Refused, Done}
 use Rattle.rr_top.specs.declared.ending.Refusal.{Refusal}
+use Rattle.rr_top.specs.declared.ending.Refusal.TheVariants.{Syntax}
 use Rattle.rr_top.specs.declared.search.Choice.{Choice}
 use Rattle.rr_top.specs.declared.table.Row.{Row}
 use Rattle.rr_top.specs.Thin.{Thin, thin_words, site_count}
@@ -19,7 +20,7 @@ use Rattle.rr_check.specs.declared.verdict.Verdict.{Verdict as Finding}
 use Rattle.rr_check.specs.declared.verdict.Verdict.TheVariants as found
 use Rattle.rr_top.specs.Texts.{usage_text, memory_text, refused_text, absent_text, report, no_repair_text, verdict_text}
 use Rattle.rr_top.specs.Effects.{Outside, KeepsShelf, KeepsOut, AbsentAt, Gave}
-use Rattle.rr_top.specs.Verdicts.{reads_of, BothGiven, AreTaken, Refuses, Verdict, absent, refused, mended, unmendable, checked, WhereRepair, WhereCheck, verdict_status}
+use Rattle.rr_top.specs.Verdicts.{reads_of, BothGiven, AreTaken, Refuses, Verdict, absent, refused, unparsed, mended, unmendable, checked, WhereRepair, WhereCheck, verdict_status}
 use Rattle.rr_top.specs.Check.{IsChecked}
 use Rattle.rr_top.specs.Endings.{PlanEnds}
 
@@ -171,6 +172,7 @@ SomeFault r = Faulted r.before.faults r.after.faults ⊎ (Faulted r.before.out_f
 abbrev pub ShowsVerdict : Verdict → Course → Type 0
 ShowsVerdict (absent name) r = Appends r.notes_before r.notes_after (absent_text name)
 ShowsVerdict (refused refusal) r = Appends r.notes_before r.notes_after (refused_text refusal)
+ShowsVerdict unparsed r = (offset : ℕ) × Appends r.notes_before r.notes_after (refused_text (Syntax offset))
 ShowsVerdict mended r = ⊤
 ShowsVerdict unmendable r = ⊤
 ShowsVerdict (checked finding) r = Appends r.before.out r.after.out (verdict_text finding) × Appends r.notes_before r.notes_after []

@@ -13,7 +13,7 @@ use Rattle.rr_top.specs.declared.ending.Text.{Text as RustText}
 use Rattle.rr_top.specs.declared.ending.Text.TheVariants.{Fixed, Made}
 use Rattle.rr_top.specs.declared.ending.Report.{Report}
 use Rattle.rr_top.specs.declared.ending.Refusal.{Refusal}
-use Rattle.rr_top.specs.declared.ending.Refusal.TheVariants.{TooManyBytes, Text, NotBuilt, Flawed}
+use Rattle.rr_top.specs.declared.ending.Refusal.TheVariants.{TooManyBytes, Text, Unsupported, Syntax, NotBuilt, Flawed}
 use Rattle.rr_top.specs.declared.ending.Ending.{Ending}
 use Rattle.rr_top.specs.declared.ending.Ending.TheVariants.{Usage, NoMemory, Absent, ReadFault, OutFault, Refused, Done}
 use Rattle.rr_words.specs.declared.read.WordsFault.{WordsFault}
@@ -49,6 +49,8 @@ FetchStops told before now name limit (ReadFault asked) text = (asked.now ≡ na
 FetchStops told before now name limit (Refused (TooManyBytes count)) text = (now ≡ before) × (limit < count)
     × IfSome told (λ held. (bytes : List ℕ) × (held name ≡ Some bytes) × (length bytes ≡ count)) × (text ≡ refused_text (TooManyBytes count))
 FetchStops told before now name limit (Refused (Text wrong offset)) text = ⊥
+FetchStops told before now name limit (Refused (Unsupported offset)) text = ⊥
+FetchStops told before now name limit (Refused (Syntax offset)) text = ⊥
 FetchStops told before now name limit (Refused (NotBuilt part)) text = ⊥
 FetchStops told before now name limit (Refused (Flawed flaw line)) text = ⊥
 FetchStops told before now name limit Usage text = ⊥

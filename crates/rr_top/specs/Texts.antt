@@ -10,7 +10,7 @@ use Rattle.rr_top.specs.declared.ending.Part.TheVariants as part
 use Rattle.rr_top.specs.declared.ending.Flaw.{Flaw}
 use Rattle.rr_top.specs.declared.ending.Flaw.TheVariants as flaw
 use Rattle.rr_top.specs.declared.ending.Refusal.{Refusal}
-use Rattle.rr_top.specs.declared.ending.Refusal.TheVariants.{TooManyBytes, Text, NotBuilt, Flawed}
+use Rattle.rr_top.specs.declared.ending.Refusal.TheVariants.{TooManyBytes, Text, Unsupported, Syntax, NotBuilt, Flawed}
 use Rattle.rr_check.specs.declared.verdict.Verdict.{Verdict}
 use Rattle.rr_check.specs.declared.verdict.Verdict.TheVariants as found
 use Rattle.rr_top.specs.Thin.{site_token}
@@ -44,6 +44,8 @@ flaw_text flaw.Rat = codes "36 RatLine"
 abbrev pub refusal_text : Refusal → List ℕ
 refusal_text (TooManyBytes count) = codes "16 TooMany bytes " ++ decimal count
 refusal_text (Text wrong offset) = wrong_text wrong ++ (codes " at " ++ decimal offset)
+refusal_text (Unsupported offset) = codes "5 Unsupported at " ++ decimal offset
+refusal_text (Syntax offset) = codes "6 Syntax at " ++ decimal offset
 refusal_text (NotBuilt part) = codes "0 NotBuilt " ++ part_text part
 refusal_text (Flawed flaw n) = flaw_text flaw ++ (codes " line " ++ decimal n)
 

@@ -1,5 +1,5 @@
 -- What is due for a command, by what its files hold.
-use Rattle.std.specs.Prelude.{◌≡◌, ◌⊎◌, ℕ, List, [], ◌∷◌, Option, None, Some}
+use Rattle.std.specs.Prelude.{◌≡◌, ◌⊎◌, ⊤, ℕ, List, [], ◌∷◌, Option, None, Some}
 use Rattle.rr_edge.specs.Held.{Held}
 use Rattle.rr_lex.specs.Tokens.{Lexeme, AreTokens, IsFirstFault, words_of}
 use Rattle.rr_lex.specs.Patch.{patched, AreWords}
@@ -8,11 +8,12 @@ use Rattle.rr_top.specs.declared.TheConstants.{DESIGN_LIMIT, TABLE_LIMIT, CIRCUI
 use Rattle.rr_top.specs.declared.ending.Part.{Part}
 use Rattle.rr_top.specs.declared.ending.Part.TheVariants as part
 use Rattle.rr_top.specs.declared.ending.Refusal.{Refusal}
-use Rattle.rr_top.specs.declared.ending.Refusal.TheVariants.{TooManyBytes, Text, NotBuilt, Flawed}
+use Rattle.rr_top.specs.declared.ending.Refusal.TheVariants.{TooManyBytes, Text, Unsupported, Syntax, NotBuilt, Flawed}
 use Rattle.rr_top.specs.declared.search.Choice.{Choice}
 use Rattle.rr_top.specs.declared.table.Row.{Row}
 use Rattle.rr_check.specs.declared.verdict.Verdict.{Verdict as Finding}
 use Rattle.rr_top.specs.Thin.{Thin, IsThin, thin_words, site_count}
+use Rattle.rr_top.specs.Trees.{AllHaveRules, HasTree, IsUnsupported, IsUnparsed}
 use Rattle.rr_top.specs.Table.{IsTable}
 use Rattle.rr_top.specs.Choices.{cost, instance, Mends, Least, NoneMends}
 use Rattle.rr_top.specs.Patching.{edits}
@@ -45,10 +46,12 @@ pub record AreTaken (top clock : Option (List ℕ)) (design table : List ℕ) (t
   pub taken : IsTaken top clock ts t
   pub tabled : IsTable t table rows
 
--- the tokens are no thin design, or a top or a clock is named
+-- the tokens spell a tree, which is no thin design, or a top or a clock is named
 pub record NoDesign (top clock : Option (List ℕ)) (design : List ℕ) : Type 0 where
   pub tokens : List Lexeme
   pub lexed : AreTokens design tokens
+  pub rules : AllHaveRules tokens
+  pub spelled : HasTree tokens
   pub none : (t : Thin) → IsTaken top clock tokens t → ⊥
 
 -- the design is taken, and the table is none for it
@@ -64,10 +67,13 @@ Lacks top clock design table part.Command = ⊥
 Lacks top clock design table part.Design = NoDesign top clock design
 Lacks top clock design table part.Table = NoTable top clock design table
 
--- the refusal that is due for two files that were read: of the design's text, then of the design, then of the table
+-- The refusal that is due for two files that were read: of the design's text, then of its words, of its tree, of the design, then of the
+-- table. Which byte is told of a text without a tree is not said here.
 abbrev pub RefusesFiles : Option (List ℕ) → Option (List ℕ) → List ℕ → List ℕ → Refusal → Type 0
 RefusesFiles top clock design table (TooManyBytes count) = ⊥
 RefusesFiles top clock design table (Text wrong offset) = IsFirstFault design wrong offset
+RefusesFiles top clock design table (Unsupported offset) = IsUnsupported design offset
+RefusesFiles top clock design table (Syntax offset) = IsUnparsed design
 RefusesFiles top clock design table (NotBuilt part) = Lacks top clock design table part
 RefusesFiles top clock design table (Flawed flaw line) = ⊥
 
@@ -89,6 +95,8 @@ RefusesRead (make seed cert) told refusal = refusal ≡ NotBuilt part.Command
 abbrev pub Refuses : Plan → Option Held → Refusal → Type 0
 Refuses plan told (TooManyBytes count) = TooLongAt told (reads_of plan) count
 Refuses plan told (Text wrong offset) = RefusesRead plan told (Text wrong offset)
+Refuses plan told (Unsupported offset) = RefusesRead plan told (Unsupported offset)
+Refuses plan told (Syntax offset) = RefusesRead plan told (Syntax offset)
 Refuses plan told (NotBuilt part) = RefusesRead plan told (NotBuilt part)
 Refuses plan told (Flawed flaw line) = RefusesRead plan told (Flawed flaw line)
 
@@ -137,6 +145,7 @@ Due (make seed cert) told answer = ⊥
 pub data Verdict : Type 0 where
   absent : List ℕ → Verdict
   refused : Refusal → Verdict
+  unparsed : Verdict
   mended : Verdict
   unmendable : Verdict
   checked : Finding → Verdict
@@ -177,10 +186,20 @@ WhereCheck (sites design top clock) P = ⊥
 WhereCheck (check circuit proof) P = P circuit proof
 WhereCheck (make seed cert) P = ⊥
 
+-- a refusal whose place is decided; of a text without a tree it is not
+abbrev pub IsPlaced : Refusal → Type 0
+IsPlaced (TooManyBytes count) = ⊤
+IsPlaced (Text wrong offset) = ⊤
+IsPlaced (Unsupported offset) = ⊤
+IsPlaced (Syntax offset) = ⊥
+IsPlaced (NotBuilt part) = ⊤
+IsPlaced (Flawed flaw line) = ⊤
+
 -- what a told shelf decides
 abbrev pub Judges : Plan → Held → Verdict → Type 0
 Judges plan held (absent name) = AbsentAt (Some held) (reads_of plan) name
-Judges plan held (refused refusal) = Refuses plan (Some held) refusal
+Judges plan held (refused refusal) = IsPlaced refusal × Refuses plan (Some held) refusal
+Judges plan held unparsed = (offset : ℕ) × Refuses plan (Some held) (Syntax offset)
 Judges plan held mended = WhereRepair plan (IsMendable (Some held))
 Judges plan held unmendable = WhereRepair plan (IsUnmendable (Some held))
 Judges plan held (checked finding) = WhereCheck plan (λ circuit proof. IsChecked (Some held) circuit proof finding)
@@ -188,6 +207,7 @@ Judges plan held (checked finding) = WhereCheck plan (λ circuit proof. IsChecke
 abbrev pub verdict_status : Verdict → ℕ
 verdict_status (absent name) = 4
 verdict_status (refused refusal) = 3
+verdict_status unparsed = 3
 verdict_status mended = 0
 verdict_status unmendable = 1
 verdict_status (checked finding) = certificate_status finding

@@ -1,10 +1,12 @@
 //! The answer for a design and a table that were read.
-ghost use Rattle.std.specs.Prelude.{◌≡◌, ◌≤◌, ◌++◌, ◌∷◌, [], ℕ, List, Option, None, ◌<◌, IfOk, MatchResult, string_bytes, take, drop, length, get_or};
+ghost use Rattle.std.specs.Prelude.{◌≡◌, ◌≤◌, ◌^◌, ◌++◌, ◌∷◌, [], ℕ, List, Option, None, ◌<◌, IfOk, MatchResult, string_bytes, take, drop, length, get_or};
 ghost use Rattle.rr_words.specs.Plan.{texts_of};
 ghost use Rattle.rr_lex.specs.Tokens.{lexemes, words_of, AreTokens, IsTextFault, Rise};
 ghost use Rattle.rr_top.specs.Thin.{IsThin, site_token, site_count};
 ghost use Rattle.rr_top.specs.Patching.{new_bit, no_lexeme};
 ghost use Rattle.rr_top.specs.Texts.{repaired_text, no_repair_text};
+ghost use Rattle.rr_parse.specs.Exact.{IsRefusal};
+ghost use Rattle.rr_top.specs.Trees.{AllHaveRules, HasTree};
 ghost use Rattle.rr_top.specs.Verdicts.{Answers, DueOn, RefusesFiles};
 ghost use Rattle.rr_top.specs.Rust.{thin_of, answer_view, StopsWhere};
 ghost use Rattle.rr_top.specs.Answers.{IsChanged, IsKept, IsHopeless};
@@ -15,6 +17,8 @@ use crate::search::{Choice, least};
 use crate::table::{Row, table_of};
 use bumpalo::Bump;
 use rr_lex::{TextFault, Wrong, lex};
+use rr_parse::parse;
+use rr_parse_expr::ParseFault;
 use rr_syntax::{Span, Token};
 use std::alloc::{AllocError, Global};
 
@@ -209,6 +213,32 @@ fn stop_of(fault: TextFault) -> Stop
     }
 }
 
+/// Where reading stopped: where that token begins, or behind the last one where none is left.
+fn stopped_at(tokens: &[Token<'_>], at: u32) -> u32 {
+    match tokens.get(at as usize) {
+        Some(token) => token.span.start,
+        None => match tokens.last() {
+            Some(token) => token.span.end,
+            None => 0,
+        },
+    }
+}
+
+/// The refusal of tokens that spell no tree, or want of memory.
+fn unparsed(tokens: &[Token<'_>], fault: ParseFault) -> Stop
+    requires refused { IsRefusal tokens.now fault }
+    ensures { (top clock : Option (List ℕ)) (design table : List ℕ) → AreTokens design (lexemes tokens.now) → StopsWhere (RefusesFiles top clock design table) result }
+{
+    match fault {
+        ParseFault::Unsupported(at) => {
+            let span = span_at(tokens, at as usize);
+            Stop::Refused(Refusal::Unsupported(span.start))
+        }
+        ParseFault::Syntax(at) => Stop::Refused(Refusal::Syntax(stopped_at(tokens, at))),
+        ParseFault::Memory => Stop::Memory,
+    }
+}
+
 /// The answer for a design that was taken, and the bytes of its table.
 fn judge_table<'b>(
     alloc: Global,
@@ -241,6 +271,8 @@ fn judge_design<'b>(
 ) -> Result<Answer<'b>, Stop>
     requires lexed { AreTokens bytes.now (lexemes tokens.now) }
     requires spans { Rise 0 (length bytes.now) (lexemes tokens.now) }
+    requires rules { AllHaveRules (lexemes tokens.now) }
+    requires spelled { HasTree (lexemes tokens.now) }
     ensures { MatchResult result (λ answer. DueOn None None bytes.entry.now table.now (answer_view answer)) (λ stop. StopsWhere (RefusesFiles None None bytes.entry.now table.now) stop) }
 {
     let Some(design) = design_of(tokens) else {
@@ -260,6 +292,8 @@ fn judge_tokens<'b>(
 ) -> Result<Answer<'b>, Stop>
     requires lexed { AreTokens bytes.now (lexemes tokens.now) }
     requires spans { Rise 0 (length bytes.now) (lexemes tokens.now) }
+    requires rules { AllHaveRules (lexemes tokens.now) }
+    requires spelled { HasTree (lexemes tokens.now) }
     ensures { MatchResult result (λ answer. DueOn (texts_of options.entry.top) (texts_of options.entry.clock) bytes.entry.now table.now (answer_view answer))
         (λ stop. StopsWhere (RefusesFiles (texts_of options.entry.top) (texts_of options.entry.clock) bytes.entry.now table.now) stop) }
 {
@@ -269,6 +303,27 @@ fn judge_tokens<'b>(
             Some(_) => Err(Stop::Refused(Refusal::NotBuilt(Part::Design))),
             None => judge_design(alloc, bytes, tokens, table),
         },
+    }
+}
+
+/// The answer for the tokens of a design, which have to spell a tree.
+fn judge_words<'b, 'a>(
+    alloc: Global,
+    options: Options<'_>,
+    bytes: &'b [u8],
+    tokens: &'a [Token<'a>],
+    table: &[u8],
+    arena: &'a Bump,
+) -> Result<Answer<'b>, Stop>
+    requires lexed { AreTokens bytes.now (lexemes tokens.now) }
+    requires spans { Rise 0 (length bytes.now) (lexemes tokens.now) }
+    requires few { length tokens.now < 2 ^ 32 }
+    ensures { MatchResult result (λ answer. DueOn (texts_of options.entry.top) (texts_of options.entry.clock) bytes.entry.now table.now (answer_view answer))
+        (λ stop. StopsWhere (RefusesFiles (texts_of options.entry.top) (texts_of options.entry.clock) bytes.entry.now table.now) stop) }
+{
+    match parse(tokens, arena) {
+        Ok(_) => judge_tokens(alloc, options, bytes, tokens, table),
+        Err(fault) => Err(unparsed(tokens, fault)),
     }
 }
 
@@ -285,7 +340,7 @@ pub(crate) fn judge<'b>(
 {
     let arena = Bump::new(alloc);
     match lex(design, &arena) {
-        Ok(tokens) => judge_tokens(alloc, options, design, tokens, table),
+        Ok(tokens) => judge_words(alloc, options, design, tokens, table, &arena),
         Err(fault) => Err(stop_of(fault)),
     }
 }

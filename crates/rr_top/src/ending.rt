@@ -65,6 +65,10 @@ pub enum Refusal {
     TooManyBytes(u64),
     /// The first fault of the design's text, at this byte.
     Text(Wrong, u32),
+    /// The first word without a rule in the grammar begins at this byte.
+    Unsupported(u32),
+    /// The tokens spell no source text; reading stopped at this byte.
+    Syntax(u32),
     /// This part is not built yet.
     NotBuilt(Part),
     /// The first bad line of a certificate is this one, counted from 1.
@@ -84,6 +88,8 @@ impl fmt::Display for Refusal {
             Refusal::Text(Wrong::Number, at) => write!(f, "2 BadNumber at {at}"),
             Refusal::Text(Wrong::Comment, at) => write!(f, "3 OpenComment at {at}"),
             Refusal::Text(Wrong::Directive, at) => write!(f, "4 Directive at {at}"),
+            Refusal::Unsupported(at) => write!(f, "5 Unsupported at {at}"),
+            Refusal::Syntax(at) => write!(f, "6 Syntax at {at}"),
             Refusal::NotBuilt(part) => write!(f, "0 NotBuilt {part}"),
             Refusal::Flawed(flaw, line) => write!(f, "{flaw} line {line}"),
         }

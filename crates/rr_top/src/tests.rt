@@ -277,11 +277,42 @@ fn designs_are_refused(rt: HostRuntime) {
         &rt,
         "module m(input a, output y); assign y = a & 1'bx; endmodule",
     );
-    no_design(
+    no_design(&rt, "");
+}
+
+/// A design that is refused before its tree is read.
+fn no_tree<R: Abort + AllocGlobal + Threads + Sync>(
+    rt: &R,
+    design: &'static str,
+    notes: &'static str,
+) {
+    refuses(rt, FIRST.words, design, "", notes);
+}
+
+#[test]
+fn words_and_texts_are_refused(rt: HostRuntime) {
+    no_tree(
+        &rt,
+        "module m(output y);function f;endmodule",
+        "refused 5 Unsupported at 19\n",
+    );
+    no_tree(
+        &rt,
+        "module m(output y);assign y = ; // $x\ninitial $display;endmodule",
+        "refused 5 Unsupported at 38\n",
+    );
+    no_tree(
+        &rt,
+        "module m(output y);assign y = ;endmodule",
+        "refused 6 Syntax at 30\n",
+    );
+    no_tree(
         &rt,
         "module m(input a, output y); assign y = a; endmodule ;",
+        "refused 6 Syntax at 53\n",
     );
-    no_design(&rt, "");
+    no_tree(&rt, " module m ", "refused 6 Syntax at 9\n");
+    no_tree(&rt, "wire a;", "refused 6 Syntax at 0\n");
 }
 
 #[test]

@@ -1,0 +1,11 @@
+pub mod Writes
+pub mod TargetBits
+pub mod Local
+pub mod Wiring
+pub mod Orders
+pub mod Settling
+pub mod Sequence
+pub mod HeadOf
+pub mod WalkOf
+pub mod Free
+pub mod Settled

@@ -1,0 +1,5 @@
+pub mod Exec
+pub mod Cycles
+pub mod Performing
+pub mod Designs
+pub mod Laws

@@ -1,0 +1,49 @@
+//! Laws of statements and of cycles.
+ghost use Rattle.std.specs.Prelude.{◌≡◌, ℕ, Bool, List, Option};
+ghost use Rattle.rr_expr.specs.declared.types.Bit.{Bit};
+ghost use Rattle.rr_flat.specs.declared.design.Step.{Step};
+ghost use Rattle.rr_flat.specs.Plain.{Flat};
+ghost use Rattle.rr_flat.specs.Writers.{Writer, Writes};
+ghost use Rattle.rr_cycle.specs.Cycles.{IsInputBit, IsNext, Run, Settled};
+ghost use Rattle.rr_cycle.specs.Designs.{IsElaborated, IsInOrder, IsLawful};
+ghost use Rattle.rr_cycle.specs.Exec.{Environment};
+ghost use Rattle.rr_cycle.specs.Laws.{OthersKept, WrittenByReadBits};
+
+/// A statement keeps what it does not write by `=`. In a statement without latches the bits that it
+/// writes stand only on the bits that it reads and does not write.
+#[tactic(auto, using(crate::proofs::Local::statements))]
+pub fn statement_laws()
+    ensures others { OthersKept }
+    ensures written { WrittenByReadBits }
+{}
+
+/// In the flat design of a source whose laws hold nothing writes an input of the top.
+#[tactic(auto, using(crate::proofs::Free::inputs_of_the_top))]
+pub fn inputs_are_free()
+    ensures { (flat : Flat) → IsElaborated flat → IsLawful flat → (b : Bit) → IsInputBit flat b → (x : Writer) → Writes flat x b → ⊥ }
+{}
+
+/// A lawful design of a source whose steps have an order has, for each state and each row of inputs,
+/// exactly one settled environment; there is such a design.
+pub fn one_settled_environment()
+    ensures exists { (flat : Flat) (clock : Option ℕ) (rising : Bool) (steps : List Step) → IsElaborated flat → IsInOrder flat clock rising steps
+        → (state : Environment) (row : List ℕ) → (env : Environment) × Settled flat clock state row env }
+    ensures only { (flat : Flat) (clock : Option ℕ) (rising : Bool) (steps : List Step) → IsInOrder flat clock rising steps
+        → (state : Environment) (row : List ℕ) (e f : Environment) → Settled flat clock state row e → Settled flat clock state row f → e ≡ f }
+    ensures met { (flat : Flat) × ((clock : Option ℕ) × ((rising : Bool) × ((steps : List Step) × (IsElaborated flat × IsInOrder flat clock rising steps)))) }
+{}
+
+/// A lawful design has exactly one next state after each settled environment.
+#[tactic(auto, using(crate::proofs::Settled::nexts))]
+pub fn one_next_state()
+    ensures exists { (flat : Flat) → IsLawful flat → (env : Environment) → (next : Environment) × IsNext flat env next }
+    ensures only { (flat : Flat) (env e f : Environment) → IsNext flat env e → IsNext flat env f → e ≡ f }
+{}
+
+/// It has exactly one run for each list of rows.
+pub fn one_run()
+    ensures exists { (flat : Flat) (clock : Option ℕ) (rising : Bool) (steps : List Step) → IsElaborated flat → IsInOrder flat clock rising steps
+        → (rows : List (List ℕ)) → (outputs : List (List ℕ)) × Run flat clock rows outputs }
+    ensures only { (flat : Flat) (clock : Option ℕ) (rising : Bool) (steps : List Step) → IsInOrder flat clock rising steps
+        → (rows a b : List (List ℕ)) → Run flat clock rows a → Run flat clock rows b → a ≡ b }
+{}

@@ -1,0 +1,13 @@
+pub mod Backs
+pub mod Chained
+pub mod Founds
+pub mod ListsRead
+pub mod MadeConnections
+pub mod MadeDeclarations
+pub mod MadeEvents
+pub mod MadeItems
+pub mod MadeLeaves
+pub mod MadeModules
+pub mod Positives
+pub mod Rules
+pub mod Sources

@@ -1,0 +1,28 @@
+use Rattle.std.proofs.Common.{Err, rules, ◌≡◌}
+use Rattle.rr_grammar.specs.Connections.{connection}
+use Rattle.rr_parse.proofs.Founds.{chain_none, chain_then, expect_then, lacks, mapped_none, other_mark, passes}
+use Rattle.rr_parse.proofs.MadeConnections.{made_connection}
+use Rattle.rr_parse.proofs.connections.connection.Goals as goal
+
+pub returns-in_err-dot : goal.returns-in_err-dot
+returns-in_err-dot c =
+    let q : c.from_residual.result ≡ Err c.in_err-dot.field-0.0 = search rules in
+    rw q (lacks (connection c.args.depth) c.args.input.tokens.now c.args.from _ _ c.in_err-dot.field-0.0 (λ h. record { none_is = (mapped_none _ (other_mark _ _ _ h)) }) c.in_err-dot.ensures)
+
+pub returns-in_err-name : goal.returns-in_err-name
+returns-in_err-name c =
+    let q : c.from_residual-in_err-name.result ≡ Err c.in_err-name.field-0.0 = search rules in
+    rw q (passes (connection c.args.depth) _ c.args.input.tokens.now c.args.from _ c.in_err-name.field-0.0 (λ n. record { none_is = (mapped_none _ (expect_then _ _ _ _ _ c.in_ok-dot.ensures (chain_none _ n.none_is))) }) c.in_err-name.ensures)
+
+pub returns-in_err-inside : goal.returns-in_err-inside
+returns-in_err-inside c =
+    let q : c.from_residual-in_err-inside.result ≡ Err c.in_err-inside.field-0.0 = search rules in
+    rw q (lacks (connection c.args.depth) c.args.input.tokens.now c.args.from _ _ c.in_err-inside.field-0.0 (λ h. record { none_is = (mapped_none _ (expect_then _ _ _ _ _ c.in_ok-dot.ensures (chain_then _ c.in_ok-name.ensures.found_is (mapped_none _ (other_mark _ _ _ h))))) }) c.in_err-inside.ensures)
+
+pub returns-in_err-value : goal.returns-in_err-value
+returns-in_err-value c =
+    let q : c.from_residual-in_err-value.result ≡ Err c.in_err-value.field-0.0 = search rules in
+    rw q (passes (connection c.args.depth) _ c.args.input.tokens.now c.args.from _ c.in_err-value.field-0.0 (λ n. record { none_is = (mapped_none _ (expect_then _ _ _ _ _ c.in_ok-dot.ensures (chain_then _ c.in_ok-name.ensures.found_is (mapped_none _ (expect_then _ _ _ _ _ c.in_ok-inside.ensures n.none_is))))) }) c.in_err-value.ensures)
+
+pub returns : goal.returns
+returns c = made_connection c.in_ok-name.name.value c.in_ok-value.value.value c.in_ok-dot.ensures c.in_ok-name.ensures c.in_ok-inside.ensures c.in_ok-value.ensures

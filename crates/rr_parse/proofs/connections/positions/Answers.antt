@@ -1,0 +1,18 @@
+use Rattle.std.proofs.Common.{Err, rules, ◌≡◌}
+use Rattle.rr_grammar.specs.Connections.{positions_closed}
+use Rattle.rr_parse.proofs.Founds.{chain_none, chain_then, lacks, mapped_none, other_mark, passes}
+use Rattle.rr_parse.proofs.MadeConnections.{made_positions}
+use Rattle.rr_parse.proofs.connections.positions.Goals as goal
+
+pub returns-in_err-list : goal.returns-in_err-list
+returns-in_err-list c =
+    let q : c.from_residual.result ≡ Err c.in_err-list.field-0.0 = search rules in
+    rw q (passes (positions_closed c.args.depth) _ c.args.input.tokens.now c.args.from _ c.in_err-list.field-0.0 (λ n. record { none_is = (mapped_none _ (chain_none _ n.none_is)) }) c.in_err-list.ensures)
+
+pub returns-in_err-next : goal.returns-in_err-next
+returns-in_err-next c =
+    let q : c.from_residual-in_err-next.result ≡ Err c.in_err-next.field-0.0 = search rules in
+    rw q (lacks (positions_closed c.args.depth) c.args.input.tokens.now c.args.from _ _ c.in_err-next.field-0.0 (λ h. record { none_is = (mapped_none _ (chain_then _ c.in_ok-list.ensures.found_is (other_mark _ _ _ h))) }) c.in_err-next.ensures)
+
+pub returns : goal.returns
+returns c = made_positions c.in_ok-list.list.value c.in_ok-list.ensures c.in_ok-next.ensures

@@ -1,0 +1,23 @@
+use Rattle.std.proofs.Common.{Err, rules, ◌≡◌}
+use Rattle.rr_grammar.specs.Declarations.{pair}
+use Rattle.rr_parse.proofs.Founds.{chain_none, chain_then, expect_then, lacks, mapped_none, other_mark, passes}
+use Rattle.rr_parse.proofs.MadeDeclarations.{made_pair}
+use Rattle.rr_parse.proofs.declarations.pair.Goals as goal
+
+pub returns-in_err-target : goal.returns-in_err-target
+returns-in_err-target c =
+    let q : c.from_residual.result ≡ Err c.in_err-target.field-0.0 = search rules in
+    rw q (passes (pair c.args.depth) _ c.args.input.tokens.now c.args.from _ c.in_err-target.field-0.0 (λ n. record { none_is = (mapped_none _ (chain_none _ n.none_is)) }) c.in_err-target.ensures)
+
+pub returns-in_err-equals : goal.returns-in_err-equals
+returns-in_err-equals c =
+    let q : c.from_residual-in_err-equals.result ≡ Err c.in_err-equals.field-0.0 = search rules in
+    rw q (lacks (pair c.args.depth) c.args.input.tokens.now c.args.from _ _ c.in_err-equals.field-0.0 (λ h. record { none_is = (mapped_none _ (chain_then _ c.in_ok-target.ensures.found_is (mapped_none _ (other_mark _ _ _ h)))) }) c.in_err-equals.ensures)
+
+pub returns-in_err-value : goal.returns-in_err-value
+returns-in_err-value c =
+    let q : c.from_residual-in_err-value.result ≡ Err c.in_err-value.field-0.0 = search rules in
+    rw q (passes (pair c.args.depth) _ c.args.input.tokens.now c.args.from _ c.in_err-value.field-0.0 (λ n. record { none_is = (mapped_none _ (chain_then _ c.in_ok-target.ensures.found_is (mapped_none _ (expect_then _ _ _ _ _ c.in_ok-equals.ensures n.none_is)))) }) c.in_err-value.ensures)
+
+pub returns : goal.returns
+returns c = made_pair c.in_ok-target.target.value c.in_ok-value.value.value c.in_ok-target.ensures c.in_ok-equals.ensures c.in_ok-value.ensures

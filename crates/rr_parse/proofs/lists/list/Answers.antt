@@ -1,0 +1,27 @@
+use Rattle.std.proofs.Common.{rules, sym, ◌∙◌, arith, Ok, ◌+◌, ◌≡◌, ◌∷◌, [], ◌<◌, ◌^◌, length}
+use Rattle.rr_syntax.specs.Words.{mark_comma}
+use Rattle.rr_parse_expr.proofs.Answered.{mark_inside}
+use Rattle.rr_parse.proofs.Chained.{row_first, row_more}
+use Rattle.rr_parse.proofs.lists.list.Goals as goal
+
+pub loop-read-init : goal.loop-read-init
+loop-read-init g c =
+    let r : goal.F-post g c.args.read c.args.from (Ok c.in_ok-first.first) = search rules in
+    let e : c.add.new.items.items ≡ c.in_ok-first.first.value ∷ [] = search rules in
+    (row_first _ _ _ _ _ _ e r, (c.requires.moves c.args.from c.in_ok-first.first (omega arith) r).1)
+
+pub overflow_add-next : goal.overflow_add-next
+overflow_add-next g c = let h = mark_inside c.args.tokens.now c.loop-read.next mark_comma (sym c.mark_at.ensures ∙ c.loop-read-test.true) (omega arith) in omega arith
+
+pub loop-read-smaller : goal.loop-read-smaller
+loop-read-smaller g c =
+    let h = mark_inside c.args.tokens.now c.loop-read.next mark_comma (sym c.mark_at.ensures ∙ c.loop-read-test.true) (omega arith) in
+    let r : goal.F-post g c.args.read (c.loop-read.next + 1) (Ok c.in-Ok.more) = search rules in
+    let m = c.requires.moves (c.loop-read.next + 1) c.in-Ok.more (omega arith) r in
+    omega (arith, m.0, m.1)
+
+pub loop-read-preserved : goal.loop-read-preserved
+loop-read-preserved g c =
+    let h = mark_inside c.args.tokens.now c.loop-read.next mark_comma (sym c.mark_at.ensures ∙ c.loop-read-test.true) (omega arith) in
+    let r : goal.F-post g c.args.read (c.loop-read.next + 1) (Ok c.in-Ok.more) = search rules in
+    (row_more _ _ _ _ _ _ _ _ c.in_ok-add-in-Ok.ensures c.loop-read.invariant.0 (sym c.mark_at.ensures ∙ c.loop-read-test.true) r, (c.requires.moves (c.loop-read.next + 1) c.in-Ok.more (omega arith) r).1)

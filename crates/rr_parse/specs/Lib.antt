@@ -1,0 +1,4 @@
+pub mod Answer
+pub mod Chains
+pub mod Exact
+pub mod Trees

@@ -1,0 +1,281 @@
+//! Declarations and continuous assignments (IEEE 1364-2005 sections 6.1 and 12.2, annexes A.2.1 and
+//! A.2.4).
+
+ghost use Rattle.std.specs.Prelude.{◌≡◌, ◌≤◌, ◌<◌, ◌+◌, ◌^◌, length, map};
+ghost use Rattle.rr_syntax.specs.View.{plain_assignment, plain_identifier, plain_net, plain_pair, plain_parameter, plain_value};
+ghost use Rattle.rr_syntax.specs.Words.{keyword_localparam, mark_equals};
+ghost use Rattle.rr_grammar.specs.Declarations.{head_parameter as head_of, kind as kind_of, net as net_of, pair as pair_of, parameter as parameter_of, setting as setting_of};
+ghost use Rattle.rr_grammar.specs.Formats.{list as list_of};
+ghost use Rattle.rr_grammar.specs.ItemForms.{begins_parameters};
+ghost use Rattle.rr_grammar.specs.Leaves.{expression as expression_of, identifier, typed as typed_of, where_mark};
+ghost use Rattle.rr_parse.specs.Answer.{Answers};
+ghost use Rattle.rr_parse.specs.Trees.{plain_kind, plain_list_by, plain_type};
+
+use crate::expressions::{expression, range, target};
+use crate::lists::list;
+use crate::tokens::{
+    EQUALS, INTEGER, Input, LOCALPARAM, PARAMETER, Piece, SIGNED, choice, flag, keyword_at, mark,
+    mark_at, name,
+};
+use rr_parse_expr::ParseFault;
+use rr_syntax::{Bounds, Expr, Named, NetName, Pair, Params, Setting};
+
+/// `signed` and a range, where they stand.
+#[derive(Clone, Copy)]
+pub(crate) struct Type<'a> {
+    pub(crate) signed: bool,
+    pub(crate) range: Option<Bounds<'a>>,
+}
+
+/// The type of a parameter: `integer`, or `signed` and a range.
+#[derive(Clone, Copy)]
+struct ParameterType<'a> {
+    integer: bool,
+    typed: Type<'a>,
+}
+
+/// `signed` and a range, where they stand.
+pub(crate) fn typed<'a>(
+    input: Input<'a>,
+    from: u32,
+    depth: u32,
+) -> Result<Piece<Type<'a>>, ParseFault>
+    requires short { length input.tokens.now < 2 ^ 32 }
+    requires inside { from ≤ length input.tokens.now }
+    requires shallow { depth ≤ 500 }
+    ensures { Answers (typed_of depth) plain_type input.entry.tokens.now from result }
+{
+    let signed = flag(input.tokens, from, SIGNED);
+    let range = range(input, signed.next, depth)?;
+    Ok(Piece {
+        value: Type {
+            signed: signed.value,
+            range: range.value,
+        },
+        next: range.next,
+    })
+}
+
+/// Names, with commas between.
+pub(crate) fn names<'a>(input: Input<'a>, from: u32) -> Result<Piece<&'a [Named<'a>]>, ParseFault>
+    requires short { length input.tokens.now < 2 ^ 32 }
+    ensures { Answers (list_of identifier) (plain_list_by plain_identifier) input.entry.tokens.now from result }
+{
+    list(input.tokens, from, input.arena, |at| name(input.tokens, at))
+}
+
+/// A parameter and its value (annex A.2.4).
+fn setting<'a>(input: Input<'a>, from: u32, depth: u32) -> Result<Piece<Setting<'a>>, ParseFault>
+    requires short { length input.tokens.now < 2 ^ 32 }
+    requires shallow { depth ≤ 500 }
+    ensures { Answers (setting_of depth) plain_assignment input.entry.tokens.now from result }
+{
+    let name = name(input.tokens, from)?;
+    let equals = mark(input.tokens, name.next, EQUALS)?;
+    let value = expression(input, equals, depth)?;
+    Ok(Piece {
+        value: Setting {
+            token: name.value.token,
+            name: name.value.name,
+            value: value.value,
+        },
+        next: value.next,
+    })
+}
+
+fn settings<'a>(
+    input: Input<'a>,
+    from: u32,
+    depth: u32,
+) -> Result<Piece<&'a [Setting<'a>]>, ParseFault>
+    requires short { length input.tokens.now < 2 ^ 32 }
+    requires shallow { depth ≤ 500 }
+    ensures { Answers (list_of (setting_of depth)) (plain_list_by plain_assignment) input.entry.tokens.now from result }
+{
+    list(
+        input.tokens,
+        from,
+        input.arena,
+        |at| setting(input, at, depth),
+    )
+}
+
+/// `=` and what drives a net, where they stand.
+fn driver<'a>(
+    input: Input<'a>,
+    from: u32,
+    depth: u32,
+) -> Result<Piece<Option<&'a Expr<'a>>>, ParseFault>
+    requires short { length input.tokens.now < 2 ^ 32 }
+    requires inside { from ≤ length input.tokens.now }
+    requires shallow { depth ≤ 500 }
+    ensures { Answers (where_mark mark_equals (expression_of depth)) plain_value input.entry.tokens.now from result }
+{
+    if mark_at(input.tokens, from) != EQUALS {
+        return Ok(Piece {
+            value: None,
+            next: from,
+        });
+    }
+    let value = expression(input, from + 1, depth)?;
+    Ok(Piece {
+        value: Some(value.value),
+        next: value.next,
+    })
+}
+
+/// A net and its driver, where it has one (section 6.1.1).
+fn net<'a>(input: Input<'a>, from: u32, depth: u32) -> Result<Piece<NetName<'a>>, ParseFault>
+    requires short { length input.tokens.now < 2 ^ 32 }
+    requires shallow { depth ≤ 500 }
+    ensures { Answers (net_of depth) plain_net input.entry.tokens.now from result }
+{
+    let name = name(input.tokens, from)?;
+    let value = driver(input, name.next, depth)?;
+    Ok(Piece {
+        value: NetName {
+            token: name.value.token,
+            name: name.value.name,
+            value: value.value,
+        },
+        next: value.next,
+    })
+}
+
+pub(crate) fn nets<'a>(
+    input: Input<'a>,
+    from: u32,
+    depth: u32,
+) -> Result<Piece<&'a [NetName<'a>]>, ParseFault>
+    requires short { length input.tokens.now < 2 ^ 32 }
+    requires shallow { depth ≤ 500 }
+    ensures { Answers (list_of (net_of depth)) (plain_list_by plain_net) input.entry.tokens.now from result }
+{
+    list(input.tokens, from, input.arena, |at| net(input, at, depth))
+}
+
+/// A target and what drives it (section 6.1, annex A.6.1).
+fn pair<'a>(input: Input<'a>, from: u32, depth: u32) -> Result<Piece<Pair<'a>>, ParseFault>
+    requires short { length input.tokens.now < 2 ^ 32 }
+    requires shallow { depth ≤ 500 }
+    ensures { Answers (pair_of depth) plain_pair input.entry.tokens.now from result }
+{
+    let target = target(input, from, depth)?;
+    let equals = mark(input.tokens, target.next, EQUALS)?;
+    let value = expression(input, equals, depth)?;
+    Ok(Piece {
+        value: Pair {
+            target: target.value,
+            value: value.value,
+        },
+        next: value.next,
+    })
+}
+
+pub(crate) fn pairs<'a>(
+    input: Input<'a>,
+    from: u32,
+    depth: u32,
+) -> Result<Piece<&'a [Pair<'a>]>, ParseFault>
+    requires short { length input.tokens.now < 2 ^ 32 }
+    requires shallow { depth ≤ 500 }
+    ensures { Answers (list_of (pair_of depth)) (plain_list_by plain_pair) input.entry.tokens.now from result }
+{
+    list(input.tokens, from, input.arena, |at| pair(input, at, depth))
+}
+
+/// The type of a parameter (section 12.2).
+fn kind<'a>(input: Input<'a>, from: u32, depth: u32) -> Result<Piece<ParameterType<'a>>, ParseFault>
+    requires short { length input.tokens.now < 2 ^ 32 }
+    requires inside { from ≤ length input.tokens.now }
+    requires shallow { depth ≤ 500 }
+    ensures { Answers (kind_of depth) plain_kind input.entry.tokens.now from result }
+{
+    if keyword_at(input.tokens, from) == INTEGER {
+        let typed = Type {
+            signed: false,
+            range: None,
+        };
+        return Ok(Piece {
+            value: ParameterType {
+                integer: true,
+                typed,
+            },
+            next: from + 1,
+        });
+    }
+    let typed = typed(input, from, depth)?;
+    Ok(Piece {
+        value: ParameterType {
+            integer: false,
+            typed: typed.value,
+        },
+        next: typed.next,
+    })
+}
+
+/// Whether a reserved word begins parameters.
+#[tactic(auto, unfolding(rr_grammar::specs::ItemForms::begins_parameters))]
+pub(crate) fn begins_parameter(word: u8) -> bool
+    ensures { result ≡ begins_parameters word }
+{
+    word == LOCALPARAM || word == PARAMETER
+}
+
+/// Parameters that are declared together (section 12.2, annex A.2.1.1), without a semicolon.
+pub(crate) fn parameters<'a>(
+    input: Input<'a>,
+    from: u32,
+    depth: u32,
+) -> Result<Piece<Params<'a>>, ParseFault>
+    requires short { length input.tokens.now < 2 ^ 32 }
+    requires shallow { depth ≤ 500 }
+    ensures { Answers (parameter_of depth) plain_parameter input.entry.tokens.now from result }
+{
+    let local = choice(input.tokens, from, LOCALPARAM, PARAMETER)?;
+    let kind = kind(input, local.next, depth)?;
+    let sets = settings(input, kind.next, depth)?;
+    Ok(Piece {
+        value: Params {
+            local: local.value,
+            integer: kind.value.integer,
+            signed: kind.value.typed.signed,
+            range: kind.value.typed.range,
+            sets: sets.value,
+        },
+        next: sets.next,
+    })
+}
+
+/// Parameters between the brackets of a module, which are not local.
+fn head_parameters<'a>(
+    input: Input<'a>,
+    from: u32,
+    depth: u32,
+) -> Result<Piece<Params<'a>>, ParseFault>
+    requires short { length input.tokens.now < 2 ^ 32 }
+    requires shallow { depth ≤ 500 }
+    ensures { Answers (head_of depth) plain_parameter input.entry.tokens.now from result }
+{
+    let found = parameters(input, from, depth)?;
+    if found.value.local {
+        Err(ParseFault::Syntax(from))
+    } else {
+        Ok(found)
+    }
+}
+
+/// Such parameters, with commas between.
+pub(crate) fn heads<'a>(
+    input: Input<'a>,
+    from: u32,
+    depth: u32,
+) -> Result<Piece<&'a [Params<'a>]>, ParseFault>
+    requires short { length input.tokens.now < 2 ^ 32 }
+    requires shallow { depth ≤ 500 }
+    ensures { Answers (list_of (head_of depth)) (plain_list_by plain_parameter) input.entry.tokens.now from result }
+{
+    list(input.tokens, from, input.arena, |at| {
+        head_parameters(input, at, depth)
+    })
+}

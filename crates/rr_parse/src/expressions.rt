@@ -1,0 +1,138 @@
+//! Expressions and statements in items, with the marks that stand around them.
+
+ghost use Rattle.std.specs.Prelude.{◌≡◌, ◌≤◌, ◌<◌, ◌+◌, ◌^◌, length};
+ghost use Rattle.rr_syntax.specs.View.{plain, plain_range};
+ghost use Rattle.rr_parse_expr.specs.Reading.{no_mark};
+ghost use Rattle.rr_parse_stmt.specs.Reading.{no_word};
+ghost use Rattle.rr_grammar.specs.Formats.{before_mark};
+ghost use Rattle.rr_grammar.specs.ItemForms.{statement_of};
+ghost use Rattle.rr_grammar.specs.Leaves.{expression as expression_of, range as range_of, target_of};
+ghost use Rattle.rr_parse.specs.Answer.{Answers, bounds_of, plain_behind, plain_bounds, statement_behind};
+
+use crate::targets::is_target;
+use crate::tokens::{CLOSE_BRACKET, COLON, Input, OPEN_BRACKET, Piece, mark, mark_at};
+use rr_parse_expr::{ParseFault, expr_within, operand_within};
+use rr_parse_stmt::stmt;
+use rr_syntax::{Bounds, Expr, Stmt};
+
+/// The longest expression of a depth.
+pub(crate) fn expression<'a>(
+    input: Input<'a>,
+    from: u32,
+    depth: u32,
+) -> Result<Piece<&'a Expr<'a>>, ParseFault>
+    requires short { length input.tokens.now < 2 ^ 32 }
+    requires shallow { depth ≤ 500 }
+    ensures { Answers (expression_of depth) plain_behind input.entry.tokens.now from result }
+{
+    let (value, next) = expr_within(input.tokens, from, depth, input.arena)?;
+    Ok(Piece { value, next })
+}
+
+/// The same, as an entry of a list.
+pub(crate) fn entry<'a>(
+    input: Input<'a>,
+    from: u32,
+    depth: u32,
+) -> Result<Piece<Expr<'a>>, ParseFault>
+    requires short { length input.tokens.now < 2 ^ 32 }
+    requires shallow { depth ≤ 500 }
+    ensures { Answers (expression_of depth) plain input.entry.tokens.now from result }
+{
+    let (expr, next) = expr_within(input.tokens, from, depth, input.arena)?;
+    Ok(Piece { value: *expr, next })
+}
+
+/// An expression and this mark behind it, which is taken too.
+pub(crate) fn closed<'a>(
+    input: Input<'a>,
+    from: u32,
+    closing: u8,
+    depth: u32,
+) -> Result<Piece<&'a Expr<'a>>, ParseFault>
+    requires short { length input.tokens.now < 2 ^ 32 }
+    requires shallow { depth ≤ 500 }
+    requires is_mark { closing < no_mark }
+    ensures { Answers (before_mark (expression_of depth) closing) plain_behind input.entry.tokens.now from result }
+{
+    let inner = expression(input, from, depth)?;
+    let next = mark(input.tokens, inner.next, closing)?;
+    Ok(Piece {
+        value: inner.value,
+        next,
+    })
+}
+
+/// A target: an operand that may be assigned. It is read as an operand, since `<=` behind it is an
+/// operator too.
+pub(crate) fn target<'a>(
+    input: Input<'a>,
+    from: u32,
+    depth: u32,
+) -> Result<Piece<&'a Expr<'a>>, ParseFault>
+    requires short { length input.tokens.now < 2 ^ 32 }
+    requires shallow { depth ≤ 500 }
+    ensures { Answers (target_of depth) plain_behind input.entry.tokens.now from result }
+{
+    let (value, next) = operand_within(input.tokens, from, depth, input.arena)?;
+    if is_target(value) {
+        Ok(Piece { value, next })
+    } else {
+        Err(ParseFault::Syntax(from))
+    }
+}
+
+/// A statement of a depth.
+pub(crate) fn statement<'a>(
+    input: Input<'a>,
+    from: u32,
+    depth: u32,
+) -> Result<Piece<&'a Stmt<'a>>, ParseFault>
+    requires short { length input.tokens.now < 2 ^ 32 }
+    requires shallow { depth ≤ 500 }
+    ensures { Answers (statement_of depth) statement_behind input.entry.tokens.now from result }
+{
+    let (value, next) = stmt(input.tokens, from, depth, input.arena)?;
+    Ok(Piece { value, next })
+}
+
+/// The bounds behind the opening bracket of a range.
+fn bounds<'a>(input: Input<'a>, from: u32, depth: u32) -> Result<Piece<Bounds<'a>>, ParseFault>
+    requires short { length input.tokens.now < 2 ^ 32 }
+    requires shallow { depth ≤ 500 }
+    ensures { Answers (bounds_of depth) plain_bounds input.entry.tokens.now from result }
+{
+    let left = closed(input, from, COLON, depth)?;
+    let right = closed(input, left.next, CLOSE_BRACKET, depth)?;
+    Ok(Piece {
+        value: Bounds {
+            left: left.value,
+            right: right.value,
+        },
+        next: right.next,
+    })
+}
+
+/// `[left:right]`, where it stands (IEEE 1364-2005 annex A.2.5).
+pub(crate) fn range<'a>(
+    input: Input<'a>,
+    from: u32,
+    depth: u32,
+) -> Result<Piece<Option<Bounds<'a>>>, ParseFault>
+    requires short { length input.tokens.now < 2 ^ 32 }
+    requires inside { from ≤ length input.tokens.now }
+    requires shallow { depth ≤ 500 }
+    ensures { Answers (range_of depth) plain_range input.entry.tokens.now from result }
+{
+    if mark_at(input.tokens, from) != OPEN_BRACKET {
+        return Ok(Piece {
+            value: None,
+            next: from,
+        });
+    }
+    let bounds = bounds(input, from + 1, depth)?;
+    Ok(Piece {
+        value: Some(bounds.value),
+        next: bounds.next,
+    })
+}

@@ -1,0 +1,202 @@
+//! Items of modules (IEEE 1364-2005 section 12.1, annex A.1.4), by their first token.
+
+ghost use Rattle.std.specs.Prelude.{◌≡◌, ◌≤◌, ◌<◌, ◌+◌, ◌^◌, length};
+ghost use Rattle.rr_syntax.specs.View.{plain_item};
+ghost use Rattle.rr_grammar.specs.Formats.{repeated};
+ghost use Rattle.rr_grammar.specs.ItemForms.{always_item as always_of, assigns_item as assigns_of, instances_item as instances_of, integers_item as integers_of, item as item_of, nets_item as nets_of, parameters_item as parameters_of, ports_item as ports_of, variables_item as variables_of};
+ghost use Rattle.rr_parse.specs.Answer.{Answers};
+ghost use Rattle.rr_parse.specs.Trees.{plain_list_by};
+
+use crate::connections::{instances, overrides};
+use crate::declarations::{begins_parameter, names, nets, pairs, parameters, typed};
+use crate::events::events;
+use crate::expressions::statement;
+use crate::lists::all;
+use crate::ports::{begins_port, port};
+use crate::tokens::{
+    ALWAYS, ASSIGN, AT, INTEGER, Input, Piece, REG, SEMICOLON, WIRE, keyword_at, mark, name, word,
+};
+use rr_parse_expr::ParseFault;
+use rr_syntax::Item;
+
+/// Ports that are declared among the items (section 12.3.3).
+fn port_item<'a>(input: Input<'a>, from: u32, depth: u32) -> Result<Piece<Item<'a>>, ParseFault>
+    requires short { length input.tokens.now < 2 ^ 32 }
+    requires shallow { depth ≤ 500 }
+    ensures { Answers (ports_of depth) plain_item input.entry.tokens.now from result }
+{
+    let group = port(input, from, depth)?;
+    let next = mark(input.tokens, group.next, SEMICOLON)?;
+    Ok(Piece {
+        value: Item::Ports(group.value),
+        next,
+    })
+}
+
+/// Nets (section 3.2, annex A.2.1.3).
+fn net_item<'a>(input: Input<'a>, from: u32, depth: u32) -> Result<Piece<Item<'a>>, ParseFault>
+    requires short { length input.tokens.now < 2 ^ 32 }
+    requires shallow { depth ≤ 500 }
+    ensures { Answers (nets_of depth) plain_item input.entry.tokens.now from result }
+{
+    let wire = word(input.tokens, from, WIRE)?;
+    let typed = typed(input, wire, depth)?;
+    let names = nets(input, typed.next, depth)?;
+    let next = mark(input.tokens, names.next, SEMICOLON)?;
+    Ok(Piece {
+        value: Item::Nets {
+            signed: typed.value.signed,
+            range: typed.value.range,
+            names: names.value,
+        },
+        next,
+    })
+}
+
+/// Variables (section 3.2, annex A.2.1.3).
+fn variable_item<'a>(input: Input<'a>, from: u32, depth: u32) -> Result<Piece<Item<'a>>, ParseFault>
+    requires short { length input.tokens.now < 2 ^ 32 }
+    requires shallow { depth ≤ 500 }
+    ensures { Answers (variables_of depth) plain_item input.entry.tokens.now from result }
+{
+    let reg = word(input.tokens, from, REG)?;
+    let typed = typed(input, reg, depth)?;
+    let names = names(input, typed.next)?;
+    let next = mark(input.tokens, names.next, SEMICOLON)?;
+    Ok(Piece {
+        value: Item::Variables {
+            signed: typed.value.signed,
+            range: typed.value.range,
+            names: names.value,
+        },
+        next,
+    })
+}
+
+/// Variables of type `integer` (section 3.9).
+fn integer_item<'a>(input: Input<'a>, from: u32, depth: u32) -> Result<Piece<Item<'a>>, ParseFault>
+    requires short { length input.tokens.now < 2 ^ 32 }
+    ensures { Answers (integers_of depth) plain_item input.entry.tokens.now from result }
+{
+    let integer = word(input.tokens, from, INTEGER)?;
+    let names = names(input, integer)?;
+    let next = mark(input.tokens, names.next, SEMICOLON)?;
+    Ok(Piece {
+        value: Item::Integers { names: names.value },
+        next,
+    })
+}
+
+/// Parameters that are declared among the items (section 12.2).
+fn parameter_item<'a>(
+    input: Input<'a>,
+    from: u32,
+    depth: u32,
+) -> Result<Piece<Item<'a>>, ParseFault>
+    requires short { length input.tokens.now < 2 ^ 32 }
+    requires shallow { depth ≤ 500 }
+    ensures { Answers (parameters_of depth) plain_item input.entry.tokens.now from result }
+{
+    let found = parameters(input, from, depth)?;
+    let next = mark(input.tokens, found.next, SEMICOLON)?;
+    Ok(Piece {
+        value: Item::Parameters(found.value),
+        next,
+    })
+}
+
+/// Continuous assignments (section 6.1).
+fn assign_item<'a>(input: Input<'a>, from: u32, depth: u32) -> Result<Piece<Item<'a>>, ParseFault>
+    requires short { length input.tokens.now < 2 ^ 32 }
+    requires shallow { depth ≤ 500 }
+    ensures { Answers (assigns_of depth) plain_item input.entry.tokens.now from result }
+{
+    let assign = word(input.tokens, from, ASSIGN)?;
+    let pairs = pairs(input, assign, depth)?;
+    let next = mark(input.tokens, pairs.next, SEMICOLON)?;
+    Ok(Piece {
+        value: Item::Assigns { pairs: pairs.value },
+        next,
+    })
+}
+
+/// `always`, its event control and its statement (section 9.9).
+fn always_item<'a>(input: Input<'a>, from: u32, depth: u32) -> Result<Piece<Item<'a>>, ParseFault>
+    requires short { length input.tokens.now < 2 ^ 32 }
+    requires shallow { depth ≤ 500 }
+    ensures { Answers (always_of depth) plain_item input.entry.tokens.now from result }
+{
+    let always = word(input.tokens, from, ALWAYS)?;
+    let at = mark(input.tokens, always, AT)?;
+    let events = events(input, at, depth)?;
+    let body = statement(input, events.next, depth)?;
+    Ok(Piece {
+        value: Item::Always {
+            events: events.value,
+            body: body.value,
+            token: from,
+        },
+        next: body.next,
+    })
+}
+
+/// Instances of a module (section 12.1.2).
+fn instance_item<'a>(input: Input<'a>, from: u32, depth: u32) -> Result<Piece<Item<'a>>, ParseFault>
+    requires short { length input.tokens.now < 2 ^ 32 }
+    requires shallow { depth ≤ 500 }
+    ensures { Answers (instances_of depth) plain_item input.entry.tokens.now from result }
+{
+    let module = name(input.tokens, from)?;
+    let overrides = overrides(input, module.next, depth)?;
+    let list = instances(input, overrides.next, depth)?;
+    let next = mark(input.tokens, list.next, SEMICOLON)?;
+    Ok(Piece {
+        value: Item::Instances {
+            module: module.value.name,
+            token: module.value.token,
+            overrides: overrides.value,
+            list: list.value,
+        },
+        next,
+    })
+}
+
+/// An item, whose expressions and statements have at most the depth.
+fn item<'a>(input: Input<'a>, from: u32, depth: u32) -> Result<Piece<Item<'a>>, ParseFault>
+    requires short { length input.tokens.now < 2 ^ 32 }
+    requires shallow { depth ≤ 500 }
+    ensures { Answers (item_of depth) plain_item input.entry.tokens.now from result }
+{
+    let word = keyword_at(input.tokens, from);
+    if begins_port(word) {
+        port_item(input, from, depth)
+    } else if word == WIRE {
+        net_item(input, from, depth)
+    } else if word == REG {
+        variable_item(input, from, depth)
+    } else if word == INTEGER {
+        integer_item(input, from, depth)
+    } else if begins_parameter(word) {
+        parameter_item(input, from, depth)
+    } else if word == ASSIGN {
+        assign_item(input, from, depth)
+    } else if word == ALWAYS {
+        always_item(input, from, depth)
+    } else {
+        instance_item(input, from, depth)
+    }
+}
+
+/// Items, with nothing between.
+pub(crate) fn items<'a>(
+    input: Input<'a>,
+    from: u32,
+    depth: u32,
+) -> Result<Piece<&'a [Item<'a>]>, ParseFault>
+    requires short { length input.tokens.now < 2 ^ 32 }
+    requires inside { from ≤ length input.tokens.now }
+    requires shallow { depth ≤ 500 }
+    ensures { Answers (repeated (item_of depth)) (plain_list_by plain_item) input.entry.tokens.now from result }
+{
+    all(input.tokens, from, input.arena, |at| item(input, at, depth))
+}

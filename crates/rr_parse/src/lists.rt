@@ -1,0 +1,147 @@
+//! Lists of parts, each read by a function that is handed in.
+
+ghost use Rattle.std.specs.Prelude.{◌≡◌, ◌≤◌, ◌<◌, ◌+◌, ◌^◌, ℕ, ◌∷◌, [], ◌++◌, length, IfOk, MatchOption, Ok, List};
+ghost use Rattle.rr_parse.specs.declared.tokens.Piece.{Piece};
+ghost use Rattle.rr_grammar.specs.Formats.{Finds, FindsNone};
+ghost use Rattle.rr_grammar.specs.Parts.{separator_of};
+ghost use Rattle.rr_parse.specs.Chains.{AnswersAll, AnswersList, AnswersSeparated};
+
+use crate::tokens::{COMMA, OR, Piece, keyword_at, mark_at};
+use bumpalo::Bump;
+use bumpalo::collections::into_bump_slice;
+use rr_parse_expr::ParseFault;
+use rr_syntax::Token;
+use std::alloc::AllocError;
+
+/// Parts and what stands between them: a comma where `true`, else `or`.
+#[derive(Clone, Copy)]
+pub(crate) struct Separated<'a, T> {
+    pub(crate) list: &'a [T],
+    pub(crate) commas: &'a [bool],
+}
+
+fn add<'a, T: Copy>(items: &mut Vec<T, &'a Bump>, item: T) -> Result<(), AllocError>
+    ensures { IfOk result (λ _. items.new.items ≡ items.old.items ++ (item ∷ [])) }
+{
+    items.push(item)?;
+    Ok(())
+}
+
+/// One part or more, with commas between. A comma without a part behind it is left.
+pub(crate) fn list<'a, T: Copy, F: Fn(u32) -> Result<Piece<T>, ParseFault>>(
+    tokens: &[Token],
+    from: u32,
+    arena: &'a Bump,
+    read: F,
+) -> Result<Piece<&'a [T]>, ParseFault>
+    requires short { length tokens.now < 2 ^ 32 }
+    requires callable { F.IsAlwaysCallable read }
+    requires moves { (at : ℕ) (p : Piece T) → at < 2 ^ 32 → F.post read at (Ok p) → (at < p.next) × (p.next ≤ length tokens.now) }
+    ensures { AnswersList (F.post read) tokens.now from result }
+{
+    let first = read(from)?;
+    let mut items = Vec::new(arena);
+    add(&mut items, first.value)?;
+    let mut next = first.next;
+    while mark_at(tokens, next) == COMMA {
+        match read(next + 1) {
+            Ok(more) => {
+                add(&mut items, more.value)?;
+                next = more.next;
+            }
+            Err(ParseFault::Memory) => return Err(ParseFault::Memory),
+            Err(_) => break,
+        }
+    }
+    Ok(Piece {
+        value: into_bump_slice(items),
+        next,
+    })
+}
+
+/// Any number of parts, with nothing between.
+pub(crate) fn all<'a, T: Copy, F: Fn(u32) -> Result<Piece<T>, ParseFault>>(
+    tokens: &[Token],
+    from: u32,
+    arena: &'a Bump,
+    read: F,
+) -> Result<Piece<&'a [T]>, ParseFault>
+    requires short { length tokens.now < 2 ^ 32 }
+    requires inside { from ≤ length tokens.now }
+    requires callable { F.IsAlwaysCallable read }
+    requires moves { (at : ℕ) (p : Piece T) → at < 2 ^ 32 → F.post read at (Ok p) → (at < p.next) × (p.next ≤ length tokens.now) }
+    ensures { AnswersAll (F.post read) tokens.now from result }
+{
+    let mut items = Vec::new(arena);
+    let mut next = from;
+    loop {
+        match read(next) {
+            Ok(more) => {
+                add(&mut items, more.value)?;
+                next = more.next;
+            }
+            Err(ParseFault::Memory) => return Err(ParseFault::Memory),
+            Err(_) => break,
+        }
+    }
+    Ok(Piece {
+        value: into_bump_slice(items),
+        next,
+    })
+}
+
+/// The separator that stands at a place, if one does (IEEE 1364-2005 section 9.7.3).
+fn separator(tokens: &[Token], from: u32) -> Option<Piece<bool>>
+    requires short { length tokens.now < 2 ^ 32 }
+    ensures { MatchOption result (FindsNone separator_of tokens.now from) (λ p. Finds separator_of tokens.now from p.value p.next) }
+{
+    if mark_at(tokens, from) == COMMA {
+        Some(Piece {
+            value: true,
+            next: from + 1,
+        })
+    } else if keyword_at(tokens, from) == OR {
+        Some(Piece {
+            value: false,
+            next: from + 1,
+        })
+    } else {
+        None
+    }
+}
+
+/// One part or more, with separators between. A separator without a part behind it is left.
+pub(crate) fn alternating<'a, T: Copy, F: Fn(u32) -> Result<Piece<T>, ParseFault>>(
+    tokens: &[Token],
+    from: u32,
+    arena: &'a Bump,
+    read: F,
+) -> Result<Piece<Separated<'a, T>>, ParseFault>
+    requires short { length tokens.now < 2 ^ 32 }
+    requires callable { F.IsAlwaysCallable read }
+    requires moves { (at : ℕ) (p : Piece T) → at < 2 ^ 32 → F.post read at (Ok p) → (at < p.next) × (p.next ≤ length tokens.now) }
+    ensures { AnswersSeparated (F.post read) tokens.now from result }
+{
+    let first = read(from)?;
+    let mut items = Vec::new(arena);
+    let mut commas = Vec::new(arena);
+    add(&mut items, first.value)?;
+    let mut next = first.next;
+    while let Some(between) = separator(tokens, next) {
+        match read(between.next) {
+            Ok(more) => {
+                add(&mut commas, between.value)?;
+                add(&mut items, more.value)?;
+                next = more.next;
+            }
+            Err(ParseFault::Memory) => return Err(ParseFault::Memory),
+            Err(_) => break,
+        }
+    }
+    let list = into_bump_slice(items);
+    let commas = into_bump_slice(commas);
+    Ok(Piece {
+        value: Separated { list, commas },
+        next,
+    })
+}

@@ -1,0 +1,120 @@
+//! Port declarations (IEEE 1364-2005 section 12.3.3, annex A.2.1.2).
+
+ghost use Rattle.std.specs.Prelude.{◌≡◌, ◌≤◌, ◌<◌, ◌+◌, ◌^◌, length};
+ghost use Rattle.rr_syntax.specs.View.{plain_port};
+ghost use Rattle.rr_grammar.specs.Declarations.{port as port_of};
+ghost use Rattle.rr_grammar.specs.Formats.{list as list_of};
+ghost use Rattle.rr_grammar.specs.ItemForms.{begins_ports};
+ghost use Rattle.rr_grammar.specs.Leaves.{direction as direction_of, of_input, of_output};
+ghost use Rattle.rr_parse.specs.Answer.{Answers, FindsDirection, the_same};
+ghost use Rattle.rr_parse.specs.Trees.{plain_list_by};
+
+use crate::declarations::{names, typed};
+use crate::lists::list;
+use crate::tokens::{INPUT, Input, OUTPUT, Piece, REG, WIRE, keyword_at};
+use rr_parse_expr::ParseFault;
+use rr_syntax::{Dir, Group, Token};
+
+/// Whether a reserved word begins port declarations.
+#[tactic(auto, unfolding(rr_grammar::specs::ItemForms::begins_ports))]
+pub(crate) fn begins_port(word: u8) -> bool
+    ensures { result ≡ begins_ports word }
+{
+    word == INPUT || word == OUTPUT
+}
+
+/// What stands behind `input`.
+fn behind_input(tokens: &[Token], from: u32) -> Piece<Dir>
+    requires short { length tokens.now < 2 ^ 32 }
+    requires inside { from ≤ length tokens.now }
+    ensures { FindsDirection of_input tokens.now from result }
+{
+    if keyword_at(tokens, from) == WIRE {
+        Piece {
+            value: Dir::InputWire,
+            next: from + 1,
+        }
+    } else {
+        Piece {
+            value: Dir::Input,
+            next: from,
+        }
+    }
+}
+
+/// What stands behind `output`.
+fn behind_output(tokens: &[Token], from: u32) -> Piece<Dir>
+    requires short { length tokens.now < 2 ^ 32 }
+    requires inside { from ≤ length tokens.now }
+    ensures { FindsDirection of_output tokens.now from result }
+{
+    let word = keyword_at(tokens, from);
+    if word == WIRE {
+        Piece {
+            value: Dir::OutputWire,
+            next: from + 1,
+        }
+    } else if word == REG {
+        Piece {
+            value: Dir::OutputReg,
+            next: from + 1,
+        }
+    } else {
+        Piece {
+            value: Dir::Output,
+            next: from,
+        }
+    }
+}
+
+/// The direction of a port and its kind.
+fn direction(tokens: &[Token], from: u32) -> Result<Piece<Dir>, ParseFault>
+    requires short { length tokens.now < 2 ^ 32 }
+    ensures { Answers direction_of the_same tokens.now from result }
+{
+    let word = keyword_at(tokens, from);
+    if word == INPUT {
+        Ok(behind_input(tokens, from + 1))
+    } else if word == OUTPUT {
+        Ok(behind_output(tokens, from + 1))
+    } else {
+        Err(ParseFault::Syntax(from))
+    }
+}
+
+/// Ports that are declared together, without a semicolon.
+pub(crate) fn port<'a>(
+    input: Input<'a>,
+    from: u32,
+    depth: u32,
+) -> Result<Piece<Group<'a>>, ParseFault>
+    requires short { length input.tokens.now < 2 ^ 32 }
+    requires shallow { depth ≤ 500 }
+    ensures { Answers (port_of depth) plain_port input.entry.tokens.now from result }
+{
+    let dir = direction(input.tokens, from)?;
+    let typed = typed(input, dir.next, depth)?;
+    let names = names(input, typed.next)?;
+    Ok(Piece {
+        value: Group {
+            dir: dir.value,
+            signed: typed.value.signed,
+            range: typed.value.range,
+            names: names.value,
+        },
+        next: names.next,
+    })
+}
+
+/// Such groups, with commas between.
+pub(crate) fn ports<'a>(
+    input: Input<'a>,
+    from: u32,
+    depth: u32,
+) -> Result<Piece<&'a [Group<'a>]>, ParseFault>
+    requires short { length input.tokens.now < 2 ^ 32 }
+    requires shallow { depth ≤ 500 }
+    ensures { Answers (list_of (port_of depth)) (plain_list_by plain_port) input.entry.tokens.now from result }
+{
+    list(input.tokens, from, input.arena, |at| port(input, at, depth))
+}

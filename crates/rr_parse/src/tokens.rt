@@ -1,0 +1,204 @@
+//! What stands at a token: marks, reserved words and names.
+
+ghost use Rattle.std.specs.Prelude.{◌≡◌, ◌≤◌, ◌<◌, ◌+◌, ◌^◌, length, drop, MatchResult};
+ghost use Rattle.rr_syntax.specs.Words.{words};
+ghost use Rattle.rr_syntax.specs.View.{plain_identifier};
+ghost use Rattle.rr_parse_expr.specs.Reading.{mark as mark_of, no_mark};
+ghost use Rattle.rr_parse_stmt.specs.Reading.{keyword as keyword_of, no_word};
+ghost use Rattle.rr_grammar.specs.Formats.{Finds};
+ghost use Rattle.rr_grammar.specs.Leaves.{choice as choice_of, flag as flag_of, identifier};
+ghost use Rattle.rr_parse.specs.Answer.{Answers, AnswersMark, AnswersWord, the_same};
+
+use bumpalo::Bump;
+use rr_parse_expr::ParseFault;
+use rr_syntax::{Kind, Named, Token};
+
+/// What stands for the mark or the reserved word where none stands.
+const NONE: u8 = 255;
+
+pub(crate) const OPEN_PARENTHESIS: u8 = 0;
+
+pub(crate) const CLOSE_PARENTHESIS: u8 = 1;
+
+pub(crate) const OPEN_BRACKET: u8 = 2;
+
+pub(crate) const CLOSE_BRACKET: u8 = 3;
+
+pub(crate) const COMMA: u8 = 6;
+
+pub(crate) const SEMICOLON: u8 = 7;
+
+pub(crate) const COLON: u8 = 8;
+
+pub(crate) const DOT: u8 = 9;
+
+pub(crate) const HASH: u8 = 10;
+
+pub(crate) const AT: u8 = 11;
+
+pub(crate) const EQUALS: u8 = 13;
+
+pub(crate) const STAR: u8 = 16;
+
+pub(crate) const ALWAYS: u8 = 0;
+
+pub(crate) const ASSIGN: u8 = 2;
+
+pub(crate) const ENDMODULE: u8 = 26;
+
+pub(crate) const INPUT: u8 = 47;
+
+pub(crate) const INTEGER: u8 = 49;
+
+pub(crate) const LOCALPARAM: u8 = 54;
+
+pub(crate) const MODULE: u8 = 57;
+
+pub(crate) const NEGEDGE: u8 = 59;
+
+pub(crate) const OR: u8 = 66;
+
+pub(crate) const OUTPUT: u8 = 67;
+
+pub(crate) const PARAMETER: u8 = 68;
+
+pub(crate) const POSEDGE: u8 = 70;
+
+pub(crate) const REG: u8 = 81;
+
+pub(crate) const SIGNED: u8 = 91;
+
+pub(crate) const WIRE: u8 = 120;
+
+/// The tokens that are read, and where the trees are put.
+#[derive(Clone, Copy)]
+pub(crate) struct Input<'a> {
+    pub(crate) tokens: &'a [Token<'a>],
+    pub(crate) arena: &'a Bump,
+}
+
+/// A part of a tree and the token after it.
+#[derive(Clone, Copy)]
+pub(crate) struct Piece<T> {
+    pub(crate) value: T,
+    pub(crate) next: u32,
+}
+
+/// The mark that stands at a place, if one does.
+#[tactic(auto, using(rr_parse_expr::proofs::TokenWords::words_at, rr_parse_expr::proofs::TokenWords::words_past), unfolding(rr_parse_expr::specs::Reading::mark))]
+pub(crate) fn mark_at(tokens: &[Token], at: u32) -> u8
+    ensures { result ≡ mark_of (drop at (words tokens.now)) }
+{
+    match tokens.get(at as usize) {
+        Some(token) => match token.kind {
+            Kind::Mark(found) => found.0,
+            _ => NONE,
+        },
+        None => NONE,
+    }
+}
+
+/// The reserved word that stands at a place, if one does.
+#[tactic(auto, using(rr_parse_expr::proofs::TokenWords::words_at, rr_parse_expr::proofs::TokenWords::words_past), unfolding(rr_parse_stmt::specs::Reading::keyword))]
+pub(crate) fn keyword_at(tokens: &[Token], at: u32) -> u8
+    ensures { result ≡ keyword_of (drop at (words tokens.now)) }
+{
+    match tokens.get(at as usize) {
+        Some(token) => match token.kind {
+            Kind::Keyword(found) => found.0,
+            _ => NONE,
+        },
+        None => NONE,
+    }
+}
+
+/// The token after this mark, where it stands at a place.
+pub(crate) fn mark(tokens: &[Token], at: u32, mark: u8) -> Result<u32, ParseFault>
+    requires short { length tokens.now < 2 ^ 32 }
+    requires is_mark { mark < no_mark }
+    ensures { AnswersMark tokens.now at mark result }
+{
+    if mark_at(tokens, at) == mark {
+        Ok(at + 1)
+    } else {
+        Err(ParseFault::Syntax(at))
+    }
+}
+
+/// The token after this reserved word, where it stands at a place.
+pub(crate) fn word(tokens: &[Token], at: u32, word: u8) -> Result<u32, ParseFault>
+    requires short { length tokens.now < 2 ^ 32 }
+    requires is_word { word < no_word }
+    ensures { AnswersWord tokens.now at word result }
+{
+    if keyword_at(tokens, at) == word {
+        Ok(at + 1)
+    } else {
+        Err(ParseFault::Syntax(at))
+    }
+}
+
+/// Whether this reserved word stands at a place, and the token after it.
+pub(crate) fn flag(tokens: &[Token], from: u32, word: u8) -> Piece<bool>
+    requires short { length tokens.now < 2 ^ 32 }
+    requires inside { from ≤ length tokens.now }
+    requires is_word { word < no_word }
+    ensures { Finds (flag_of word) tokens.now from result.value result.next }
+{
+    if keyword_at(tokens, from) == word {
+        Piece {
+            value: true,
+            next: from + 1,
+        }
+    } else {
+        Piece {
+            value: false,
+            next: from,
+        }
+    }
+}
+
+/// Whether the first or the second of two reserved words stands at a place.
+pub(crate) fn choice(
+    tokens: &[Token],
+    from: u32,
+    first: u8,
+    second: u8,
+) -> Result<Piece<bool>, ParseFault>
+    requires short { length tokens.now < 2 ^ 32 }
+    requires first_word { first < no_word }
+    requires second_word { second < no_word }
+    ensures { Answers (choice_of first second) the_same tokens.now from result }
+{
+    let word = keyword_at(tokens, from);
+    if word == first {
+        Ok(Piece {
+            value: true,
+            next: from + 1,
+        })
+    } else if word == second {
+        Ok(Piece {
+            value: false,
+            next: from + 1,
+        })
+    } else {
+        Err(ParseFault::Syntax(from))
+    }
+}
+
+/// The name that stands at a place.
+pub(crate) fn name<'a>(tokens: &'a [Token<'a>], from: u32) -> Result<Piece<Named<'a>>, ParseFault>
+    requires short { length tokens.now < 2 ^ 32 }
+    ensures { Answers identifier plain_identifier tokens.now from result }
+{
+    match tokens.get(from as usize) {
+        Some(token) => match token.kind {
+            Kind::Name(name) => Ok(Piece {
+                value: Named { token: from, name },
+                next: from + 1,
+            }),
+            _ => Err(ParseFault::Syntax(from)),
+        },
+        None => Err(ParseFault::Syntax(from)),
+    }
+}

@@ -1,0 +1,15 @@
+//! Where a text leaves the grammar: the first token that no module in progress can take
+//! (IEEE 1364-2005 annex A, as far as the profile has it).
+//!
+//! It builds no tree. The reader of modules asks it only for texts that it has refused.
+#![tactic(auto)]
+
+mod cursor;
+mod expressions;
+mod modules;
+mod statements;
+
+pub use modules::stop;
+
+#[cfg(test)]
+mod tests;

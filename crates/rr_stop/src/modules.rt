@@ -1,0 +1,327 @@
+//! Modules and their items (IEEE 1364-2005 annexes A.1.2 to A.4.1).
+
+ghost use Rattle.std.specs.Prelude.{◌≤◌, ◌<◌, ◌^◌, IfSome, length};
+ghost use Rattle.rr_stop.specs.Going.{Goes, Takes};
+
+use crate::cursor::Cursor;
+use crate::expressions::{expression, list, range, target};
+use crate::statements::statement;
+use rr_syntax::{Keyword, Mark, Token};
+
+/// The room of an expression in the brackets of a module, which lies below the source and the module,
+/// where the whole has at most the depth 500.
+const BRACKETS: u32 = 499;
+
+/// The room of an expression or a statement in an item, which lies one deeper.
+const ITEM: u32 = 498;
+
+/// The first token that no module in progress can take, or the number of tokens where the text ends
+/// before its last module does, or where it is all taken. A token at which the tree would be deeper
+/// than 500 cannot be taken.
+pub fn stop(tokens: &[Token]) -> u32
+    requires short { length tokens.now < 2 ^ 32 }
+    ensures within { result ≤ length tokens.now }
+{
+    let mut cursor = Cursor { tokens, at: 0 };
+    modules(&mut cursor);
+    if cursor.at < tokens.len() {
+        cursor.at as u32
+    } else {
+        tokens.len() as u32
+    }
+}
+
+/// Modules up to the end.
+fn modules(cursor: &mut Cursor) -> Option<()>
+    ensures { Goes cursor.old cursor.new }
+{
+    while cursor.take_word(Keyword::MODULE) {
+        cursor.name()?;
+        parameters_in_head(cursor)?;
+        ports(cursor)?;
+        cursor.expect(Mark::SEMICOLON)?;
+        items(cursor)?;
+    }
+    Some(())
+}
+
+fn items(cursor: &mut Cursor) -> Option<()>
+    ensures { Goes cursor.old cursor.new }
+{
+    while !cursor.take_word(Keyword::ENDMODULE) {
+        item(cursor)?;
+    }
+    Some(())
+}
+
+/// The parameters of a module, in brackets behind `#`, where they stand.
+fn parameters_in_head(cursor: &mut Cursor) -> Option<()>
+    ensures { Goes cursor.old cursor.new }
+{
+    if !cursor.take(Mark::HASH) {
+        return Some(());
+    }
+    cursor.expect(Mark::OPEN_PARENTHESIS)?;
+    cursor.expect_word(Keyword::PARAMETER)?;
+    kind(cursor, BRACKETS)?;
+    setting(cursor, BRACKETS)?;
+    while cursor.take(Mark::COMMA) {
+        if cursor.take_word(Keyword::PARAMETER) {
+            kind(cursor, BRACKETS)?;
+        }
+        setting(cursor, BRACKETS)?;
+    }
+    cursor.expect(Mark::CLOSE_PARENTHESIS)
+}
+
+/// The kind of a parameter: signed, with or without a range, or `integer`, which has none.
+fn kind(cursor: &mut Cursor, room: u32) -> Option<()>
+    ensures { Goes cursor.old cursor.new }
+{
+    if cursor.take_word(Keyword::INTEGER) {
+        return Some(());
+    }
+    cursor.take_word(Keyword::SIGNED);
+    range(cursor, room)
+}
+
+/// A parameter and its value.
+fn setting(cursor: &mut Cursor, room: u32) -> Option<()>
+    ensures { Goes cursor.old cursor.new }
+{
+    cursor.name()?;
+    cursor.expect(Mark::EQUALS)?;
+    expression(cursor, room)?;
+    Some(())
+}
+
+/// The port brackets of a module, where they stand.
+fn ports(cursor: &mut Cursor) -> Option<()>
+    ensures { Goes cursor.old cursor.new }
+{
+    if !cursor.take(Mark::OPEN_PARENTHESIS) || cursor.take(Mark::CLOSE_PARENTHESIS) {
+        return Some(());
+    }
+    let declared = is_direction(cursor);
+    if declared {
+        direction(cursor, BRACKETS)?;
+    }
+    cursor.name()?;
+    while cursor.take(Mark::COMMA) {
+        if declared && is_direction(cursor) {
+            direction(cursor, BRACKETS)?;
+        }
+        cursor.name()?;
+    }
+    cursor.expect(Mark::CLOSE_PARENTHESIS)
+}
+
+fn is_direction(cursor: &Cursor) -> bool {
+    cursor.is_keyword(Keyword::INPUT) || cursor.is_keyword(Keyword::OUTPUT)
+}
+
+/// What stands before the names of ports.
+fn direction(cursor: &mut Cursor, room: u32) -> Option<()>
+    ensures { Goes cursor.old cursor.new }
+{
+    let output = cursor.take_word(Keyword::OUTPUT);
+    if !output {
+        cursor.expect_word(Keyword::INPUT)?;
+    }
+    if !cursor.take_word(Keyword::WIRE) && output {
+        cursor.take_word(Keyword::REG);
+    }
+    cursor.take_word(Keyword::SIGNED);
+    range(cursor, room)
+}
+
+/// Names with commas between, one or more, up to a semicolon.
+fn names(cursor: &mut Cursor) -> Option<()>
+    ensures goes { Goes cursor.old cursor.new }
+    ensures takes { IfSome result (λ t. Takes cursor.old cursor.new) }
+{
+    cursor.name()?;
+    while cursor.take(Mark::COMMA) {
+        cursor.name()?;
+    }
+    cursor.expect(Mark::SEMICOLON)
+}
+
+fn item(cursor: &mut Cursor) -> Option<()>
+    ensures goes { Goes cursor.old cursor.new }
+    ensures takes { IfSome result (λ t. Takes cursor.old cursor.new) }
+{
+    if is_direction(cursor) {
+        direction(cursor, ITEM)?;
+        names(cursor)
+    } else if cursor.take_word(Keyword::WIRE) {
+        nets(cursor)
+    } else if cursor.take_word(Keyword::REG) {
+        cursor.take_word(Keyword::SIGNED);
+        range(cursor, ITEM)?;
+        names(cursor)
+    } else if cursor.take_word(Keyword::INTEGER) {
+        names(cursor)
+    } else if cursor.take_word(Keyword::PARAMETER) || cursor.take_word(Keyword::LOCALPARAM) {
+        parameters(cursor)
+    } else if cursor.take_word(Keyword::ASSIGN) {
+        assigns(cursor)
+    } else if cursor.take_word(Keyword::ALWAYS) {
+        cursor.expect(Mark::AT)?;
+        events(cursor)?;
+        statement(cursor, ITEM)
+    } else {
+        instances(cursor)
+    }
+}
+
+/// A net, and its value where it has one.
+fn net(cursor: &mut Cursor) -> Option<()>
+    ensures { Goes cursor.old cursor.new }
+{
+    cursor.name()?;
+    if cursor.take(Mark::EQUALS) {
+        expression(cursor, ITEM)?;
+    }
+    Some(())
+}
+
+/// Behind `wire`.
+fn nets(cursor: &mut Cursor) -> Option<()>
+    ensures goes { Goes cursor.old cursor.new }
+    ensures takes { IfSome result (λ t. Takes cursor.old cursor.new) }
+{
+    cursor.take_word(Keyword::SIGNED);
+    range(cursor, ITEM)?;
+    net(cursor)?;
+    while cursor.take(Mark::COMMA) {
+        net(cursor)?;
+    }
+    cursor.expect(Mark::SEMICOLON)
+}
+
+/// Behind `parameter` and `localparam`.
+fn parameters(cursor: &mut Cursor) -> Option<()>
+    ensures goes { Goes cursor.old cursor.new }
+    ensures takes { IfSome result (λ t. Takes cursor.old cursor.new) }
+{
+    kind(cursor, ITEM)?;
+    setting(cursor, ITEM)?;
+    while cursor.take(Mark::COMMA) {
+        setting(cursor, ITEM)?;
+    }
+    cursor.expect(Mark::SEMICOLON)
+}
+
+fn assign(cursor: &mut Cursor) -> Option<()>
+    ensures { Goes cursor.old cursor.new }
+{
+    target(cursor, ITEM)?;
+    cursor.expect(Mark::EQUALS)?;
+    expression(cursor, ITEM)?;
+    Some(())
+}
+
+/// Behind `assign`.
+fn assigns(cursor: &mut Cursor) -> Option<()>
+    ensures goes { Goes cursor.old cursor.new }
+    ensures takes { IfSome result (λ t. Takes cursor.old cursor.new) }
+{
+    assign(cursor)?;
+    while cursor.take(Mark::COMMA) {
+        assign(cursor)?;
+    }
+    cursor.expect(Mark::SEMICOLON)
+}
+
+/// Behind the `@` of an `always`.
+fn events(cursor: &mut Cursor) -> Option<()>
+    ensures { Goes cursor.old cursor.new }
+{
+    if cursor.take(Mark::STAR) {
+        return Some(());
+    }
+    cursor.expect(Mark::OPEN_PARENTHESIS)?;
+    if !cursor.take(Mark::STAR) {
+        let edges = is_edge(cursor);
+        event(cursor, edges)?;
+        while cursor.take_word(Keyword::OR) || cursor.take(Mark::COMMA) {
+            event(cursor, edges)?;
+        }
+    }
+    cursor.expect(Mark::CLOSE_PARENTHESIS)
+}
+
+fn is_edge(cursor: &Cursor) -> bool {
+    cursor.is_keyword(Keyword::POSEDGE) || cursor.is_keyword(Keyword::NEGEDGE)
+}
+
+/// An edge of a name, or a level.
+fn event(cursor: &mut Cursor, edge: bool) -> Option<()>
+    ensures { Goes cursor.old cursor.new }
+{
+    if edge {
+        if !cursor.take_word(Keyword::POSEDGE) {
+            cursor.expect_word(Keyword::NEGEDGE)?;
+        }
+        return cursor.name();
+    }
+    expression(cursor, ITEM)?;
+    Some(())
+}
+
+/// Connections or overrides in brackets, by position or by name.
+fn connections(cursor: &mut Cursor) -> Option<()>
+    ensures { Goes cursor.old cursor.new }
+{
+    cursor.expect(Mark::OPEN_PARENTHESIS)?;
+    if cursor.take(Mark::CLOSE_PARENTHESIS) {
+        return Some(());
+    }
+    if cursor.is_mark(Mark::DOT) {
+        connection(cursor)?;
+        while cursor.take(Mark::COMMA) {
+            connection(cursor)?;
+        }
+    } else {
+        list(cursor, ITEM)?;
+    }
+    cursor.expect(Mark::CLOSE_PARENTHESIS)
+}
+
+/// A connection by name.
+fn connection(cursor: &mut Cursor) -> Option<()>
+    ensures { Goes cursor.old cursor.new }
+{
+    cursor.expect(Mark::DOT)?;
+    cursor.name()?;
+    cursor.expect(Mark::OPEN_PARENTHESIS)?;
+    if cursor.take(Mark::CLOSE_PARENTHESIS) {
+        return Some(());
+    }
+    expression(cursor, ITEM)?;
+    cursor.expect(Mark::CLOSE_PARENTHESIS)
+}
+
+fn instance(cursor: &mut Cursor) -> Option<()>
+    ensures { Goes cursor.old cursor.new }
+{
+    cursor.name()?;
+    connections(cursor)
+}
+
+/// Instances of a module.
+fn instances(cursor: &mut Cursor) -> Option<()>
+    ensures goes { Goes cursor.old cursor.new }
+    ensures takes { IfSome result (λ t. Takes cursor.old cursor.new) }
+{
+    cursor.name()?;
+    if cursor.take(Mark::HASH) {
+        connections(cursor)?;
+    }
+    instance(cursor)?;
+    while cursor.take(Mark::COMMA) {
+        instance(cursor)?;
+    }
+    cursor.expect(Mark::SEMICOLON)
+}
