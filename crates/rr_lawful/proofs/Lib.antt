@@ -1,9 +1,1 @@
-pub mod Walks
-pub mod PartsOfNodes
-pub mod WildNodes
-pub mod NamesOfParts
-pub mod TargetNodes
-pub mod Covering
-pub mod LabelLaw
-pub mod AimLaw
-pub mod Fusion
+pub mod Denied

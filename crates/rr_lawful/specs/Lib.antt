@@ -1,5 +1,1 @@
-pub mod Firsts
-pub mod Parts
-pub mod View
-pub mod Labels
-pub mod Aims
+pub mod Checked

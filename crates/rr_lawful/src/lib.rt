@@ -1,13 +1,12 @@
-//! The laws that a flat design keeps so that each cycle has one meaning.
+//! The laws that a flat design keeps so that each cycle has one meaning, and the order of its steps.
 #![tactic(auto)]
 
-mod aims;
-mod labels;
-mod lists;
-mod parts;
+mod clocks;
+mod laws;
 
-pub use aims::first_bad_target;
-pub use labels::first_wild_label;
+pub use clocks::places;
+pub use laws::{LawFault, check};
+pub use rr_flat::Bit;
 
 #[cfg(test)]
 mod tests;

@@ -1,77 +1,707 @@
-//! Targets of small flat designs, by the rules of IEEE 1364-2005 sections 6.1 and 9.2.
-ghost use Rattle.std.specs.Prelude.{◌<◌, ◌^◌, length};
-ghost use Rattle.rr_syntax.specs.Items.{WellFormedSource, FitLiteralsSource};
-ghost use Rattle.rr_syntax.specs.View.{plain_source};
-
-use crate::{first_bad_target, first_wild_label};
-use rr_flat::flatten;
-use rr_syntax::{Dir, Events, Expr, Group, Item, Module, Named, Pair, Source, Stmt};
+//! Designs that keep all laws, and designs that break one or two, by the law and the byte that are told first.
+use crate::{LawFault, check};
+use bumpalo::Bump;
+use rr_elaborate::{DesignFault, FlatFault, Wrong, elaborate};
+use rr_syntax::Token;
 use std::alloc::{AllocError, Global};
 use std::test::Fail;
 
-macro_rules! name {
-    ($token:literal, $name:literal) => {
-        Expr::Name { token: $token, name: $name }
-    };
+/// The first law that a text breaks, by its number, and the byte at which its token begins.
+#[derive(Clone, Copy, Debug, PartialEq, Eq)]
+enum Told {
+    NoDesign,
+    Kept,
+    Broken { law: u32, at: u32 },
 }
 
-macro_rules! port {
-    ($dir:expr, $token:literal, $name:literal) => {
-        Group { dir: $dir, signed: false, range: None, names: &[Named { token: $token, name: $name }] }
-    };
-}
-
-macro_rules! source {
-    ($($item:expr),*) => {
-        Source { modules: &[Module { name: "m", token: 1, params: &[], header: Some(&[]), groups: &[port!(Dir::Input, 4, "a"), port!(Dir::Output, 7, "y")], items: &[$($item),*] }] }
-    };
-}
-
-/// `module m(input a, output y); assign y = a; endmodule`
-const DRIVEN: Source<'static> = source!(Item::Assigns {
-    pairs: &[Pair {
-        target: &name!(11, "y"),
-        value: &name!(13, "a")
-    }]
-});
-
-/// `module m(input a, output y); assign a = y; endmodule`
-const INPUT: Source<'static> = source!(Item::Assigns {
-    pairs: &[Pair {
-        target: &name!(11, "a"),
-        value: &name!(13, "y")
-    }]
-});
-
-/// `module m(input a, output y); always @* y = a; endmodule`
-const NET: Source<'static> = source!(Item::Always {
-    events: Events::Star { brackets: false },
-    body: &Stmt::Assign {
-        target: &name!(13, "y"),
-        now: true,
-        value: &name!(15, "a")
-    },
-    token: 10
-});
-
-/// What the two laws say of the last module.
-fn told(alloc: Global, source: &Source) -> Result<Option<(Option<u32>, Option<u32>)>, AllocError>
-    requires few { length source.now.modules.now < 2 ^ 32 }
-    requires formed { WellFormedSource (plain_source source.now) }
-    requires fit { FitLiteralsSource (plain_source source.now) }
-{
-    match flatten(alloc, source, None) {
-        Err(_) => Ok(None),
-        Ok(flat) => Ok(Some((first_bad_target(alloc, &flat)?, first_wild_label(&flat)))),
+fn placed(tokens: &[Token<'_>], law: u32, at: u32) -> Told {
+    match tokens.get(at as usize) {
+        Some(token) => Told::Broken {
+            law,
+            at: token.span.start,
+        },
+        None => Told::NoDesign,
     }
 }
 
-#[tactic(auto, unfolding(rr_syntax::specs::Items::WellFormedSource, rr_syntax::specs::Items::WellFormedModule, rr_syntax::specs::Items::WellFormedHead, rr_syntax::specs::Items::WellFormedPort, rr_syntax::specs::Items::WellFormedItem, rr_syntax::specs::Items::WellFormedRange, rr_syntax::specs::Items::WellFormedParameter, rr_syntax::specs::Items::WellFormedAssignment, rr_syntax::specs::Items::WellFormedNet, rr_syntax::specs::Items::WellFormedValue, rr_syntax::specs::Items::WellFormedPair, rr_syntax::specs::Items::WellFormedEvents, rr_syntax::specs::Items::WellFormedConnection, rr_syntax::specs::Items::WellFormedConnections, rr_syntax::specs::Items::WellFormedOverrides, rr_syntax::specs::Items::WellFormedInstance, rr_syntax::specs::Items::count, rr_syntax::specs::Items::FitLiteralsSource, rr_syntax::specs::Items::FitLiteralsModule, rr_syntax::specs::Items::FitLiteralsPort, rr_syntax::specs::Items::FitLiteralsItem, rr_syntax::specs::Items::FitLiteralsRange, rr_syntax::specs::Items::FitLiteralsParameter, rr_syntax::specs::Items::FitLiteralsAssignment, rr_syntax::specs::Items::FitLiteralsNet, rr_syntax::specs::Items::FitLiteralsValue, rr_syntax::specs::Items::FitLiteralsPair, rr_syntax::specs::Items::FitLiteralsEvents, rr_syntax::specs::Items::FitLiteralsConnection, rr_syntax::specs::Items::FitLiteralsConnections, rr_syntax::specs::Items::FitLiteralsOverrides, rr_syntax::specs::Items::FitLiteralsInstance, rr_syntax::specs::Expressions::WellFormed, rr_syntax::specs::Expressions::WellFormedParts, rr_syntax::specs::Expressions::WellFormedMore, rr_syntax::specs::Expressions::is_target, rr_syntax::specs::Expressions::are_targets, rr_syntax::specs::Expressions::level, rr_syntax::specs::Expressions::infix_level, rr_syntax::specs::Expressions::FitLiterals, rr_syntax::specs::Expressions::FitLiteralsParts, rr_syntax::specs::Statements::WellFormedStatement, rr_syntax::specs::Statements::FitLiteralsStatement, rr_syntax::specs::View::plain_source, rr_syntax::specs::View::plain_module, rr_syntax::specs::View::plain_header, rr_syntax::specs::View::plain_port, rr_syntax::specs::View::plain_identifier, rr_syntax::specs::View::plain_range, rr_syntax::specs::View::plain_parameter, rr_syntax::specs::View::plain_assignment, rr_syntax::specs::View::plain_item, rr_syntax::specs::View::plain_net, rr_syntax::specs::View::plain_value, rr_syntax::specs::View::plain_pair, rr_syntax::specs::View::plain_events, rr_syntax::specs::View::plain_edge, rr_syntax::specs::View::plain_connection, rr_syntax::specs::View::plain_connections, rr_syntax::specs::View::plain_overrides, rr_syntax::specs::View::plain_instance, rr_syntax::specs::View::plain_statement, rr_syntax::specs::View::plain, rr_syntax::specs::View::plain_list, rr_syntax::specs::View::plain_row))]
+fn told_of(tokens: &[Token<'_>], fault: LawFault) -> Result<Told, AllocError> {
+    match fault {
+        LawFault::UnknownName(at) => Ok(placed(tokens, 11, at)),
+        LawFault::TwoDrivers { second, .. } => Ok(placed(tokens, 17, second)),
+        LawFault::WrongAssign(at) => Ok(placed(tokens, 18, at)),
+        LawFault::Race(at) => Ok(placed(tokens, 19, at)),
+        LawFault::Latch { block, .. } => Ok(placed(tokens, 20, block)),
+        LawFault::Loop { token, .. } => Ok(placed(tokens, 21, token)),
+        LawFault::ClockUse(at) => Ok(placed(tokens, 22, at)),
+        LawFault::TwoClocks(at) => Ok(placed(tokens, 23, at)),
+        LawFault::BadTarget(at) => Ok(placed(tokens, 24, at)),
+        LawFault::WildLabel(at) => Ok(placed(tokens, 25, at)),
+        LawFault::Memory => Err(AllocError),
+    }
+}
+
+fn answer(alloc: Global, text: &str, clock: Option<&str>) -> Result<Told, AllocError> {
+    let bytes = text.as_bytes();
+    if bytes.len() > 1_048_576 {
+        return Ok(Told::NoDesign);
+    }
+    let arena = Bump::new(alloc);
+    match elaborate(alloc, bytes, None, &arena) {
+        Err(_) => Ok(Told::NoDesign),
+        Ok(design) => match check(alloc, &design.flat, clock) {
+            Ok(_) => Ok(Told::Kept),
+            Err(fault) => told_of(design.tokens, fault),
+        },
+    }
+}
+
 #[test]
-fn targets(rt: HostRuntime) -> Result<(), Fail> {
+fn words_for_the_clock(rt: HostRuntime) -> Result<(), Fail> {
     let alloc = rt.alloc();
-    assert!(rt; told(alloc, &DRIVEN)? == Some((None, None)));
-    assert!(rt; told(alloc, &INPUT)? == Some((Some(11), None)));
-    assert!(rt; told(alloc, &NET)? == Some((Some(13), None)));
+    assert!(rt;
+        answer(
+            alloc,
+            "module m(input clk, input d, output reg q); always @(posedge clk) q <= d; endmodule",
+            None
+        )? == Told::Kept
+    );
+    assert!(rt;
+        answer(
+            alloc,
+            "module m(input clk, input d, output reg q); always @(posedge clk) q <= d; endmodule",
+            Some("clk")
+        )? == Told::Kept
+    );
+    assert!(rt;
+        answer(
+            alloc,
+            "module m(input clk, input d, output reg q); always @(posedge clk) q <= d; endmodule",
+            Some("ck")
+        )? == Told::Broken { law: 11, at: 7 }
+    );
+    assert!(rt;
+        answer(
+            alloc,
+            "module m(input [1:0] clk, output y); assign y = clk[0]; endmodule",
+            Some("clk")
+        )? == Told::Broken { law: 11, at: 7 }
+    );
+    assert!(rt;
+        answer(
+            alloc,
+            "module m(input a, output y); wire w; assign w = a; assign y = w; endmodule",
+            Some("w")
+        )? == Told::Broken { law: 11, at: 7 }
+    );
+    assert!(rt;
+        answer(
+            alloc,
+            "module c(input i, output y); assign y = i; endmodule module m(input a, output y); c one(a, y); endmodule",
+            Some("i")
+        )? == Told::Broken { law: 11, at: 60 }
+    );
+    Ok(())
+}
+
+#[test]
+fn clocks(rt: HostRuntime) -> Result<(), Fail> {
+    let alloc = rt.alloc();
+    assert!(rt;
+        answer(
+            alloc,
+            "module m(input clk, input rst, input d, output reg q); always @(posedge clk or posedge rst) if (rst) q <= 1'b0; else q <= d; endmodule",
+            None
+        )? == Told::Kept
+    );
+    assert!(rt;
+        answer(
+            alloc,
+            "module m(input clk, input rst, input d, output reg q); always @(posedge rst or posedge clk) if (rst) q <= 1'b0; else q <= d; endmodule",
+            None
+        )? == Told::Kept
+    );
+    assert!(rt;
+        answer(
+            alloc,
+            "module m(input clk, input en, input d, output reg q); wire g; assign g = clk & en; always @(posedge g) q <= d; endmodule",
+            None
+        )? == Told::Broken { law: 23, at: 83 }
+    );
+    assert!(rt;
+        answer(
+            alloc,
+            "module m(input a, input b, input d, output reg q, output reg r); always @(posedge a) q <= d; always @(posedge b) r <= d; endmodule",
+            None
+        )? == Told::Broken { law: 23, at: 93 }
+    );
+    assert!(rt;
+        answer(
+            alloc,
+            "module m(input clk, input d, output reg q, output reg r); always @(posedge clk) q <= d; always @(negedge clk) r <= d; endmodule",
+            None
+        )? == Told::Broken { law: 23, at: 88 }
+    );
+    assert!(rt;
+        answer(
+            alloc,
+            "module m(input clk, input d, output reg q, output reg r); always @(posedge clk) q <= d; always @(posedge q) r <= d; endmodule",
+            None
+        )? == Told::Broken { law: 23, at: 88 }
+    );
+    assert!(rt;
+        answer(
+            alloc,
+            "module m(input clk, input d, output reg q); always @(posedge d) q <= 1'b1; endmodule",
+            Some("clk")
+        )? == Told::Broken { law: 23, at: 44 }
+    );
+    Ok(())
+}
+
+#[test]
+fn uses_of_the_clock(rt: HostRuntime) -> Result<(), Fail> {
+    let alloc = rt.alloc();
+    assert!(rt;
+        answer(
+            alloc,
+            "module c(input k, input d, output reg q); always @(negedge k) q <= d; endmodule module b(input k, input d, output q); c one(k, d, q); endmodule module m(input clk, input d, output q); b one(.k(clk), .d(d), .q(q)); endmodule",
+            None
+        )? == Told::Kept
+    );
+    assert!(rt;
+        answer(
+            alloc,
+            "module m(input clk, input d, output reg q, output y); assign y = clk; always @(posedge clk) q <= d; endmodule",
+            None
+        )? == Told::Broken { law: 22, at: 65 }
+    );
+    assert!(rt;
+        answer(
+            alloc,
+            "module m(input clk, input d, output reg q); always @(posedge clk) q <= clk; endmodule",
+            None
+        )? == Told::Broken { law: 22, at: 71 }
+    );
+    assert!(rt;
+        answer(
+            alloc,
+            "module c(input k, input d, output reg q); always @(negedge k) q <= d; endmodule module b(input k, input d, output q); c one(k, d, q); endmodule module m(input clk, input d, output q); b one(.k(clk), .d(clk & d), .q(q)); endmodule",
+            None
+        )? == Told::Broken { law: 22, at: 202 }
+    );
+    assert!(rt;
+        answer(
+            alloc,
+            "module c(input k, input d, output reg q); always @(posedge k) q <= d & k; endmodule module m(input clk, input d, output q); c one(clk, d, q); endmodule",
+            None
+        )? == Told::Broken { law: 22, at: 71 }
+    );
+    assert!(rt;
+        answer(
+            alloc,
+            "module m(input clk, input [1:0] d, output reg q); always @(posedge clk) q <= d[clk]; endmodule",
+            None
+        )? == Told::Broken { law: 22, at: 79 }
+    );
+    assert!(rt;
+        answer(
+            alloc,
+            "module m(input clk, input d, output y); assign y = clk & d; endmodule",
+            None
+        )? == Told::Kept
+    );
+    Ok(())
+}
+
+#[test]
+fn two_drivers(rt: HostRuntime) -> Result<(), Fail> {
+    let alloc = rt.alloc();
+    assert!(rt;
+        answer(
+            alloc,
+            "module m(input a, input b, output y); assign y = a; assign y = b; endmodule",
+            None
+        )? == Told::Broken { law: 17, at: 59 }
+    );
+    assert!(rt;
+        answer(
+            alloc,
+            "module m(input [3:0] a, output [3:0] y); assign y[3:2] = a[3:2]; assign y[2:0] = a[2:0]; endmodule",
+            None
+        )? == Told::Broken { law: 17, at: 72 }
+    );
+    assert!(rt;
+        answer(
+            alloc,
+            "module m(input [3:0] a, output [3:0] y); assign y[3:2] = a[3:2]; assign y[1:0] = a[1:0]; endmodule",
+            None
+        )? == Told::Kept
+    );
+    assert!(rt;
+        answer(
+            alloc,
+            "module m(input a, output reg y); always @* y = a; always @* y = ~a; endmodule",
+            None
+        )? == Told::Broken { law: 17, at: 50 }
+    );
+    assert!(rt;
+        answer(
+            alloc,
+            "module m(input clk, input [1:0] i, output reg [3:0] y); always @(posedge clk) y[i] <= 1'b1; always @(posedge clk) y[0] <= 1'b0; endmodule",
+            None
+        )? == Told::Broken { law: 17, at: 92 }
+    );
+    assert!(rt;
+        answer(
+            alloc,
+            "module m(input [1:0] a, output y); wire w; assign {y, y} = a; endmodule",
+            None
+        )? == Told::Broken { law: 17, at: 50 }
+    );
+    assert!(rt;
+        answer(
+            alloc,
+            "module c(input i, output o); assign o = i; endmodule module m(input a, input b, output y); c one(a, y); c two(b, y); endmodule",
+            None
+        )? == Told::Broken { law: 17, at: 113 }
+    );
+    Ok(())
+}
+
+#[test]
+fn kinds_of_assignment(rt: HostRuntime) -> Result<(), Fail> {
+    let alloc = rt.alloc();
+    assert!(rt;
+        answer(
+            alloc,
+            "module m(input a, output reg y); always @* y <= a; endmodule",
+            None
+        )? == Told::Broken { law: 18, at: 43 }
+    );
+    assert!(rt;
+        answer(
+            alloc,
+            "module m(input clk, input a, output reg y); always @(posedge clk) begin y <= a; if (a) y = 1'b0; end endmodule",
+            None
+        )? == Told::Broken { law: 18, at: 87 }
+    );
+    assert!(rt;
+        answer(
+            alloc,
+            "module m(input clk, input a, output reg [1:0] y); always @(posedge clk) y[0] = a; always @(posedge clk) y[1] <= a; endmodule",
+            None
+        )? == Told::Broken { law: 18, at: 104 }
+    );
+    assert!(rt;
+        answer(
+            alloc,
+            "module m(input a, input b, output reg y, output reg z); always @* begin y = a; {z, y} <= {b, a}; end endmodule",
+            None
+        )? == Told::Broken { law: 18, at: 80 }
+    );
+    Ok(())
+}
+
+#[test]
+fn races(rt: HostRuntime) -> Result<(), Fail> {
+    let alloc = rt.alloc();
+    assert!(rt;
+        answer(
+            alloc,
+            "module m(input clk, input d, output reg y, output reg z); always @(posedge clk) y = d; always @(posedge clk) z <= y; endmodule",
+            None
+        )? == Told::Broken { law: 19, at: 114 }
+    );
+    assert!(rt;
+        answer(
+            alloc,
+            "module m(input clk, input d, output reg y, output reg z); always @(posedge clk) if (y) z <= d; always @(posedge clk) y = d; endmodule",
+            None
+        )? == Told::Broken { law: 19, at: 84 }
+    );
+    assert!(rt;
+        answer(
+            alloc,
+            "module m(input clk, input [1:0] d, output reg [1:0] y, output reg [3:0] z); always @(posedge clk) y = d; always @(posedge clk) z[y] <= 1'b1; endmodule",
+            None
+        )? == Told::Broken { law: 19, at: 129 }
+    );
+    assert!(rt;
+        answer(
+            alloc,
+            "module m(input clk, input d, output reg y, output reg z); always @(posedge clk) y = d; always @(posedge clk) case (d) y: z <= 1'b1; default: z <= 1'b0; endcase endmodule",
+            None
+        )? == Told::Broken { law: 19, at: 118 }
+    );
+    assert!(rt;
+        answer(
+            alloc,
+            "module m(input clk, input d, output reg y, output z); always @(posedge clk) y = d ^ y; assign z = y; endmodule",
+            None
+        )? == Told::Kept
+    );
+    Ok(())
+}
+
+#[test]
+fn latches(rt: HostRuntime) -> Result<(), Fail> {
+    let alloc = rt.alloc();
+    assert!(rt;
+        answer(
+            alloc,
+            "module m(input a, input b, output reg y); always @* if (a) y = b; endmodule",
+            None
+        )? == Told::Broken { law: 20, at: 42 }
+    );
+    assert!(rt;
+        answer(
+            alloc,
+            "module m(input [1:0] a, output reg y); always @* case (a) 2'b00: y = 1'b0; 2'b01: y = 1'b1; endcase endmodule",
+            None
+        )? == Told::Broken { law: 20, at: 39 }
+    );
+    assert!(rt;
+        answer(
+            alloc,
+            "module m(input a, output reg y, output reg z); always @* begin z = y; y = a; end endmodule",
+            None
+        )? == Told::Broken { law: 20, at: 47 }
+    );
+    assert!(rt;
+        answer(
+            alloc,
+            "module m(input [1:0] i, input a, output reg [3:0] y); always @* y[i] = a; endmodule",
+            None
+        )? == Told::Broken { law: 20, at: 54 }
+    );
+    assert!(rt;
+        answer(
+            alloc,
+            "module m(input a, output reg [1:0] y); always @* begin y[0] = a; if (a) y[1] = a; end endmodule",
+            None
+        )? == Told::Broken { law: 20, at: 39 }
+    );
+    assert!(rt;
+        answer(
+            alloc,
+            "module m(input [1:0] a, output reg y); always @* begin y = 1'b0; if (a[0]) y = a[1]; end endmodule",
+            None
+        )? == Told::Kept
+    );
+    assert!(rt;
+        answer(
+            alloc,
+            "module m(input [1:0] a, output reg y); always @* case (a) 2'b00: y = 1'b0; default: y = 1'b1; endcase endmodule",
+            None
+        )? == Told::Kept
+    );
+    assert!(rt;
+        answer(
+            alloc,
+            "module m(input [1:0] i, input a, output reg [3:0] y); always @* begin y = 4'h0; y[i] = a; end endmodule",
+            None
+        )? == Told::Kept
+    );
+    Ok(())
+}
+
+#[test]
+fn loops(rt: HostRuntime) -> Result<(), Fail> {
+    let alloc = rt.alloc();
+    assert!(rt;
+        answer(
+            alloc,
+            "module m(input a, output y); wire w; assign w = y & a; assign y = w; endmodule",
+            None
+        )? == Told::Broken { law: 21, at: 62 }
+    );
+    assert!(rt;
+        answer(
+            alloc,
+            "module m(input a, output [3:0] y); assign y[0] = a; assign y[1] = y[0]; assign y[2] = y[1]; assign y[3] = y[2]; endmodule",
+            None
+        )? == Told::Kept
+    );
+    assert!(rt;
+        answer(
+            alloc,
+            "module m(input [2:0] a, output [3:0] y); assign y = {a & y[2:0], 1'b1}; endmodule",
+            None
+        )? == Told::Broken { law: 21, at: 48 }
+    );
+    assert!(rt;
+        answer(
+            alloc,
+            "module m(input a, output [3:0] y); assign y = {y[2:0], a}; endmodule",
+            None
+        )? == Told::Kept
+    );
+    assert!(rt;
+        answer(
+            alloc,
+            "module m(input a, output [3:0] y); assign y = {y[2:0], y[3]}; endmodule",
+            None
+        )? == Told::Broken { law: 21, at: 42 }
+    );
+    assert!(rt;
+        answer(
+            alloc,
+            "module m(input a, output reg x, output reg y, output reg z); always @* x = z; always @* y = x & a; always @* z = y; endmodule",
+            None
+        )? == Told::Broken { law: 21, at: 61 }
+    );
+    assert!(rt;
+        answer(
+            alloc,
+            "module m(input [1:0] i, output [3:0] y); assign y[3:1] = 3'b0; assign y[0] = y[i]; endmodule",
+            None
+        )? == Told::Broken { law: 21, at: 70 }
+    );
+    assert!(rt;
+        answer(
+            alloc,
+            "module n(input i, output o); assign o = ~i; endmodule module m(output y); wire w; n one(w, y); n two(y, w); endmodule",
+            None
+        )? == Told::Broken { law: 21, at: 91 }
+    );
+    assert!(rt;
+        answer(
+            alloc,
+            "module m(output [3:0] y); assign y[3] = y[2]; assign y[2] = y[3]; assign y[0] = y[1]; assign y[1] = y[0]; endmodule",
+            None
+        )? == Told::Broken { law: 21, at: 73 }
+    );
+    Ok(())
+}
+
+#[test]
+fn two_laws_at_once(rt: HostRuntime) -> Result<(), Fail> {
+    let alloc = rt.alloc();
+    assert!(rt;
+        answer(
+            alloc,
+            "module m(input a, output y, output reg z); always @* case (a) 1'bx: z = a; default: z = 1'b0; endcase assign a = y; endmodule",
+            None
+        )? == Told::Broken { law: 24, at: 109 }
+    );
+    assert!(rt;
+        answer(
+            alloc,
+            "module m(input a, input b, input d, output reg y, output reg z); always @(posedge a) y <= d; always @(posedge b) case (d) 1'bx: z <= d; endcase endmodule",
+            None
+        )? == Told::Broken { law: 25, at: 122 }
+    );
+    assert!(rt;
+        answer(
+            alloc,
+            "module m(input a, input b, output reg y, output reg z); always @(posedge a) y <= a; always @(posedge b) z <= b; endmodule",
+            None
+        )? == Told::Broken { law: 23, at: 84 }
+    );
+    assert!(rt;
+        answer(
+            alloc,
+            "module m(input clk, input d, output y); assign y = d; assign y = d; reg q; always @(posedge clk) q <= clk; endmodule",
+            None
+        )? == Told::Broken { law: 22, at: 102 }
+    );
+    assert!(rt;
+        answer(
+            alloc,
+            "module m(input d, output y, output reg z); always @* z <= d; assign y = d; assign y = z; endmodule",
+            None
+        )? == Told::Broken { law: 17, at: 82 }
+    );
+    assert!(rt;
+        answer(
+            alloc,
+            "module m(input clk, input d, output reg y, output reg z); always @(posedge clk) y = d; always @(posedge clk) begin z <= y; z = d; end endmodule",
+            None
+        )? == Told::Broken { law: 18, at: 123 }
+    );
+    assert!(rt;
+        answer(
+            alloc,
+            "module m(input clk, input d, output reg y, output reg z, output reg l); always @* if (d) l = d; always @(posedge clk) y = d; always @(posedge clk) z <= y; endmodule",
+            None
+        )? == Told::Broken { law: 19, at: 152 }
+    );
+    assert!(rt;
+        answer(
+            alloc,
+            "module m(input d, output y, output reg l); assign y = ~y; always @* if (d) l = d; endmodule",
+            None
+        )? == Told::Broken { law: 20, at: 58 }
+    );
+    Ok(())
+}
+
+#[test]
+fn first_laws(rt: HostRuntime) -> Result<(), Fail> {
+    let alloc = rt.alloc();
+    assert!(rt;
+        answer(
+            alloc,
+            "module m(output y);assign y = 1'b0;assign y = 1'b1;endmodule",
+            None
+        )? == Told::Broken { law: 17, at: 42 }
+    );
+    assert!(rt;
+        answer(
+            alloc,
+            "module m(input clk,output reg y);always @(posedge clk) begin y <= 1'b0; y = 1'b1; end endmodule",
+            None
+        )? == Told::Broken { law: 18, at: 72 }
+    );
+    assert!(rt;
+        answer(
+            alloc,
+            "module m(input clk,output reg y);reg t;always @(posedge clk) t = ~t;always @(posedge clk) y <= t;endmodule",
+            None
+        )? == Told::Broken { law: 19, at: 95 }
+    );
+    assert!(rt;
+        answer(
+            alloc,
+            "module m(input clk,output reg y);always @(posedge clk) y <= clk;endmodule",
+            None
+        )? == Told::Broken { law: 22, at: 60 }
+    );
+    assert!(rt;
+        answer(
+            alloc,
+            "module m(input clk,input d,output reg y,output reg z);always @(posedge clk) y <= d;always @(negedge clk) z <= d;endmodule",
+            None
+        )? == Told::Broken { law: 23, at: 83 }
+    );
+    assert!(rt;
+        answer(
+            alloc,
+            "module m(input a,output y);always @* y = a;endmodule",
+            None
+        )? == Told::Broken { law: 24, at: 37 }
+    );
+    assert!(rt;
+        answer(
+            alloc,
+            "module m(input a,output reg y);always @* case(a) 1'bx: y = a; default: y = 1'b0; endcase endmodule",
+            None
+        )? == Told::Broken { law: 25, at: 49 }
+    );
+    assert!(rt;
+        answer(
+            alloc,
+            "module m(output y);\n  wire a, b;\n  assign a = b;\n  assign b = a;\n  assign y = a;\nendmodule\n",
+            None
+        )? == Told::Broken { law: 21, at: 42 }
+    );
+    assert!(rt;
+        answer(
+            alloc,
+            "module m(input [1:0] s, output reg y);\n  always @*\n    case (s)\n      2'd0: y = 1'b0;\n      2'd1: y = 1'b1;\n    endcase\nendmodule\n",
+            None
+        )? == Told::Broken { law: 20, at: 41 }
+    );
+    assert!(rt;
+        answer(
+            alloc,
+            "module m(input [1:0] s, output reg y);\n  always @*\n    begin y = 1'b0; case (s)\n      2'd0: y = 1'b0;\n      2'd1: y = 1'b1;\n    endcase end\nendmodule\n",
+            None
+        )? == Told::Kept
+    );
+    assert!(rt;
+        answer(
+            alloc,
+            "module m(input [2:0] a, output [3:0] c); assign c[0] = 1'b0; assign c[1] = c[0] ^ a[0]; assign c[2] = c[1] ^ a[1]; assign c[3] = c[2] ^ a[2]; endmodule",
+            None
+        )? == Told::Kept
+    );
+    Ok(())
+}
+
+/// The number of a refusal before the laws, and its byte.
+fn number_of(fault: DesignFault) -> Option<(u32, u32)> {
+    match fault {
+        DesignFault::Text(Wrong::Byte, at) => Some((1, at)),
+        DesignFault::Text(Wrong::Number, at) => Some((2, at)),
+        DesignFault::Text(Wrong::Comment, at) => Some((3, at)),
+        DesignFault::Text(Wrong::Directive, at) => Some((4, at)),
+        DesignFault::Unsupported(at) => Some((5, at)),
+        DesignFault::Syntax(at) => Some((6, at)),
+        DesignFault::Flaw(flaw) => number_of_flaw(flaw),
+        DesignFault::Memory => None,
+    }
+}
+
+fn number_of_flaw(flaw: FlatFault) -> Option<(u32, u32)> {
+    match flaw {
+        FlatFault::NoTop => Some((7, 0)),
+        FlatFault::UnknownModule(at) => Some((8, at)),
+        FlatFault::SelfInstance(at) => Some((9, at)),
+        FlatFault::NameTwice(at) => Some((10, at)),
+        FlatFault::UnknownName(at) => Some((11, at)),
+        FlatFault::BadRange(at) => Some((12, at)),
+        FlatFault::NotConstant(at) => Some((13, at)),
+        FlatFault::PortMismatch(at) => Some((14, at)),
+        FlatFault::TooWide(at, _) => Some((15, at)),
+        FlatFault::TooMany(_, _) => Some((16, 0)),
+        FlatFault::Memory => None,
+    }
+}
+
+fn refusal(alloc: Global, text: &str, top: Option<&str>) -> Option<(u32, u32)> {
+    let bytes = text.as_bytes();
+    if bytes.len() > 1_048_576 {
+        return None;
+    }
+    let arena = Bump::new(alloc);
+    match elaborate(alloc, bytes, top, &arena) {
+        Ok(_) => None,
+        Err(fault) => number_of(fault),
+    }
+}
+
+#[test]
+fn faults_before_the_laws(rt: HostRuntime) -> Result<(), Fail> {
+    let alloc = rt.alloc();
+    assert!(rt;
+        refusal(alloc, "module m(output y);assign y = \"a\";endmodule", None) == Some((1, 30))
+    );
+    assert!(rt;
+        refusal(alloc, "module m(output y);assign y = 2'd;endmodule", None) == Some((2, 30))
+    );
+    assert!(rt; refusal(alloc, "module m(output y);/* x", None) == Some((3, 19)));
+    assert!(rt; refusal(alloc, "`include \"a.v\"", None) == Some((4, 0)));
+    assert!(rt; refusal(alloc, "module m(output y);function f;endmodule", None) == Some((5, 19)));
+    assert!(rt; refusal(alloc, "module m(output y);assign y = ;endmodule", None) == Some((6, 30)));
+    assert!(rt; refusal(alloc, "", None) == Some((7, 0)));
+    assert!(rt; refusal(alloc, "module m(output y);n u(y);endmodule", None) == Some((8, 19)));
+    assert!(rt; refusal(alloc, "module m(output y);m u(y);endmodule", Some("m")) == Some((9, 19)));
+    assert!(rt;
+        refusal(alloc, "module m(output y);wire a;wire a;endmodule", None) == Some((10, 31))
+    );
+    assert!(rt;
+        refusal(alloc, "module m(output y);assign y = b;endmodule", None) == Some((11, 30))
+    );
+    assert!(rt;
+        refusal(
+            alloc,
+            "module m(output y);wire [3:0] a;assign y = a[0:1];endmodule",
+            None
+        ) == Some((12, 43))
+    );
+    assert!(rt;
+        refusal(alloc, "module m(output y);wire [y:0] a;endmodule", None) == Some((13, 25))
+    );
+    assert!(rt;
+        refusal(
+            alloc,
+            "module n(input a);endmodule module m(output y);n u(.b(y));endmodule",
+            None
+        ) == Some((14, 52))
+    );
+    assert!(rt;
+        refusal(alloc, "module m(output y);wire [128:0] a;endmodule", None) == Some((15, 32))
+    );
     Ok(())
 }

@@ -1,0 +1,10 @@
+pub mod WildNodes
+pub mod TargetNodes
+pub mod LabelLaw
+pub mod AimLaw
+pub mod KindLaw
+pub mod Kinding
+pub mod RaceLaw
+pub mod Racing
+pub mod Fusion
+pub mod Same

@@ -1,0 +1,5 @@
+pub mod Labels
+pub mod Aims
+pub mod Kinds
+pub mod Races
+pub mod View

@@ -1,0 +1,237 @@
+//! Targets that may not be assigned as they are (IEEE 1364-2005 sections 6.1, 9.2 and 12.3.9.2).
+ghost use Rattle.std.specs.Prelude.{◌≡◌, IfOk, IfSome, IfNone, flat_map};
+ghost use Rattle.rr_syntax.specs.Expressions.{is_target as is_target_tree, are_targets as are_target_trees};
+ghost use Rattle.rr_syntax.specs.View.{plain, plain_list};
+ghost use Rattle.rr_flat.specs.Lawful.{RightTargets};
+ghost use Rattle.rr_expr.specs.Scopes.{meant};
+ghost use Rattle.rr_flat.specs.Targets.{is_fixed as is_fixed_in, target_parts};
+ghost use Rattle.rr_flat.specs.Writers.{scope_at};
+ghost use Rattle.rr_parts.specs.Parts.{block_of as block_of_part, driver_of as driver_of_part, signal_of as signal_of_entity};
+ghost use Rattle.rr_flat.specs.View.{plain_block, plain_driver, plain_flat, plain_side};
+ghost use Rattle.rr_assign.specs.Aims.{may_drive as may_drive_in, may_assign as may_assign_in, bad_driven, bad_assigned, bad_declared as bad_declared_in, bad_of_driver as bad_of_driver_in, bad_of_block as bad_of_block_in, bad_of_part as bad_of_part_in, bad_targets};
+ghost use Rattle.rr_parts.specs.Firsts.{earliest};
+ghost use Rattle.rr_parts.specs.View.{plain_target};
+
+use rr_flat::{Block, Driver, Flat, Part, Side};
+use rr_parts::{
+    Target, add_assigned, add_parts, block_of, driver_of, identifier_of, instance_of, is_fixed,
+    is_input, is_variable, scope_of, signal_named, signal_of, walk_of,
+};
+use rr_syntax::Expr;
+use std::alloc::{AllocError, Global};
+
+fn may_drive(flat: &Flat, id: Option<u32>, fixed: bool) -> bool
+    ensures { result ≡ may_drive_in (plain_flat flat.now) id fixed }
+{
+    match id {
+        Some(id) => !is_variable(flat, id) && !is_input(flat, id) && fixed,
+        None => false,
+    }
+}
+
+fn may_assign(flat: &Flat, id: Option<u32>) -> bool
+    ensures { result ≡ may_assign_in (plain_flat flat.now) id }
+{
+    match id {
+        Some(id) => is_variable(flat, id) && !is_input(flat, id),
+        None => false,
+    }
+}
+
+#[cycle(targets)]
+#[tactic(auto, using(crate::proofs::TargetNodes::target_nodes))]
+fn is_target(expr: &Expr) -> bool
+    ensures { result ≡ is_target_tree (plain expr.now) }
+{
+    match expr {
+        Expr::Name { .. } | Expr::Bit { .. } | Expr::Part { .. } | Expr::Indexed { .. } => true,
+        Expr::Concat { parts } => are_targets(parts),
+        Expr::Literal { .. }
+        | Expr::Unary { .. }
+        | Expr::Binary { .. }
+        | Expr::Cond { .. }
+        | Expr::Repeat { .. }
+        | Expr::Cast { .. }
+        | Expr::Paren { .. } => false,
+    }
+}
+
+#[cycle(targets)]
+fn are_targets(list: &[Expr]) -> bool
+    ensures { result ≡ are_target_trees (plain_list list.now) }
+{
+    for expr in list.iter() {
+        if !is_target(expr) {
+            return false;
+        }
+    }
+    true
+}
+
+#[tactic(auto, unfolding(rr_expr::specs::Scopes::meant, rr_expr::specs::Scopes::lookup))]
+fn drives(flat: &Flat, scope: u32, part: &Expr, name: &str) -> bool
+    ensures { result ≡ may_drive_in (plain_flat flat.now) (signal_of_entity (meant (scope_at (plain_flat flat.now) scope) name.now)) (is_fixed_in (scope_at (plain_flat flat.now) scope) (plain part.now)) }
+{
+    match scope_of(flat, scope) {
+        Some(names) => may_drive(flat, signal_of(names.find(name)), is_fixed(part, names)),
+        None => false,
+    }
+}
+
+/// The token of a name or select of a continuous assignment, where it is at fault.
+fn bad_part(flat: &Flat, scope: u32, part: &Expr) -> Option<u32>
+    ensures { result ≡ earliest (bad_driven (plain_flat flat.now) scope (plain part.now)) }
+{
+    let named = identifier_of(part);
+    if drives(flat, scope, part, named.name) {
+        None
+    } else {
+        Some(named.token)
+    }
+}
+
+fn first_bad_part(flat: &Flat, scope: u32, targets: &[Target]) -> Option<u32>
+    ensures { result ≡ earliest (flat_map (λ t. bad_driven (plain_flat flat.now) scope (plain_target t).part) targets.now) }
+{
+    for target in targets.iter() {
+        let found = bad_part(flat, scope, target.part);
+        if found.is_some() {
+            return found;
+        }
+    }
+    None
+}
+
+/// The same of a procedural one.
+fn bad_target(flat: &Flat, scope: u32, target: &Target) -> Option<u32>
+    ensures { result ≡ earliest (bad_assigned (plain_flat flat.now) scope (plain_target target.now)) }
+{
+    let named = identifier_of(target.part);
+    if may_assign(flat, signal_named(flat, scope, named.name)) {
+        None
+    } else {
+        Some(named.token)
+    }
+}
+
+fn first_bad_assigned(flat: &Flat, scope: u32, targets: &[Target]) -> Option<u32>
+    ensures { result ≡ earliest (flat_map (λ t. bad_assigned (plain_flat flat.now) scope (plain_target t)) targets.now) }
+{
+    for target in targets.iter() {
+        let found = bad_target(flat, scope, target);
+        if found.is_some() {
+            return found;
+        }
+    }
+    None
+}
+
+#[tactic(auto, unfolding(rr_parts::specs::Firsts::earliest))]
+fn bad_declared(flat: &Flat, id: u32, value: &Side, token: u32) -> Option<u32>
+    ensures { result ≡ earliest (bad_declared_in (plain_flat flat.now) id (plain_side value.now) token) }
+{
+    match value {
+        Side::Whole(_) => None,
+        Side::Text { scope, .. } => {
+            if instance_of(flat, id) == *scope && !may_drive(flat, Some(id), true) {
+                Some(token)
+            } else {
+                None
+            }
+        }
+    }
+}
+
+fn bad_written<'a>(
+    alloc: Global,
+    flat: &Flat<'a>,
+    expr: &'a Expr<'a>,
+    scope: u32,
+) -> Result<Option<u32>, AllocError>
+    ensures { IfOk result (λ r. r ≡ earliest (flat_map (bad_driven (plain_flat flat.now) scope) (target_parts (plain expr.now)))) }
+{
+    let mut targets = Vec::new(alloc);
+    add_parts(&mut targets, expr, true)?;
+    Ok(first_bad_part(flat, scope, targets.as_slice()))
+}
+
+#[tactic(auto, unfolding(rr_parts::specs::Firsts::earliest))]
+fn bad_of_driver<'a>(
+    alloc: Global,
+    flat: &Flat<'a>,
+    driver: &Driver<'a>,
+) -> Result<Option<u32>, AllocError>
+    ensures { IfOk result (λ r. r ≡ earliest (bad_of_driver_in (plain_flat flat.now) (plain_driver driver.now))) }
+{
+    match driver.target {
+        Side::Whole(id) => Ok(bad_declared(flat, id, &driver.value, driver.token)),
+        Side::Text { expr, scope } => {
+            if is_target(expr) {
+                bad_written(alloc, flat, expr, scope)
+            } else {
+                Ok(Some(driver.token))
+            }
+        }
+    }
+}
+
+fn bad_of_block<'a>(
+    alloc: Global,
+    flat: &Flat<'a>,
+    block: &Block<'a>,
+) -> Result<Option<u32>, AllocError>
+    ensures { IfOk result (λ r. r ≡ earliest (bad_of_block_in (plain_flat flat.now) (plain_block block.now))) }
+{
+    let mut targets = Vec::new(alloc);
+    add_assigned(&mut targets, block.body)?;
+    Ok(first_bad_assigned(flat, block.scope, targets.as_slice()))
+}
+
+#[tactic(auto, unfolding(rr_parts::specs::Firsts::earliest))]
+fn bad_driver<'a>(alloc: Global, flat: &Flat<'a>, part: Part) -> Result<Option<u32>, AllocError>
+    ensures { IfOk result (λ r. r ≡ earliest (bad_of_driver_in (plain_flat flat.now) (driver_of_part (plain_flat flat.now) part))) }
+{
+    match driver_of(flat, part) {
+        Some(driver) => bad_of_driver(alloc, flat, &driver),
+        None => Ok(None),
+    }
+}
+
+#[tactic(auto, unfolding(rr_flat::specs::Reads::assigned_by, rr_parts::specs::Firsts::earliest))]
+fn bad_block<'a>(alloc: Global, flat: &Flat<'a>, part: Part) -> Result<Option<u32>, AllocError>
+    ensures { IfOk result (λ r. r ≡ earliest (bad_of_block_in (plain_flat flat.now) (block_of_part (plain_flat flat.now) part))) }
+{
+    match block_of(flat, part) {
+        Some(block) => bad_of_block(alloc, flat, &block),
+        None => Ok(None),
+    }
+}
+
+#[tactic(auto, using(rr_parts::proofs::Walks::earliest_hit, rr_parts::proofs::Walks::earliest_skip))]
+fn bad_of_part<'a>(alloc: Global, flat: &Flat<'a>, part: Part) -> Result<Option<u32>, AllocError>
+    ensures { IfOk result (λ r. r ≡ earliest (bad_of_part_in (plain_flat flat.now) part)) }
+{
+    let found = bad_driver(alloc, flat, part)?;
+    if found.is_some() {
+        return Ok(found);
+    }
+    bad_block(alloc, flat, part)
+}
+
+/// The first target that may not be assigned as it is, by its name's token, or where a connection of an
+/// output port is no target, by the connection's first token: a continuous assignment drives a net by
+/// constant indices, a procedural one assigns a variable, and neither an input port or a parameter.
+pub fn first_bad_target(alloc: Global, flat: &Flat) -> Result<Option<u32>, AllocError>
+    ensures first { IfOk result (λ r. r ≡ earliest (bad_targets (plain_flat flat.now))) }
+    ensures none { IfOk result (λ r. IfNone r (RightTargets (plain_flat flat.now))) }
+    ensures some { IfOk result (λ r. IfSome r (λ at. RightTargets (plain_flat flat.now) → ⊥)) }
+{
+    let walk = walk_of(flat);
+    for part in walk.iter() {
+        let found = bad_of_part(alloc, flat, *part)?;
+        if found.is_some() {
+            return Ok(found);
+        }
+    }
+    Ok(None)
+}

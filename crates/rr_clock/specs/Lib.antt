@@ -1,0 +1,5 @@
+pub mod Clock
+pub mod Spread
+pub mod Found
+pub mod Places
+pub mod View

@@ -1,0 +1,59 @@
+-- What the reader of source texts answers, in terms of the tokens with their places.
+use Rattle.std.proofs.Common.{◌≡◌, ◌∙◌, refl, sym, ap, subst, ℕ, ◌<◌, ◌^◌, List, length, map, drop, get_or, arith, IsTrue}
+use Rattle.std.proofs.lemmas.List.{length-map}
+use Rattle.rr_syntax.specs.declared.token.Token.{Token}
+use Rattle.rr_syntax.specs.declared.tree.Source.{Source}
+use Rattle.rr_syntax.specs.Tree.{SourceText}
+use Rattle.rr_syntax.specs.View.{plain_module, plain_source}
+use Rattle.rr_syntax.specs.Items.{FitLiteralsSource}
+use Rattle.rr_syntax.specs.Words.{Word, words}
+use Rattle.rr_lex.specs.Tokens.{Lexeme, lexeme, lexemes, words_of, AreTokens}
+use Rattle.rr_lex.proofs.Sound.{words_sound}
+use Rattle.rr_lex.proofs.Steps.{token_words}
+use Rattle.rr_profile.specs.Profile.{is_outside, NoneOutside, IsFirstOutside}
+use Rattle.rr_parse.specs.Exact.{IsParsed, NoneSpells}
+use Rattle.rr_elaborate.proofs.Fitting.{few_modules, fit_source}
+use Rattle.rr_elaborate.specs.Designs.{AllHaveRules, IsText, IsUnparsed, IsUnsupported, Spells, start_of}
+
+-- the same words
+abbrev OutsideOf : List Word → ℕ → Type 0
+OutsideOf ws at = IsTrue (is_outside (drop at ws))
+
+rules_of : (tokens : List Token) → NoneOutside tokens → AllHaveRules (lexemes tokens)
+rules_of tokens none at outside = none at (subst (λ (ws : List Word). OutsideOf ws at) (token_words tokens) outside)
+
+pub text_of : (bytes : List ℕ) (tokens : List Token) (s : Source) → AreTokens bytes (lexemes tokens) → IsParsed tokens s → IsText bytes (lexemes tokens) (plain_source s)
+text_of bytes tokens s lexed p = record {
+  lexed = lexed;
+  rules = rules_of tokens p.rules;
+  spells = record { well = p.well; shallow = p.shallow; spelled = rw (sym (token_words tokens)) at p.spelled; numbered = p.numbered };
+}
+
+pub unsupported : (bytes : List ℕ) (tokens : List Token) (at : ℕ) → AreTokens bytes (lexemes tokens) → IsFirstOutside tokens at → IsUnsupported bytes (start_of (lexemes tokens) at)
+unsupported bytes tokens at lexed p = record {
+  tokens = lexemes tokens;
+  lexed = lexed;
+  at = at;
+  within = omega (arith, p.within, length-map tokens lexeme);
+  outside = subst (λ (ws : List Word). OutsideOf ws at) (sym (token_words tokens)) p.outside;
+  first = λ i below outside. p.first i below (subst (λ (ws : List Word). OutsideOf ws i) (token_words tokens) outside);
+  starts = refl;
+}
+
+pub unparsed : (bytes : List ℕ) (tokens : List Token) → AreTokens bytes (lexemes tokens) → NoneOutside tokens → NoneSpells tokens → IsUnparsed bytes
+unparsed bytes tokens lexed rules none = record {
+  tokens = lexemes tokens;
+  lexed = lexed;
+  rules = rules_of tokens rules;
+  none = λ t s. none t (record { well = s.well; shallow = s.shallow; spelled = rw (token_words tokens) at s.spelled });
+}
+
+words_length : (tokens : List Token) → length (words tokens) ≡ length tokens
+words_length tokens = ap length (sym (token_words tokens)) ∙ (length-map (lexemes tokens) (λ t. t.word) ∙ length-map tokens lexeme)
+
+pub few_of : (tokens : List Token) (s : Source) → IsParsed tokens s → length tokens < 2 ^ 32 → length s.modules.now < 2 ^ 32
+unfolding plain_source
+few_of tokens s p few = omega (arith, few, few_modules (plain_source s) (words tokens) p.spelled, length-map s.modules.now plain_module, words_length tokens)
+
+pub fit_of : (bytes : List ℕ) (tokens : List Token) (s : Source) → AreTokens bytes (lexemes tokens) → IsParsed tokens s → FitLiteralsSource (plain_source s)
+fit_of bytes tokens s lexed p = fit_source (plain_source s) (words_of (lexemes tokens)) p.well (rw (sym (token_words tokens)) at p.spelled) (words_sound bytes (lexemes tokens) lexed)

@@ -1,0 +1,15 @@
+use Rattle.std.proofs.Common.{option_map, List, ℕ, Bor}
+use Rattle.rr_elaborate.proofs.Reading.{few_of, fit_of, text_of}
+use Rattle.rr_elaborate.proofs.design.parsed.Goals as goal
+
+pub flattened-requires-clause-few : goal.flattened-requires-clause-few
+flattened-requires-clause-few c = few_of c.args.tokens.now c.in-Ok.source.now c.in-Ok.ensures c.requires.few
+
+pub flattened-requires-clause-fit : goal.flattened-requires-clause-fit
+flattened-requires-clause-fit c = fit_of c.requires.lexed.0 c.args.tokens.now c.in-Ok.source.now c.requires.lexed.1 c.in-Ok.ensures
+
+pub returns-in-Ok : goal.returns-in-Ok
+returns-in-Ok c = λ bytes lexed. c.flattened.ensures bytes (text_of bytes c.args.tokens.now c.in-Ok.source.now lexed c.in-Ok.ensures)
+
+pub returns-in-Err : goal.returns-in-Err
+returns-in-Err c = λ bytes lexed. c.of_tokens.ensures bytes (option_map (λ n. n.now) c.args.top) lexed

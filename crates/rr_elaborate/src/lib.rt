@@ -1,0 +1,12 @@
+//! The flat design of a source text, or the first fault of its bytes, words, tree or elaboration.
+#![tactic(auto)]
+
+mod design;
+
+pub use design::{Design, DesignFault, elaborate};
+pub use rr_flat::Flat;
+pub use rr_head::{FlatFault, Limit};
+pub use rr_lex::Wrong;
+
+#[cfg(test)]
+mod tests;

@@ -1,0 +1,116 @@
+-- targets whose bits have values
+use Rattle.std.proofs.Common.{◌≡◌, ◌∙◌, sym, ap, ℕ, ◌<◌, ◌≤◌, true, false, List, [], ◌∷◌, ◌++◌, length, Option, None, Some, nat_eq, nat_lt, refl, arith, pos, inl, inr, length-append, append-nil}
+use Rattle.std.specs.List.{All, AllByRecursion}
+use Rattle.std.proofs.lemmas.Bool.{and_parts, both_ways, or_cases, eqb-true, ltb-true}
+use Rattle.std.proofs.lemmas.List.Elements.{All-from_recursion}
+use Rattle.rr_syntax.specs.Tree.{Tree, Trees, Name, Literal, Bit as BitSelect, Part, Indexed, Unary, Binary, Cond, Concat, Repeat, Cast, Paren, End, More}
+use Rattle.rr_expr.specs.declared.types.Bit.{Bit}
+use Rattle.rr_expr.specs.declared.types.Entity.{Entity}
+use Rattle.rr_expr.specs.declared.types.Entity.TheVariants.{Constant, Signal, Instance}
+use Rattle.rr_expr.specs.Faults.{constant_count, constant_span}
+use Rattle.rr_expr.specs.Scopes.{Names, meant, entity_range, entity_shape, range_width}
+use Rattle.rr_expr.specs.Selects.{place, lowest_place, integer_with}
+use Rattle.rr_expr.specs.Values.{form, widths, value, nowhere}
+use Rattle.rr_flat.specs.Targets.{has_bit, is_bit_of, target_bits, targets_bits}
+use Rattle.rr_flat.specs.Walk.{shape_faults}
+use Rattle.rr_flat.proofs.Clears.{clear}
+use Rattle.rr_target.specs.declared.piece.Piece.{Piece}
+use Rattle.rr_target.specs.Pieces.{all_bits, bits_of}
+use Rattle.rr_target.proofs.Nodes.{shaped_small}
+use Rattle.rr_target.proofs.Runs.{covers_in}
+use Rattle.rr_cycle.specs.Exec.{Environment}
+use Rattle.rr_cycle.proofs.TargetBits.{one_of_name, bits_of_name}
+use Rattle.rr_cycle.proofs.Wiring.{length_there}
+use Rattle.rr_cycle.proofs.Writes.{has_append, or_left, or_right}
+use Rattle.rr_exec.specs.Work.{Fits, Holds}
+
+abbrev IsThere : ℕ → Bit → Type 0
+IsThere n b = (b.signal < n) × (b.place < 128)
+
+name_there : (s : Names) (n : ℕ) (name : List ℕ) (b : Bit) → Holds s n → is_bit_of (meant s name) b ≡ true → IsThere n b
+name_there s n name b h i = go (meant s name) refl i
+  where
+    go : (e : Entity) → meant s name ≡ e → is_bit_of e b ≡ true → IsThere n b
+    go (Constant bits signed) q i = absurd (both_ways false refl i)
+    go (Signal id range signed) q i =
+        let p = and_parts (nat_eq id b.signal) (nat_lt b.place (range_width range)) i in
+        let l = h name id range signed q in
+        let u : id ≡ b.signal = eqb-true id b.signal p.0 in
+        let v : b.place < range_width range = ltb-true b.place (range_width range) p.1 in
+        (omega (arith, u, l.0), omega (arith, v, l.1))
+    go Instance q i = absurd (both_ways false refl i)
+
+-- a bit of a target is one of a name
+abbrev pub Named : Names → Bit → Type 0
+Named s b = (name : List ℕ) × (is_bit_of (meant s name) b ≡ true)
+
+mutual
+  unfolding target_bits has_bit
+
+  pub target_named : (s : Names) (e : Environment) (t : Tree) (b : Bit) → has_bit (target_bits s e t) b ≡ true → Named s b
+  target_named s e (Name token name) b i = (name, bits_of_name (meant s name) (pos 0) (entity_shape (meant s name)).width b i)
+  target_named s e (Literal token m) b i = absurd (both_ways false refl i)
+  target_named s e (BitSelect token name x) b i = (name, one_of_name (meant s name) (place (entity_range (meant s name)) (integer_with (form s x) (value s x e))) b i)
+  target_named s e (Part token name l r) b i = (name, bits_of_name (meant s name) (place (entity_range (meant s name)) (integer_with (form s r) (value s r nowhere))) (constant_span s l r) b i)
+  target_named s e (Indexed token name f m up) b i =
+      (name, bits_of_name (meant s name) (lowest_place (entity_range (meant s name)) up (integer_with (form s f) (value s f e)) (constant_count s m)) (constant_count s m) b i)
+  target_named s e (Unary op t) b i = absurd (both_ways false refl i)
+  target_named s e (Binary op l r) b i = absurd (both_ways false refl i)
+  target_named s e (Cond x y z) b i = absurd (both_ways false refl i)
+  target_named s e (Concat ts) b i = targets_named s e ts b i
+  target_named s e (Repeat m ts) b i = absurd (both_ways false refl i)
+  target_named s e (Cast signed t) b i = absurd (both_ways false refl i)
+  target_named s e (Paren t) b i = absurd (both_ways false refl i)
+
+  pub targets_named : (s : Names) (e : Environment) (ts : Trees) (b : Bit) → has_bit (targets_bits s e ts) b ≡ true → Named s b
+  targets_named s e End b i = absurd (both_ways false refl i)
+  targets_named s e (More t ts) b i =
+      elim (or_cases (has_bit (targets_bits s e ts) b) (has_bit (target_bits s e t) b) (sym (has_append (targets_bits s e ts) (target_bits s e t) b) ∙ i)) [
+        | inl j ↦ targets_named s e ts b j
+        | inr j ↦ target_named s e t b j
+      ]
+
+-- runs whose bits are there
+pieces_there : (n : ℕ) (ps : List Piece) → ((b : Bit) → has_bit (all_bits ps) b ≡ true → IsThere n b) → AllByRecursion (Fits n) ps
+unfolding all_bits
+pieces_there n [] h = tt
+pieces_there n (p ∷ ps) h = (
+  (λ b c. h b (has_append (all_bits ps) (bits_of p) b ∙ or_right (has_bit (all_bits ps) b) (has_bit (bits_of p) b) (sym (covers_in p b) ∙ c))),
+  pieces_there n ps (λ b c. h b (has_append (all_bits ps) (bits_of p) b ∙ or_left (has_bit (all_bits ps) b) (has_bit (bits_of p) b) c)),
+)
+
+pub target_fits : (s : Names) (n : ℕ) (e : Environment) (t : Tree) (ps : List Piece) → Holds s n → all_bits ps ≡ target_bits s e t → All (Fits n) ps
+target_fits s n e t ps h q = All-from_recursion (Fits n) ps (pieces_there n ps (λ b i. let r = target_named s e t b (ap (λ (bs : List (Option Bit)). has_bit bs b) (sym q) ∙ i) in name_there s n r.0 b h r.1))
+
+-- and that are no more than the target's width
+mutual
+  unfolding target_bits form
+
+  pub target_size : (s : Names) (e : Environment) (t : Tree) → length (target_bits s e t) ≤ (form s t).width
+  target_size s e (Name token name) = omega (arith, length_there (meant s name) (pos 0) (entity_shape (meant s name)).width)
+  target_size s e (Literal token n) = omega arith
+  target_size s e (BitSelect token name i) = omega arith
+  target_size s e (Part token name l r) = omega (arith, length_there (meant s name) (place (entity_range (meant s name)) (integer_with (form s r) (value s r nowhere))) (constant_span s l r))
+  target_size s e (Indexed token name x n up) = omega (arith, length_there (meant s name) (lowest_place (entity_range (meant s name)) up (integer_with (form s x) (value s x e)) (constant_count s n)) (constant_count s n))
+  target_size s e (Unary op t) = omega arith
+  target_size s e (Binary op l r) = omega arith
+  target_size s e (Cond a b c) = omega arith
+  target_size s e (Concat ts) = targets_size s e ts
+  target_size s e (Repeat n ts) = omega arith
+  target_size s e (Cast signed t) = omega arith
+  target_size s e (Paren t) = omega arith
+
+  pub targets_size : (s : Names) (e : Environment) (ts : Trees) → length (targets_bits s e ts) ≤ widths s ts
+  targets_size s e End = omega arith
+  targets_size s e (More t ts) = omega (arith, length-append (targets_bits s e ts) (target_bits s e t), target_size s e t, targets_size s e ts)
+
+pub target_few : (s : Names) (e : Environment) (t : Tree) (ps : List Piece) → shape_faults s t ≡ [] → all_bits ps ≡ target_bits s e t → length (all_bits ps) ≤ 128
+target_few s e t ps h q = omega (arith, ap length q, target_size s e t, shaped_small s t (clear s t h))
+
+-- the bits of no run, before those of a target
+pub no_pieces : (bs : List (Option Bit)) (ps : List Piece) → ps ≡ [] → bs ++ all_bits ps ≡ bs
+unfolding all_bits
+no_pieces bs ps h = rw h (append-nil bs)
+
+pub faultless : {X : Type 0} (o : Option X) (f : X) → o ≡ None → o ≡ Some f → ⊥
+faultless o f h k = cc

@@ -1,0 +1,7 @@
+pub mod Pieces
+pub mod Nodes
+pub mod Widths
+pub mod Labels
+pub mod Fitting
+pub mod Declaring
+pub mod Loops

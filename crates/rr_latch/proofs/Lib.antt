@@ -1,0 +1,10 @@
+pub mod Options
+pub mod Places
+pub mod Logs
+pub mod Scanning
+pub mod Shapes
+pub mod Knowing
+pub mod Labels
+pub mod Branching
+pub mod Keeping
+pub mod BlocksInTurn

@@ -1,0 +1,229 @@
+-- Loops over the bits of pieces.
+use Rattle.std.proofs.Common.{◌≡◌, ◌∙◌, sym, ap, ℕ, zero, suc, ◌+◌, ◌<◌, ◌≤◌, inl, inr, Bool, true, false, cond, not, ◌&&◌, ◌||◌, List, [], ◌∷◌, ◌++◌, length, get_or, take, drop, refl, arith, append-nil, length-drop, ◌-◌}
+use Rattle.std.proofs.lemmas.Bool.{or_cases}
+use Rattle.std.proofs.lemmas.List.{take_more, drop_all, take-append-drop, get_or-drop}
+use Rattle.rr_expr.specs.declared.types.Bit.{Bit}
+use Rattle.rr_flat.specs.Targets.{same_bit}
+use Rattle.rr_target.specs.declared.piece.Piece.{Piece}
+use Rattle.rr_target.specs.declared.writes.Write.{Write}
+use Rattle.rr_target.specs.Lists.{covered, Grown, may, must}
+use Rattle.rr_target.specs.Pieces.{covers}
+use Rattle.rr_target.proofs.Growing.{covered-push, may-push, must-push}
+use Rattle.rr_latch.specs.Paths.{listed, Logged}
+use Rattle.rr_latch.proofs.Places.{same_is, below, below_none, below_next, below_all, Ranged}
+use Rattle.rr_latch.proofs.Logs.{or_assoc, or_false, or_true, and_true, listed-append, logged_none, logged_both}
+
+pub take_all : {X : Type 0} (i : ℕ) (xs : List X) → length xs ≤ i → take i xs ≡ xs
+take_all i xs l = sym (append-nil (take i xs)) ∙ (ap (λ z. take i xs ++ z) (sym (drop_all i xs l)) ∙ take-append-drop i xs)
+
+abbrev pub Has : (Bit → Bool) → (Bit → Bool) → Type 0
+Has P f = (b : Bit) → P b ≡ true → f b ≡ true
+
+-- a test of each bit of a piece
+
+pub scan_none : (p : Piece) (low high : ℕ) (f : Bit → Bool) → Ranged p low high → Has (below p low) f
+scan_none p low high f r b h = let bad : false ≡ true = sym (below_none p low high r b) ∙ h in cc
+
+pub scan_next : (p : Piece) (low high place : ℕ) (f : Bit → Bool) → Ranged p low high → low ≤ place → place < high → Has (below p place) f
+    → f (record { signal = p.signal; place = place }) ≡ true → Has (below p (place + 1)) f
+scan_next p low high place f r l h s e b k =
+    let here : Bit = record { signal = p.signal; place = place } in
+    elim (or_cases (same_bit here b) (below p place b) (sym (below_next p low high place r l h b) ∙ k)) [
+      | inl t ↦ ap f (sym (same_is here b t)) ∙ e
+      | inr t ↦ s b t
+    ]
+
+pub scan_done : (p : Piece) (low high place : ℕ) (f : Bit → Bool) → Ranged p low high → high ≤ place → Has (below p place) f → Has (covers p) f
+scan_done p low high place f r l s b h = s b (below_all p low high place r l b ∙ h)
+
+-- the same of lists
+
+pub list_scanned : (ps : List Piece) (p : Piece) (f : Bit → Bool) → Has (covered ps) f → Has (covers p) f → Has (covered (ps ++ p ∷ [])) f
+list_scanned ps p f s t b h = elim (or_cases (covered ps b) (covers p b) (sym (covered-push ps p b) ∙ h)) [ inl k ↦ s b k | inr k ↦ t b k ]
+
+pub writes_scanned : (ws : List Write) (w : Write) (f : Bit → Bool) → Has (may ws) f → Has (covers w.piece) f → Has (may (ws ++ w ∷ [])) f
+writes_scanned ws w f s t b h = elim (or_cases (may ws b) (covers w.piece b) (sym (may-push ws w b) ∙ h)) [ inl k ↦ s b k | inr k ↦ t b k ]
+
+pub covered_at : (ps : List Piece) (i : ℕ) (d : Piece) (b : Bit) → i < length ps → covers (get_or ps i d) b ≡ true → covered ps b ≡ true
+unfolding covered
+covered_at [] i d b l h = absurd (omega arith)
+covered_at (q ∷ ps) zero d b l h = rw h refl
+covered_at (q ∷ ps) (suc i) d b l h = ap (λ z. covers q b || z) (covered_at ps i d b (omega arith) h) ∙ or_true (covers q b)
+
+pub may_at : (ws : List Write) (i : ℕ) (d : Write) (b : Bit) → i < length ws → covers (get_or ws i d).piece b ≡ true → may ws b ≡ true
+unfolding may
+may_at [] i d b l h = absurd (omega arith)
+may_at (q ∷ ws) zero d b l h = rw h refl
+may_at (q ∷ ws) (suc i) d b l h = ap (λ z. covers q.piece b || z) (may_at ws i d b (omega arith) h) ∙ or_true (covers q.piece b)
+
+-- bits that are assigned
+
+pub record Assigning (P : Bit → Bool) (old now : Bit → Bool) (start last : List Bit) : Type 0 where
+  pub set : (b : Bit) → now b ≡ (old b || P b)
+  pub log : Logged start last old now
+
+pub assigning_none : (P : Bit → Bool) (f : Bit → Bool) (log : List Bit) → ((b : Bit) → P b ≡ false) → Assigning P f f log log
+assigning_none P f log h = record { set = λ b. rw (h b) (sym (or_false (f b))); log = logged_none log f f (λ b. refl) }
+
+keeps : (P f g : Bit → Bool) → ((b : Bit) → g b ≡ (f b || P b)) → (b : Bit) → f b ≡ true → g b ≡ true
+keeps P f g h b e = h b ∙ ap (λ z. z || P b) e
+
+pub assigning_more : (P Q R : Bit → Bool) (f g h : Bit → Bool) (a b c : List Bit) → ((x : Bit) → R x ≡ (P x || Q x)) → Assigning P f g a b → ((x : Bit) → h x ≡ (g x || Q x)) → Logged b c g h
+    → Assigning R f h a c
+assigning_more P Q R f g h a b c e m s l = record {
+  set = λ x. s x ∙ (ap (λ z. z || Q x) (m.set x) ∙ (or_assoc (f x) (P x) (Q x) ∙ ap (λ z. f x || z) (sym (e x))));
+  log = logged_both a b c f g h m.log l (keeps P f g m.set) (keeps Q g h s);
+}
+
+pub assigning_same : (P Q : Bit → Bool) (f g : Bit → Bool) (a b : List Bit) → ((x : Bit) → Q x ≡ P x) → Assigning P f g a b → Assigning Q f g a b
+assigning_same P Q f g a b e m = record { set = λ x. m.set x ∙ ap (λ z. f x || z) (sym (e x)); log = m.log }
+
+or_swap : (a b : Bool) → (a || b) ≡ (b || a)
+or_swap true true = refl
+or_swap true false = refl
+or_swap false true = refl
+or_swap false false = refl
+
+-- the places of a piece in turn
+pub assigning_next : (p : Piece) (low high place : ℕ) (f g h : Bit → Bool) (a b c : List Bit) → Ranged p low high → low ≤ place → place < high → Assigning (below p place) f g a b
+    → ((x : Bit) → h x ≡ (g x || same_bit (record { signal = p.signal; place = place }) x)) → Logged b c g h → Assigning (below p (place + 1)) f h a c
+assigning_next p low high place f g h a b c r l k m s t =
+    assigning_more (below p place) (same_bit (record { signal = p.signal; place = place })) (below p (place + 1)) f g h a b c
+    (λ x. below_next p low high place r l k x ∙ or_swap (same_bit (record { signal = p.signal; place = place }) x) (below p place x)) m s t
+
+-- the certain writes in turn
+pub must_next : (ws : List Write) (w : Write) (f g h : Bit → Bool) (a b c : List Bit) → w.certain ≡ true → Assigning (must ws) f g a b → ((x : Bit) → h x ≡ (g x || covers w.piece x)) → Logged b c g h
+    → Assigning (must (ws ++ w ∷ [])) f h a c
+must_next ws w f g h a b c e m s t =
+    assigning_more (must ws) (covers w.piece) (must (ws ++ w ∷ [])) f g h a b c (λ x. must-push ws w x ∙ ap (λ z. must ws x || (z && covers w.piece x)) e) m s t
+
+pub must_skip : (ws : List Write) (w : Write) (f g : Bit → Bool) (a b : List Bit) → w.certain ≡ false → Assigning (must ws) f g a b → Assigning (must (ws ++ w ∷ [])) f g a b
+must_skip ws w f g a b e m =
+    assigning_same (must ws) (must (ws ++ w ∷ [])) f g a b (λ x. must-push ws w x ∙ (ap (λ z. must ws x || (z && covers w.piece x)) e ∙ or_false (must ws x))) m
+
+-- the bits of a list in turn
+pub listed_next : (bs : List Bit) (x : Bit) (f g h : Bit → Bool) (a b c : List Bit) → Assigning (listed bs) f g a b → ((y : Bit) → h y ≡ (g y || same_bit x y)) → Logged b c g h
+    → Assigning (listed (bs ++ x ∷ [])) f h a c
+unfolding listed
+listed_next bs x f g h a b c m s t =
+    assigning_more (listed bs) (same_bit x) (listed (bs ++ x ∷ [])) f g h a b c (λ y. listed-append bs (x ∷ []) y ∙ ap (λ z. listed bs y || z) (or_false (same_bit x y))) m s t
+
+-- a bit is taken back
+
+and_assoc : (a b c : Bool) → ((a && b) && c) ≡ (a && (b && c))
+and_assoc true b c = refl
+and_assoc false b c = refl
+
+pub undo_none : (xs : List Bit) (n : ℕ) (f : Bit → Bool) (b : Bit) → f b ≡ (f b && not (listed (take (n - n) (drop n xs)) b))
+unfolding listed
+undo_none xs n f b =
+    let z : n - n ≡ 0 = omega arith in
+    let e : listed (take (n - n) (drop n xs)) b ≡ false = ap (λ k. listed (take k (drop n xs)) b) z ∙ ap (λ k. listed k b) (no_take (drop n xs)) in
+    sym (ap (λ k. f b && not k) e ∙ and_true (f b))
+  where
+    no_take : (ys : List Bit) → take 0 ys ≡ []
+    no_take [] = refl
+    no_take (y ∷ ys) = refl
+
+pub undo_more : (xs : List Bit) (start at : ℕ) (x : Bit) (f g h : Bit → Bool) → start ≤ at → at < length xs → x ≡ get_or xs at x → ((b : Bit) → g b ≡ (f b && not (listed (take (at - start) (drop start xs)) b)))
+    → ((b : Bit) → h b ≡ cond (same_bit x b) false (g b)) → (b : Bit) → h b ≡ (f b && not (listed (take ((at + 1) - start) (drop start xs)) b))
+unfolding listed
+undo_more xs start at x f g h l m here e k b =
+    let n : (at + 1) - start ≡ (at - start) + 1 = omega arith in
+    let long : at - start < length (drop start xs) = omega (arith, length-drop start xs) in
+    let place : start + (at - start) ≡ at = omega arith in
+    let y : get_or (drop start xs) (at - start) x ≡ x = get_or-drop start xs (at - start) x ∙ (ap (λ z. get_or xs z x) place ∙ sym here) in
+    let t : take ((at + 1) - start) (drop start xs) ≡ take (at - start) (drop start xs) ++ x ∷ [] =
+    ap (λ z. take z (drop start xs)) n ∙ (take_more (drop start xs) (at - start) x long ∙ ap (λ z. take (at - start) (drop start xs) ++ z ∷ []) y) in
+    let q : listed (take ((at + 1) - start) (drop start xs)) b ≡ (listed (take (at - start) (drop start xs)) b || (same_bit x b || false)) =
+    ap (λ z. listed z b) t ∙ listed-append (take (at - start) (drop start xs)) (x ∷ []) b in
+    k b ∙ (ap (λ z. cond (same_bit x b) false z) (e b) ∙ (go (same_bit x b) (f b) (listed (take (at - start) (drop start xs)) b) ∙ sym (ap (λ z. f b && not z) q)))
+  where
+    go : (s y o : Bool) → cond s false (y && not o) ≡ (y && not (o || (s || false)))
+    go true true true = refl
+    go true true false = refl
+    go true false o = refl
+    go false true true = refl
+    go false true false = refl
+    go false false o = refl
+
+pub undo_done : (xs : List Bit) (start at : ℕ) (f g : Bit → Bool) → length xs ≤ at → start ≤ length xs → ((b : Bit) → g b ≡ (f b && not (listed (take (at - start) (drop start xs)) b)))
+    → (b : Bit) → g b ≡ (f b && not (listed (drop start xs) b))
+undo_done xs start at f g l m e b =
+    let long : length (drop start xs) ≤ at - start = omega (arith, length-drop start xs) in
+    e b ∙ ap (λ z. f b && not (listed z b)) (take_all (at - start) (drop start xs) long)
+
+-- the bits of a list that are assigned
+
+pub kept_more : (xs kept more : List Bit) (i : ℕ) (d : Bit) (f : Bit → Bool) → i < length xs → ((b : Bit) → listed kept b ≡ (listed (take i xs) b && f b)) → f (get_or xs i d) ≡ true → more ≡ kept ++ get_or xs i d ∷ []
+    → (b : Bit) → listed more b ≡ (listed (take (i + 1) xs) b && f b)
+unfolding listed
+kept_more xs kept more i d f l e t m b =
+    let x = get_or xs i d in
+    ap (λ z. listed z b) m ∙ (listed-append kept (x ∷ []) b ∙ (ap (λ z. z || (same_bit x b || false)) (e b)
+    ∙ (go (same_bit x b) refl ∙ sym (ap (λ z. listed z b && f b) (take_more xs i d l) ∙ ap (λ z. z && f b) (listed-append (take i xs) (x ∷ []) b)))))
+  where
+    go : (s : Bool) → same_bit (get_or xs i d) b ≡ s → ((listed (take i xs) b && f b) || (s || false)) ≡ ((listed (take i xs) b || (s || false)) && f b)
+    go true h = let q : f b ≡ true = ap f (sym (same_is (get_or xs i d) b h)) ∙ t in rw q (here (listed (take i xs) b))
+      where
+        here : (o : Bool) → ((o && true) || true) ≡ ((o || true) && true)
+        here true = refl
+        here false = refl
+    go false h = there (listed (take i xs) b) (f b)
+      where
+        there : (o y : Bool) → ((o && y) || false) ≡ ((o || false) && y)
+        there true true = refl
+        there true false = refl
+        there false y = refl
+
+pub kept_less : (xs kept : List Bit) (i : ℕ) (d : Bit) (f : Bit → Bool) → i < length xs → ((b : Bit) → listed kept b ≡ (listed (take i xs) b && f b)) → f (get_or xs i d) ≡ false
+    → (b : Bit) → listed kept b ≡ (listed (take (i + 1) xs) b && f b)
+unfolding listed
+kept_less xs kept i d f l e t b =
+    let x = get_or xs i d in
+    e b ∙ (go (same_bit x b) refl ∙ sym (ap (λ z. listed z b && f b) (take_more xs i d l) ∙ ap (λ z. z && f b) (listed-append (take i xs) (x ∷ []) b)))
+  where
+    go : (s : Bool) → same_bit (get_or xs i d) b ≡ s → (listed (take i xs) b && f b) ≡ ((listed (take i xs) b || (s || false)) && f b)
+    go true h = let q : f b ≡ false = ap f (sym (same_is (get_or xs i d) b h)) ∙ t in rw q (here (listed (take i xs) b))
+      where
+        here : (o : Bool) → (o && false) ≡ ((o || true) && false)
+        here true = refl
+        here false = refl
+    go false h = ap (λ z. z && f b) (sym (or_false (listed (take i xs) b)))
+
+-- a list that began empty has only the bits that were added
+
+pub only_grown : (old new : List Piece) (P : Bit → Type 0) → old ≡ [] → Grown old new P → (b : Bit) → covered new b ≡ true → P b
+unfolding covered
+only_grown old new P e g b h = elim (g.only b h) [
+  | inl k ↦ let bad : covered [] b ≡ true = ap (λ z. covered z b) (sym e) ∙ k in cc
+  | inr k ↦ k
+]
+
+-- the written bits lose their values
+
+and_both : (s t u : Bool) → ((s && not t) && not u) ≡ (s && not (t || u))
+and_both true true u = refl
+and_both true false u = refl
+and_both false t u = refl
+
+pub lost_more : (ws : List Write) (w : Write) (f g h : Bit → Bool) → ((b : Bit) → g b ≡ (f b && not (may ws b))) → ((b : Bit) → h b ≡ (g b && not (covers w.piece b))) → (b : Bit) → h b ≡ (f b && not (may (ws ++ w ∷ []) b))
+lost_more ws w f g h e k b =
+    k b ∙ (ap (λ z. z && not (covers w.piece b)) (e b) ∙ (and_both (f b) (may ws b) (covers w.piece b) ∙ sym (ap (λ z. f b && not z) (may-push ws w b))))
+
+pub lost_next : (p : Piece) (low high place : ℕ) (f g h : Bit → Bool) → Ranged p low high → low ≤ place → place < high → ((b : Bit) → g b ≡ (f b && not (below p place b)))
+    → ((b : Bit) → h b ≡ cond (same_bit (record { signal = p.signal; place = place }) b) false (g b)) → (b : Bit) → h b ≡ (f b && not (below p (place + 1) b))
+lost_next p low high place f g h r l m e k b =
+    let here : Bit = record { signal = p.signal; place = place } in
+    k b ∙ (ap (λ z. cond (same_bit here b) false z) (e b) ∙ (go (same_bit here b) (f b) (below p place b) ∙ sym (ap (λ z. f b && not z) (below_next p low high place r l m b))))
+  where
+    go : (s y o : Bool) → cond s false (y && not o) ≡ (y && not (s || o))
+    go true true o = refl
+    go true false o = refl
+    go false y o = refl
+
+pub lost_none : (p : Piece) (low high : ℕ) (f : Bit → Bool) → Ranged p low high → (b : Bit) → f b ≡ (f b && not (below p low b))
+lost_none p low high f r b = sym (ap (λ z. f b && not z) (below_none p low high r b) ∙ and_true (f b))
+
+pub lost_done : (p : Piece) (low high place : ℕ) (f g : Bit → Bool) → Ranged p low high → high ≤ place → ((b : Bit) → g b ≡ (f b && not (below p place b))) → (b : Bit) → g b ≡ (f b && not (covers p b))
+lost_done p low high place f g r l e b = e b ∙ ap (λ z. f b && not z) (below_all p low high place r l b)

@@ -1,0 +1,7 @@
+use Rattle.rr_latch.specs.Paths.{assigned}
+use Rattle.rr_latch.proofs.Places.{below}
+use Rattle.rr_latch.proofs.Scanning.{Has}
+use Rattle.rr_latch.proofs.paths.unassigned_at.Given as goal
+
+abbrev pub invariant-loop-place : goal.invariant-loop-place
+invariant-loop-place l = Has (below l.piece l.place) (assigned l.table)

@@ -1,0 +1,2 @@
+pub mod Unassigned
+pub mod Paths

@@ -1,9 +1,0 @@
-use Rattle.std.proofs.Common.{◌≡◌, drop}
-use Rattle.std.specs.Prelude.{flat_map}
-use Rattle.rr_flat.specs.View.{plain_flat}
-use Rattle.rr_lawful.specs.Labels.{wild_of_part, all_wild}
-use Rattle.rr_lawful.specs.Firsts.{earliest}
-use Rattle.rr_lawful.proofs.labels.first_wild_label.Given as goal
-
-abbrev pub invariant-loop-part : goal.invariant-loop-part
-invariant-loop-part l = earliest (flat_map (wild_of_part (plain_flat l.flat)) (drop l.part-index l.walk)) ≡ earliest (all_wild (plain_flat l.flat))

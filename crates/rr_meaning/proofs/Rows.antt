@@ -1,0 +1,215 @@
+-- rows of inputs over the bits of registers
+use Rattle.std.proofs.Common.{◌≡◌, ◌∙◌, sym, ap, ℕ, suc, ◌+◌, ◌<◌, ◌≤◌, ◌^◌, Bool, true, false, cond, ◌&&◌, ◌||◌, List, [], ◌∷◌, length, drop, drop-cons, get_or, set, replicate, nat_eq, nat_lt, Option, refl, arith, ◌⊎◌, inl, inr}
+use mathlib.Core.Path.{fun_ext}
+use Rattle.std.proofs.lemmas.Bool.{cases_Bool, cases_eq, cases_lt, both_ways, or_cases, eqb-true, eq-eqb, ne_eqb, lt-ltb, le-ltb}
+use Rattle.std.proofs.lemmas.List.{get_or_past, get_or-replicate, length-replicate}
+use Rattle.std.specs.Int.RustNames.{bit_and}
+use Rattle.rr_bits.specs.Words.{word}
+use Rattle.rr_bits.proofs.Places.{has_above, has_and, has_zero, get_word, get_past}
+use Rattle.rr_expr.specs.declared.types.Bit.{Bit}
+use Rattle.rr_expr.specs.Scopes.{env_of}
+use Rattle.rr_head.specs.Plain.{signal_at}
+use Rattle.rr_flat.specs.Plain.{Block, Flat}
+use Rattle.rr_flat.specs.Writers.{Clocked, Writer, Writes, block_at, writes_at_all}
+use Rattle.rr_cycle.specs.Cycles.{IsInputBit, given, is_clock, row_inputs, tail, zeros}
+use Rattle.rr_cycle.specs.Exec.{Environment}
+use Rattle.rr_cycle.specs.Performing.{any_is, any_writes, base}
+use Rattle.rr_cycle.proofs.Writes.{missed}
+use Rattle.rr_exec.proofs.Pieces.{env_set}
+use Rattle.rr_meaning.specs.Calls.{IsRow}
+use Rattle.rr_meaning.specs.Work.{given_over, masked}
+
+-- a number that is not there
+
+past_values : (values : List ℕ) (b : Bit) → length values ≤ b.signal → env_of values b ≡ false
+past_values values b l = ap (λ (n : ℕ). get_or (word 128 n) b.place false) (get_or_past values b.signal 0 l) ∙ zero_bit b.place
+  where
+    zero_bit : (p : ℕ) → get_or (word 128 0) p false ≡ false
+    zero_bit p = elim (cases_lt p 128) [ inl l ↦ get_word 128 0 p false l ∙ has_zero p | inr l ↦ get_past 128 0 p false l ]
+
+pub zeros_are : (values : List ℕ) → ((i : ℕ) → get_or values i 0 ≡ 0) → env_of values ≡ zeros
+zeros_are values h = fun_ext (λ b. ap (λ (n : ℕ). get_or (word 128 n) b.place false) (h b.signal) ∙ zero_bit b.place)
+  where
+    zero_bit : (p : ℕ) → get_or (word 128 0) p false ≡ false
+    zero_bit p = elim (cases_lt p 128) [ inl l ↦ get_word 128 0 p false l ∙ has_zero p | inr l ↦ get_past 128 0 p false l ]
+
+-- masks
+
+and_bit : (m n p : ℕ) → get_or (word 128 (bit_and m n)) p false ≡ (get_or (word 128 m) p false && get_or (word 128 n) p false)
+and_bit m n p = elim (cases_lt p 128) [
+  | inl l ↦ rw (get_word 128 m p false l, get_word 128 n p false l) (get_word 128 (bit_and m n) p false l ∙ has_and m n p)
+  | inr l ↦ rw (get_past 128 m p false l) (get_past 128 (bit_and m n) p false l)
+]
+
+and_turn : (x y : Bool) → (x && y) ≡ (y && x)
+and_turn true true = refl
+and_turn true false = refl
+and_turn false true = refl
+and_turn false false = refl
+
+-- the values below a place are masked
+abbrev pub Masked : List ℕ → Environment → ℕ → Environment → Type 0
+Masked masks e n f = (b : Bit) → f b ≡ cond (nat_lt b.signal n) (masked masks e b) (e b)
+
+pub mask_none : (masks : List ℕ) (e : Environment) → Masked masks e 0 e
+mask_none masks e b = rw (le-ltb b.signal 0 (omega arith)) refl
+
+pub mask_more : (masks values : List ℕ) (e : Environment) (n : ℕ) → n < length values → Masked masks e n (env_of values) → Masked masks e (n + 1) (env_of (set values n (bit_and (get_or values n 0) (get_or masks n 0))))
+mask_more masks values e n l h b = env_set values n (bit_and (get_or values n 0) (get_or masks n 0)) b l ∙ by (cases_eq n b.signal)
+  where
+    by : ((n ≡ b.signal) ⊎ (n ≡ b.signal → ⊥)) → cond (nat_eq n b.signal) (get_or (word 128 (bit_and (get_or values n 0) (get_or masks n 0))) b.place false) (env_of values b) ≡ cond (nat_lt b.signal (n + 1)) (masked masks e b) (e b)
+    by (inl q) =
+        let u : b.signal < n + 1 = omega arith in
+        let v : n ≤ b.signal = omega arith in
+        let old : env_of values b ≡ e b = rw (le-ltb b.signal n v) at (h b) in
+        rw (eq-eqb n b.signal q, lt-ltb b.signal (n + 1) u)
+        (and_bit (get_or values n 0) (get_or masks n 0) b.place
+        ∙ ap (λ (k : ℕ). get_or (word 128 (get_or values k 0)) b.place false && get_or (word 128 (get_or masks k 0)) b.place false) q
+        ∙ and_turn (env_of values b) (env_of masks b)
+        ∙ ap (λ (x : Bool). env_of masks b && x) old)
+    by (inr q) = rw (ne_eqb n b.signal q) (h b ∙ ap (λ (x : Bool). cond x (masked masks e b) (e b)) (same (cases_lt b.signal n)))
+      where
+        same : ((b.signal < n) ⊎ (n ≤ b.signal)) → nat_lt b.signal n ≡ nat_lt b.signal (n + 1)
+        same (inl l) = let m : b.signal < n + 1 = omega arith in rw (lt-ltb b.signal n l, lt-ltb b.signal (n + 1) m) refl
+        same (inr l) = let m : n + 1 ≤ b.signal = omega (arith, q) in rw (le-ltb b.signal n l, le-ltb b.signal (n + 1) m) refl
+
+pub mask_all : (masks values : List ℕ) (n : ℕ) (f : Environment) → length values ≤ n → Masked masks (env_of values) n f → f ≡ masked masks (env_of values)
+mask_all masks values n f l h = fun_ext (λ b. h b ∙ by b (cases_lt b.signal n))
+  where
+    and_false : (x y : Bool) → y ≡ false → y ≡ (x && y)
+    and_false true y h = refl
+    and_false false y h = h
+
+    by : (b : Bit) → ((b.signal < n) ⊎ (n ≤ b.signal)) → cond (nat_lt b.signal n) (masked masks (env_of values) b) (env_of values b) ≡ masked masks (env_of values) b
+    by b (inl u) = rw (lt-ltb b.signal n u) refl
+    by b (inr u) = rw (le-ltb b.signal n u) (and_false (env_of masks b) (env_of values b) (past_values values b (omega arith)))
+
+-- the numbers of a row, from the last one on
+
+pub give_none : (ids row : List ℕ) (e : Environment) → length row ≡ length ids → e ≡ given_over (drop (length ids) ids) (drop (length ids) row) e
+unfolding given_over
+give_none [] row e l = refl
+give_none (id ∷ ids) [] e l = absurd (omega arith)
+give_none (id ∷ ids) (n ∷ row) e l = give_none ids row e (omega arith)
+
+pub give_more : (ids row : List ℕ) (i j id n : ℕ) (values : List ℕ) (e : Environment) → i < length ids → i < length row → id ≡ get_or ids i 0 → n ≡ get_or row i 0 → j ≡ i + 1 → id < length values →
+    env_of values ≡ given_over (drop j ids) (drop j row) e → env_of (set values id n) ≡ given_over (drop i ids) (drop i row) e
+unfolding given_over
+give_more ids row i j id n values e l m p q r in' h =
+    let s : suc i ≡ j = omega arith in
+    let x : drop i ids ≡ id ∷ drop j ids = drop-cons ids i 0 l ∙ ap (λ (k : ℕ). k ∷ drop (suc i) ids) (sym p) ∙ ap (λ (k : ℕ). id ∷ drop k ids) s in
+    let y : drop i row ≡ n ∷ drop j row = drop-cons row i 0 m ∙ ap (λ (k : ℕ). k ∷ drop (suc i) row) (sym q) ∙ ap (λ (k : ℕ). n ∷ drop k row) s in
+    fun_ext (λ b. env_set values id n b in' ∙ ap (λ (f : Environment). cond (nat_eq id b.signal) (get_or (word 128 n) b.place false) (f b)) h)
+    ∙ ap (λ (us : List ℕ). given_over us (n ∷ drop j row) e) (sym x) ∙ ap (λ (us : List ℕ). given_over (drop i ids) us e) (sym y)
+
+-- the first environment of the steps
+
+over_is : (ids row : List ℕ) (e : Environment) (b : Bit) → given_over ids row e b ≡ cond (any_is ids b.signal) (given ids row b) (e b)
+unfolding given_over given any_is
+over_is [] row e b = refl
+over_is (id ∷ ids) row e b = elim (cases_Bool (nat_eq id b.signal)) [
+  | inl t ↦ rw t refl
+  | inr t ↦ rw t (over_is ids (tail row) e b)
+]
+
+not_given : (ids row : List ℕ) (b : Bit) → any_is ids b.signal ≡ false → given ids row b ≡ false
+unfolding given any_is
+not_given [] row b h = refl
+not_given (id ∷ ids) row b h = elim (cases_Bool (nat_eq id b.signal)) [
+  | inl t ↦ absurd (both_ways true (rw t at h) refl)
+  | inr t ↦ rw t (not_given ids (tail row) b (rw t at h))
+]
+
+given_narrow : (w : ℕ → ℕ) (ids row : List ℕ) (b : Bit) → length row ≡ length ids → ((k : ℕ) → k < length row → get_or row k 0 < 2 ^ w (get_or ids k 0)) → w b.signal ≤ b.place → given ids row b ≡ false
+unfolding given
+given_narrow w [] row b l h u = refl
+given_narrow w (id ∷ ids) [] b l h u = absurd (omega arith)
+given_narrow w (id ∷ ids) (n ∷ row) b l h u = by (cases_eq id b.signal) (given_narrow w ids row b (omega arith) (λ k m. h (suc k) (omega arith)) u)
+  where
+    small : id ≡ b.signal → get_or (word 128 n) b.place false ≡ false
+    small q = elim (cases_lt b.place 128) [
+      | inl m ↦ get_word 128 n b.place false m ∙ has_above n (w id) b.place (h 0 (omega arith)) (omega (arith, ap w q))
+      | inr m ↦ get_past 128 n b.place false m
+    ]
+
+    by : ((id ≡ b.signal) ⊎ (id ≡ b.signal → ⊥)) → given ids row b ≡ false → cond (nat_eq id b.signal) (get_or (word 128 n) b.place false) (given ids row b) ≡ false
+    by (inl q) r = rw (eq-eqb id b.signal q) (small q)
+    by (inr q) r = rw (ne_eqb id b.signal q) r
+
+all_inputs : (clock : Option ℕ) (ids : List ℕ) (n : ℕ) → any_is (row_inputs clock ids) n ≡ true → any_is ids n ≡ true
+unfolding any_is row_inputs
+all_inputs clock [] n h = h
+all_inputs clock (id ∷ ids) n h = by (is_clock clock id) (all_inputs clock ids n) h
+  where
+    right : (x y : Bool) → y ≡ true → (x || y) ≡ true
+    right true y h = refl
+    right false y h = h
+
+    by : (c : Bool) → (any_is (row_inputs clock ids) n ≡ true → any_is ids n ≡ true) → any_is (cond c (row_inputs clock ids) (id ∷ row_inputs clock ids)) n ≡ true → (nat_eq id n || any_is ids n) ≡ true
+    by true r h = right (nat_eq id n) (any_is ids n) (r h)
+    by false r h = elim (or_cases (nat_eq id n) (any_is (row_inputs clock ids) n) h) [
+      | inl t ↦ rw t refl
+      | inr t ↦ right (nat_eq id n) (any_is ids n) (r t)
+    ]
+
+input_at : (ids : List ℕ) (n : ℕ) → any_is ids n ≡ true → (k : ℕ) × ((k < length ids) × (get_or ids k 0 ≡ n))
+unfolding any_is
+input_at [] n h = absurd (both_ways false refl h)
+input_at (m ∷ ms) n h = elim (or_cases (nat_eq m n) (any_is ms n) h) [
+  | inl i ↦ (0, (omega arith, eqb-true m n i))
+  | inr i ↦ let r = input_at ms n i in (suc r.0, (omega (arith, r.1.0), r.1.1))
+]
+
+pub base_made : (flat : Flat) (clock : Option ℕ) (row masks values : List ℕ) → ((b : Bit) → env_of masks b ≡ any_writes flat flat.clocked b) → IsRow flat clock row →
+    ((b : Bit) → IsInputBit flat b → any_writes flat flat.clocked b ≡ false) → ((b : Bit) → any_writes flat flat.clocked b ≡ true → b.place < (signal_at flat.signals b.signal).width) →
+    given_over (row_inputs clock flat.inputs) row (masked masks (env_of values)) ≡ base flat clock (env_of values) row
+unfolding base
+base_made flat clock row masks values reg is free narrow = fun_ext (λ b.
+    over_is (row_inputs clock flat.inputs) row (masked masks (env_of values)) b
+    ∙ ap (λ (x : Bool). cond (any_is (row_inputs clock flat.inputs) b.signal) (given (row_inputs clock flat.inputs) row b) (x && env_of values b)) (reg b)
+    ∙ by b (any_writes flat flat.clocked b) refl (any_is (row_inputs clock flat.inputs) b.signal) refl (cases_lt b.place (signal_at flat.signals b.signal).width))
+  where
+    input : (b : Bit) → any_is (row_inputs clock flat.inputs) b.signal ≡ true → b.place < (signal_at flat.signals b.signal).width → IsInputBit flat b
+    input b h l = (input_at flat.inputs b.signal (all_inputs clock flat.inputs b.signal h), l)
+
+    by : (b : Bit) (w : Bool) → any_writes flat flat.clocked b ≡ w → (i : Bool) → any_is (row_inputs clock flat.inputs) b.signal ≡ i →
+        ((b.place < (signal_at flat.signals b.signal).width) ⊎ ((signal_at flat.signals b.signal).width ≤ b.place)) →
+        cond i (given (row_inputs clock flat.inputs) row b) (w && env_of values b)
+        ≡ cond w (env_of values b) (cond (any_is flat.inputs b.signal && nat_lt b.place (signal_at flat.signals b.signal).width) (given (row_inputs clock flat.inputs) row b) false)
+    by b true h true k l = absurd (both_ways (any_writes flat flat.clocked b) (free b (input b k (narrow b h))) h)
+    by b true h false k l = refl
+    by b false h true k (inl l) = rw (all_inputs clock flat.inputs b.signal k, lt-ltb b.place (signal_at flat.signals b.signal).width l) refl
+    by b false h true k (inr l) =
+        let g : given (row_inputs clock flat.inputs) row b ≡ false = given_narrow (λ n. (signal_at flat.signals n).width) (row_inputs clock flat.inputs) row b is.count is.within l in
+        rw g (none (any_is flat.inputs b.signal && nat_lt b.place (signal_at flat.signals b.signal).width))
+      where
+        none : (x : Bool) → false ≡ cond x false false
+        none true = refl
+        none false = refl
+    by b false h false k l =
+        let g : given (row_inputs clock flat.inputs) row b ≡ false = not_given (row_inputs clock flat.inputs) row b k in
+        rw g (none (any_is flat.inputs b.signal && nat_lt b.place (signal_at flat.signals b.signal).width))
+      where
+        none : (x : Bool) → false ≡ cond x false false
+        none true = refl
+        none false = refl
+
+pub zeros_made : (n : ℕ) (values : List ℕ) → values ≡ replicate n 0 → env_of values ≡ zeros
+zeros_made n values h = zeros_are values (λ i. ap (λ (xs : List ℕ). get_or xs i 0) h ∙ zero i (cases_lt i n))
+  where
+    zero : (i : ℕ) → ((i < n) ⊎ (n ≤ i)) → ◌≡◌ {A = ℕ} (get_or (replicate n 0) i 0) 0
+    zero i (inl l) = get_or-replicate n i 0 0 l
+    zero i (inr l) = get_or_past (replicate n 0) i 0 (omega (arith, length-replicate {A = ℕ} n 0))
+
+-- what nothing writes, no clocked block writes
+any_at : (flat : Flat) (blocks : List Block) (b : Bit) → any_writes flat blocks b ≡ true → (k : ℕ) × ((k < length blocks) × (writes_at_all flat (block_at blocks k) b ≡ true))
+unfolding any_writes
+any_at flat [] b h = absurd (both_ways false refl h)
+any_at flat (x ∷ xs) b h = elim (or_cases (writes_at_all flat x b) (any_writes flat xs b) h) [
+  | inl i ↦ (0, (omega arith, i))
+  | inr i ↦ let r = any_at flat xs b i in (suc r.0, (omega (arith, r.1.0), r.1.1))
+]
+
+pub inputs_unwritten : (flat : Flat) → ((b : Bit) → IsInputBit flat b → (x : Writer) → Writes flat x b → ⊥) → (b : Bit) → IsInputBit flat b → any_writes flat flat.clocked b ≡ false
+unfolding Writes
+inputs_unwritten flat free b i = missed (any_writes flat flat.clocked b) (λ t. let r = any_at flat flat.clocked b t in free b i (Clocked r.0) r.1)

@@ -1,0 +1,308 @@
+//! Settled environments, the clock edge, and runs.
+ghost use Rattle.std.specs.Prelude.{◌≡◌, ◌≤◌, ◌<◌, ◌∷◌, ◌++◌, ◌&&◌, [], ℕ, All, IfOk, OnOk, cond, false, true, length, map, List};
+ghost use Rattle.rr_expr.specs.Scopes.{env_of};
+ghost use Rattle.rr_expr.specs.declared.types.Bit.{Bit as FlatBit};
+ghost use Rattle.rr_head.specs.Plain.{signal_at};
+ghost use Rattle.rr_flat.specs.Ordered.{IsStep};
+ghost use Rattle.rr_flat.specs.View.{plain_flat};
+ghost use Rattle.rr_cycle.specs.Cycles.{IsNext, Run, Settled, is_clock as is_clock_of, outputs_of, row_inputs as inputs_but, zeros as zeros_of};
+ghost use Rattle.rr_cycle.specs.Exec.{Environment, applied};
+ghost use Rattle.rr_cycle.specs.Performing.{any_writes, base, performed, run_blocks, updates_of_blocks};
+ghost use Rattle.rr_cycle.specs.Designs.{IsElaborated, IsInOrder, IsLawful};
+ghost use Rattle.rr_meaning.specs.Calls.{IsRow};
+ghost use Rattle.rr_exec.specs.Work.{IsLater, updates_in};
+ghost use Rattle.rr_meaning.specs.Work.{given_over, masked, row_items};
+
+use crate::registers::registers;
+use crate::steps::{perform, signal_value};
+use rr_exec::{Machine, apply, execute};
+use rr_expr::Env;
+use rr_flat::{Flat, Order, Step};
+use std::alloc::{AllocError, Global};
+
+/// A machine on an environment, with nothing that waits.
+fn machine_on(alloc: Global, env: Env) -> Machine
+    ensures env { result.env ≡ env }
+    ensures later { result.later.items ≡ [] }
+    ensures none { result.none.values.items ≡ [] }
+{
+    Machine {
+        env,
+        later: Vec::new(alloc),
+        pieces: Vec::new(alloc),
+        none: Env {
+            values: Vec::new(alloc),
+        },
+    }
+}
+
+fn push_number(list: &mut Vec<u32>, number: u32) -> Result<(), AllocError>
+    ensures { OnOk result (list.new.items ≡ list.old.items ++ number ∷ []) }
+{
+    list.push(number)?;
+    Ok(())
+}
+
+fn is_clock(clock: Option<u32>, id: u32) -> bool
+    ensures { result ≡ is_clock_of clock id }
+{
+    match clock {
+        Some(clock) => clock == id,
+        None => false,
+    }
+}
+
+/// A top input after the others, where it is not the clock.
+fn add_input(list: &mut Vec<u32>, clock: Option<u32>, id: u32) -> Result<(), AllocError>
+    ensures { OnOk result (list.new.items ≡ cond (is_clock_of clock id) list.old.items (list.old.items ++ id ∷ [])) }
+{
+    if is_clock(clock, id) {
+        Ok(())
+    } else {
+        push_number(list, id)
+    }
+}
+
+/// The top inputs but the clock, in port order.
+pub(crate) fn row_inputs(
+    alloc: Global,
+    flat: &Flat,
+    clock: Option<u32>,
+) -> Result<Vec<u32>, AllocError>
+    ensures value { IfOk result (λ r. r.items ≡ inputs_but clock flat.now.inputs) }
+    ensures inside { IfOk result (λ r. All (λ id. id < length flat.now.signals) r.items) }
+{
+    let mut inputs = Vec::new(alloc);
+    for id in flat.inputs.iter() {
+        add_input(&mut inputs, clock, *id)?;
+    }
+    Ok(inputs)
+}
+
+/// Each value keeps the bits of its mask alone.
+fn mask(values: &mut Vec<u128>, masks: &[u128])
+    requires { length masks.now ≡ length values.old.items }
+    ensures env { env_of values.new.items ≡ masked masks.now (env_of values.old.items) }
+    ensures count { length values.new.items ≡ length values.old.items }
+{
+    for place in 0..values.len() {
+        values[place] = values[place] & masks[place];
+    }
+}
+
+/// The inputs take the numbers of a row; of two for one signal the first counts.
+fn give(values: &mut Vec<u128>, inputs: &[u32], row: &[u128])
+    requires count { length row.now ≡ length inputs.now }
+    requires inside { All (λ id. id < length values.old.items) inputs.now }
+    ensures env { env_of values.new.items ≡ given_over inputs.now row.now (env_of values.old.items) }
+    ensures count { length values.new.items ≡ length values.old.items }
+{
+    let mut left = inputs.len();
+    while left > 0 {
+        left -= 1;
+        values[inputs[left] as usize] = row[left];
+    }
+}
+
+/// Performs the steps in order.
+fn perform_all(flat: &Flat, steps: &[Step], machine: &mut Machine) -> Result<(), AllocError>
+    requires steps { All (IsStep (plain_flat flat.now)) steps.now }
+    requires count { length machine.old.env.values.items ≡ length flat.now.signals }
+    requires fits { All (IsLater (length flat.now.signals)) machine.old.later.items }
+    requires none { machine.old.none.values.items ≡ [] }
+    ensures env { OnOk result (env_of machine.new.env.values.items ≡ performed (plain_flat flat.now) steps.now (env_of machine.old.env.values.items)) }
+    ensures count { OnOk result (length machine.new.env.values.items ≡ length flat.now.signals) }
+    ensures fits { OnOk result (All (IsLater (length flat.now.signals)) machine.new.later.items) }
+    ensures none { OnOk result (machine.new.none ≡ machine.old.none) }
+{
+    for step in steps.iter() {
+        perform(flat, *step, machine)?;
+    }
+    Ok(())
+}
+
+/// Runs the clocked blocks one after the other: in a lawful design none reads what another writes at once.
+fn run_all(flat: &Flat, machine: &mut Machine) -> Result<(), AllocError>
+    requires count { length machine.old.env.values.items ≡ length flat.now.signals }
+    requires fits { All (IsLater (length flat.now.signals)) machine.old.later.items }
+    ensures env { OnOk result (env_of machine.new.env.values.items ≡ run_blocks (plain_flat flat.now) (plain_flat flat.now).clocked (env_of machine.old.env.values.items)) }
+    ensures later { OnOk result ((e : Environment) → applied (updates_in machine.new.later.items) e ≡ applied (updates_of_blocks (plain_flat flat.now) (plain_flat flat.now).clocked (env_of machine.old.env.values.items)) (applied (updates_in machine.old.later.items) e)) }
+    ensures count { OnOk result (length machine.new.env.values.items ≡ length flat.now.signals) }
+    ensures fits { OnOk result (All (IsLater (length flat.now.signals)) machine.new.later.items) }
+    ensures none { OnOk result (machine.new.none ≡ machine.old.none) }
+{
+    for block in flat.clocked.iter() {
+        execute(block.body, &flat.scopes[block.scope as usize], machine)?;
+    }
+    Ok(())
+}
+
+/// The clock edge on settled values.
+fn edge(flat: &Flat, machine: &mut Machine) -> Result<(), AllocError>
+    requires lawful { IsLawful (plain_flat flat.now) }
+    requires count { length machine.old.env.values.items ≡ length flat.now.signals }
+    ensures next { OnOk result (IsNext (plain_flat flat.now) (env_of machine.old.env.values.items) (env_of machine.new.env.values.items)) }
+    ensures count { OnOk result (length machine.new.env.values.items ≡ length flat.now.signals) }
+    ensures none { OnOk result (machine.new.none ≡ machine.old.none) }
+{
+    machine.later.clear();
+    run_all(flat, machine)?;
+    apply(&mut machine.env.values, machine.later.as_slice());
+    Ok(())
+}
+
+/// What stays the same in a run: the inputs of a row, and the bits of registers.
+#[derive(Drop)]
+struct Plan {
+    inputs: Vec<u32>,
+    registers: Vec<u128>,
+}
+
+fn prepare(alloc: Global, flat: &Flat, clock: Option<u32>) -> Result<Plan, AllocError>
+    ensures inputs { IfOk result (λ r. r.inputs.items ≡ inputs_but clock flat.now.inputs) }
+    ensures inside { IfOk result (λ r. All (λ id. id < length flat.now.signals) r.inputs.items) }
+    ensures registers { IfOk result (λ r. (b : FlatBit) → env_of r.registers.items b ≡ any_writes (plain_flat flat.now) (plain_flat flat.now).clocked b) }
+    ensures count { IfOk result (λ r. length r.registers.items ≡ length flat.now.signals) }
+    ensures narrow { IfOk result (λ r. (b : FlatBit) → env_of r.registers.items b ≡ true → b.place < (signal_at (plain_flat flat.now).signals b.signal).width) }
+{
+    let inputs = row_inputs(alloc, flat, clock)?;
+    let registers = registers(alloc, flat)?;
+    Ok(Plan { inputs, registers })
+}
+
+/// Settles a state with a row of inputs.
+fn settle_in(
+    flat: &Flat,
+    order: &Order,
+    plan: &Plan,
+    row: &[u128],
+    machine: &mut Machine,
+) -> Result<(), AllocError>
+    requires elaborated { IsElaborated (plain_flat flat.now) }
+    requires ordered { IsInOrder (plain_flat flat.now) order.now.clock order.now.rising order.now.steps.items }
+    requires row { IsRow (plain_flat flat.now) order.now.clock row.now }
+    requires inputs { plan.now.inputs.items ≡ inputs_but order.now.clock flat.now.inputs }
+    requires inside { All (λ id. id < length flat.now.signals) plan.now.inputs.items }
+    requires registers { (b : FlatBit) → env_of plan.now.registers.items b ≡ any_writes (plain_flat flat.now) (plain_flat flat.now).clocked b }
+    requires narrow { (b : FlatBit) → env_of plan.now.registers.items b ≡ true → b.place < (signal_at (plain_flat flat.now).signals b.signal).width }
+    requires masks { length plan.now.registers.items ≡ length flat.now.signals }
+    requires count { length machine.old.env.values.items ≡ length flat.now.signals }
+    requires none { machine.old.none.values.items ≡ [] }
+    ensures settled { OnOk result (Settled (plain_flat flat.now) order.now.clock (env_of machine.old.env.values.items) row.now (env_of machine.new.env.values.items)) }
+    ensures count { OnOk result (length machine.new.env.values.items ≡ length flat.now.signals) }
+    ensures none { OnOk result (machine.new.none ≡ machine.old.none) }
+{
+    machine.later.clear();
+    mask(&mut machine.env.values, plan.registers.as_slice());
+    give(&mut machine.env.values, plan.inputs.as_slice(), row);
+    perform_all(flat, order.steps.as_slice(), machine)
+}
+
+fn copied(alloc: Global, env: &Env) -> Result<Env, AllocError>
+    ensures { IfOk result (λ r. r.values.items ≡ env.now.values.items) }
+{
+    let values = env.values.clone()?;
+    Ok(Env { values })
+}
+
+fn zeros(alloc: Global, count: usize) -> Result<Env, AllocError>
+    ensures env { IfOk result (λ r. env_of r.values.items ≡ zeros_of) }
+    ensures count { IfOk result (λ r. length r.values.items ≡ count) }
+{
+    let values = vec![in alloc; 0u128; count]?;
+    Ok(Env { values })
+}
+
+/// The one settled environment of a state and a row of inputs: registers have their values in the
+/// state, the inputs of the top but the clock those of the row, in port order, and the clock is 0; each
+/// driver's equation holds, and each combinational block leaves what it would write as it is. The
+/// design is the flat design of a source and lawful, the order is one of its steps; the state has one
+/// value per signal. An error says that memory ran out.
+pub fn settle(
+    alloc: Global,
+    flat: &Flat,
+    order: &Order,
+    state: &Env,
+    inputs: &[u128],
+) -> Result<Env, AllocError>
+    requires elaborated { IsElaborated (plain_flat flat.now) }
+    requires ordered { IsInOrder (plain_flat flat.now) order.now.clock order.now.rising order.now.steps.items }
+    requires state { length state.now.values.items ≡ length flat.now.signals }
+    requires row { IsRow (plain_flat flat.now) order.now.clock inputs.now }
+    ensures settled { IfOk result (λ r. Settled (plain_flat flat.now) order.now.clock (env_of state.now.values.items) inputs.now (env_of r.values.items)) }
+    ensures only { IfOk result (λ r. (e : Environment) → Settled (plain_flat flat.now) order.now.clock (env_of state.now.values.items) inputs.now e → e ≡ env_of r.values.items) }
+    ensures count { IfOk result (λ r. length r.values.items ≡ length flat.now.signals) }
+{
+    let plan = prepare(alloc, flat, order.clock)?;
+    let mut machine = machine_on(alloc, copied(alloc, state)?);
+    settle_in(flat, order, &plan, inputs, &mut machine)?;
+    let Machine { env, .. } = machine;
+    Ok(env)
+}
+
+/// The state after the clock edge of a settled environment: each clocked block begins from it, a bit
+/// that a block writes by `=` takes that block's final value, and then the updates of `<=` are applied
+/// in the order of the blocks. An error says that memory ran out.
+pub fn step(alloc: Global, flat: &Flat, env: &Env) -> Result<Env, AllocError>
+    requires lawful { IsLawful (plain_flat flat.now) }
+    requires env { length env.now.values.items ≡ length flat.now.signals }
+    ensures next { IfOk result (λ r. IsNext (plain_flat flat.now) (env_of env.now.values.items) (env_of r.values.items)) }
+    ensures only { IfOk result (λ r. (e : Environment) → IsNext (plain_flat flat.now) (env_of env.now.values.items) e → e ≡ env_of r.values.items) }
+    ensures count { IfOk result (λ r. length r.values.items ≡ length flat.now.signals) }
+{
+    let mut machine = machine_on(alloc, copied(alloc, env)?);
+    edge(flat, &mut machine)?;
+    let Machine { env, .. } = machine;
+    Ok(env)
+}
+
+/// The numbers of the outputs, in port order.
+fn outputs(alloc: Global, flat: &Flat, env: &Env) -> Result<Vec<u128>, AllocError>
+    ensures { IfOk result (λ r. r.items ≡ outputs_of (plain_flat flat.now) (env_of env.now.values.items)) }
+{
+    let mut row = Vec::new(alloc);
+    for id in flat.outputs.iter() {
+        push_value(&mut row, signal_value(flat, *id, env).to_u128())?;
+    }
+    Ok(row)
+}
+
+fn push_value(list: &mut Vec<u128>, value: u128) -> Result<(), AllocError>
+    ensures { OnOk result (list.new.items ≡ list.old.items ++ value ∷ []) }
+{
+    list.push(value)?;
+    Ok(())
+}
+
+fn push_row(list: &mut Vec<Vec<u128>>, row: Vec<u128>) -> Result<(), AllocError>
+    ensures { OnOk result (list.new.items ≡ list.old.items ++ row ∷ []) }
+{
+    list.push(row).map_err(AllocError::from)?;
+    Ok(())
+}
+
+/// Per row of inputs the numbers of the outputs, in port order, of the run from the state 0. The
+/// conditions are those of [`settle`]. An error says that memory ran out.
+pub fn run_table(
+    alloc: Global,
+    flat: &Flat,
+    order: &Order,
+    inputs: &[Vec<u128>],
+) -> Result<Vec<Vec<u128>>, AllocError>
+    requires elaborated { IsElaborated (plain_flat flat.now) }
+    requires ordered { IsInOrder (plain_flat flat.now) order.now.clock order.now.rising order.now.steps.items }
+    requires rows { All (λ row. IsRow (plain_flat flat.now) order.now.clock row.items) inputs.now }
+    ensures run { IfOk result (λ r. Run (plain_flat flat.now) order.now.clock (map row_items inputs.now) (map row_items r.items)) }
+    ensures only { IfOk result (λ r. (outputs : List (List ℕ)) → Run (plain_flat flat.now) order.now.clock (map row_items inputs.now) outputs → outputs ≡ map row_items r.items) }
+{
+    let plan = prepare(alloc, flat, order.clock)?;
+    let mut machine = machine_on(alloc, zeros(alloc, flat.signals.len())?);
+    let mut table = Vec::new(alloc);
+    for row in inputs.iter() {
+        settle_in(flat, order, &plan, row.as_slice(), &mut machine)?;
+        let row = outputs(alloc, flat, &machine.env)?;
+        push_row(&mut table, row)?;
+        edge(flat, &mut machine)?;
+    }
+    Ok(table)
+}

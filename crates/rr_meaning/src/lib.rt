@@ -1,0 +1,14 @@
+//! The evaluator: settled environments, clock edges and runs of a lawful flat design (IEEE 1364-2005
+//! sections 6.1, 9 and 11).
+#![tactic(auto)]
+
+mod cycle;
+mod inputs;
+mod registers;
+mod steps;
+
+pub use cycle::{run_table, settle, step};
+pub use inputs::are_rows;
+
+#[cfg(test)]
+mod tests;

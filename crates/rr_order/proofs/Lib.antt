@@ -1,0 +1,16 @@
+pub mod Layouts
+pub mod Designs
+pub mod Sequence
+pub mod Rings
+pub mod Bits
+pub mod Inside
+pub mod Naming
+pub mod Building
+pub mod Lists
+pub mod Statements
+pub mod Covering
+pub mod Readings
+pub mod Wirings
+pub mod Sided
+pub mod Growing
+pub mod Telling

@@ -1,0 +1,121 @@
+-- The bits of the sides of drivers.
+use Rattle.std.proofs.Common.{◌≡◌, ◌∙◌, sym, ap, subst, ℕ, ◌<◌, List, [], ◌∷◌, ◌++◌, length, map, get_or, pos, true, ◌&&◌, not, nat_eq, nat_lt, int_lt, ◌+ℤ◌, arith, append-nil, Option}
+use Rattle.std.proofs.lemmas.List.{get_or-map}
+use Rattle.std.proofs.lemmas.Bool.{and_parts, eqb-true, ltb-true}
+use Rattle.rr_syntax.specs.declared.tree.Expr.{Expr}
+use Rattle.rr_syntax.specs.View.{plain}
+use Rattle.rr_expr.specs.declared.types.Bit.{Bit}
+use Rattle.rr_expr.specs.declared.types.Entity.TheVariants as entity
+use Rattle.rr_expr.specs.Reading.{NamesBit}
+use Rattle.rr_expr.specs.Scopes.{Names, env_of}
+use Rattle.rr_head.specs.declared.signal.Signal.{Signal}
+use Rattle.rr_head.specs.Plain as plain_head
+use Rattle.rr_head.specs.View.{plain_signal}
+use Rattle.rr_flat.specs.declared.design.Side as declared_side
+use Rattle.rr_flat.specs.declared.design.Side.TheVariants as side
+use Rattle.rr_flat.specs.Sound.{IsSignal}
+use Rattle.rr_flat.specs.Targets.{bits_there, target_bits}
+use Rattle.rr_flat.specs.View.{Design, plain_flat, plain_side}
+use Rattle.rr_flat.specs.Writers.{scope_at, signal_bits, driven_by, side_taken, taken, SideReads, side_is_wiring, is_wiring, side_signed}
+use Rattle.rr_target.specs.declared.piece.Piece.{Piece}
+use Rattle.rr_target.specs.Lists.{Grown}
+use Rattle.rr_target.specs.Pieces.{bits_of, all_bits, covers}
+use Rattle.rr_target.proofs.Growing.{grown_push}
+use Rattle.std.proofs.lemmas.Int.{ints}
+use Rattle.rr_expr.specs.declared.types.Shape.{Shape}
+use Rattle.rr_expr.specs.Values.{form}
+use Rattle.rr_flat.specs.Plain.{Whole}
+use Rattle.rr_target.proofs.Runs.{run_of, signal_run, in_has, covers_in}
+use denote.Ref.{Bor}
+
+pub signal_is : (d : Design) (xs : List Signal) (id : ℕ) (z : Signal) → id < length d.signals → xs ≡ d.signals → plain_head.signal_at (map plain_signal d.signals) id ≡ plain_signal (get_or xs id z)
+signal_is d xs id z l e = get_or-map plain_signal d.signals id z plain_head.no_signal l ∙ ap (λ (ys : List Signal). plain_signal (get_or ys id z)) (sym e)
+
+pub whole_signal : (d : Design) (xs : List Signal) (id instances : ℕ) (z : Signal) → id < length d.signals → xs ≡ d.signals → IsSignal instances (get_or xs id z)
+    → bits_of (run_of id (get_or xs id z).width (pos 0) (get_or xs id z).width) ≡ signal_bits (plain_flat d) id
+whole_signal d xs id instances z l e i =
+    let x : Signal = get_or xs id z in
+    let q : plain_head.signal_at (map plain_signal d.signals) id ≡ plain_signal (get_or xs id z) = signal_is d xs id z l e in
+    let P : plain_head.Signal → Type 0 = λ y. bits_of (run_of id (get_or xs id z).width (pos 0) (get_or xs id z).width) ≡ bits_there (entity.Signal id y.range y.signed) (pos 0) y.width in
+    subst P (sym q) (ap (λ w. bits_of (run_of id w (pos 0) (get_or xs id z).width)) i.width ∙ signal_run id (get_or xs id z).range (get_or xs id z).signed (pos 0) (pos 0) (get_or xs id z).width (get_or xs id z).width)
+
+pub one_piece : (ps : List Piece) (p : Piece) (old bits : List (Option Bit)) → all_bits ps ≡ bits_of p ++ old → old ≡ [] → bits_of p ≡ bits → all_bits ps ≡ bits
+one_piece ps p old bits e f g = e ∙ (ap (λ (xs : List (Option Bit)). bits_of p ++ xs) f ∙ (append-nil (bits_of p) ∙ g))
+
+none_left : (all new : List (Option Bit)) (ps : List Piece) → ps ≡ [] → all ≡ new ++ all_bits ps → all ≡ new
+unfolding all_bits
+none_left all new ps e h = h ∙ (ap (λ (qs : List Piece). new ++ all_bits qs) e ∙ append-nil new)
+
+pub whole_driven : (d : Design) (id : ℕ) (x : declared_side.Side) (p : Piece) (all : List (Option Bit)) (ps : List Piece) → x ≡ side.Whole id → ps ≡ [] → all ≡ bits_of p ++ all_bits ps → bits_of p ≡ signal_bits (plain_flat d) id → all ≡ driven_by (plain_flat d) (plain_side x)
+unfolding driven_by
+whole_driven d id x p all ps e f h g = none_left all (bits_of p) ps f h ∙ (g ∙ ap (λ z. driven_by (plain_flat d) (plain_side z)) (sym e))
+
+pub whole_taken : (d : Design) (id : ℕ) (x : declared_side.Side) (p : Piece) (all : List (Option Bit)) (ps : List Piece) → x ≡ side.Whole id → ps ≡ [] → all ≡ bits_of p ++ all_bits ps → bits_of p ≡ signal_bits (plain_flat d) id → all ≡ side_taken (plain_flat d) (plain_side x)
+unfolding side_taken
+whole_taken d id x p all ps e f h g = none_left all (bits_of p) ps f h ∙ (g ∙ ap (λ z. side_taken (plain_flat d) (plain_side z)) (sym e))
+
+pub text_driven : (d : Design) (t : Bor Expr) (scope : ℕ) (names : Names) (values : List ℕ) (x : declared_side.Side) (all : List (Option Bit)) (ps : List Piece) → x ≡ side.Text t scope → names ≡ scope_at (plain_flat d) scope → values ≡ [] → ps ≡ []
+    → all ≡ target_bits names (env_of values) (plain t.now) ++ all_bits ps → all ≡ driven_by (plain_flat d) (plain_side x)
+unfolding driven_by
+text_driven d t scope names values x all ps e f g k h =
+    none_left all (target_bits names (env_of values) (plain t.now)) ps k h ∙ (ap (λ z. target_bits z (env_of values) (plain t.now)) f
+    ∙ (ap (λ z. target_bits (scope_at (plain_flat d) scope) (env_of z) (plain t.now)) g ∙ ap (λ z. driven_by (plain_flat d) (plain_side z)) (sym e)))
+
+pub text_taken : (d : Design) (t : Bor Expr) (scope : ℕ) (names : Names) (x : declared_side.Side) (all : List (Option Bit)) (ps : List Piece) → x ≡ side.Text t scope → names ≡ scope_at (plain_flat d) scope → ps ≡ [] → all ≡ taken names (plain t.now) ++ all_bits ps
+    → all ≡ side_taken (plain_flat d) (plain_side x)
+unfolding side_taken
+text_taken d t scope names x all ps e f k h =
+    none_left all (taken names (plain t.now)) ps k h ∙ (ap (λ z. taken z (plain t.now)) f ∙ ap (λ z. side_taken (plain_flat d) (plain_side z)) (sym e))
+
+pub text_wires : (d : Design) (t : Bor Expr) (scope : ℕ) (names : Names) (x : declared_side.Side) → x ≡ side.Text t scope → names ≡ scope_at (plain_flat d) scope → is_wiring names (plain t.now) ≡ side_is_wiring (plain_flat d) (plain_side x)
+unfolding side_is_wiring
+text_wires d t scope names x e f = ap (λ z. is_wiring z (plain t.now)) f ∙ ap (λ z. side_is_wiring (plain_flat d) (plain_side z)) (sym e)
+
+pub whole_wires : (d : Design) (id : ℕ) (x : declared_side.Side) → x ≡ side.Whole id → true ≡ side_is_wiring (plain_flat d) (plain_side x)
+unfolding side_is_wiring
+whole_wires d id x e = ap (λ z. side_is_wiring (plain_flat d) (plain_side z)) (sym e)
+
+pub signal_value : (d : Design) (xs : List Signal) (id : ℕ) (z : Signal) → id < length d.signals → xs ≡ d.signals
+    → run_of id (get_or xs id z).width (pos 0) (get_or xs id z).width ≡ run_of id (plain_head.signal_at (map plain_signal d.signals) id).width (pos 0) (plain_head.signal_at (map plain_signal d.signals) id).width
+signal_value d xs id z l e = ap (λ (y : plain_head.Signal). run_of id y.width (pos 0) y.width) (sym (signal_is d xs id z l e))
+
+covers_place : (id w : ℕ) (b : Bit) → covers (run_of id w (pos 0) w) b ≡ true → (b.signal ≡ id) × (b.place < w)
+covers_place id w b h =
+    let p = and_parts (nat_eq id b.signal) (nat_lt b.place w && (not (int_lt (pos b.place) (pos 0)) && int_lt (pos b.place) (pos 0 +ℤ pos w))) h in
+    let q = and_parts (nat_lt b.place w) (not (int_lt (pos b.place) (pos 0)) && int_lt (pos b.place) (pos 0 +ℤ pos w)) p.1 in
+    (sym (eqb-true id b.signal p.0), ltb-true b.place w q.0)
+
+none_more : (k : ℕ) → pos 0 +ℤ pos k ≡ pos k
+none_more k = grind (arith, ints)
+
+place_covers : (id w : ℕ) (b : Bit) → b.signal ≡ id → b.place < w → covers (run_of id w (pos 0) w) b ≡ true
+place_covers id w b e l = covers_in (run_of id w (pos 0) w) b ∙ in_has (run_of id w (pos 0) w) (pos 0) w b b.place (sym e) l l (none_more b.place)
+
+pub whole_named : (d : Design) (id : ℕ) (ps : List Piece) (p : Piece) → p ≡ run_of id (plain_head.signal_at (map plain_signal d.signals) id).width (pos 0) (plain_head.signal_at (map plain_signal d.signals) id).width
+    → Grown ps (ps ++ p ∷ []) (SideReads (plain_flat d) (Whole id))
+unfolding SideReads
+whole_named d id ps p e =
+    let w : ℕ = (plain_head.signal_at (map plain_signal d.signals) id).width in
+    let Q : Piece → Type 0 = λ q. Grown ps (ps ++ q ∷ []) (SideReads (plain_flat d) (Whole id)) in
+    subst Q (sym e) (grown_push ps (run_of id w (pos 0) w) (SideReads (plain_flat d) (Whole id)) (λ b c. covers_place id w b c) (λ b r. place_covers id w b r.0 r.1))
+
+pub text_named : (d : Design) (t : Bor Expr) (scope : ℕ) (names : Names) (x : declared_side.Side) (ps qs : List Piece) → x ≡ side.Text t scope → names ≡ scope_at (plain_flat d) scope → Grown ps qs (NamesBit names (plain t.now))
+    → Grown ps qs (SideReads (plain_flat d) (plain_side x))
+unfolding SideReads
+text_named d t scope names x ps qs e f g =
+    let P : Names → Type 0 = λ z. Grown ps qs (NamesBit z (plain t.now)) in
+    let Q : declared_side.Side → Type 0 = λ z. Grown ps qs (SideReads (plain_flat d) (plain_side z)) in
+    subst Q (sym e) (subst P f g)
+
+pub side_named : (d : Design) (id : ℕ) (x : declared_side.Side) (ps qs : List Piece) → x ≡ side.Whole id → Grown ps qs (SideReads (plain_flat d) (Whole id)) → Grown ps qs (SideReads (plain_flat d) (plain_side x))
+side_named d id x ps qs e g =
+    let Q : declared_side.Side → Type 0 = λ z. Grown ps qs (SideReads (plain_flat d) (plain_side z)) in
+    subst Q (sym e) g
+
+pub whole_signed : (d : Design) (xs : List Signal) (id : ℕ) (z : Signal) (x : declared_side.Side) → id < length d.signals → xs ≡ d.signals → x ≡ side.Whole id → (get_or xs id z).signed ≡ side_signed (plain_flat d) (plain_side x)
+unfolding side_signed
+whole_signed d xs id z x l e f = ap (λ (y : plain_head.Signal). y.signed) (sym (signal_is d xs id z l e)) ∙ ap (λ y. side_signed (plain_flat d) (plain_side y)) (sym f)
+
+pub text_signed : (d : Design) (t : Bor Expr) (scope : ℕ) (names : Names) (x : declared_side.Side) (own : Shape) → x ≡ side.Text t scope → names ≡ scope_at (plain_flat d) scope → own ≡ form names (plain t.now) → own.signed ≡ side_signed (plain_flat d) (plain_side x)
+unfolding side_signed
+text_signed d t scope names x own e f g = ap (λ (y : Shape). y.signed) g ∙ (ap (λ z. (form z (plain t.now)).signed) f ∙ ap (λ z. side_signed (plain_flat d) (plain_side z)) (sym e))

@@ -1,0 +1,8 @@
+use Rattle.std.proofs.Common.{◌≡◌, take, true}
+use Rattle.rr_flat.specs.View.{plain_flat}
+use Rattle.rr_target.specs.Lists.{covered}
+use Rattle.rr_order.specs.Nodes.{IsRow, Foreign, widths}
+use Rattle.rr_order.proofs.rows.row_of.Given as goal
+
+abbrev pub invariant-loop-piece : goal.invariant-loop-piece
+invariant-loop-piece l = IsRow (widths (plain_flat l.flat)) (λ b. (covered (take l.piece-index l.pieces) b ≡ true) × Foreign (widths (plain_flat l.flat)) l.own.items l.stamp b) l.row.items

@@ -1,0 +1,151 @@
+//! The sides of drivers.
+ghost use Rattle.std.specs.Prelude.{◌≡◌, ◌<◌, [], length, pos, IfOk, OnOk};
+ghost use Rattle.rr_head.specs.Plain.{signal_at};
+ghost use Rattle.rr_flat.specs.Plain.{Whole};
+ghost use Rattle.rr_flat.specs.Sound.{IsSide};
+ghost use Rattle.rr_flat.specs.View.{plain_flat, plain_side};
+ghost use Rattle.rr_flat.specs.Writers.{SideReads, driven_by, side_is_wiring, side_signed, side_taken, signal_bits};
+ghost use Rattle.rr_target.specs.Lists.{Grown};
+ghost use Rattle.rr_target.specs.Pieces.{all_bits, bits_of};
+
+use crate::parts::{scope_of, signals_of};
+use crate::wiring::{add_taken, bits_of_all, is_wiring, push_piece};
+use rr_expr::{Bit, Env, shape};
+use rr_flat::{Flat, Side};
+use rr_target::{Piece, add_named, add_pieces};
+use std::alloc::{AllocError, Global};
+
+/// All bits of a signal.
+fn signal_piece(flat: &Flat, id: u32) -> Piece
+    requires { id < length flat.now.signals }
+    ensures bits { bits_of result ≡ signal_bits (plain_flat flat.now) id }
+    ensures value { result ≡ record { signal = id; width = (signal_at (plain_flat flat.now).signals id).width; from = pos 0; count = (signal_at (plain_flat flat.now).signals id).width } }
+{
+    let signals = signals_of(flat);
+    let width = signals[id as usize].width;
+    Piece {
+        signal: id,
+        width,
+        from: 0,
+        count: width,
+    }
+}
+
+/// The bits of a side as a target, lowest first; its indices are constant.
+pub(crate) fn driven(
+    alloc: Global,
+    flat: &Flat,
+    side: &Side,
+) -> Result<Vec<Option<Bit>>, AllocError>
+    requires { IsSide flat.now.signals flat.now.scopes side.now }
+    ensures { IfOk result (λ r. r.items ≡ driven_by (plain_flat flat.now) (plain_side side.now)) }
+{
+    let mut pieces = Vec::new(alloc);
+    add_driven(alloc, &mut pieces, flat, side)?;
+    bits_of_all(alloc, pieces.as_slice())
+}
+
+fn add_driven(
+    alloc: Global,
+    pieces: &mut Vec<Piece>,
+    flat: &Flat,
+    side: &Side,
+) -> Result<(), AllocError>
+    requires side { IsSide flat.now.signals flat.now.scopes side.now }
+    requires none { pieces.old.items ≡ [] }
+    ensures { OnOk result (all_bits pieces.new.items ≡ driven_by (plain_flat flat.now) (plain_side side.now)) }
+{
+    match side {
+        Side::Whole(id) => push_piece(pieces, signal_piece(flat, *id)),
+        Side::Text { expr, scope } => {
+            let none = Env {
+                values: Vec::new(alloc),
+            };
+            add_pieces(pieces, expr, scope_of(flat, *scope), &none)
+        }
+    }
+}
+
+/// The bits that a side takes which only wires, lowest first.
+pub(crate) fn taken(alloc: Global, flat: &Flat, side: &Side) -> Result<Vec<Option<Bit>>, AllocError>
+    requires { IsSide flat.now.signals flat.now.scopes side.now }
+    ensures { IfOk result (λ r. r.items ≡ side_taken (plain_flat flat.now) (plain_side side.now)) }
+{
+    let mut pieces = Vec::new(alloc);
+    add_side(alloc, &mut pieces, flat, side)?;
+    bits_of_all(alloc, pieces.as_slice())
+}
+
+fn add_side(
+    alloc: Global,
+    pieces: &mut Vec<Piece>,
+    flat: &Flat,
+    side: &Side,
+) -> Result<(), AllocError>
+    requires side { IsSide flat.now.signals flat.now.scopes side.now }
+    requires none { pieces.old.items ≡ [] }
+    ensures { OnOk result (all_bits pieces.new.items ≡ side_taken (plain_flat flat.now) (plain_side side.now)) }
+{
+    match side {
+        Side::Whole(id) => push_piece(pieces, signal_piece(flat, *id)),
+        Side::Text { expr, scope } => {
+            let none = Env {
+                values: Vec::new(alloc),
+            };
+            add_taken(pieces, expr, scope_of(flat, *scope), &none)
+        }
+    }
+}
+
+/// Adds the bits that a side reads.
+pub(crate) fn add_named_by(
+    alloc: Global,
+    pieces: &mut Vec<Piece>,
+    flat: &Flat,
+    side: &Side,
+) -> Result<(), AllocError>
+    requires { IsSide flat.now.signals flat.now.scopes side.now }
+    ensures { OnOk result (Grown pieces.old.items pieces.new.items (SideReads (plain_flat flat.now) (plain_side side.now))) }
+{
+    match side {
+        Side::Whole(id) => add_signal(pieces, flat, *id),
+        Side::Text { expr, scope } => add_named(alloc, pieces, expr, scope_of(flat, *scope)),
+    }
+}
+
+/// Adds all bits of a signal.
+fn add_signal(pieces: &mut Vec<Piece>, flat: &Flat, id: u32) -> Result<(), AllocError>
+    requires { id < length flat.now.signals }
+    ensures { OnOk result (Grown pieces.old.items pieces.new.items (SideReads (plain_flat flat.now) (Whole id))) }
+{
+    pieces.push(signal_piece(flat, id))?;
+    Ok(())
+}
+
+/// Whether a side only takes bits.
+pub(crate) fn wires(flat: &Flat, side: &Side) -> bool
+    requires { IsSide flat.now.signals flat.now.scopes side.now }
+    ensures { result ≡ side_is_wiring (plain_flat flat.now) (plain_side side.now) }
+{
+    match side {
+        Side::Whole(_) => true,
+        Side::Text { expr, scope } => is_wiring(expr, scope_of(flat, *scope)),
+    }
+}
+
+/// Whether a side is signed.
+pub(crate) fn is_signed(flat: &Flat, side: &Side) -> bool
+    requires { IsSide flat.now.signals flat.now.scopes side.now }
+    ensures { result ≡ side_signed (plain_flat flat.now) (plain_side side.now) }
+{
+    match side {
+        Side::Whole(id) => {
+            let signals = signals_of(flat);
+            signals[*id as usize].signed
+        }
+        Side::Text { expr, scope } => match shape(expr, scope_of(flat, *scope)) {
+            Ok(own) => own.signed,
+            Err(_) => false,
+        },
+    }
+}

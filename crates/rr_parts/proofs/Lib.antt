@@ -1,0 +1,5 @@
+pub mod Walks
+pub mod Covering
+pub mod PartsOfNodes
+pub mod NamesOfNodes
+pub mod NamesOfParts

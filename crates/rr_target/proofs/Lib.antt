@@ -1,0 +1,5 @@
+pub mod Runs
+pub mod Nodes
+pub mod Growing
+pub mod Naming
+pub mod Writing

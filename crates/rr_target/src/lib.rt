@@ -1,0 +1,16 @@
+//! The bits that names and selects of a flat design name (IEEE 1364-2005 section 5.2.1).
+#![tactic(auto)]
+
+mod piece;
+mod reads;
+mod select;
+mod targets;
+mod writes;
+
+pub use piece::Piece;
+pub use reads::{add_named, add_target_reads};
+pub use targets::add_pieces;
+pub use writes::{Write, add_writes};
+
+#[cfg(test)]
+mod tests;

@@ -1,0 +1,14 @@
+pub mod Numerals
+pub mod Entries
+pub mod Fields
+pub mod Faults
+pub mod Filling
+pub mod Placing
+pub mod CellByCell
+pub mod Counted
+pub mod Readings
+pub mod Headers
+pub mod RowByRow
+pub mod WholeTables
+pub mod Wide
+pub mod TextSteps

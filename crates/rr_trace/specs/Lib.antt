@@ -1,0 +1,11 @@
+pub mod Cells
+pub mod Numbers
+pub mod Names
+pub mod Columns
+pub mod Tops
+pub mod Rows
+pub mod Tables
+pub mod Coming
+pub mod View
+pub mod Written
+pub mod Misses

@@ -1,0 +1,23 @@
+//! Tables of inputs and expected outputs, as comma-separated values.
+#![tactic(auto)]
+
+mod cell;
+mod fault;
+mod header;
+mod miss;
+mod names;
+mod ports;
+mod records;
+mod rows;
+mod table;
+mod write;
+
+pub use cell::Cell;
+pub use fault::TableFault;
+pub use miss::Miss;
+pub use rr_flat::Limit;
+pub use table::{Table, read_table};
+pub use write::write_table;
+
+#[cfg(test)]
+mod tests;

@@ -1,0 +1,4 @@
+pub mod Tables
+pub mod Assigned
+pub mod Doubles
+pub mod Marks
