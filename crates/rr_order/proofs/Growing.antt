@@ -31,7 +31,7 @@ use Rattle.rr_sort.proofs.Sorting.{get_old, get_new, graph_count}
 use Rattle.rr_order.specs.Nodes.{bit_node, widths, In, IsRow, IsWritten, Joined, IsGraphOf, IsNamedBy, IsWrittenBy, IsStepGraph, StepsTo, Foreign, Stamped, IsSound, IsThere, total}
 use Rattle.rr_order.proofs.Bits.{missed, place_inside}
 use Rattle.rr_order.proofs.Designs.{step_added}
-use Rattle.rr_order.specs.Assigned.{assigns}
+use Rattle.rr_writers.specs.Assigned.{assigns}
 use Rattle.rr_order.proofs.Layouts.{node_once, node_below}
 use Rattle.rr_order.proofs.Lists.{row_same, row_valid, row_written, written_same}
 

@@ -7,7 +7,6 @@ pub mod Inside
 pub mod Naming
 pub mod Building
 pub mod Lists
-pub mod Statements
 pub mod Covering
 pub mod Readings
 pub mod Wirings

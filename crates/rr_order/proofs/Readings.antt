@@ -18,7 +18,7 @@ use Rattle.rr_flat.specs.Walk.{list_faults, statement_faults, statements_faults,
 use Rattle.rr_target.specs.declared.piece.Piece.{Piece}
 use Rattle.rr_target.specs.Lists.{Grown}
 use Rattle.rr_target.proofs.Growing.{grown_none, grown_both, grown_same, rest_is}
-use Rattle.rr_order.proofs.Statements.{shaped-If, shaped-IfElse, labels_shaped, statements_shaped, arms_shaped}
+use Rattle.rr_writers.proofs.Statements.{shaped-If, shaped-IfElse, labels_shaped, statements_shaped, arms_shaped}
 use denote.Ref.{Bor}
 
 pub shaped-Test : (s : Names) (t : Bor Expr) (y : Bor Stmt) (n : Option (Bor Stmt)) → statement_faults s (plain_statement (stmt.If t y n)) ≡ [] → fault s (plain t.now) false ≡ None

@@ -2,12 +2,12 @@
 #![tactic(auto)]
 
 ghost use Rattle.std.specs.Prelude.{◌≡◌, ℕ, List};
+ghost use Rattle.rr_expr.specs.declared.types.Bit.{Bit};
 ghost use Rattle.rr_flat.specs.declared.design.Step as design;
 ghost use Rattle.rr_flat.specs.Lawful.{HasRanks};
 ghost use Rattle.rr_flat.specs.Plain.{Flat as PlainFlat};
-ghost use Rattle.rr_order.specs.Loops.{AreOrdered};
+ghost use Rattle.rr_order.specs.Loops.{AreOrdered, BitChain};
 
-mod assigned;
 mod graph;
 mod layout;
 mod nodes;
@@ -23,7 +23,9 @@ mod wiring;
 
 pub use order::{Loop, Ordering, order_steps};
 
-/// Where the steps have an order, the bits have ranks.
+/// Where the steps have an order, the bits have ranks; where bits name each other in a ring, they
+/// have none.
 pub fn order_laws()
-    ensures { (flat : PlainFlat) (steps : List design.Step) → AreOrdered flat steps → HasRanks flat }
+    ensures order { (flat : PlainFlat) (steps : List design.Step) → AreOrdered flat steps → HasRanks flat }
+    ensures ring { (flat : PlainFlat) (bit : Bit) (bits : List Bit) → BitChain flat bit bits bit → HasRanks flat → ⊥ }
 {}

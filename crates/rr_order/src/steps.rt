@@ -5,7 +5,6 @@ ghost use Rattle.rr_flat.specs.View.{plain_driver, plain_flat};
 ghost use Rattle.rr_flat.specs.Writers.{driver_at, wires as wires_in};
 ghost use Rattle.rr_order.specs.Nodes.{IsLayout, IsSound, IsStepGraph, StepsTo, total, widths};
 
-use crate::assigned::add_assigned;
 use crate::graph::{Nodes, add_step, without_steps};
 use crate::layout::Layout;
 use crate::nodes::{node_list, nodes_of, stamp_all, written_of};
@@ -15,6 +14,7 @@ use crate::rows::row_of;
 use crate::sides::{add_named_by, driven, is_signed, taken, wires};
 use crate::wiring::taken_at;
 use rr_flat::{Driver, Flat, Step};
+use rr_writers::add_assigned;
 use std::alloc::{AllocError, Global};
 
 /// The graph of a design, with all its steps.

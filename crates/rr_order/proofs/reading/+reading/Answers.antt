@@ -1,7 +1,7 @@
 use Rattle.std.proofs.Common.{rules}
 use Rattle.std.proofs.lemmas.Result.{on_ok_weaker}
 use Rattle.rr_syntax.specs.declared.tree.Stmt.{the_lemmas}
-use Rattle.rr_order.proofs.Statements.{shaped-Block, shaped-Yes, shaped-No, shaped-Case, shaped-Assign}
+use Rattle.rr_writers.proofs.Statements.{shaped-Block, shaped-Yes, shaped-No, shaped-Case, shaped-Assign}
 use Rattle.rr_order.proofs.Readings.{shaped-Test, reads-Null, reads-Block, reads-Alone, reads-Both, reads-Case, reads-Assign, body_start, body_here, body_more, body_done, arms_start, arms_here, arms_more, arms_done}
 use Rattle.rr_order.proofs.reading.+reading.Goals as goal
 
