@@ -1,15 +1,15 @@
 -- Each literal of a tree is fit where each word of its spelling is.
-use Rattle.std.proofs.Common.{◌≡◌, sym, subst, ℕ, ◌≤◌, ◌<◌, List, [], ◌∷◌, ◌++◌, length, Bool, true, false, Option, Some, None, arith}
+use Rattle.std.proofs.Common.{◌≡◌, sym, subst, ◌≤◌, List, [], ◌∷◌, ◌++◌, length, Bool, Option, Some, None, arith}
 use Rattle.std.specs.Prelude.{All}
 use Rattle.std.proofs.lemmas.List.{length-append}
 use Rattle.std.proofs.lemmas.List.Elements.{recursion_from_All}
 use Rattle.rr_lex.specs.Tokens.{IsSound}
 use Rattle.std.specs.List.{AllByRecursion}
-use Rattle.rr_syntax.specs.Words.{Word, Named, System, Digits, Reserved, Marked, keyword_default, mark_colon, mark_open_bracket, mark_close_bracket, mark_close_parenthesis, mark_open_brace, mark_close_brace, mark_question, mark_semicolon, mark_equals, mark_comma, keyword_end, keyword_else, keyword_endcase}
-use Rattle.rr_syntax.specs.Tree.{Tree, Trees, Name, Literal, Bit, Part, Indexed, Unary, Binary, Cond, Concat, Repeat, Cast, Paren, End, More, Statement, Statements, Arm, Arms, Null, Block, If, IfElse, Case, Assign, Done, Then, CaseItem, NoArms, MoreArms, Identifier, Range, PortDeclaration, ParamAssignment, ParameterDeclaration, NetIdentifier, NetAssignment, EdgeEvent, EventControl, Star, Edges, Levels, NamedConnection, Connections, Positions, Names, ModuleInstance, ModuleItem, Ports, Nets, Variables, Integers, Parameters, Assigns, Always, Instances, ModuleDeclaration, SourceText}
+use Rattle.rr_syntax.specs.Words.{Word, Named, System, Digits, Reserved, Marked}
+use Rattle.rr_syntax.specs.Tree.{Tree, Trees, Name, Literal, Bit, Part, Indexed, Unary, Binary, Cond, Concat, Repeat, Cast, Paren, End, More, Statement, Statements, Arm, Arms, Null, Block, If, IfElse, Case, Assign, Done, Then, CaseItem, NoArms, MoreArms, Identifier, Range, PortDeclaration, ParamAssignment, ParameterDeclaration, NetIdentifier, NetAssignment, EventControl, Star, Edges, Levels, NamedConnection, Connections, Positions, Names, ModuleInstance, ModuleItem, Ports, Nets, Variables, Integers, Parameters, Assigns, Always, Instances, ModuleDeclaration, SourceText}
 use Rattle.rr_syntax.specs.Expressions.{spell, spell_parts, spell_more, IsFit, FitLiterals, FitLiteralsParts}
 use Rattle.rr_syntax.specs.Statements.{spell_label, spell_labels, spell_statement, spell_statements, spell_arm, spell_arms, FitLiteralsStatement, FitLiteralsStatements, FitLiteralsArm, FitLiteralsArms}
-use Rattle.rr_syntax.specs.Items.{spell_each, spell_separated, spell_all, spell_where, spell_identifier, spell_range, spell_type, spell_dir, spell_port, spell_assignment, spell_parameter, spell_value, spell_net, spell_pair, spell_more_levels, spell_levels, spell_events, spell_optional, spell_connection, spell_connections, spell_overrides, spell_instance, spell_item, spell_parameters, spell_ports, spell_module, spell_source, rest, separator, FitLiteralsRange, FitLiteralsPort, FitLiteralsAssignment, FitLiteralsParameter, FitLiteralsValue, FitLiteralsNet, FitLiteralsPair, FitLiteralsEvents, FitLiteralsConnection, FitLiteralsConnections, FitLiteralsOverrides, FitLiteralsInstance, FitLiteralsItem, FitLiteralsModule, FitLiteralsSource, IsHeader, WellFormedModule, WellFormedSource}
+use Rattle.rr_syntax.specs.Items.{spell_each, spell_separated, spell_all, spell_where, spell_identifier, spell_range, spell_type, spell_dir, spell_port, spell_assignment, spell_parameter, spell_value, spell_net, spell_pair, spell_more_levels, spell_levels, spell_events, spell_optional, spell_connection, spell_connections, spell_overrides, spell_instance, spell_item, spell_parameters, spell_ports, spell_module, spell_source, rest, FitLiteralsRange, FitLiteralsPort, FitLiteralsAssignment, FitLiteralsParameter, FitLiteralsValue, FitLiteralsNet, FitLiteralsPair, FitLiteralsEvents, FitLiteralsConnection, FitLiteralsConnections, FitLiteralsOverrides, FitLiteralsInstance, FitLiteralsItem, FitLiteralsModule, FitLiteralsSource, IsHeader, WellFormedModule, WellFormedSource}
 
 abbrev pub IsFitWord : Word → Type 0
 IsFitWord (Named s) = Unit {0}

@@ -1,2 +1,8 @@
+pub mod BareParts
 pub mod Fitting
+pub mod Once
 pub mod Reading
+pub mod RenumberedExpressions
+pub mod RenumberedItems
+pub mod RenumberedParts
+pub mod RenumberedStatements

@@ -1,19 +1,18 @@
 -- What the reader of source texts answers, in terms of the tokens with their places.
-use Rattle.std.proofs.Common.{◌≡◌, ◌∙◌, refl, sym, ap, subst, ℕ, ◌<◌, ◌^◌, List, length, map, drop, get_or, arith, IsTrue}
+use Rattle.std.proofs.Common.{◌≡◌, ◌∙◌, refl, sym, ap, subst, ℕ, ◌<◌, ◌^◌, List, length, drop, arith, IsTrue}
 use Rattle.std.proofs.lemmas.List.{length-map}
 use Rattle.rr_syntax.specs.declared.token.Token.{Token}
 use Rattle.rr_syntax.specs.declared.tree.Source.{Source}
-use Rattle.rr_syntax.specs.Tree.{SourceText}
 use Rattle.rr_syntax.specs.View.{plain_module, plain_source}
 use Rattle.rr_syntax.specs.Items.{FitLiteralsSource}
 use Rattle.rr_syntax.specs.Words.{Word, words}
-use Rattle.rr_lex.specs.Tokens.{Lexeme, lexeme, lexemes, words_of, AreTokens}
+use Rattle.rr_lex.specs.Tokens.{lexeme, lexemes, words_of, AreTokens}
 use Rattle.rr_lex.proofs.Sound.{words_sound}
 use Rattle.rr_lex.proofs.Steps.{token_words}
 use Rattle.rr_profile.specs.Profile.{is_outside, NoneOutside, IsFirstOutside}
 use Rattle.rr_parse.specs.Exact.{IsParsed, NoneSpells}
 use Rattle.rr_elaborate.proofs.Fitting.{few_modules, fit_source}
-use Rattle.rr_elaborate.specs.Designs.{AllHaveRules, IsText, IsUnparsed, IsUnsupported, Spells, start_of}
+use Rattle.rr_elaborate.specs.Designs.{AllHaveRules, IsText, IsUnparsed, IsUnsupported, start_of}
 
 -- the same words
 abbrev OutsideOf : List Word → ℕ → Type 0

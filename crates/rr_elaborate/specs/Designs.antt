@@ -90,3 +90,10 @@ Refuses bytes top (fault.Unsupported at) = IsUnsupported bytes at
 Refuses bytes top (fault.Syntax at) = IsUnparsed bytes
 Refuses bytes top (fault.Flaw f) = IsFlawed bytes top f
 Refuses bytes top fault.Memory = Unit {0}
+
+-- two refusals are the same, but for want of memory and for the byte that is told of a text without a tree
+pub data IsSameRefusal (e f : DesignFault) : Type 0 where
+  same : e ≡ f → IsSameRefusal e f
+  first_memory : e ≡ fault.Memory → IsSameRefusal e f
+  second_memory : f ≡ fault.Memory → IsSameRefusal e f
+  both_unparsed : (i j : ℕ) → e ≡ fault.Syntax i → f ≡ fault.Syntax j → IsSameRefusal e f

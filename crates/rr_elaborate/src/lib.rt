@@ -2,8 +2,10 @@
 #![tactic(auto)]
 
 mod design;
+mod laws;
 
 pub use design::{Design, DesignFault, elaborate};
+pub use laws::one_design;
 pub use rr_flat::Flat;
 pub use rr_head::{FlatFault, Limit};
 pub use rr_lex::Wrong;

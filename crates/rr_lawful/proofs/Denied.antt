@@ -11,7 +11,7 @@ use Rattle.rr_lawful.specs.Checked.{Denies, HasClock}
 use Rattle.rr_lawful.specs.declared.laws.LawFault.{LawFault}
 use Rattle.rr_lawful.specs.declared.laws.LawFault.TheVariants.{TwoDrivers, WrongAssign, Race, Latch, Loop, ClockUse, TwoClocks, BadTarget, WildLabel, UnknownName, Memory}
 
-no_other : (flat : Flat) (word : Option Text) (c : ℕ) → IsChosen flat word (Some c) → IsChosen flat word None → ⊥
+pub no_other : (flat : Flat) (word : Option Text) (c : ℕ) → IsChosen flat word (Some c) → IsChosen flat word None → ⊥
 no_other flat None c h k = go flat.clocked h k
   where
     go : (bs : List Block) → IsDecided flat bs (Some c) → IsDecided flat bs None → ⊥

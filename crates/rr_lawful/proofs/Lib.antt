@@ -1,1 +1,5 @@
 pub mod Denied
+pub mod ClockOnce
+pub mod AnyWalk
+pub mod WritesOnce
+pub mod OneFault

@@ -86,3 +86,21 @@ Denies P (Race at) = P → ⊥
 Denies P (Latch bit block) = P → ⊥
 Denies P (Loop cycle token) = P → ⊥
 Denies P Memory = Unit {0}
+
+-- what is told of a fault: the number of the law and the token at which it is broken; of want of memory nothing
+abbrev pub told : LawFault → Option (ℕ × ℕ)
+told (UnknownName at) = Some (11, at)
+told (BadTarget at) = Some (24, at)
+told (WildLabel at) = Some (25, at)
+told (TwoClocks at) = Some (23, at)
+told (ClockUse at) = Some (22, at)
+told (TwoDrivers bit first second) = Some (17, second)
+told (WrongAssign at) = Some (18, at)
+told (Race at) = Some (19, at)
+told (Latch bit block) = Some (20, block)
+told (Loop cycle token) = Some (21, token)
+told Memory = None
+
+-- but for want of memory, the same law at the same token
+abbrev pub IsSameFault : LawFault → LawFault → Type 0
+IsSameFault f g = (told f ≡ None) ⊎ ((told g ≡ None) ⊎ (told f ≡ told g))

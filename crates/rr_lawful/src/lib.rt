@@ -3,9 +3,11 @@
 
 mod clocks;
 mod laws;
+mod once;
 
 pub use clocks::places;
 pub use laws::{LawFault, check};
+pub use once::one_fault;
 pub use rr_flat::Bit;
 
 #[cfg(test)]

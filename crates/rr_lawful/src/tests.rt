@@ -1,8 +1,9 @@
 //! Designs that keep all laws, and designs that break one or two, by the law and the byte that are told first.
-use crate::{LawFault, check};
+use crate::{LawFault, check, places};
 use bumpalo::Bump;
 use rr_elaborate::{DesignFault, FlatFault, Wrong, elaborate};
-use rr_syntax::Token;
+use rr_flat::Flat;
+use rr_syntax::{ModulePlace, Token};
 use std::alloc::{AllocError, Global};
 use std::test::Fail;
 
@@ -703,5 +704,45 @@ fn faults_before_the_laws(rt: HostRuntime) -> Result<(), Fail> {
     assert!(rt;
         refusal(alloc, "module m(output y);wire [128:0] a;endmodule", None) == Some((15, 32))
     );
+    Ok(())
+}
+
+/// The names that lead to the clock, of a design that keeps all laws.
+fn names_of_the_clock<'a>(
+    alloc: Global,
+    flat: &Flat<'a>,
+    arena: &'a Bump,
+) -> Result<&'a [ModulePlace<'a>], AllocError> {
+    match check(alloc, flat, None) {
+        Err(_) => Ok(&[]),
+        Ok(order) => places(alloc, flat, &order, arena),
+    }
+}
+
+fn place_is(places: &[ModulePlace], at: usize, module: u32, clock: &str) -> bool {
+    match places.get(at) {
+        None => false,
+        Some(place) => place.module == module
+            && place.clocks.len() == 1
+            && place.clocks[0] == clock,
+    }
+}
+
+#[test]
+fn names_that_lead_to_the_clock(rt: HostRuntime) -> Result<(), Fail> {
+    let alloc = rt.alloc();
+    let arena = Bump::new(alloc);
+    let bytes =
+        "module c(input ck, input d, output reg q); always @(posedge ck) q <= d; endmodule module m(input clk, input d, output q); c u(.ck(clk), .d(d), .q(q)); endmodule".as_bytes();
+    assert!(rt; bytes.len() < 1_000);
+    match elaborate(alloc, bytes, None, &arena) {
+        Err(_) => assert!(rt; false),
+        Ok(design) => {
+            let found = names_of_the_clock(alloc, &design.flat, &arena)?;
+            assert!(rt; found.len() == 2);
+            assert!(rt; place_is(found, 0, 0, "ck"));
+            assert!(rt; place_is(found, 1, 1, "clk"));
+        }
+    }
     Ok(())
 }

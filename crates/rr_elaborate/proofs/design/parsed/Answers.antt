@@ -1,4 +1,4 @@
-use Rattle.std.proofs.Common.{option_map, List, ℕ, Bor}
+use Rattle.std.proofs.Common.{option_map}
 use Rattle.rr_elaborate.proofs.Reading.{few_of, fit_of, text_of}
 use Rattle.rr_elaborate.proofs.design.parsed.Goals as goal
 
