@@ -4,4 +4,4 @@ pub mod Marks
 pub mod Rows
 pub mod Placing
 pub mod Walking
-pub mod Within
+pub mod Tabled

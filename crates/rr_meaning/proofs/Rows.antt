@@ -1,23 +1,24 @@
 -- rows of inputs over the bits of registers
-use Rattle.std.proofs.Common.{◌≡◌, ◌∙◌, sym, ap, ℕ, suc, ◌+◌, ◌<◌, ◌≤◌, ◌^◌, Bool, true, false, cond, ◌&&◌, ◌||◌, List, [], ◌∷◌, length, drop, drop-cons, get_or, set, replicate, nat_eq, nat_lt, Option, refl, arith, ◌⊎◌, inl, inr}
+use Rattle.std.proofs.Common.{◌≡◌, ◌∙◌, sym, ap, subst, ℕ, suc, ◌+◌, ◌<◌, ◌≤◌, ◌^◌, Bool, true, false, cond, ◌&&◌, ◌||◌, List, [], ◌∷◌, length, drop, drop-cons, get_or, set, replicate, nat_eq, nat_lt, Option, refl, arith, ◌⊎◌, inl, inr}
 use mathlib.Core.Path.{fun_ext}
 use Rattle.std.proofs.lemmas.Bool.{cases_Bool, cases_eq, cases_lt, both_ways, or_cases, eqb-true, eq-eqb, ne_eqb, lt-ltb, le-ltb}
 use Rattle.std.proofs.lemmas.List.{get_or_past, get_or-replicate, length-replicate}
 use Rattle.std.specs.Int.RustNames.{bit_and}
-use Rattle.rr_bits.specs.Words.{word}
-use Rattle.rr_bits.proofs.Places.{has_above, has_and, has_zero, get_word, get_past}
+use Rattle.rr_bits.specs.Fields.{length_word, number_word}
+use Rattle.rr_bits.specs.Words.{number, word}
+use Rattle.rr_bits.proofs.Numbers.{number-lt, word_mod}
+use Rattle.rr_bits.proofs.Places.{has, has_above, has_and, has_zero, get_word, get_past}
 use Rattle.rr_expr.specs.declared.types.Bit.{Bit}
 use Rattle.rr_expr.specs.Scopes.{env_of}
-use Rattle.rr_head.specs.Plain.{signal_at}
+use Rattle.rr_head.specs.Plain.{Signal, signal_at}
 use Rattle.rr_flat.specs.Plain.{Block, Flat}
 use Rattle.rr_flat.specs.Writers.{Clocked, Writer, Writes, block_at, writes_at_all}
-use Rattle.rr_cycle.specs.Cycles.{IsInputBit, given, is_clock, row_inputs, tail, zeros}
+use Rattle.rr_cycle.specs.Cycles.{IsInputBit, given, head, is_clock, row_inputs, tail, zeros}
 use Rattle.rr_cycle.specs.Exec.{Environment}
 use Rattle.rr_cycle.specs.Performing.{any_is, any_writes, base}
 use Rattle.rr_cycle.proofs.Writes.{missed}
 use Rattle.rr_exec.proofs.Pieces.{env_set}
-use Rattle.rr_meaning.specs.Calls.{IsRow}
-use Rattle.rr_meaning.specs.Work.{given_over, masked}
+use Rattle.rr_meaning.specs.Work.{cut_to, given_over, masked}
 
 -- a number that is not there
 
@@ -86,31 +87,58 @@ mask_all masks values n f l h = fun_ext (λ b. h b ∙ by b (cases_lt b.signal n
 
 -- the numbers of a row, from the last one on
 
-pub give_none : (ids row : List ℕ) (e : Environment) → length row ≡ length ids → e ≡ given_over (drop (length ids) ids) (drop (length ids) row) e
+pub give_none : (signals : List Signal) (ids row : List ℕ) (e : Environment) → length row ≡ length ids → e ≡ given_over signals (drop (length ids) ids) (drop (length ids) row) e
 unfolding given_over
-give_none [] row e l = refl
-give_none (id ∷ ids) [] e l = absurd (omega arith)
-give_none (id ∷ ids) (n ∷ row) e l = give_none ids row e (omega arith)
+give_none signals [] row e l = refl
+give_none signals (id ∷ ids) [] e l = absurd (omega arith)
+give_none signals (id ∷ ids) (n ∷ row) e l = give_none signals ids row e (omega arith)
 
-pub give_more : (ids row : List ℕ) (i j id n : ℕ) (values : List ℕ) (e : Environment) → i < length ids → i < length row → id ≡ get_or ids i 0 → n ≡ get_or row i 0 → j ≡ i + 1 → id < length values →
-    env_of values ≡ given_over (drop j ids) (drop j row) e → env_of (set values id n) ≡ given_over (drop i ids) (drop i row) e
+pub give_more : (signals : List Signal) (ids row : List ℕ) (i j id n m : ℕ) (values : List ℕ) (e : Environment) → i < length ids → i < length row → id ≡ get_or ids i 0 → n ≡ get_or row i 0 → m ≡ cut_to signals id n → j ≡ i + 1 → id < length values →
+    env_of values ≡ given_over signals (drop j ids) (drop j row) e → env_of (set values id m) ≡ given_over signals (drop i ids) (drop i row) e
 unfolding given_over
-give_more ids row i j id n values e l m p q r in' h =
+give_more signals ids row i j id n m values e l k p q c r in' h =
     let s : suc i ≡ j = omega arith in
     let x : drop i ids ≡ id ∷ drop j ids = drop-cons ids i 0 l ∙ ap (λ (k : ℕ). k ∷ drop (suc i) ids) (sym p) ∙ ap (λ (k : ℕ). id ∷ drop k ids) s in
-    let y : drop i row ≡ n ∷ drop j row = drop-cons row i 0 m ∙ ap (λ (k : ℕ). k ∷ drop (suc i) row) (sym q) ∙ ap (λ (k : ℕ). n ∷ drop k row) s in
-    fun_ext (λ b. env_set values id n b in' ∙ ap (λ (f : Environment). cond (nat_eq id b.signal) (get_or (word 128 n) b.place false) (f b)) h)
-    ∙ ap (λ (us : List ℕ). given_over us (n ∷ drop j row) e) (sym x) ∙ ap (λ (us : List ℕ). given_over (drop i ids) us e) (sym y)
+    let y : drop i row ≡ n ∷ drop j row = drop-cons row i 0 k ∙ ap (λ (k : ℕ). k ∷ drop (suc i) row) (sym q) ∙ ap (λ (k : ℕ). n ∷ drop k row) s in
+    fun_ext (λ b. env_set values id m b in' ∙ ap (λ (f : Environment). cond (nat_eq id b.signal) (get_or (word 128 m) b.place false) (f b)) h
+    ∙ ap (λ (v : ℕ). cond (nat_eq id b.signal) (get_or (word 128 v) b.place false) (given_over signals (drop j ids) (drop j row) e b)) c)
+    ∙ ap (λ (us : List ℕ). given_over signals us (n ∷ drop j row) e) (sym x) ∙ ap (λ (us : List ℕ). given_over signals (drop i ids) us e) (sym y)
 
 -- the first environment of the steps
 
-over_is : (ids row : List ℕ) (e : Environment) (b : Bit) → given_over ids row e b ≡ cond (any_is ids b.signal) (given ids row b) (e b)
-unfolding given_over given any_is
-over_is [] row e b = refl
-over_is (id ∷ ids) row e b = elim (cases_Bool (nat_eq id b.signal)) [
-  | inl t ↦ rw t refl
-  | inr t ↦ rw t (over_is ids (tail row) e b)
+-- a number that is cut to a width has the bits below it
+cut_bit : (w n p : ℕ) → get_or (word 128 (number (word w n))) p false ≡ (nat_lt p w && get_or (word 128 n) p false)
+cut_bit w n p = elim (cases_lt p 128) [
+  | inl l ↦ get_word 128 (number (word w n)) p false l ∙ by (cases_lt p w) ∙ ap (λ (x : Bool). nat_lt p w && x) (sym (get_word 128 n p false l))
+  | inr l ↦ get_past 128 (number (word w n)) p false l ∙ none (nat_lt p w) ∙ ap (λ (x : Bool). nat_lt p w && x) (sym (get_past 128 n p false l))
 ]
+  where
+    none : (x : Bool) → false ≡ (x && false)
+    none true = refl
+    none false = refl
+
+    by : ((p < w) ⊎ (w ≤ p)) → has (number (word w n)) p ≡ (nat_lt p w && has n p)
+    by (inl l) =
+        rw (lt-ltb p w l)
+        (sym (get_word w (number (word w n)) p false l)
+        ∙ ap (λ (bs : List Bool). get_or bs p false) (ap (word w) (number_word w n) ∙ word_mod w n)
+        ∙ get_word w n p false l)
+    by (inr l) = rw (le-ltb p w l) (has_above (number (word w n)) w p (subst (λ (k : ℕ). number (word w n) < 2 ^ k) (length_word w n) (number-lt (word w n))) l)
+
+over_is : (signals : List Signal) (ids row : List ℕ) (e : Environment) (b : Bit) → given_over signals ids row e b ≡ cond (any_is ids b.signal) (nat_lt b.place (signal_at signals b.signal).width && given ids row b) (e b)
+unfolding given_over given any_is
+over_is signals [] row e b = refl
+over_is signals (id ∷ ids) row e b = by (cases_eq id b.signal) (over_is signals ids (tail row) e b)
+  where
+    by : ((id ≡ b.signal) ⊎ (id ≡ b.signal → ⊥)) →
+        given_over signals ids (tail row) e b ≡ cond (any_is ids b.signal) (nat_lt b.place (signal_at signals b.signal).width && given ids (tail row) b) (e b) →
+        cond (nat_eq id b.signal) (get_or (word 128 (cut_to signals id (head row))) b.place false) (given_over signals ids (tail row) e b)
+        ≡ cond (nat_eq id b.signal || any_is ids b.signal) (nat_lt b.place (signal_at signals b.signal).width && cond (nat_eq id b.signal) (get_or (word 128 (head row)) b.place false) (given ids (tail row) b)) (e b)
+    by (inl q) r =
+        rw (eq-eqb id b.signal q)
+        (cut_bit (signal_at signals id).width (head row) b.place
+        ∙ ap (λ (k : ℕ). nat_lt b.place (signal_at signals k).width && get_or (word 128 (head row)) b.place false) q)
+    by (inr q) r = rw (ne_eqb id b.signal q) r
 
 not_given : (ids row : List ℕ) (b : Bit) → any_is ids b.signal ≡ false → given ids row b ≡ false
 unfolding given any_is
@@ -119,22 +147,6 @@ not_given (id ∷ ids) row b h = elim (cases_Bool (nat_eq id b.signal)) [
   | inl t ↦ absurd (both_ways true (rw t at h) refl)
   | inr t ↦ rw t (not_given ids (tail row) b (rw t at h))
 ]
-
-given_narrow : (w : ℕ → ℕ) (ids row : List ℕ) (b : Bit) → length row ≡ length ids → ((k : ℕ) → k < length row → get_or row k 0 < 2 ^ w (get_or ids k 0)) → w b.signal ≤ b.place → given ids row b ≡ false
-unfolding given
-given_narrow w [] row b l h u = refl
-given_narrow w (id ∷ ids) [] b l h u = absurd (omega arith)
-given_narrow w (id ∷ ids) (n ∷ row) b l h u = by (cases_eq id b.signal) (given_narrow w ids row b (omega arith) (λ k m. h (suc k) (omega arith)) u)
-  where
-    small : id ≡ b.signal → get_or (word 128 n) b.place false ≡ false
-    small q = elim (cases_lt b.place 128) [
-      | inl m ↦ get_word 128 n b.place false m ∙ has_above n (w id) b.place (h 0 (omega arith)) (omega (arith, ap w q))
-      | inr m ↦ get_past 128 n b.place false m
-    ]
-
-    by : ((id ≡ b.signal) ⊎ (id ≡ b.signal → ⊥)) → given ids row b ≡ false → cond (nat_eq id b.signal) (get_or (word 128 n) b.place false) (given ids row b) ≡ false
-    by (inl q) r = rw (eq-eqb id b.signal q) (small q)
-    by (inr q) r = rw (ne_eqb id b.signal q) r
 
 all_inputs : (clock : Option ℕ) (ids : List ℕ) (n : ℕ) → any_is (row_inputs clock ids) n ≡ true → any_is ids n ≡ true
 unfolding any_is row_inputs
@@ -160,39 +172,35 @@ input_at (m ∷ ms) n h = elim (or_cases (nat_eq m n) (any_is ms n) h) [
   | inr i ↦ let r = input_at ms n i in (suc r.0, (omega (arith, r.1.0), r.1.1))
 ]
 
-pub base_made : (flat : Flat) (clock : Option ℕ) (row masks values : List ℕ) → ((b : Bit) → env_of masks b ≡ any_writes flat flat.clocked b) → IsRow flat clock row →
+pub base_made : (flat : Flat) (clock : Option ℕ) (row masks values : List ℕ) → ((b : Bit) → env_of masks b ≡ any_writes flat flat.clocked b) →
     ((b : Bit) → IsInputBit flat b → any_writes flat flat.clocked b ≡ false) → ((b : Bit) → any_writes flat flat.clocked b ≡ true → b.place < (signal_at flat.signals b.signal).width) →
-    given_over (row_inputs clock flat.inputs) row (masked masks (env_of values)) ≡ base flat clock (env_of values) row
+    given_over flat.signals (row_inputs clock flat.inputs) row (masked masks (env_of values)) ≡ base flat clock (env_of values) row
 unfolding base
-base_made flat clock row masks values reg is free narrow = fun_ext (λ b.
-    over_is (row_inputs clock flat.inputs) row (masked masks (env_of values)) b
-    ∙ ap (λ (x : Bool). cond (any_is (row_inputs clock flat.inputs) b.signal) (given (row_inputs clock flat.inputs) row b) (x && env_of values b)) (reg b)
-    ∙ by b (any_writes flat flat.clocked b) refl (any_is (row_inputs clock flat.inputs) b.signal) refl (cases_lt b.place (signal_at flat.signals b.signal).width))
+base_made flat clock row masks values reg free narrow = fun_ext (λ b.
+    over_is flat.signals (row_inputs clock flat.inputs) row (masked masks (env_of values)) b
+    ∙ ap (λ (x : Bool). cond (any_is (row_inputs clock flat.inputs) b.signal) (nat_lt b.place (signal_at flat.signals b.signal).width && given (row_inputs clock flat.inputs) row b) (x && env_of values b)) (reg b)
+    ∙ by b (any_writes flat flat.clocked b) refl (any_is (row_inputs clock flat.inputs) b.signal) refl)
   where
     input : (b : Bit) → any_is (row_inputs clock flat.inputs) b.signal ≡ true → b.place < (signal_at flat.signals b.signal).width → IsInputBit flat b
     input b h l = (input_at flat.inputs b.signal (all_inputs clock flat.inputs b.signal h), l)
 
+    both : (x g : Bool) → (x && g) ≡ cond x g false
+    both true g = refl
+    both false g = refl
+
+    none : (x : Bool) → false ≡ cond x false false
+    none true = refl
+    none false = refl
+
     by : (b : Bit) (w : Bool) → any_writes flat flat.clocked b ≡ w → (i : Bool) → any_is (row_inputs clock flat.inputs) b.signal ≡ i →
-        ((b.place < (signal_at flat.signals b.signal).width) ⊎ ((signal_at flat.signals b.signal).width ≤ b.place)) →
-        cond i (given (row_inputs clock flat.inputs) row b) (w && env_of values b)
+        cond i (nat_lt b.place (signal_at flat.signals b.signal).width && given (row_inputs clock flat.inputs) row b) (w && env_of values b)
         ≡ cond w (env_of values b) (cond (any_is flat.inputs b.signal && nat_lt b.place (signal_at flat.signals b.signal).width) (given (row_inputs clock flat.inputs) row b) false)
-    by b true h true k l = absurd (both_ways (any_writes flat flat.clocked b) (free b (input b k (narrow b h))) h)
-    by b true h false k l = refl
-    by b false h true k (inl l) = rw (all_inputs clock flat.inputs b.signal k, lt-ltb b.place (signal_at flat.signals b.signal).width l) refl
-    by b false h true k (inr l) =
-        let g : given (row_inputs clock flat.inputs) row b ≡ false = given_narrow (λ n. (signal_at flat.signals n).width) (row_inputs clock flat.inputs) row b is.count is.within l in
-        rw g (none (any_is flat.inputs b.signal && nat_lt b.place (signal_at flat.signals b.signal).width))
-      where
-        none : (x : Bool) → false ≡ cond x false false
-        none true = refl
-        none false = refl
-    by b false h false k l =
+    by b true h true k = absurd (both_ways (any_writes flat flat.clocked b) (free b (input b k (narrow b h))) h)
+    by b true h false k = refl
+    by b false h true k = rw (all_inputs clock flat.inputs b.signal k) (both (nat_lt b.place (signal_at flat.signals b.signal).width) (given (row_inputs clock flat.inputs) row b))
+    by b false h false k =
         let g : given (row_inputs clock flat.inputs) row b ≡ false = not_given (row_inputs clock flat.inputs) row b k in
         rw g (none (any_is flat.inputs b.signal && nat_lt b.place (signal_at flat.signals b.signal).width))
-      where
-        none : (x : Bool) → false ≡ cond x false false
-        none true = refl
-        none false = refl
 
 pub zeros_made : (n : ℕ) (values : List ℕ) → values ≡ replicate n 0 → env_of values ≡ zeros
 zeros_made n values h = zeros_are values (λ i. ap (λ (xs : List ℕ). get_or xs i 0) h ∙ zero i (cases_lt i n))

@@ -1,8 +1,9 @@
 -- What the evaluator's own words stand for.
 use Rattle.std.specs.Prelude.{ℕ, max, List, [], ◌∷◌, Bool, false, cond, ◌&&◌, nat_eq, get_or, Vec}
 use Rattle.std.specs.declared.alloc.Global.{Global}
-use Rattle.rr_bits.specs.Words.{word}
+use Rattle.rr_bits.specs.Words.{number, word}
 use Rattle.rr_expr.specs.Scopes.{env_of}
+use Rattle.rr_head.specs.Plain.{Signal, signal_at}
 use Rattle.rr_flat.specs.Plain.{Driver, Flat}
 use Rattle.rr_cycle.specs.Cycles.{head, side_shape, side_value, tail}
 use Rattle.rr_cycle.specs.Exec.{Environment}
@@ -16,10 +17,14 @@ sides_value flat d env =
 abbrev pub masked : List ℕ → Environment → Environment
 masked masks env b = env_of masks b && env b
 
+-- the bits of a number that a signal has
+abbrev pub cut_to : List Signal → ℕ → ℕ → ℕ
+cut_to signals id n = number (word (signal_at signals id).width n)
+
 -- the bits that the numbers of a row write in the signals of its inputs, over an environment
-unfoldable pub given_over : List ℕ → List ℕ → Environment → Environment
-given_over [] row env b = env b
-given_over (id ∷ ids) row env b = cond (nat_eq id b.signal) (get_or (word 128 (head row)) b.place false) (given_over ids (tail row) env b)
+unfoldable pub given_over : List Signal → List ℕ → List ℕ → Environment → Environment
+given_over signals [] row env b = env b
+given_over signals (id ∷ ids) row env b = cond (nat_eq id b.signal) (get_or (word 128 (cut_to signals id (head row))) b.place false) (given_over signals ids (tail row) env b)
 
 abbrev pub row_items : Vec ℕ Global → List ℕ
 row_items row = row.items

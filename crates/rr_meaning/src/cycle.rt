@@ -11,10 +11,11 @@ ghost use Rattle.rr_cycle.specs.Performing.{any_writes, base, performed, run_blo
 ghost use Rattle.rr_cycle.specs.Designs.{IsElaborated, IsInOrder, IsLawful};
 ghost use Rattle.rr_meaning.specs.Calls.{IsRow};
 ghost use Rattle.rr_exec.specs.Work.{IsLater, updates_in};
-ghost use Rattle.rr_meaning.specs.Work.{given_over, masked, row_items};
+ghost use Rattle.rr_meaning.specs.Work.{cut_to, given_over, masked, row_items};
 
 use crate::registers::registers;
 use crate::steps::{perform, signal_value};
+use rr_bits::Bits;
 use rr_exec::{Machine, apply, execute};
 use rr_expr::Env;
 use rr_flat::{Flat, Order, Step};
@@ -90,17 +91,28 @@ fn mask(values: &mut Vec<u128>, masks: &[u128])
     }
 }
 
-/// The inputs take the numbers of a row; of two for one signal the first counts.
-fn give(values: &mut Vec<u128>, inputs: &[u32], row: &[u128])
+/// A number without the bits above the width of a signal.
+fn cut(flat: &Flat, id: u32, number: u128) -> u128
+    requires { id < length flat.now.signals }
+    ensures { result ≡ cut_to (plain_flat flat.now).signals id number }
+{
+    Bits::from_u128(flat.signals[id as usize].width, number).to_u128()
+}
+
+/// The inputs take the numbers of a row, each without the bits above its input's width; of two for one
+/// signal the first counts.
+fn give(flat: &Flat, values: &mut Vec<u128>, inputs: &[u32], row: &[u128])
+    requires signals { length values.old.items ≡ length flat.now.signals }
     requires count { length row.now ≡ length inputs.now }
-    requires inside { All (λ id. id < length values.old.items) inputs.now }
-    ensures env { env_of values.new.items ≡ given_over inputs.now row.now (env_of values.old.items) }
+    requires inside { All (λ id. id < length flat.now.signals) inputs.now }
+    ensures env { env_of values.new.items ≡ given_over (plain_flat flat.now).signals inputs.now row.now (env_of values.old.items) }
     ensures count { length values.new.items ≡ length values.old.items }
 {
     let mut left = inputs.len();
     while left > 0 {
         left -= 1;
-        values[inputs[left] as usize] = row[left];
+        let id = inputs[left];
+        values[id as usize] = cut(flat, id, row[left]);
     }
 }
 
@@ -194,7 +206,7 @@ fn settle_in(
 {
     machine.later.clear();
     mask(&mut machine.env.values, plan.registers.as_slice());
-    give(&mut machine.env.values, plan.inputs.as_slice(), row);
+    give(flat, &mut machine.env.values, plan.inputs.as_slice(), row);
     perform_all(flat, order.steps.as_slice(), machine)
 }
 

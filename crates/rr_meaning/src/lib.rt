@@ -3,12 +3,12 @@
 #![tactic(auto)]
 
 mod cycle;
-mod inputs;
+mod laws;
 mod registers;
 mod steps;
 
 pub use cycle::{run_table, settle, step};
-pub use inputs::are_rows;
+pub use laws::table_rows;
 
 #[cfg(test)]
 mod tests;

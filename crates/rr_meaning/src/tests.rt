@@ -4,9 +4,11 @@ ghost use Rattle.std.specs.Prelude.{◌≤◌, length};
 ghost use Rattle.rr_flat.specs.View.{plain_flat};
 ghost use Rattle.rr_cycle.specs.Designs.{IsElaborated};
 
-use crate::{are_rows, run_table};
+use crate::cycle::row_inputs;
+use crate::{run_table, settle, step};
 use bumpalo::Bump;
 use rr_elaborate::{Flat, elaborate};
+use rr_expr::Env;
 use rr_lawful::check;
 use rr_trace::{read_table, write_table};
 use std::alloc::{AllocError, Global};
@@ -22,9 +24,6 @@ fn outputs(alloc: Global, flat: &Flat, table: &str) -> Result<Option<Vec<u8>>, A
     let Ok(table) = read_table(alloc, table.as_bytes(), flat, order.clock) else {
         return Ok(None);
     };
-    if !are_rows(alloc, flat, order.clock, table.inputs.as_slice())? {
-        return Ok(None);
-    }
     let outputs = run_table(alloc, flat, &order, table.inputs.as_slice())?;
     let text = write_table(alloc, flat, order.clock, &table, outputs.as_slice())?;
     Ok(Some(text))
@@ -525,5 +524,71 @@ fn worked(rt: HostRuntime) -> Result<(), Fail> {
             "a,c\n5,6\n"
         )?
     );
+    Ok(())
+}
+
+/// The settled values of a lawful design with a row of inputs, and those of the next state.
+fn cycle_from(
+    alloc: Global,
+    flat: &Flat,
+    state: &Env,
+    row: &[u128],
+) -> Result<Option<(Env, Env)>, AllocError>
+    requires { IsElaborated (plain_flat flat.now) }
+{
+    let Ok(order) = check(alloc, flat, None) else {
+        return Ok(None);
+    };
+    let inputs = row_inputs(alloc, flat, order.clock)?;
+    if row.len() != inputs.len() || state.values.len() != flat.signals.len() {
+        return Ok(None);
+    }
+    let settled = settle(alloc, flat, &order, state, row)?;
+    let next = step(alloc, flat, &settled)?;
+    Ok(Some((settled, next)))
+}
+
+/// Whether a signal has this value in a settled environment and that one after the clock edge.
+fn has_values(both: &Option<(Env, Env)>, signal: usize, settled: u128, next: u128) -> bool {
+    match both {
+        None => false,
+        Some((now, then)) => now.values.get(signal) == Some(&settled)
+            && then.values.get(signal) == Some(&next),
+    }
+}
+
+fn next_of(both: Option<(Env, Env)>, alloc: Global) -> Env {
+    match both {
+        Some((_, next)) => next,
+        None => Env {
+            values: Vec::new(alloc),
+        },
+    }
+}
+
+/// A counter's cycles: two that count and one that does not.
+fn counts(alloc: Global, flat: &Flat) -> Result<bool, AllocError>
+    requires { IsElaborated (plain_flat flat.now) }
+{
+    let values = vec![in alloc; 0u128; flat.signals.len()]?;
+    let first = cycle_from(alloc, flat, &Env { values }, &[1])?;
+    let is_first = has_values(&first, 1, 1, 1) && has_values(&first, 2, 0, 1);
+    let second = cycle_from(alloc, flat, &next_of(first, alloc), &[1])?;
+    let is_second = has_values(&second, 2, 1, 2);
+    let third = cycle_from(alloc, flat, &next_of(second, alloc), &[0])?;
+    Ok(is_first && is_second && has_values(&third, 1, 0, 0) && has_values(&third, 2, 2, 2))
+}
+
+#[test]
+fn cycles(rt: HostRuntime) -> Result<(), Fail> {
+    let alloc = rt.alloc();
+    let arena = Bump::new(alloc);
+    let bytes =
+        "module m(input clk, input e, output reg [3:0] q); always @(posedge clk) if (e) q <= q + 4'd1; endmodule".as_bytes();
+    assert!(rt; bytes.len() < 1_000);
+    match elaborate(alloc, bytes, None, &arena) {
+        Err(_) => assert!(rt; false),
+        Ok(design) => assert!(rt; counts(alloc, &design.flat)?),
+    }
     Ok(())
 }

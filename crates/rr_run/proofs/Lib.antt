@@ -1,0 +1,4 @@
+pub mod Telling
+pub mod Causes
+pub mod Ranked
+pub mod Once

@@ -1,27 +1,27 @@
 -- What the run of a design on a table gives, and why there is none (IEEE 1364-2005 sections 9, 11 and 12).
-use Rattle.std.specs.Prelude.{ℕ, ◌≡◌, Bool, List, Option, Some, None, Ok, get_or}
-use Rattle.rr_lex.specs.Tokens.{Lexeme}
+use Rattle.std.specs.Prelude.{ℕ, ◌≡◌, ◌⊎◌, Bool, List, Option, Ok, Err}
+use Rattle.rr_lex.specs.Tokens.{Lexeme, IsFirstFault}
+use Rattle.rr_lex.specs.declared.piece.Wrong.TheVariants as wrong
 use Rattle.rr_head.specs.Plain.{Text}
+use Rattle.rr_head.specs.declared.fault.FlatFault.TheVariants as flat
 use Rattle.rr_flat.specs.Lawful.{Lawful}
 use Rattle.rr_flat.specs.Clocks.{OneClock}
 use Rattle.rr_flat.specs.Plain.{Flat}
 use Rattle.rr_flat.specs.Ordered.{Ordered}
 use Rattle.rr_flat.specs.View.{Design, plain_flat}
 use Rattle.rr_flat.specs.declared.design.Order.{Order}
-use Rattle.rr_elaborate.specs.Designs.{IsDesign, start_of, Refuses as RefusesDesign}
+use Rattle.rr_elaborate.specs.Designs.{IsDesign, IsFlawed, IsUnparsed, IsUnsupported, start_of}
 use Rattle.rr_lawful.specs.Checked.{FailsFirst}
 use Rattle.rr_lawful.specs.declared.laws.LawFault.{LawFault}
 use Rattle.rr_lawful.specs.declared.laws.LawFault.TheVariants as law
 use Rattle.rr_trace.specs.Tables.{Table, table_of}
-use Rattle.rr_trace.specs.Tops.{ports_of}
-use Rattle.rr_trace.specs.View.{Refuses as RefusesTable}
+use Rattle.rr_trace.specs.Tops.{name_of, ports_of}
 use Rattle.rr_trace.specs.Written.{table_text}
-use Rattle.rr_trace.specs.declared.fault.TableFault.{TableFault}
+use Rattle.rr_trace.specs.declared.fault.TableFault.TheVariants as table
 use Rattle.rr_cycle.specs.Cycles.{Run}
-use Rattle.rr_run.specs.declared.fault.RunFault.{RunFault}
-use Rattle.rr_run.specs.declared.fault.RunFault.TheVariants as fault
-use Rattle.rr_run.specs.declared.fault.Law.{Law}
-use Rattle.rr_run.specs.declared.fault.Law.TheVariants as name
+use Rattle.rr_run.specs.declared.fault.Fault.{Fault}
+use Rattle.rr_run.specs.declared.fault.Fault.TheVariants as fault
+use Rattle.rr_run.specs.Refusals.{Refusal, At, TooMany, NoHeader, UnknownColumn, ColumnTwice, MissingInput, RowLength, BadCell, CellTooLarge, NotUtf8}
 
 abbrev pub start_at : List Lexeme → ℕ → ℕ
 start_at = start_of
@@ -54,49 +54,98 @@ pub record IsRun (bytes table : List ℕ) (top word : Option Text) (text : List 
   pub gives : GivesText flat clock rows text
 
 -- which law, and the token at which it is told
-abbrev pub Told : LawFault → Law → ℕ → Type 0
-Told (law.UnknownName t) which at = (which ≡ name.UnknownName) × (at ≡ t)
-Told (law.TwoDrivers bit first second) which at = (which ≡ name.TwoDrivers) × (at ≡ second)
-Told (law.WrongAssign t) which at = (which ≡ name.WrongAssign) × (at ≡ t)
-Told (law.Race t) which at = (which ≡ name.Race) × (at ≡ t)
-Told (law.Latch bit block) which at = (which ≡ name.Latch) × (at ≡ block)
-Told (law.Loop cycle token) which at = (which ≡ name.Loop) × (at ≡ token)
-Told (law.ClockUse t) which at = (which ≡ name.ClockUse) × (at ≡ t)
-Told (law.TwoClocks t) which at = (which ≡ name.TwoClocks) × (at ≡ t)
-Told (law.BadTarget t) which at = (which ≡ name.BadTarget) × (at ≡ t)
-Told (law.WildLabel t) which at = (which ≡ name.WildLabel) × (at ≡ t)
-Told law.Memory which at = ⊥
+abbrev pub Told : LawFault → Fault → ℕ → Type 0
+Told (law.UnknownName t) what at = (what ≡ fault.UnknownName) × (at ≡ t)
+Told (law.TwoDrivers bit first second) what at = (what ≡ fault.TwoDrivers) × (at ≡ second)
+Told (law.WrongAssign t) what at = (what ≡ fault.WrongAssign) × (at ≡ t)
+Told (law.Race t) what at = (what ≡ fault.Race) × (at ≡ t)
+Told (law.Latch bit block) what at = (what ≡ fault.Latch) × (at ≡ block)
+Told (law.Loop cycle token) what at = (what ≡ fault.Loop) × (at ≡ token)
+Told (law.ClockUse t) what at = (what ≡ fault.ClockUse) × (at ≡ t)
+Told (law.TwoClocks t) what at = (what ≡ fault.TwoClocks) × (at ≡ t)
+Told (law.BadTarget t) what at = (what ≡ fault.BadTarget) × (at ≡ t)
+Told (law.WildLabel t) what at = (what ≡ fault.WildLabel) × (at ≡ t)
+Told law.Memory what at = ⊥
 
 -- the design breaks this law first, at the token that begins at this byte
-pub record IsBroken (bytes : List ℕ) (top word : Option Text) (which : Law) (at : ℕ) : Type 0 where
+pub record IsBroken (bytes : List ℕ) (top word : Option Text) (what : Fault) (at : ℕ) : Type 0 where
   pub tokens : List Lexeme
   pub flat : Flat
   pub design : IsDesign bytes tokens top flat
   pub found : LawFault
   pub first : FailsFirst flat word found
   pub token : ℕ
-  pub told : Told found which token
+  pub told : Told found what token
   pub place : at ≡ start_of tokens token
 
--- why a text has no lawful design: its first refusal, or the first law that its flat design breaks
-abbrev pub RefusesLawful : List ℕ → Option Text → Option Text → RunFault → Type 0
-RefusesLawful bytes top word (fault.Refused f) = RefusesDesign bytes top f
-RefusesLawful bytes top word (fault.Broken which at) = IsBroken bytes top word which at
-RefusesLawful bytes top word (fault.Table f) = ⊥
-RefusesLawful bytes top word fault.Memory = Unit {0}
+-- What is wrong with a design first, and at which byte: the first fault of its bytes, its first word without a rule, that
+-- it has no tree, the first fault of its elaboration, or the first law that it breaks. Which byte is told of a text
+-- without a tree is not said.
+abbrev pub IsAt : List ℕ → Option Text → Option Text → Fault → ℕ → Type 0
+IsAt bytes top word fault.BadByte at = IsFirstFault bytes wrong.Byte at
+IsAt bytes top word fault.BadNumber at = IsFirstFault bytes wrong.Number at
+IsAt bytes top word fault.OpenComment at = IsFirstFault bytes wrong.Comment at
+IsAt bytes top word fault.Directive at = IsFirstFault bytes wrong.Directive at
+IsAt bytes top word fault.Unsupported at = IsUnsupported bytes at
+IsAt bytes top word fault.Syntax at = IsUnparsed bytes
+IsAt bytes top word fault.NoTop at = IsFlawed bytes top flat.NoTop × (at ≡ 0)
+IsAt bytes top word fault.UnknownModule at = IsFlawed bytes top (flat.UnknownModule at)
+IsAt bytes top word fault.SelfInstance at = IsFlawed bytes top (flat.SelfInstance at)
+IsAt bytes top word fault.NameTwice at = IsFlawed bytes top (flat.NameTwice at)
+IsAt bytes top word fault.UnknownName at = IsFlawed bytes top (flat.UnknownName at) ⊎ IsBroken bytes top word fault.UnknownName at
+IsAt bytes top word fault.BadRange at = IsFlawed bytes top (flat.BadRange at)
+IsAt bytes top word fault.NotConstant at = IsFlawed bytes top (flat.NotConstant at)
+IsAt bytes top word fault.PortMismatch at = IsFlawed bytes top (flat.PortMismatch at)
+IsAt bytes top word fault.TooWide at = (width : ℕ) × IsFlawed bytes top (flat.TooWide at width)
+IsAt bytes top word fault.TwoDrivers at = IsBroken bytes top word fault.TwoDrivers at
+IsAt bytes top word fault.WrongAssign at = IsBroken bytes top word fault.WrongAssign at
+IsAt bytes top word fault.Race at = IsBroken bytes top word fault.Race at
+IsAt bytes top word fault.Latch at = IsBroken bytes top word fault.Latch at
+IsAt bytes top word fault.Loop at = IsBroken bytes top word fault.Loop at
+IsAt bytes top word fault.ClockUse at = IsBroken bytes top word fault.ClockUse at
+IsAt bytes top word fault.TwoClocks at = IsBroken bytes top word fault.TwoClocks at
+IsAt bytes top word fault.BadTarget at = IsBroken bytes top word fault.BadTarget at
+IsAt bytes top word fault.WildLabel at = IsBroken bytes top word fault.WildLabel at
 
--- the design is lawful, and the table is none for its ports, with this fault first
-pub record HasNoTable (bytes table : List ℕ) (top word : Option Text) (f : TableFault) : Type 0 where
+-- why a text has no lawful design
+abbrev pub RefusesDesign : List ℕ → Option Text → Option Text → Refusal → Type 0
+RefusesDesign bytes top word (At what at) = IsAt bytes top word what at
+RefusesDesign bytes top word (TooMany limit count) = IsFlawed bytes top (flat.TooMany limit count)
+RefusesDesign bytes top word NoHeader = ⊥
+RefusesDesign bytes top word (UnknownColumn column) = ⊥
+RefusesDesign bytes top word (ColumnTwice column) = ⊥
+RefusesDesign bytes top word (MissingInput name) = ⊥
+RefusesDesign bytes top word (RowLength row) = ⊥
+RefusesDesign bytes top word (BadCell row column) = ⊥
+RefusesDesign bytes top word (CellTooLarge row column) = ⊥
+RefusesDesign bytes top word NotUtf8 = ⊥
+
+-- why a text is no table for the ports of a design
+abbrev pub RefusesTable : Flat → Option ℕ → List ℕ → Refusal → Type 0
+RefusesTable flat clock bytes (At what at) = ⊥
+RefusesTable flat clock bytes (TooMany limit count) = table_of (ports_of flat clock) bytes ≡ Err (table.TooMany limit count)
+RefusesTable flat clock bytes NoHeader = table_of (ports_of flat clock) bytes ≡ Err table.NoHeader
+RefusesTable flat clock bytes (UnknownColumn column) = table_of (ports_of flat clock) bytes ≡ Err (table.UnknownColumn column)
+RefusesTable flat clock bytes (ColumnTwice column) = table_of (ports_of flat clock) bytes ≡ Err (table.ColumnTwice column)
+RefusesTable flat clock bytes (MissingInput name) = (id : ℕ) × ((table_of (ports_of flat clock) bytes ≡ Err (table.MissingInput id)) × (name ≡ name_of flat id))
+RefusesTable flat clock bytes (RowLength row) = table_of (ports_of flat clock) bytes ≡ Err (table.RowLength row)
+RefusesTable flat clock bytes (BadCell row column) = table_of (ports_of flat clock) bytes ≡ Err (table.BadCell row column)
+RefusesTable flat clock bytes (CellTooLarge row column) = table_of (ports_of flat clock) bytes ≡ Err (table.CellTooLarge row column)
+RefusesTable flat clock bytes NotUtf8 = table_of (ports_of flat clock) bytes ≡ Err table.NotUtf8
+
+-- the design is lawful, and the table is none for its ports, for this reason
+pub record HasNoTable (bytes table : List ℕ) (top word : Option Text) (refusal : Refusal) : Type 0 where
   pub tokens : List Lexeme
   pub flat : Flat
   pub clock : Option ℕ
   pub rising : Bool
   pub design : IsLawfulDesign bytes top word tokens flat clock rising
-  pub refused : RefusesTable (table_of (ports_of flat clock) table) f
+  pub refused : RefusesTable flat clock table refusal
 
--- the refusals of a run, of the design first
-abbrev pub RefusesRun : List ℕ → List ℕ → Option Text → Option Text → RunFault → Type 0
-RefusesRun bytes table top word (fault.Refused f) = RefusesDesign bytes top f
-RefusesRun bytes table top word (fault.Broken which at) = IsBroken bytes top word which at
-RefusesRun bytes table top word (fault.Table f) = HasNoTable bytes table top word f
-RefusesRun bytes table top word fault.Memory = Unit {0}
+-- why two texts have no run: of the design first
+abbrev pub Refuses : List ℕ → List ℕ → Option Text → Option Text → Refusal → Type 0
+Refuses bytes table top word refusal = RefusesDesign bytes top word refusal ⊎ HasNoTable bytes table top word refusal
+
+-- the same refusal; of a text without a tree the byte may differ
+abbrev pub IsSameRefusal : Refusal → Refusal → Type 0
+IsSameRefusal a b = (a ≡ b) ⊎ ((i : ℕ) × ((j : ℕ) × ((a ≡ At fault.Syntax i) × (b ≡ At fault.Syntax j))))

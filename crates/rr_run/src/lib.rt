@@ -1,13 +1,20 @@
-//! The run of a design on the inputs of a table, from the bytes of both.
+//! The run of a design on the inputs of a table, from the bytes of both, or the first refusal (IEEE
+//! 1364-2005 sections 9, 11 and 12). It is right where its text is the table of the rows with the outputs
+//! of the one run of the one lawful design. It stands on the elaboration, the laws, the tables and the
+//! cycle evaluator.
 #![tactic(auto)]
 
 mod design;
 mod fault;
+mod laws;
+mod refused;
 mod run;
 
 pub use design::{LawfulDesign, lawful_design};
-pub use fault::{Law, RunFault};
-pub use run::run_files;
+pub use fault::{Fault, Refusal, RunFault};
+pub use laws::one_outcome;
+pub use rr_head::Limit;
+pub use run::{read_rows, run_files};
 
 #[cfg(test)]
 mod tests;

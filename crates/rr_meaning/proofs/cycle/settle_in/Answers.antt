@@ -19,9 +19,9 @@ returns-clause-settled c =
     let e : Environment = env_of c.args.machine.now.env.values.items in
     let b : env_of c.give.new.values.items ≡ base F o.clock e c.args.row.now =
     c.give.ensures.env
-    ∙ ap (λ (f : Environment). given_over c.as_slice-2.result.now c.args.row.now f) (c.mask.ensures.env ∙ ap (λ (ms : List ℕ). masked ms e) c.as_slice.ensures.value)
-    ∙ ap (λ (ids : List ℕ). given_over ids c.args.row.now (masked c.args.plan.now.registers.items e)) (c.as_slice-2.ensures.value ∙ c.requires.inputs)
-    ∙ base_made F o.clock c.args.row.now c.args.plan.now.registers.items c.args.machine.now.env.values.items c.requires.registers c.requires.row
+    ∙ ap (λ (f : Environment). given_over F.signals c.as_slice-2.result.now c.args.row.now f) (c.mask.ensures.env ∙ ap (λ (ms : List ℕ). masked ms e) c.as_slice.ensures.value)
+    ∙ ap (λ (ids : List ℕ). given_over F.signals ids c.args.row.now (masked c.args.plan.now.registers.items e)) (c.as_slice-2.ensures.value ∙ c.requires.inputs)
+    ∙ base_made F o.clock c.args.row.now c.args.plan.now.registers.items c.args.machine.now.env.values.items c.requires.registers
     (inputs_unwritten F (λ b i x. free_inputs F c.requires.elaborated (c.requires.ordered.0, c.requires.ordered.1.0) b i x))
     (λ b h. c.requires.narrow b (c.requires.registers b ∙ h)) in
     on_ok_weaker c.perform_all.result

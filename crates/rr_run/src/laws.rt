@@ -1,0 +1,20 @@
+//! Laws of runs.
+ghost use Rattle.std.specs.Prelude.{◌≡◌, ℕ, List, Bool, Option};
+ghost use Rattle.rr_lex.specs.Tokens.{Lexeme};
+ghost use Rattle.rr_flat.specs.Plain.{Flat};
+ghost use Rattle.rr_run.specs.Refusals.{Refusal};
+ghost use Rattle.rr_run.specs.Runs.{IsLawfulDesign, IsRun, IsSameRefusal, Refuses, RefusesDesign};
+
+/// No bytes have two lawful designs, or one and a refusal; no two texts have two runs, or a run and a
+/// refusal, or two refusals, but for the byte that is told of a text without a tree.
+pub fn one_outcome()
+    ensures one_design { (bytes : List ℕ) (top word : Option (List ℕ)) (ts us : List Lexeme) (f g : Flat) (c d : Option ℕ) (r s : Bool)
+        → IsLawfulDesign bytes top word ts f c r → IsLawfulDesign bytes top word us g d s → (ts ≡ us) × ((f ≡ g) × ((c ≡ d) × (r ≡ s))) }
+    ensures design_or_refusal { (bytes : List ℕ) (top word : Option (List ℕ)) (ts : List Lexeme) (f : Flat) (c : Option ℕ) (r : Bool) (refusal : Refusal)
+        → IsLawfulDesign bytes top word ts f c r → RefusesDesign bytes top word refusal → ⊥ }
+    ensures one_run { (bytes table : List ℕ) (top word : Option (List ℕ)) (x y : List ℕ) → IsRun bytes table top word x → IsRun bytes table top word y → x ≡ y }
+    ensures run_or_refusal { (bytes table : List ℕ) (top word : Option (List ℕ)) (x : List ℕ) (refusal : Refusal)
+        → IsRun bytes table top word x → Refuses bytes table top word refusal → ⊥ }
+    ensures one_refusal { (bytes table : List ℕ) (top word : Option (List ℕ)) (a b : Refusal)
+        → Refuses bytes table top word a → Refuses bytes table top word b → IsSameRefusal a b }
+{}
