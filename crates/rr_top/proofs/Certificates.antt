@@ -25,10 +25,9 @@ use Rattle.rr_words.specs.Plan.{check}
 use Rattle.rr_top.specs.declared.TheConstants.{CIRCUIT_LIMIT, PROOF_LIMIT}
 use Rattle.rr_top.specs.declared.ending.Flaw.{Flaw}
 use Rattle.rr_top.specs.declared.ending.Flaw.TheVariants as flaw
-use Rattle.rr_top.specs.declared.ending.Refusal.{Refusal}
-use Rattle.rr_top.specs.declared.ending.Refusal.TheVariants.{TooManyBytes, Text, Unsupported, Syntax, NotBuilt, Flawed}
+use Rattle.rr_top.specs.Refusals.{Refusal, TooManyBytes, Input, NotBuilt, Flawed}
 use Rattle.rr_top.specs.Check.{IsCircuitOf, IsFormulaOf, IsNoProof, IsProofOver, FlawIs, IsJudged, IsChecked, IsNeverTrue, certificate_status}
-use Rattle.rr_top.specs.Verdicts.{Verdict, absent, refused, unparsed, mended, unmendable, checked, Judges}
+use Rattle.rr_top.specs.Verdicts.{Verdict, absent, refused, unparsed, mended, unmendable, ran, checked, Judges}
 use Rattle.rr_top.proofs.Readings.{Reading, missing, long, given, IsReading, one_reading}
 
 -- ---- one first bad line of a circuit
@@ -143,14 +142,13 @@ module _ (held : Held) (c p : List ℕ) where
   is_decided : (v : Verdict) → Judges (check c p) held v → IsDecided v
   is_decided (absent name) j = record { reading = missing name; is = j; on = refl }
   is_decided (refused (TooManyBytes count)) j = record { reading = long count; is = j.1; on = refl }
-  is_decided (refused (Text wrong offset)) j = absurd j.1.refused
-  is_decided (refused (Unsupported offset)) j = absurd j.1.refused
-  is_decided (refused (Syntax offset)) j = absurd j.0
+  is_decided (refused (Input refusal)) j = absurd j.1.refused
   is_decided (refused (NotBuilt part)) j = absurd j.1.refused
   is_decided (refused (Flawed f n)) j = record { reading = given j.1.circuit j.1.proof; is = (j.1.given.circuit_given, j.1.given.proof_given); on = on_refused j.1.circuit j.1.proof f n j.1.refused }
   is_decided unparsed j = absurd j.1.refused
   is_decided mended j = absurd j
   is_decided unmendable j = absurd j
+  is_decided (ran text) j = absurd j
   is_decided (checked finding) j = record { reading = given j.circuit j.proof; is = (j.given.circuit_given, j.given.proof_given); on = on_proof finding j.judged refl }
 
   pub one_certificate : (v w : Verdict) → Judges (check c p) held v → Judges (check c p) held w → v ≡ w

@@ -11,12 +11,13 @@ use Rattle.rr_top.specs.declared.ending.Ending.TheVariants.{Usage, NoMemory, Abs
 use Rattle.rr_check.specs.declared.verdict.Verdict.{Verdict as Finding}
 use Rattle.rr_top.specs.Texts.{usage_text, refused_text, verdict_text}
 use Rattle.rr_top.specs.Effects.{Answer, KeepsShelf, KeepsOut, AbsentAt}
-use Rattle.rr_top.specs.Verdicts.{reads_of, Due, DueGiven, IsPlaced, Refuses, Verdict, absent, refused, unparsed, mended, unmendable, checked, Judges, verdict_status}
+use Rattle.rr_top.specs.Verdicts.{reads_of, Due, DueGiven, DueRun, IsPlaced, Refuses, Verdict, absent, refused, unparsed, mended, unmendable, ran, checked, Judges, verdict_status}
 use Rattle.rr_top.specs.Check.{DueCertificate, IsChecked, IsNeverTrue}
 use Rattle.rr_top.specs.Endings.{PlanEnds}
-use Rattle.rr_top.specs.declared.ending.Refusal.{Refusal}
-use Rattle.rr_top.specs.declared.ending.Refusal.TheVariants.{TooManyBytes, Text, Unsupported, Syntax, NotBuilt, Flawed}
-use Rattle.rr_top.specs.Run.{IsUsage, Reports, status_of, Course, IsCourse, IsRepaired, IsBeyondRepair, IsAccepted, IsRejected, HasDone, HasFailed, IsCheck, IsRefused, IsAbsent, IsExhausted, IsUnread, WhereCommand, SomeFault, ShowsVerdict, Follows, AllGiven, NoneRefuses, NoFaults}
+use Rattle.rr_run.specs.Refusals.{Refusal as RunRefusal}
+use Rattle.rr_top.specs.Refusals.{Refusal, TooManyBytes, Input, NotBuilt, Flawed, plain_refusal}
+use Rattle.rr_top.proofs.Judging.{placed_or_syntax}
+use Rattle.rr_top.specs.Run.{IsUsage, Reports, status_of, Course, IsCourse, IsRepaired, IsBeyondRepair, IsSimulated, IsAccepted, IsRejected, HasDone, HasFailed, IsCheck, IsRefused, IsAbsent, IsExhausted, IsUnread, WhereCommand, SomeFault, ShowsVerdict, Follows, AllGiven, NoneRefuses, NoFaults}
 use Rattle.rr_top.proofs.Certificates.{status_low, status_zero, status_one, never_true}
 use Rattle.rr_top.proofs.Verdict.{one_verdict}
 
@@ -71,7 +72,7 @@ module _ (r : Course) where
   plan_put plan o OutFault text is (inl e) put quiet status = absurd e
   plan_put plan o OutFault text is (inr e) put quiet status = came_fault (inr (inl e.2.2)) status e.2.0.held
   plan_put plan o (Refused refusal) text is (inl e) put quiet status =
-      came_refused (calm_in e.0 e.1 quiet) plan is (record { refusal = refusal; due = e.2; reported = rw e.3 at put; shelf = e.0; out = e.1 }) status
+      came_refused (calm_in e.0 e.1 quiet) plan is (record { refusal = plain_refusal refusal; due = e.2; reported = rw e.3 at put; shelf = e.0; out = e.1 }) status
   plan_put plan o (Refused refusal) text is (inr e) put quiet status = absurd e.2
   plan_put plan o (Done status) text is (inl e) put quiet now = absurd e
   plan_put plan o (Done status) text is (inr (answer, due, done)) put quiet now =
@@ -97,7 +98,7 @@ course_came {r} c = came_of r (command_of r.words) c.ending c.text c.ends.how c.
 -- the status that an answer has
 due_status : (plan : Plan) (told : Option Held) (answer : Answer) → Due plan told answer → (answer.status ≡ 0) ⊎ (answer.status ≡ 1)
 due_status (repair d t cert top clock budget members) told answer due = elim due.due.answers [ inl p ↦ inl p.1.status | inr p ↦ inr p.status ]
-due_status (run d t top clock) told answer due = absurd due
+due_status (run d t top clock) told answer due = inl due.simulates.status
 due_status (sites d top clock) told answer due = absurd due
 due_status (check c p) told answer due = elim (status_low due.answers.verdict) [ inl e ↦ inl (due.answers.tells.status ∙ e) | inr e ↦ inr (due.answers.tells.status ∙ e) ]
 due_status (make s c) told answer due = absurd due
@@ -142,6 +143,18 @@ module _ (r : Course) (answer : Answer) (calm : Calm r) (out : Appends r.before.
     }
   ]
 
+  simulates_given : (d t : List ℕ) (top clock : Option (List ℕ)) → DueRun r.before.held d t top clock answer → IsSimulated r d t top clock
+  simulates_given d t top clock due = record {
+    design = due.design;
+    table = due.table;
+    given = due.given;
+    text = answer.out;
+    ran = due.simulates.ran;
+    printed = out;
+    reported = rw due.simulates.notes at notes;
+    shelf = calm.shelf;
+  }
+
   checked_of : (c p : List ℕ) (due : DueCertificate r.before.held c p answer) → IsChecked r.before.held c p due.answers.verdict
   checked_of c p due = record { circuit = due.circuit; proof = due.proof; given = due.given; judged = due.answers.judged }
 
@@ -171,14 +184,14 @@ module _ (r : Course) (answer : Answer) (calm : Calm r) (out : Appends r.before.
 
   mends_due : (plan : Plan) → Due plan r.before.held answer → answer.status ≡ 0 → HasDone r plan
   mends_due (repair d t cert top clock budget members) due zero = inl (mends_given d t top clock due zero)
-  mends_due (run d t top clock) due zero = absurd due
+  mends_due (run d t top clock) due zero = inr (inl (simulates_given d t top clock due))
   mends_due (sites d top clock) due zero = absurd due
-  mends_due (check c p) due zero = inr (accepts_given c p due zero)
+  mends_due (check c p) due zero = inr (inr (accepts_given c p due zero))
   mends_due (make s c) due zero = absurd due
 
   despairs_due : (plan : Plan) → Due plan r.before.held answer → answer.status ≡ 1 → HasFailed r plan
   despairs_due (repair d t cert top clock budget members) due one = inl (despairs_given d t top clock due one)
-  despairs_due (run d t top clock) due one = absurd due
+  despairs_due (run d t top clock) due one = absurd (omega (arith, due.simulates.status))
   despairs_due (sites d top clock) due one = absurd due
   despairs_due (check c p) due one = inr (rejects_given c p due one)
   despairs_due (make s c) due one = absurd due
@@ -190,6 +203,7 @@ ShowsBy (refused refusal) answer = ⊥
 ShowsBy unparsed answer = ⊥
 ShowsBy mended answer = ⊤
 ShowsBy unmendable answer = ⊤
+ShowsBy (ran text) answer = (answer.out ≡ text) × (answer.notes ≡ [])
 ShowsBy (checked finding) answer = (answer.out ≡ verdict_text finding) × (answer.notes ≡ [])
 
 -- the verdict that an answer carries out
@@ -233,7 +247,12 @@ due_verdict (repair d t cert top clock budget members) held answer due = elim du
     shows = tt;
   }
 ]
-due_verdict (run d t top clock) held answer due = absurd due
+due_verdict (run d t top clock) held answer due = record {
+  verdict = ran answer.out;
+  judged = record { design = due.design; table = due.table; given = due.given; ran = due.simulates.ran };
+  status = due.simulates.status;
+  shows = (refl, due.simulates.notes);
+}
 due_verdict (sites d top clock) held answer due = absurd due
 due_verdict (check c p) held answer due = record {
   verdict = checked due.answers.verdict;
@@ -249,6 +268,7 @@ shown r answer (refused refusal) shows out notes = absurd shows
 shown r answer unparsed shows out notes = absurd shows
 shown r answer mended shows out notes = tt
 shown r answer unmendable shows out notes = tt
+shown r answer (ran text) shows out notes = (rw shows.0 at out, rw shows.1 at notes)
 shown r answer (checked finding) shows out notes = (rw shows.0 at out, rw shows.1 at notes)
 
 some_plan : {X : Type 0} (o : Option Plan) (plan : Plan) → o ≡ Some plan → o ≡ None → X
@@ -348,13 +368,17 @@ module _ (r : Course) (o : Option Plan) where
     placed_follows v refusal placed judged due reported s =
         subst (λ (w : Verdict). Follows r w) (one_verdict plan held (refused refusal) v (placed, due) judged) (inl (s, reported))
 
+    input_follows : (v : Verdict) (refusal : RunRefusal) → Judges plan held v → Refuses plan (Some held) (Input refusal)
+        → Appends r.notes_before r.notes_after (refused_text (Input refusal)) → r.status ≡ 3 → Follows r v
+    input_follows v refusal judged due reported s = elim (placed_or_syntax refusal) [
+      | inl placed ↦ placed_follows v (Input refusal) placed judged due reported s
+      | inr (offset, is) ↦ subst (λ (w : Verdict). Follows r w) (one_verdict plan held unparsed v (offset, rw is at due) judged) (inl (s, (offset, rw is at reported)))
+    ]
+
     by_refusal : (v : Verdict) (refusal : Refusal) → Judges plan held v → Refuses plan (Some held) refusal
         → Appends r.notes_before r.notes_after (refused_text refusal) → r.status ≡ 3 → Follows r v
     by_refusal v (TooManyBytes count) judged due reported s = placed_follows v (TooManyBytes count) tt judged due reported s
-    by_refusal v (Text wrong offset) judged due reported s = placed_follows v (Text wrong offset) tt judged due reported s
-    by_refusal v (Unsupported offset) judged due reported s = placed_follows v (Unsupported offset) tt judged due reported s
-    by_refusal v (Syntax offset) judged due reported s =
-        subst (λ (w : Verdict). Follows r w) (one_verdict plan held unparsed v (offset, due) judged) (inl (s, (offset, reported)))
+    by_refusal v (Input refusal) judged due reported s = input_follows v refusal judged due reported s
     by_refusal v (NotBuilt part) judged due reported s = placed_follows v (NotBuilt part) tt judged due reported s
     by_refusal v (Flawed flaw line) judged due reported s = placed_follows v (Flawed flaw line) tt judged due reported s
 
@@ -392,7 +416,8 @@ module _ (r : Course) (o : Option Plan) where
 -- an accepted certificate
 certified : (r : Course) (c p : List ℕ) → HasDone r (check c p) → IsNeverTrue r.before.held c
 certified r c p (inl none) = absurd none
-certified r c p (inr accepted) = never_true r.before.held c p accepted.accepted
+certified r c p (inr (inl none)) = absurd none
+certified r c p (inr (inr accepted)) = never_true r.before.held c p accepted.accepted
 
 module _ {r : Course} (c : IsCourse r) where
   pub course_done : r.status ≡ 0 → WhereCommand r.words (HasDone r)

@@ -1,13 +1,13 @@
 -- Choices of least cost.
-use Rattle.std.proofs.Common.{◌≡◌, ◌∙◌, ◌⊎◌, inl, inr, ◌<◌, ℕ, List, refl, sym, ap, subst, arith, true, false, Bool}
-use Rattle.std.specs.Prelude.{All, if◌then◌else◌}
+use Rattle.std.proofs.Common.{◌≡◌, inl, inr, ◌<◌, ℕ, refl, arith, true, false, Bool}
+use Rattle.std.specs.Prelude.{if◌then◌else◌}
 use Rattle.rr_top.specs.declared.design.Right.{Right}
 use Rattle.rr_top.specs.declared.design.Right.TheVariants.{Copies, Constant, Masked}
 use Rattle.rr_top.specs.declared.search.Choice.{Choice}
-use Rattle.rr_top.specs.declared.table.Row.{Row}
+use Rattle.rr_trace.specs.Tables.{Table}
 use Rattle.rr_top.specs.Thin.{Thin}
-use Rattle.rr_top.specs.Choices.{off, cost, chosen, IsChoice, changed, instance, Matches, Mends, Least, NoneMends}
-use Rattle.rr_top.specs.Search.{RightMatches, IsFixed, IsFlip}
+use Rattle.rr_top.specs.Choices.{off, cost, IsChoice, changed, RightMatches, Mends, Least, NoneMends}
+use Rattle.rr_top.specs.Search.{IsFixed, IsFlip}
 
 -- the choice that is off changes nothing
 pub off_keeps : (right : Right) → changed right off ≡ right
@@ -40,7 +40,7 @@ cheap c h = off_where c.on h
 pub dear : (c : Choice) → c.on ≡ true → cost c ≡ 1
 dear c h = zero_where c.on h
 
-module _ (t : Thin) (rows : List Row) where
+module _ (t : Thin) (rows : Table) where
   pub off_mends : RightMatches t.right rows → Mends t rows off
   off_mends is = record { is_choice = off_is_choice t.right; matches = rw (off_keeps t.right) is }
 

@@ -1,13 +1,12 @@
 pub mod Over
 pub mod Designs
-pub mod Rows
 pub mod Leasts
+pub mod Matching
 pub mod Places
 pub mod Patched
+pub mod Judging
 pub mod Judged
 pub mod Readings
 pub mod Certificates
-pub mod Parsed
-pub mod ThinTrees
 pub mod Verdict
 pub mod Courses

@@ -1,8 +1,8 @@
 -- The source with one token changed.
-use Rattle.std.proofs.Common.{◌≡◌, ◌≢◌, ◌∙◌, subst, ◌⊎◌, inl, inr, ℕ, ◌+◌, ◌-◌, ◌<◌, ◌≤◌, zero, suc, List, [], ◌∷◌, ◌++◌, length, map, take, drop, refl, sym, ap, get_or, arith, append_assoc, Bool, true, false, Option, Some, None}
+use Rattle.std.proofs.Common.{◌≡◌, ◌∙◌, subst, inl, inr, ℕ, ◌+◌, ◌-◌, ◌<◌, zero, suc, List, [], ◌∷◌, ◌++◌, length, take, drop, refl, sym, ap, get_or, arith, append_assoc, Bool, true, false, Some, None}
 use Rattle.std.proofs.Math.Seq.{take-add}
 use Rattle.std.proofs.lemmas.List.{drop-drop, length-map}
-use Rattle.std.specs.Prelude.{if◌then◌else◌, not, Result, Ok, Err, IfOk}
+use Rattle.std.specs.Prelude.{not, Result, Ok, Err, IfOk}
 use Rattle.std.specs.declared.alloc.AllocError.{AllocError}
 use Rattle.rr_top.specs.declared.answer.Answer.{Answer as RustAnswer}
 use Rattle.rr_top.specs.Rust.{answer_view}
@@ -10,21 +10,21 @@ use Rattle.rr_syntax.specs.Words.{Word, Digits, Marked, Reserved, mark_close_par
 use Rattle.rr_syntax.specs.declared.token.Token.{Token}
 use Rattle.rr_top.specs.Texts.{repaired_text}
 use Rattle.rr_lex.specs.Tokens.{Lexeme, lexemes, words_of, AreTokens, Rise}
-use Rattle.rr_lex.specs.Patch.{Edit, New, IsNew, patched, patched_words, AreEdits, AreWords}
+use Rattle.rr_lex.specs.Patch.{New, IsNew, patched, patched_words, AreEdits, AreWords}
 use Rattle.rr_lex.proofs.Patches.{patch_words}
 use Rattle.rr_lex.proofs.Fresh.{literal_new}
 use Rattle.rr_top.specs.declared.design.Right.{Right}
 use Rattle.rr_top.specs.declared.design.Right.TheVariants.{Copies, Constant, Masked}
 use Rattle.rr_top.specs.declared.search.Choice.{Choice}
-use Rattle.rr_top.specs.declared.table.Row.{Row}
-use Rattle.rr_top.specs.Thin.{Thin, IsThin, thin_words, bit, bit_number, site_token, site_count}
+use Rattle.rr_trace.specs.Tables.{Table}
+use Rattle.rr_top.specs.Thin.{Thin, IsThin, thin_words, bit_number, site_token}
 use Rattle.rr_top.specs.Choices.{cost, instance, changed, IsChoice, Mends, Least, NoneMends}
-use Rattle.rr_top.specs.Patching.{kept, new_bit, edits_with, edits_at, edits, no_lexeme}
+use Rattle.rr_top.specs.Patching.{new_bit, edits_with, edits_at, no_lexeme}
 use Rattle.rr_top.specs.Answers.{IsChanged, IsKept, IsHopeless}
 use Rattle.rr_top.specs.Effects.{Answer}
 use Rattle.rr_top.specs.Verdicts.{Repairs, Despairs, Answers}
 use Rattle.rr_top.proofs.Places.{stands_at, lexemes_within}
-use Rattle.rr_top.proofs.Leasts.{keeps, dear}
+use Rattle.rr_top.proofs.Leasts.{keeps}
 
 pub patched_none : (at : ℕ) (bs : List ℕ) (ts : List Lexeme) → patched at bs ts [] ≡ bs
 patched_none at bs [] = refl
@@ -117,7 +117,7 @@ same_choice : (c : Choice) → c.on ≡ true → c ≡ record { on = true; value
 same_choice c is = λ i. record { on = is i; value = c.value }
 
 -- the answer that prints the source with its literal changed
-pub repairs_on : (bs : List ℕ) (ts : List Lexeme) (t : Thin) (rows : List Row) (c : Choice) (place : ℕ) (answer : Answer) → AreTokens bs ts → IsThin (words_of ts) t
+pub repairs_on : (bs : List ℕ) (ts : List Lexeme) (t : Thin) (rows : Table) (c : Choice) (place : ℕ) (answer : Answer) → AreTokens bs ts → IsThin (words_of ts) t
     → Mends t rows c → Least t rows (cost c) → c.on ≡ true → site_token t.right ≡ Some place → IsChanged bs ts place c.value answer → Repairs bs ts t rows c answer
 repairs_on bs ts t rows c place answer lexed thin mends least on site is = record {
   mends = mends;
@@ -130,7 +130,7 @@ repairs_on bs ts t rows c place answer lexed thin mends least on site is = recor
 }
 
 -- the answer that prints the source as it is
-pub repairs_off : (bs : List ℕ) (ts : List Lexeme) (t : Thin) (rows : List Row) (c : Choice) (answer : Answer) → AreTokens bs ts → IsThin (words_of ts) t
+pub repairs_off : (bs : List ℕ) (ts : List Lexeme) (t : Thin) (rows : Table) (c : Choice) (answer : Answer) → AreTokens bs ts → IsThin (words_of ts) t
     → Mends t rows c → Least t rows (cost c) → c.on ≡ false → IsKept bs answer → Repairs bs ts t rows c answer
 repairs_off bs ts t rows c answer lexed thin mends least is_off is = record {
   mends = mends;
@@ -141,7 +141,7 @@ repairs_off bs ts t rows c answer lexed thin mends least is_off is = record {
   status = is.zero;
 }
 
-pub despairs : (t : Thin) (rows : List Row) (answer : Answer) → NoneMends t rows → IsHopeless t.right answer → Despairs t rows answer
+pub despairs : (t : Thin) (rows : Table) (answer : Answer) → NoneMends t rows → IsHopeless t.right answer → Despairs t rows answer
 despairs t rows answer none is = record { none = none; printed = is.printed; notes = is.says; status = is.one }
 
 -- a choice that is on has a literal
@@ -177,7 +177,7 @@ affirmed : (b : Bool) → not b ≡ false → b ≡ true
 affirmed true is = refl
 affirmed false is = cc
 
-module _ (bs : List ℕ) (ts : List Lexeme) (t : Thin) (rows : List Row) (lexed : AreTokens bs ts) (thin : IsThin (words_of ts) t) where
+module _ (bs : List ℕ) (ts : List Lexeme) (t : Thin) (rows : Table) (lexed : AreTokens bs ts) (thin : IsThin (words_of ts) t) where
   pub despairing_answers : (r : Result RustAnswer AllocError) → NoneMends t rows → IfOk r (λ a. IsHopeless t.right (answer_view a)) → IfOk r (λ a. Answers bs ts t rows (answer_view a))
   despairing_answers (Ok a) none is = inr (despairs t rows (answer_view a) none is)
   despairing_answers (Err e) none is = tt

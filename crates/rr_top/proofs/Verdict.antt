@@ -1,31 +1,27 @@
 -- What a told shelf decides for a command, it decides once.
-use Rattle.std.proofs.Common.{◌≡◌, ◌∙◌, ℕ, List, refl, sym, ap, subst, arith, Bool, true, false, Option}
+use Rattle.std.proofs.Common.{◌≡◌, ◌∙◌, ◌⊎◌, inl, inr, ℕ, List, refl, sym, ap, subst, arith, Bool, true, false, Option}
 use Rattle.rr_edge.specs.Held.{Held}
 use Rattle.rr_syntax.specs.Words.{Word, Digits}
 use Rattle.rr_syntax.specs.declared.token.Number.{Number}
-use Rattle.rr_lex.specs.Tokens.{Lexeme, AreTokens, IsFirstFault, words_of}
-use Rattle.rr_lex.specs.declared.piece.Wrong.{Wrong}
-use Rattle.rr_lex.proofs.Unique.{one_list, one_fault, one_answer}
+use Rattle.rr_lex.specs.Tokens.{Lexeme, words_of}
 use Rattle.rr_words.specs.Plan.{Plan, repair, run, sites, check, make}
+use Rattle.rr_trace.specs.Tables.{Table}
+use Rattle.rr_run.specs.Refusals.{Refusal as RunRefusal}
+use Rattle.rr_run.specs.Runs.{IsRun, IsSameRefusal, Refuses as RefusesRun}
+use Rattle.rr_run.proofs.Once.{one_run, run_or_refusal, one_refused as one_refusal}
 use Rattle.rr_top.specs.declared.TheConstants.{DESIGN_LIMIT, TABLE_LIMIT}
 use Rattle.rr_top.specs.declared.design.Right.{Right}
 use Rattle.rr_top.specs.declared.design.Right.TheVariants.{Copies, Constant, Masked}
 use Rattle.rr_top.specs.declared.ending.Part.{Part}
 use Rattle.rr_top.specs.declared.ending.Part.TheVariants as part
-use Rattle.rr_top.specs.declared.ending.Refusal.{Refusal}
-use Rattle.rr_top.specs.declared.ending.Refusal.TheVariants.{TooManyBytes, Text, Unsupported, Syntax, NotBuilt, Flawed}
 use Rattle.rr_top.specs.declared.search.Choice.{Choice}
-use Rattle.rr_top.specs.declared.table.Row.{Row}
+use Rattle.rr_top.specs.Refusals.{Refusal, TooManyBytes, Input, NotBuilt, Flawed}
 use Rattle.rr_top.specs.Thin.{Thin, IsThin, thin_words, right_words, bit, bit_number}
-use Rattle.rr_top.specs.Table.{IsTable}
 use Rattle.rr_top.specs.Choices.{Mends, NoneMends}
-use Rattle.rr_top.specs.Verdicts.{IsTaken, RefusesFiles, Verdict, absent, refused, unparsed, mended, unmendable, checked, Judges}
-use Rattle.rr_top.proofs.Rows.{one_table}
+use Rattle.rr_top.specs.Verdicts.{AreLawful, IsSyntax, RefusesFiles, Verdict, absent, refused, unparsed, mended, unmendable, ran, checked, Judges}
+use Rattle.rr_top.proofs.Judged.{same_lawful, lawful_or_refusal}
 use Rattle.rr_top.proofs.Readings.{Reading, missing, long, given, IsReading, one_reading}
-use Rattle.rr_top.specs.Trees.{AllHaveRules, HasTree, OutsideAt}
 use Rattle.rr_top.proofs.Certificates.{one_certificate}
-use Rattle.rr_top.proofs.ThinTrees.{thin_rules, thin_tree}
-use Rattle.rr_top.proofs.Parsed.{one_outside, no_outside}
 
 -- no words are two thin designs
 one_bit : (a b : Bool) → bit a ≡ bit b → a ≡ b
@@ -66,181 +62,162 @@ one_spelling t u is =
 pub one_thin : (ws : List Word) (t u : Thin) → IsThin ws t → IsThin ws u → t ≡ u
 one_thin ws t u p q = one_spelling t u (sym p.spelled ∙ q.spelled)
 
-module _ (top clock : Option (List ℕ)) where
-  -- what the tokens of a design decide
-  data OnTokens (table : List ℕ) (ts : List Lexeme) (v : Verdict) : Type 0 where
-    no_design : ((t : Thin) → IsTaken top clock ts t → ⊥) → v ≡ refused (NotBuilt part.Design) → OnTokens table ts v
-    no_table : (t : Thin) → IsTaken top clock ts t → ((rows : List Row) → IsTable t table rows → ⊥) → v ≡ refused (NotBuilt part.Table) → OnTokens table ts v
-    is_mended : (t : Thin) → IsTaken top clock ts t → (rows : List Row) → IsTable t table rows → (c : Choice) → Mends t rows c → v ≡ mended → OnTokens table ts v
-    is_unmendable : (t : Thin) → IsTaken top clock ts t → (rows : List Row) → IsTable t table rows → NoneMends t rows → v ≡ unmendable → OnTokens table ts v
+-- what a refusal of a design or its table decides
+abbrev IsVerdictOf : RunRefusal → Verdict → Type 0
+IsVerdictOf r v = ((IsSyntax r → ⊥) × (v ≡ refused (Input r))) ⊎ (IsSyntax r × (v ≡ unparsed))
 
-  -- what two files decide
-  data OnWords (table : List ℕ) (ts : List Lexeme) (v : Verdict) : Type 0 where
-    on_outside : (at : ℕ) → OutsideAt ts at → v ≡ refused (Unsupported at) → OnWords table ts v
-    on_none : AllHaveRules ts → (HasTree ts → ⊥) → v ≡ unparsed → OnWords table ts v
-    on_tree : AllHaveRules ts → HasTree ts → OnTokens table ts v → OnWords table ts v
+one_of : (r s : RunRefusal) (v w : Verdict) → IsSameRefusal r s → IsVerdictOf r v → IsVerdictOf s w → v ≡ w
+one_of r s v w (inl same) (inl p) (inl q) = p.1 ∙ ap (λ (x : RunRefusal). refused (Input x)) same ∙ sym q.1
+one_of r s v w (inl same) (inl p) (inr q) = absurd (p.0 (subst IsSyntax (sym same) q.0))
+one_of r s v w (inl same) (inr p) (inl q) = absurd (q.0 (subst IsSyntax same p.0))
+one_of r s v w (inl same) (inr p) (inr q) = p.1 ∙ sym q.1
+one_of r s v w (inr (i, (j, both))) (inl p) q = absurd (p.0 (i, both.0))
+one_of r s v w (inr (i, (j, both))) (inr p) (inl q) = absurd (q.0 (j, both.1))
+one_of r s v w (inr (i, (j, both))) (inr p) (inr q) = p.1 ∙ sym q.1
 
-  data OnFiles (design table : List ℕ) (v : Verdict) : Type 0 where
-    on_fault : (wrong : Wrong) (at : ℕ) → IsFirstFault design wrong at → v ≡ refused (Text wrong at) → OnFiles design table v
-    on_words : (ts : List Lexeme) → AreTokens design ts → OnWords table ts v → OnFiles design table v
+module _ (top word : Option (List ℕ)) (design table : List ℕ) where
+  -- what two files decide for `repair`
+  data OnFiles (v : Verdict) : Type 0 where
+    on_refusal : (r : RunRefusal) → RefusesRun design table top word r → IsVerdictOf r v → OnFiles v
+    no_thin : (ts : List Lexeme) (rows : Table) → AreLawful top word design table ts rows → ((t : Thin) → IsThin (words_of ts) t → ⊥) → v ≡ refused (NotBuilt part.Design) → OnFiles v
+    is_mended : (ts : List Lexeme) (rows : Table) → AreLawful top word design table ts rows → (t : Thin) → IsThin (words_of ts) t → (c : Choice) → Mends t rows c → v ≡ mended → OnFiles v
+    is_unmendable : (ts : List Lexeme) (rows : Table) → AreLawful top word design table ts rows → (t : Thin) → IsThin (words_of ts) t → NoneMends t rows → v ≡ unmendable → OnFiles v
 
-  module _ (table : List ℕ) (ts : List Lexeme) where
-    one_taken : (t u : Thin) → IsTaken top clock ts t → IsTaken top clock ts u → t ≡ u
-    one_taken t u p q = one_thin (words_of ts) t u p.thin q.thin
+  other_thin : {X : Type 0} (ts us : List Lexeme) (a b : Table) (t : Thin) → AreLawful top word design table ts a → AreLawful top word design table us b
+      → ((t : Thin) → IsThin (words_of ts) t → ⊥) → IsThin (words_of us) t → X
+  other_thin ts us a b t l m none p = absurd (none t (subst (λ (xs : List Lexeme). IsThin (words_of xs) t) (sym (same_lawful top word design table ts us a b l m).tokens) p))
 
-    same_table : (t u : Thin) (a b : List Row) → IsTaken top clock ts t → IsTaken top clock ts u → IsTable t table a → IsTable u table b → a ≡ b
-    same_table t u a b p q i j = one_table u table a b (rw (one_taken t u p q) at i) j
+  other_mends : {X : Type 0} (ts us : List Lexeme) (a b : Table) (t u : Thin) (c : Choice) → AreLawful top word design table ts a → AreLawful top word design table us b
+      → IsThin (words_of ts) t → IsThin (words_of us) u → Mends t a c → NoneMends u b → X
+  other_mends ts us a b t u c l m p q mends none =
+      let same = same_lawful top word design table ts us a b l m in
+      let thin : t ≡ u = one_thin (words_of us) t u (subst (λ (xs : List Lexeme). IsThin (words_of xs) t) same.tokens p) q in
+      let rows : Mends t b c = subst (λ (r : Table). Mends t r c) same.rows mends in
+      absurd (none c (subst (λ (x : Thin). Mends x b c) thin rows))
 
-    other_table : {X : Type 0} (t u : Thin) (a : List Row) → IsTaken top clock ts t → IsTaken top clock ts u → IsTable t table a → ((rows : List Row) → IsTable u table rows → ⊥) → X
-    other_table t u a p q i none = absurd (none a (rw (one_taken t u p q) at i))
+  one_on_files : (v w : Verdict) → OnFiles v → OnFiles w → v ≡ w
+  one_on_files v w (on_refusal r p e) (on_refusal s q f) = one_of r s v w (one_refusal design table top word r s p q) e f
+  one_on_files v w (on_refusal r p e) (no_thin us b m n f) = lawful_or_refusal top word design table us b r m p
+  one_on_files v w (on_refusal r p e) (is_mended us b m u q c n f) = lawful_or_refusal top word design table us b r m p
+  one_on_files v w (on_refusal r p e) (is_unmendable us b m u q n f) = lawful_or_refusal top word design table us b r m p
+  one_on_files v w (no_thin ts a l n e) (on_refusal s q f) = lawful_or_refusal top word design table ts a s l q
+  one_on_files v w (no_thin ts a l n e) (no_thin us b m k f) = e ∙ sym f
+  one_on_files v w (no_thin ts a l n e) (is_mended us b m u q c k f) = other_thin ts us a b u l m n q
+  one_on_files v w (no_thin ts a l n e) (is_unmendable us b m u q k f) = other_thin ts us a b u l m n q
+  one_on_files v w (is_mended ts a l t p c n e) (on_refusal s q f) = lawful_or_refusal top word design table ts a s l q
+  one_on_files v w (is_mended ts a l t p c n e) (no_thin us b m k f) = other_thin us ts b a t m l k p
+  one_on_files v w (is_mended ts a l t p c n e) (is_mended us b m u q d k f) = e ∙ sym f
+  one_on_files v w (is_mended ts a l t p c n e) (is_unmendable us b m u q k f) = other_mends ts us a b t u c l m p q n k
+  one_on_files v w (is_unmendable ts a l t p n e) (on_refusal s q f) = lawful_or_refusal top word design table ts a s l q
+  one_on_files v w (is_unmendable ts a l t p n e) (no_thin us b m k f) = other_thin us ts b a t m l k p
+  one_on_files v w (is_unmendable ts a l t p n e) (is_mended us b m u q d k f) = other_mends us ts b a u t d m l q p k n
+  one_on_files v w (is_unmendable ts a l t p n e) (is_unmendable us b m u q k f) = e ∙ sym f
 
-    other_mends : {X : Type 0} (t u : Thin) (a b : List Row) (c : Choice) → IsTaken top clock ts t → IsTaken top clock ts u → IsTable t table a → IsTable u table b
-        → Mends t a c → NoneMends u b → X
-    other_mends t u a b c p q i j mends none = absurd (none c (rw (one_taken t u p q, same_table t u a b p q i j) at mends))
+  -- and for `run`
+  data OnTexts (v : Verdict) : Type 0 where
+    refuses : (r : RunRefusal) → RefusesRun design table top word r → IsVerdictOf r v → OnTexts v
+    runs : (text : List ℕ) → IsRun design table top word text → v ≡ ran text → OnTexts v
 
-    one_on_tokens : (v w : Verdict) → OnTokens table ts v → OnTokens table ts w → v ≡ w
-    one_on_tokens v w (no_design n e) (no_design m f) = e ∙ sym f
-    one_on_tokens v w (no_design n e) (no_table t p m f) = absurd (n t p)
-    one_on_tokens v w (no_design n e) (is_mended t p a i c m f) = absurd (n t p)
-    one_on_tokens v w (no_design n e) (is_unmendable t p a i m f) = absurd (n t p)
-    one_on_tokens v w (no_table t p n e) (no_design m f) = absurd (m t p)
-    one_on_tokens v w (no_table t p n e) (no_table u q m f) = e ∙ sym f
-    one_on_tokens v w (no_table t p n e) (is_mended u q a i c m f) = other_table u t a q p i n
-    one_on_tokens v w (no_table t p n e) (is_unmendable u q a i m f) = other_table u t a q p i n
-    one_on_tokens v w (is_mended t p a i c n e) (no_design m f) = absurd (m t p)
-    one_on_tokens v w (is_mended t p a i c n e) (no_table u q m f) = other_table t u a p q i m
-    one_on_tokens v w (is_mended t p a i c n e) (is_mended u q b j d m f) = e ∙ sym f
-    one_on_tokens v w (is_mended t p a i c n e) (is_unmendable u q b j m f) = other_mends t u a b c p q i j n m
-    one_on_tokens v w (is_unmendable t p a i n e) (no_design m f) = absurd (m t p)
-    one_on_tokens v w (is_unmendable t p a i n e) (no_table u q m f) = other_table t u a p q i m
-    one_on_tokens v w (is_unmendable t p a i n e) (is_mended u q b j d m f) = other_mends u t b a d q p j i m n
-    one_on_tokens v w (is_unmendable t p a i n e) (is_unmendable u q b j m f) = e ∙ sym f
+  one_on_texts : (v w : Verdict) → OnTexts v → OnTexts w → v ≡ w
+  one_on_texts v w (refuses r p e) (refuses s q f) = one_of r s v w (one_refusal design table top word r s p q) e f
+  one_on_texts v w (refuses r p e) (runs x q f) = absurd (run_or_refusal design table top word x r q p)
+  one_on_texts v w (runs x p e) (refuses s q f) = absurd (run_or_refusal design table top word x s p q)
+  one_on_texts v w (runs x p e) (runs y q f) = e ∙ ap (λ (t : List ℕ). ran t) (one_run design table top word x y p q) ∙ sym f
 
-    one_on_words : (v w : Verdict) → OnWords table ts v → OnWords table ts w → v ≡ w
-    one_on_words v w (on_outside i p e) (on_outside j q f) = e ∙ ap (λ (k : ℕ). refused (Unsupported k)) (one_outside ts i j p q) ∙ sym f
-    one_on_words v w (on_outside i p e) (on_none r n f) = no_outside ts i p r
-    one_on_words v w (on_outside i p e) (on_tree r t q) = no_outside ts i p r
-    one_on_words v w (on_none r n e) (on_outside j q f) = no_outside ts j q r
-    one_on_words v w (on_none r n e) (on_none s m f) = e ∙ sym f
-    one_on_words v w (on_none r n e) (on_tree s t q) = absurd (n t)
-    one_on_words v w (on_tree r t p) (on_outside j q f) = no_outside ts j q r
-    one_on_words v w (on_tree r t p) (on_none s m f) = absurd (m t)
-    one_on_words v w (on_tree r t p) (on_tree s u q) = one_on_tokens v w p q
+-- what is decided by files that are read
+module _ (On : List ℕ → List ℕ → Verdict → Type 0) (once : (design table : List ℕ) (v w : Verdict) → On design table v → On design table w → v ≡ w) (held : Held) (d t : List ℕ) where
+  abbrev OnReading : Reading → Verdict → Type 0
+  OnReading (missing name) v = v ≡ absent name
+  OnReading (long count) v = v ≡ refused (TooManyBytes count)
+  OnReading (given design table) v = On design table v
 
-    -- a thin design is a tree
-    of_thin : (t : Thin) → IsTaken top clock ts t → (v : Verdict) → OnTokens table ts v → OnWords table ts v
-    of_thin t taken v on = on_tree (thin_rules ts t taken.thin.spelled) (thin_tree ts t taken.thin.spelled) on
+  record IsRead (v : Verdict) : Type 0 where
+    reading : Reading
+    is : IsReading held d t DESIGN_LIMIT TABLE_LIMIT reading
+    on : OnReading reading v
 
-  module _ (design table : List ℕ) where
-    one_on_files : (v w : Verdict) → OnFiles design table v → OnFiles design table w → v ≡ w
-    one_on_files v w (on_fault x i p e) (on_fault y j q f) =
-        let both = one_fault design x y i j p q in
-        let x_is : x ≡ y = both.0 in
-        let i_is : i ≡ j = both.1 in
-        let same : refused (Text x i) ≡ refused (Text y j) = cc in
-        e ∙ same ∙ sym f
-    one_on_files v w (on_fault x i p e) (on_words ts q f) = absurd (one_answer design ts x i q p)
-    one_on_files v w (on_words ts p e) (on_fault x i q f) = absurd (one_answer design ts x i p q)
-    one_on_files v w (on_words ts p e) (on_words us q f) =
-        one_on_words table ts v w e (subst (λ (l : List Lexeme). OnWords table l w) (sym (one_list design ts us p q)) f)
+  one_on_reading : (r : Reading) (v w : Verdict) → OnReading r v → OnReading r w → v ≡ w
+  one_on_reading (missing name) v w p q = p ∙ sym q
+  one_on_reading (long count) v w p q = p ∙ sym q
+  one_on_reading (given design table) v w p q = once design table v w p q
 
-  module _ (held : Held) (d t : List ℕ) where
-    -- what a reading decides
-    abbrev OnReading : Reading → Verdict → Type 0
-    OnReading (missing name) v = v ≡ absent name
-    OnReading (long count) v = v ≡ refused (TooManyBytes count)
-    OnReading (given design table) v = OnFiles design table v
+  one_read : (v w : Verdict) → IsRead v → IsRead w → v ≡ w
+  one_read v w p q = one_on_reading p.reading v w p.on (subst (λ (r : Reading). OnReading r w) (one_reading held d t DESIGN_LIMIT TABLE_LIMIT q.reading p.reading q.is p.is) q.on)
 
-    record IsRead (v : Verdict) : Type 0 where
-      reading : Reading
-      is : IsReading held d t DESIGN_LIMIT TABLE_LIMIT reading
-      on : OnReading reading v
+module _ (top word : Option (List ℕ)) (held : Held) (d t : List ℕ) where
+  on_lacks : (design table : List ℕ) (part : Part) → RefusesFiles top word design table (NotBuilt part) → OnFiles top word design table (refused (NotBuilt part))
+  on_lacks design table part.Command none = absurd none
+  on_lacks design table part.Design lacks = no_thin lacks.tokens lacks.rows lacks.lawful lacks.none refl
 
-    one_on_reading : (r : Reading) (v w : Verdict) → OnReading r v → OnReading r w → v ≡ w
-    one_on_reading (missing name) v w p q = p ∙ sym q
-    one_on_reading (long count) v w p q = p ∙ sym q
-    one_on_reading (given design table) v w p q = one_on_files design table v w p q
+  is_read : (cert : List ℕ) (budget members : ℕ) (v : Verdict) → Judges (repair d t cert top word budget members) held v → IsRead (OnFiles top word) (one_on_files top word) held d t v
+  is_read cert budget members (absent name) j = record { reading = missing name; is = j; on = refl }
+  is_read cert budget members (refused (TooManyBytes count)) j = record { reading = long count; is = j.1; on = refl }
+  is_read cert budget members (refused (Input r)) j =
+      record { reading = given j.1.design j.1.table; is = (j.1.given.design_given, j.1.given.table_given); on = on_refusal r j.1.refused (inl (j.0, refl)) }
+  is_read cert budget members (refused (NotBuilt part)) j =
+      record { reading = given j.1.design j.1.table; is = (j.1.given.design_given, j.1.given.table_given); on = on_lacks j.1.design j.1.table part j.1.refused }
+  is_read cert budget members (refused (Flawed flaw line)) j = absurd j.1.refused
+  is_read cert budget members unparsed j =
+      record { reading = given j.1.design j.1.table; is = (j.1.given.design_given, j.1.given.table_given); on = on_refusal _ j.1.refused (inr ((j.0, refl), refl)) }
+  is_read cert budget members mended j = record {
+    reading = given j.design j.table;
+    is = (j.given.design_given, j.given.table_given);
+    on = is_mended j.tokens j.rows j.taken.lawful j.thin j.taken.thin j.choice j.mends refl;
+  }
+  is_read cert budget members unmendable j = record {
+    reading = given j.design j.table;
+    is = (j.given.design_given, j.given.table_given);
+    on = is_unmendable j.tokens j.rows j.taken.lawful j.thin j.taken.thin j.none refl;
+  }
+  is_read cert budget members (ran text) j = absurd j
+  is_read cert budget members (checked finding) j = absurd j
 
-    one_read : (v w : Verdict) → IsRead v → IsRead w → v ≡ w
-    one_read v w p q = one_on_reading p.reading v w p.on (subst (λ (r : Reading). OnReading r w) (one_reading held d t DESIGN_LIMIT TABLE_LIMIT q.reading p.reading q.is p.is) q.on)
-
-    on_refused : (design table : List ℕ) (part : Part) → RefusesFiles top clock design table (NotBuilt part) → OnFiles design table (refused (NotBuilt part))
-    on_refused design table part.Command none = absurd none
-    on_refused design table part.Design lacks = on_words lacks.tokens lacks.lexed (on_tree lacks.rules lacks.spelled (no_design lacks.none refl))
-    on_refused design table part.Table lacks =
-        on_words lacks.tokens lacks.lexed (of_thin table lacks.tokens lacks.thin lacks.taken (refused (NotBuilt part.Table)) (no_table lacks.thin lacks.taken lacks.none refl))
-
-    is_read : (cert : List ℕ) (budget members : ℕ) (v : Verdict) → Judges (repair d t cert top clock budget members) held v → IsRead v
-    is_read cert budget members (absent name) j = record { reading = missing name; is = j; on = refl }
-    is_read cert budget members (refused (TooManyBytes count)) j = record { reading = long count; is = j.1; on = refl }
-    is_read cert budget members (refused (Text wrong at)) j =
-        record { reading = given j.1.design j.1.table; is = (j.1.given.design_given, j.1.given.table_given); on = on_fault wrong at j.1.refused refl }
-    is_read cert budget members (refused (Unsupported at)) j =
-        record { reading = given j.1.design j.1.table; is = (j.1.given.design_given, j.1.given.table_given); on = on_words j.1.refused.tokens j.1.refused.lexed (on_outside at j.1.refused.outside refl) }
-    is_read cert budget members (refused (Syntax at)) j = absurd j.0
-    is_read cert budget members (refused (NotBuilt part)) j =
-        record { reading = given j.1.design j.1.table; is = (j.1.given.design_given, j.1.given.table_given); on = on_refused j.1.design j.1.table part j.1.refused }
-    is_read cert budget members (refused (Flawed flaw line)) j = absurd j.1.refused
-    is_read cert budget members unparsed j =
-        record { reading = given j.1.design j.1.table; is = (j.1.given.design_given, j.1.given.table_given); on = on_words j.1.refused.tokens j.1.refused.lexed (on_none j.1.refused.rules j.1.refused.none refl) }
-    is_read cert budget members mended j = record {
-      reading = given j.design j.table;
-      is = (j.given.design_given, j.given.table_given);
-      on = on_words j.tokens j.taken.lexed (of_thin j.table j.tokens j.thin j.taken.taken mended (is_mended j.thin j.taken.taken j.rows j.taken.tabled j.choice j.mends refl));
-    }
-    is_read cert budget members unmendable j = record {
-      reading = given j.design j.table;
-      is = (j.given.design_given, j.given.table_given);
-      on = on_words j.tokens j.taken.lexed (of_thin j.table j.tokens j.thin j.taken.taken unmendable (is_unmendable j.thin j.taken.taken j.rows j.taken.tabled j.none refl));
-    }
-    is_read cert budget members (checked finding) j = absurd j
+  is_run : (v : Verdict) → Judges (run d t top word) held v → IsRead (OnTexts top word) (one_on_texts top word) held d t v
+  is_run (absent name) j = record { reading = missing name; is = j; on = refl }
+  is_run (refused (TooManyBytes count)) j = record { reading = long count; is = j.1; on = refl }
+  is_run (refused (Input r)) j =
+      record { reading = given j.1.design j.1.table; is = (j.1.given.design_given, j.1.given.table_given); on = refuses r j.1.refused (inl (j.0, refl)) }
+  is_run (refused (NotBuilt part)) j = absurd j.1.refused
+  is_run (refused (Flawed flaw line)) j = absurd j.1.refused
+  is_run unparsed j =
+      record { reading = given j.1.design j.1.table; is = (j.1.given.design_given, j.1.given.table_given); on = refuses _ j.1.refused (inr ((j.0, refl), refl)) }
+  is_run mended j = absurd j
+  is_run unmendable j = absurd j
+  is_run (ran text) j = record { reading = given j.design j.table; is = (j.given.design_given, j.given.table_given); on = runs text j.ran refl }
+  is_run (checked finding) j = absurd j
 
 -- the other commands are refused
 abbrev IsUnbuilt : Verdict → Type 0
 IsUnbuilt v = v ≡ refused (NotBuilt part.Command)
 
-unbuilt_run : (held : Held) (design table : List ℕ) (top clock : Option (List ℕ)) (v : Verdict) → Judges (run design table top clock) held v → IsUnbuilt v
-unbuilt_run held design table top clock (absent name) j = absurd j
-unbuilt_run held design table top clock (refused (TooManyBytes count)) j = absurd j.1
-unbuilt_run held design table top clock (refused (Text wrong at)) j = ap (λ (r : Refusal). refused r) j.1
-unbuilt_run held design table top clock (refused (Unsupported at)) j = ap (λ (r : Refusal). refused r) j.1
-unbuilt_run held design table top clock (refused (Syntax at)) j = absurd j.0
-unbuilt_run held design table top clock (refused (NotBuilt part)) j = ap (λ (r : Refusal). refused r) j.1
-unbuilt_run held design table top clock (refused (Flawed flaw line)) j = ap (λ (r : Refusal). refused r) j.1
-unbuilt_run held design table top clock unparsed j = let other = j.1 in absurd (cc)
-unbuilt_run held design table top clock mended j = absurd j
-unbuilt_run held design table top clock unmendable j = absurd j
-unbuilt_run held design table top clock (checked finding) j = absurd j
-
 unbuilt_sites : (held : Held) (design : List ℕ) (top clock : Option (List ℕ)) (v : Verdict) → Judges (sites design top clock) held v → IsUnbuilt v
 unbuilt_sites held design top clock (absent name) j = absurd j
 unbuilt_sites held design top clock (refused (TooManyBytes count)) j = absurd j.1
-unbuilt_sites held design top clock (refused (Text wrong at)) j = ap (λ (r : Refusal). refused r) j.1
-unbuilt_sites held design top clock (refused (Unsupported at)) j = ap (λ (r : Refusal). refused r) j.1
-unbuilt_sites held design top clock (refused (Syntax at)) j = absurd j.0
+unbuilt_sites held design top clock (refused (Input r)) j = ap (λ (r : Refusal). refused r) j.1
 unbuilt_sites held design top clock (refused (NotBuilt part)) j = ap (λ (r : Refusal). refused r) j.1
 unbuilt_sites held design top clock (refused (Flawed flaw line)) j = ap (λ (r : Refusal). refused r) j.1
 unbuilt_sites held design top clock unparsed j = let other = j.1 in absurd (cc)
 unbuilt_sites held design top clock mended j = absurd j
 unbuilt_sites held design top clock unmendable j = absurd j
+unbuilt_sites held design top clock (ran text) j = absurd j
 unbuilt_sites held design top clock (checked finding) j = absurd j
 
 unbuilt_make : (held : Held) (seed : ℕ) (cert : List ℕ) (v : Verdict) → Judges (make seed cert) held v → IsUnbuilt v
 unbuilt_make held seed cert (absent name) j = absurd j
 unbuilt_make held seed cert (refused (TooManyBytes count)) j = absurd j.1
-unbuilt_make held seed cert (refused (Text wrong at)) j = ap (λ (r : Refusal). refused r) j.1
-unbuilt_make held seed cert (refused (Unsupported at)) j = ap (λ (r : Refusal). refused r) j.1
-unbuilt_make held seed cert (refused (Syntax at)) j = absurd j.0
+unbuilt_make held seed cert (refused (Input r)) j = ap (λ (r : Refusal). refused r) j.1
 unbuilt_make held seed cert (refused (NotBuilt part)) j = ap (λ (r : Refusal). refused r) j.1
 unbuilt_make held seed cert (refused (Flawed flaw line)) j = ap (λ (r : Refusal). refused r) j.1
 unbuilt_make held seed cert unparsed j = let other = j.1 in absurd (cc)
 unbuilt_make held seed cert mended j = absurd j
 unbuilt_make held seed cert unmendable j = absurd j
+unbuilt_make held seed cert (ran text) j = absurd j
 unbuilt_make held seed cert (checked finding) j = absurd j
 
 pub one_verdict : (plan : Plan) (held : Held) (v w : Verdict) → Judges plan held v → Judges plan held w → v ≡ w
-one_verdict (repair d t cert top clock budget members) held v w p q = one_read top clock held d t v w (is_read top clock held d t cert budget members v p) (is_read top clock held d t cert budget members w q)
-one_verdict (run design table top clock) held v w p q = unbuilt_run held design table top clock v p ∙ sym (unbuilt_run held design table top clock w q)
+one_verdict (repair d t cert top clock budget members) held v w p q =
+    one_read (OnFiles top clock) (one_on_files top clock) held d t v w (is_read top clock held d t cert budget members v p) (is_read top clock held d t cert budget members w q)
+one_verdict (run d t top clock) held v w p q = one_read (OnTexts top clock) (one_on_texts top clock) held d t v w (is_run top clock held d t v p) (is_run top clock held d t w q)
 one_verdict (sites design top clock) held v w p q = unbuilt_sites held design top clock v p ∙ sym (unbuilt_sites held design top clock w q)
 one_verdict (check circuit proof) held v w p q = one_certificate held circuit proof v w p q
 one_verdict (make seed cert) held v w p q = unbuilt_make held seed cert v p ∙ sym (unbuilt_make held seed cert w q)

@@ -15,8 +15,7 @@ use Rattle.rr_check.specs.Verdicts.{VerdictIs}
 use Rattle.rr_top.specs.declared.TheConstants.{CIRCUIT_LIMIT, PROOF_LIMIT}
 use Rattle.rr_top.specs.declared.ending.Flaw.{Flaw}
 use Rattle.rr_top.specs.declared.ending.Flaw.TheVariants as flaw
-use Rattle.rr_top.specs.declared.ending.Refusal.{Refusal}
-use Rattle.rr_top.specs.declared.ending.Refusal.TheVariants.{TooManyBytes, Text, Unsupported, Syntax, NotBuilt, Flawed}
+use Rattle.rr_top.specs.Refusals.{Refusal, TooManyBytes, Input, NotBuilt, Flawed}
 use Rattle.rr_top.specs.Texts.{verdict_text}
 use Rattle.rr_top.specs.Effects.{Answer, Gave}
 
@@ -55,9 +54,7 @@ FlawIs circuit proof flaw.Rat n = IsNoProof circuit proof (RatLine n)
 -- the refusal that is due for two files that were read
 abbrev pub RefusesCertificate : List ℕ → List ℕ → Refusal → Type 0
 RefusesCertificate circuit proof (TooManyBytes count) = ⊥
-RefusesCertificate circuit proof (Text wrong offset) = ⊥
-RefusesCertificate circuit proof (Unsupported offset) = ⊥
-RefusesCertificate circuit proof (Syntax offset) = ⊥
+RefusesCertificate circuit proof (Input refusal) = ⊥
 RefusesCertificate circuit proof (NotBuilt part) = ⊥
 RefusesCertificate circuit proof (Flawed flaw line) = FlawIs circuit proof flaw line
 

@@ -1,10 +1,13 @@
 -- Choices of repair: what they cost, which design they give, and whether it matches a table.
-use Rattle.std.specs.Prelude.{ℕ, ◌≡◌, ◌<◌, List, Bool, true, false, Option, None, Some, All, ⊤, if◌then◌else◌}
+use Rattle.std.specs.Prelude.{ℕ, ◌≡◌, ◌<◌, List, [], Bool, false, ⊤, length, get_or, if◌then◌else◌}
+use Rattle.rr_trace.specs.declared.cell.Cell.{Cell}
+use Rattle.rr_trace.specs.Misses.{Agrees}
+use Rattle.rr_trace.specs.Tables.{Table}
 use Rattle.rr_top.specs.declared.design.Right.{Right}
 use Rattle.rr_top.specs.declared.design.Right.TheVariants.{Copies, Constant, Masked}
 use Rattle.rr_top.specs.declared.search.Choice.{Choice}
-use Rattle.rr_top.specs.declared.table.Row.{Row}
-use Rattle.rr_top.specs.Thin.{Thin, output_of}
+use Rattle.rr_top.specs.Thin.{Thin, bit, output_of}
+use Rattle.rr_top.specs.Table.{input_in, output_in}
 
 abbrev pub off : Choice
 off = record { on = false; value = false }
@@ -32,26 +35,28 @@ changed (Masked b) c = Masked (chosen c b)
 abbrev pub instance : Thin → Choice → Thin
 instance t c = record { name = t.name; input = t.input; output = t.output; right = changed t.right c }
 
--- a known cell is the output's value; an unknown one asks nothing
-abbrev pub MeetsCell : Option Bool → Bool → Type 0
-MeetsCell None value = ⊤
-MeetsCell (Some expected) value = value ≡ expected
+-- the output's value at a row's input agrees with what the row knows of it; where that is nothing, it asks nothing
+abbrev pub MeetsRow : Right → List ℕ → List Cell → Type 0
+MeetsRow right inputs cells = Agrees (output_in cells) (bit (output_of right (input_in inputs)))
 
--- each known cell is the output's value at its row's input
-abbrev pub Matches : Thin → List Row → Type 0
-Matches t rows = All (λ row. MeetsCell row.expected (output_of t.right row.input)) rows
+-- so it is in each row
+abbrev pub RightMatches : Right → Table → Type 0
+RightMatches right rows = (k : ℕ) → k < length rows.expected → MeetsRow right (get_or rows.inputs k []) (get_or rows.expected k [])
+
+abbrev pub Matches : Thin → Table → Type 0
+Matches t rows = RightMatches t.right rows
 
 -- a choice for the design, whose instance matches
-pub record Mends (t : Thin) (rows : List Row) (c : Choice) : Type 0 where
+pub record Mends (t : Thin) (rows : Table) (c : Choice) : Type 0 where
   pub is_choice : IsChoice t.right c
   pub matches : Matches (instance t c) rows
 
 -- some choice of cost k mends, and no choice of smaller cost does
-pub record Least (t : Thin) (rows : List Row) (k : ℕ) : Type 0 where
+pub record Least (t : Thin) (rows : Table) (k : ℕ) : Type 0 where
   pub choice : Choice
   pub costs : cost choice ≡ k
   pub mends : Mends t rows choice
   pub none_below : (c : Choice) → cost c < k → Mends t rows c → ⊥
 
-abbrev pub NoneMends : Thin → List Row → Type 0
+abbrev pub NoneMends : Thin → Table → Type 0
 NoneMends t rows = (c : Choice) → Mends t rows c → ⊥

@@ -3,11 +3,11 @@ pub use Rattle.rr_edge.specs.Held
 pub use Rattle.rr_edge.specs.Shelf
 pub use Rattle.rr_edge.specs.Sink
 pub mod Thin
-pub mod Trees
 pub mod Table
 pub mod Choices
 pub mod Search
 pub mod Patching
+pub mod Refusals
 pub mod Texts
 pub mod Effects
 pub mod Answers

@@ -1,6 +1,6 @@
 -- The edits of the source that a choice asks for.
-use Rattle.std.specs.Prelude.{ℕ, List, [], ◌∷◌, ◌++◌, replicate, get_or, Bool, true, false, Option, None, Some, if◌then◌else◌}
-use Rattle.rr_syntax.specs.Words.{Word, Reserved}
+use Rattle.std.specs.Prelude.{ℕ, List, [], ◌∷◌, ◌++◌, replicate, get_or, Bool, false, Option, None, Some, if◌then◌else◌}
+use Rattle.rr_syntax.specs.Words.{Reserved}
 use Rattle.rr_lex.specs.Tokens.{Lexeme}
 use Rattle.rr_lex.specs.Patch.{New, Edit, new_literal}
 use Rattle.rr_top.specs.declared.design.Right.{Right}

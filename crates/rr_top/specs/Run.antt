@@ -9,10 +9,12 @@ use Rattle.rr_lex.specs.Patch.{patched, AreWords}
 use Rattle.rr_words.specs.Plan.{Plan, check, command_of}
 use Rattle.rr_top.specs.declared.ending.Ending.{Ending}
 use Rattle.rr_top.specs.declared.ending.Ending.TheVariants.{Usage, NoMemory, Absent, ReadFault, OutFault, Refused, Done}
-use Rattle.rr_top.specs.declared.ending.Refusal.{Refusal}
-use Rattle.rr_top.specs.declared.ending.Refusal.TheVariants.{Syntax}
+use Rattle.rr_trace.specs.Tables.{Table}
+use Rattle.rr_run.specs.declared.fault.Fault.TheVariants.{Syntax}
+use Rattle.rr_run.specs.Refusals.{At}
+use Rattle.rr_run.specs.Runs.{IsRun}
+use Rattle.rr_top.specs.Refusals.{Refusal, Input}
 use Rattle.rr_top.specs.declared.search.Choice.{Choice}
-use Rattle.rr_top.specs.declared.table.Row.{Row}
 use Rattle.rr_top.specs.Thin.{Thin, thin_words, site_count}
 use Rattle.rr_top.specs.Choices.{cost, instance, Mends, Least, NoneMends}
 use Rattle.rr_top.specs.Patching.{edits}
@@ -20,7 +22,7 @@ use Rattle.rr_check.specs.declared.verdict.Verdict.{Verdict as Finding}
 use Rattle.rr_check.specs.declared.verdict.Verdict.TheVariants as found
 use Rattle.rr_top.specs.Texts.{usage_text, memory_text, refused_text, absent_text, report, no_repair_text, verdict_text}
 use Rattle.rr_top.specs.Effects.{Outside, KeepsShelf, KeepsOut, AbsentAt, Gave}
-use Rattle.rr_top.specs.Verdicts.{reads_of, BothGiven, AreTaken, Refuses, Verdict, absent, refused, unparsed, mended, unmendable, checked, WhereRepair, WhereCheck, verdict_status}
+use Rattle.rr_top.specs.Verdicts.{reads_of, BothGiven, AreTaken, Refuses, Verdict, absent, refused, unparsed, mended, unmendable, ran, checked, WhereRepair, WhereRun, WhereCheck, verdict_status}
 use Rattle.rr_top.specs.Check.{IsChecked}
 use Rattle.rr_top.specs.Endings.{PlanEnds}
 
@@ -79,7 +81,7 @@ pub record IsRepaired (r : Course) (design_name table_name : List ℕ) (top cloc
   pub given : BothGiven r.before.held design_name table_name design table
   pub tokens : List Lexeme
   pub thin : Thin
-  pub rows : List Row
+  pub rows : Table
   pub taken : AreTaken top clock design table tokens thin rows
   pub choice : Choice
   pub mends : Mends thin rows choice
@@ -96,7 +98,7 @@ pub record IsBeyondRepair (r : Course) (design_name table_name : List ℕ) (top 
   pub given : BothGiven r.before.held design_name table_name design table
   pub tokens : List Lexeme
   pub thin : Thin
-  pub rows : List Row
+  pub rows : Table
   pub taken : AreTaken top clock design table tokens thin rows
   pub none : NoneMends thin rows
   pub printed : Appends r.before.out r.after.out []
@@ -119,15 +121,27 @@ pub record IsRejected (r : Course) (circuit_name proof_name : List ℕ) : Type 0
   pub reported : Appends r.notes_before r.notes_after []
   pub shelf : KeepsShelf r.before r.after
 
+-- Status 0 of `run`: both files were read, and the output has grown by exactly the table of the rows with the outputs of
+-- the design's one run.
+pub record IsSimulated (r : Course) (design_name table_name : List ℕ) (top clock : Option (List ℕ)) : Type 0 where
+  pub design : List ℕ
+  pub table : List ℕ
+  pub given : BothGiven r.before.held design_name table_name design table
+  pub text : List ℕ
+  pub ran : IsRun design table top clock text
+  pub printed : Appends r.before.out r.after.out text
+  pub reported : Appends r.notes_before r.notes_after []
+  pub shelf : KeepsShelf r.before r.after
+
 -- the words ask for a check of these files
 abbrev pub IsCheck : List (List ℕ) → List ℕ → List ℕ → Type 0
 IsCheck words circuit proof = command_of words ≡ Some (check circuit proof)
 
--- what `repair` has done, or `check`
+-- what `repair` has done, or `run`, or `check`
 abbrev pub HasDone : Course → Plan → Type 0
-HasDone r plan = WhereRepair plan (IsRepaired r) ⊎ WhereCheck plan (IsAccepted r)
+HasDone r plan = WhereRepair plan (IsRepaired r) ⊎ (WhereRun plan (IsSimulated r) ⊎ WhereCheck plan (IsAccepted r))
 
--- what both found not to be so
+-- what `repair` and `check` found not to be so
 abbrev pub HasFailed : Course → Plan → Type 0
 HasFailed r plan = WhereRepair plan (IsBeyondRepair r) ⊎ WhereCheck plan (IsRejected r)
 
@@ -172,9 +186,10 @@ SomeFault r = Faulted r.before.faults r.after.faults ⊎ (Faulted r.before.out_f
 abbrev pub ShowsVerdict : Verdict → Course → Type 0
 ShowsVerdict (absent name) r = Appends r.notes_before r.notes_after (absent_text name)
 ShowsVerdict (refused refusal) r = Appends r.notes_before r.notes_after (refused_text refusal)
-ShowsVerdict unparsed r = (offset : ℕ) × Appends r.notes_before r.notes_after (refused_text (Syntax offset))
+ShowsVerdict unparsed r = (offset : ℕ) × Appends r.notes_before r.notes_after (refused_text (Input (At Syntax offset)))
 ShowsVerdict mended r = ⊤
 ShowsVerdict unmendable r = ⊤
+ShowsVerdict (ran text) r = Appends r.before.out r.after.out text × Appends r.notes_before r.notes_after []
 ShowsVerdict (checked finding) r = Appends r.before.out r.after.out (verdict_text finding) × Appends r.notes_before r.notes_after []
 
 -- the verdict was carried out and reported; or memory ran out; or something failed

@@ -1,13 +1,8 @@
 -- What the search asks of a right side.
-use Rattle.std.specs.Prelude.{◌≡◌, ◌⊎◌, true, List, All}
+use Rattle.std.specs.Prelude.{◌≡◌, ◌⊎◌, true}
 use Rattle.rr_top.specs.declared.design.Right.{Right}
 use Rattle.rr_top.specs.declared.search.Choice.{Choice}
-use Rattle.rr_top.specs.declared.table.Row.{Row}
-use Rattle.rr_top.specs.Thin.{output_of}
-use Rattle.rr_top.specs.Choices.{IsChoice, changed, MeetsCell}
-
-abbrev pub RightMatches : Right → List Row → Type 0
-RightMatches right rows = All (λ row. MeetsCell row.expected (output_of right row.input)) rows
+use Rattle.rr_top.specs.Choices.{IsChoice, changed}
 
 -- every choice leaves the right side as it is
 abbrev pub IsFixed : Right → Type 0

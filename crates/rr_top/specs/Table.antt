@@ -1,31 +1,11 @@
--- The text of a table for a design with one input and one output.
-use Rattle.std.specs.Prelude.{ℕ, ◌≡◌, ◌≤◌, ◌++◌, List, [], ◌∷◌, length, Bool, false, true, Option, None, Some}
-use Rattle.rr_top.specs.declared.table.Row.{Row}
-use Rattle.rr_top.specs.Thin.{Thin}
+-- What a table of a thin design says row by row: the value of its one input, and what is known of its one output.
+use Rattle.std.specs.Prelude.{ℕ, Bool, List, get_or, nat_eq}
+use Rattle.rr_trace.specs.declared.cell.Cell.{Cell}
+use Rattle.rr_trace.specs.Cells.{unknown_cell}
 
--- `0` or `1`
-abbrev pub bit_code : Bool → ℕ
-bit_code false = 48
-bit_code true = 49
+-- the input's value; a row has none where the input is the clock, which counts as 0
+abbrev pub input_in : List ℕ → Bool
+input_in row = nat_eq (get_or row 0 0) 1
 
--- `0` or `1`, or `x` where the value is not known
-abbrev pub cell_code : Option Bool → ℕ
-cell_code None = 120
-cell_code (Some b) = bit_code b
-
--- the two cells, a comma between them, and LF
-abbrev pub row_text : Row → List ℕ
-row_text row = bit_code row.input ∷ (44 ∷ (cell_code row.expected ∷ (10 ∷ [])))
-
-abbrev pub rows_text : List Row → List ℕ
-rows_text [] = []
-rows_text (row ∷ rows) = row_text row ++ rows_text rows
-
--- the names of the ports, a comma between them, and LF, before the rest
-abbrev pub header_text : List ℕ → List ℕ → List ℕ → List ℕ
-header_text input output rest = input ++ (44 ∷ (output ++ (10 ∷ rest)))
-
--- the bytes are the header and these rows, at most 1,024 of them
-pub record IsTable (t : Thin) (bytes : List ℕ) (rows : List Row) : Type 0 where
-  pub text : bytes ≡ header_text t.input t.output (rows_text rows)
-  pub few : length rows ≤ 1024
+abbrev pub output_in : List Cell → Cell
+output_in cells = get_or cells 0 unknown_cell

@@ -1,16 +1,14 @@
 -- The texts of the report, each line ended by LF.
 use Rattle.std.specs.Prelude.{ℕ, List, [], ◌∷◌, ◌++◌, codes, decimal, if◌then◌else◌}
 use Rattle.rr_lex.specs.Tokens.{Lexeme}
-use Rattle.rr_lex.specs.declared.piece.Wrong.{Wrong}
-use Rattle.rr_lex.specs.declared.piece.Wrong.TheVariants as wrong
 use Rattle.rr_top.specs.declared.design.Right.{Right}
 use Rattle.rr_top.specs.declared.search.Choice.{Choice}
 use Rattle.rr_top.specs.declared.ending.Part.{Part}
 use Rattle.rr_top.specs.declared.ending.Part.TheVariants as part
 use Rattle.rr_top.specs.declared.ending.Flaw.{Flaw}
 use Rattle.rr_top.specs.declared.ending.Flaw.TheVariants as flaw
-use Rattle.rr_top.specs.declared.ending.Refusal.{Refusal}
-use Rattle.rr_top.specs.declared.ending.Refusal.TheVariants.{TooManyBytes, Text, Unsupported, Syntax, NotBuilt, Flawed}
+use Rattle.rr_run.specs.Texts.{refusal_text as run_refusal_text}
+use Rattle.rr_top.specs.Refusals.{Refusal, TooManyBytes, Input, NotBuilt, Flawed}
 use Rattle.rr_check.specs.declared.verdict.Verdict.{Verdict}
 use Rattle.rr_check.specs.declared.verdict.Verdict.TheVariants as found
 use Rattle.rr_top.specs.Thin.{site_token}
@@ -21,18 +19,10 @@ use Rattle.rr_top.specs.Patching.{new_bit, offset_of}
 abbrev pub line : List ℕ → List ℕ
 line text = text ++ (10 ∷ [])
 
--- number and name of a fault of the text
-abbrev pub wrong_text : Wrong → List ℕ
-wrong_text wrong.Byte = codes "1 BadByte"
-wrong_text wrong.Number = codes "2 BadNumber"
-wrong_text wrong.Comment = codes "3 OpenComment"
-wrong_text wrong.Directive = codes "4 Directive"
-
 -- what is not built yet
 abbrev pub part_text : Part → List ℕ
 part_text part.Command = codes "command"
 part_text part.Design = codes "design"
-part_text part.Table = codes "table"
 
 -- number and name of a bad line of a certificate
 abbrev pub flaw_text : Flaw → List ℕ
@@ -43,9 +33,7 @@ flaw_text flaw.Rat = codes "36 RatLine"
 -- number, name and place
 abbrev pub refusal_text : Refusal → List ℕ
 refusal_text (TooManyBytes count) = codes "16 TooMany bytes " ++ decimal count
-refusal_text (Text wrong offset) = wrong_text wrong ++ (codes " at " ++ decimal offset)
-refusal_text (Unsupported offset) = codes "5 Unsupported at " ++ decimal offset
-refusal_text (Syntax offset) = codes "6 Syntax at " ++ decimal offset
+refusal_text (Input refusal) = run_refusal_text refusal
 refusal_text (NotBuilt part) = codes "0 NotBuilt " ++ part_text part
 refusal_text (Flawed flaw n) = flaw_text flaw ++ (codes " line " ++ decimal n)
 

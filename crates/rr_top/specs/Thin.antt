@@ -1,6 +1,6 @@
 -- Thin designs: one input, one output, and one continuous assignment whose right side is the input, a literal of one bit, or the input masked by one
 -- (IEEE 1364-2005 sections 6.1, 12.1 and 12.3.4).
-use Rattle.std.specs.Prelude.{ℕ, ◌≡◌, ◌≢◌, ◌++◌, List, [], ◌∷◌, Bool, false, true, Option, None, Some}
+use Rattle.std.specs.Prelude.{ℕ, ◌≡◌, ◌≢◌, List, [], ◌∷◌, Bool, false, true, Option, None, Some}
 use Rattle.rr_syntax.specs.Words.{
   Word,
   Named,

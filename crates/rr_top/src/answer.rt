@@ -1,25 +1,24 @@
-//! The answer for a design and a table that were read.
-ghost use Rattle.std.specs.Prelude.{◌≡◌, ◌≤◌, ◌^◌, ◌++◌, ◌∷◌, [], ℕ, List, Option, None, ◌<◌, IfOk, MatchResult, string_bytes, take, drop, length, get_or};
+//! The answer of `repair` for a design and a table that were read.
+ghost use Rattle.std.specs.Prelude.{◌≡◌, ◌≤◌, ◌++◌, ◌∷◌, [], ℕ, List, Option, ◌<◌, IfOk, MatchResult, string_bytes, take, drop, length, get_or};
 ghost use Rattle.rr_words.specs.Plan.{texts_of};
-ghost use Rattle.rr_lex.specs.Tokens.{lexemes, words_of, AreTokens, IsTextFault, Rise};
+ghost use Rattle.rr_lex.specs.Tokens.{lexemes, words_of, AreTokens, Rise};
+ghost use Rattle.rr_flat.specs.View.{plain_flat};
+ghost use Rattle.rr_trace.specs.View.{plain_table};
+ghost use Rattle.rr_run.specs.Runs.{IsLawfulDesign};
 ghost use Rattle.rr_top.specs.Thin.{IsThin, site_token, site_count};
 ghost use Rattle.rr_top.specs.Patching.{new_bit, no_lexeme};
 ghost use Rattle.rr_top.specs.Texts.{repaired_text, no_repair_text};
-ghost use Rattle.rr_parse.specs.Exact.{IsRefusal};
-ghost use Rattle.rr_top.specs.Trees.{AllHaveRules, HasTree};
-ghost use Rattle.rr_top.specs.Verdicts.{Answers, DueOn, RefusesFiles};
-ghost use Rattle.rr_top.specs.Rust.{thin_of, answer_view, StopsWhere};
+ghost use Rattle.rr_top.specs.Verdicts.{AreLawful, Answers, DueOn, RefusesFiles};
+ghost use Rattle.rr_top.specs.Rust.{thin_of, answer_view, stop_from, StopsWhere};
 ghost use Rattle.rr_top.specs.Answers.{IsChanged, IsKept, IsHopeless};
 
 use crate::design::{Design, Right, design_of};
 use crate::ending::{Part, Refusal, Text, UNCHANGED};
 use crate::search::{Choice, least};
-use crate::table::{Row, table_of};
 use bumpalo::Bump;
-use rr_lex::{TextFault, Wrong, lex};
-use rr_parse::parse;
-use rr_parse_expr::ParseFault;
+use rr_run::{LawfulDesign, RunFault, lawful_design, read_rows};
 use rr_syntax::{Span, Token};
+use rr_trace::Table;
 use std::alloc::{AllocError, Global};
 
 /// The names of a top and of a clock, where they are given.
@@ -34,7 +33,7 @@ pub(crate) struct Options<'a> {
 pub(crate) enum Piece<'b> {
     Nothing,
     Source(&'b [u8]),
-    Patched(Vec<u8>),
+    Made(Vec<u8>),
     Told(Text),
 }
 
@@ -48,7 +47,7 @@ impl Piece<'_> {
         match self {
             Piece::Nothing => &[],
             Piece::Source(bytes) => bytes,
-            Piece::Patched(bytes) => bytes.as_slice(),
+            Piece::Made(bytes) => bytes.as_slice(),
             Piece::Told(text) => text.as_bytes(),
         }
     }
@@ -64,9 +63,9 @@ pub(crate) struct Answer<'b> {
 
 /// Why there is no answer.
 #[derive(Clone, Copy)]
-pub(crate) enum Stop {
+pub(crate) enum Stop<'a> {
     Memory,
-    Refused(Refusal),
+    Refused(Refusal<'a>),
 }
 
 /// The text of a literal of one bit.
@@ -147,7 +146,7 @@ fn repaired<'b>(
     let notes = repaired_text(alloc, 1, span.start, text)?;
     Ok(Answer {
         status: 0,
-        out: Piece::Patched(out),
+        out: Piece::Made(out),
         notes: Text::Made(notes),
     })
 }
@@ -181,12 +180,12 @@ fn answer_of<'b>(
     bytes: &'b [u8],
     tokens: &[Token<'_>],
     design: Design<'_>,
-    rows: &[Row],
+    rows: &Table,
 ) -> Result<Answer<'b>, AllocError>
     requires lexed { AreTokens bytes.now (lexemes tokens.now) }
     requires spans { Rise 0 (length bytes.now) (lexemes tokens.now) }
     requires thin { IsThin (words_of (lexemes tokens.now)) (thin_of design) }
-    ensures { IfOk result (λ answer. Answers bytes.entry.now (lexemes tokens.now) (thin_of design.entry) rows.now (answer_view answer)) }
+    ensures { IfOk result (λ answer. Answers bytes.entry.now (lexemes tokens.now) (thin_of design.entry) (plain_table rows.now) (answer_view answer)) }
 {
     let Some(choice) = least(design.right, rows) else {
         return despairing(alloc, design.right);
@@ -200,147 +199,70 @@ fn answer_of<'b>(
     }
 }
 
-/// The refusal of a text, or want of memory.
-fn stop_of(fault: TextFault) -> Stop
-    ensures { (top clock : Option (List ℕ)) (design table : List ℕ) → IsTextFault design fault → StopsWhere (RefusesFiles top clock design table) result }
+/// The refusal of a design or a table, or want of memory.
+pub(crate) fn stop_of(fault: RunFault<'_>) -> Stop<'_>
+    ensures { result ≡ stop_from fault.entry }
 {
     match fault {
-        TextFault::BadByte(at) => Stop::Refused(Refusal::Text(Wrong::Byte, at)),
-        TextFault::BadNumber(at) => Stop::Refused(Refusal::Text(Wrong::Number, at)),
-        TextFault::OpenComment(at) => Stop::Refused(Refusal::Text(Wrong::Comment, at)),
-        TextFault::Directive(at) => Stop::Refused(Refusal::Text(Wrong::Directive, at)),
-        TextFault::Memory => Stop::Memory,
+        RunFault::Refused(refusal) => Stop::Refused(Refusal::Input(refusal)),
+        RunFault::Memory => Stop::Memory,
     }
 }
 
-/// Where reading stopped: where that token begins, or behind the last one where none is left.
-fn stopped_at(tokens: &[Token<'_>], at: u32) -> u32 {
-    match tokens.get(at as usize) {
-        Some(token) => token.span.start,
-        None => match tokens.last() {
-            Some(token) => token.span.end,
-            None => 0,
-        },
-    }
-}
-
-/// The refusal of tokens that spell no tree, or want of memory.
-fn unparsed(tokens: &[Token<'_>], fault: ParseFault) -> Stop
-    requires refused { IsRefusal tokens.now fault }
-    ensures { (top clock : Option (List ℕ)) (design table : List ℕ) → AreTokens design (lexemes tokens.now) → StopsWhere (RefusesFiles top clock design table) result }
-{
-    match fault {
-        ParseFault::Unsupported(at) => {
-            let span = span_at(tokens, at as usize);
-            Stop::Refused(Refusal::Unsupported(span.start))
-        }
-        ParseFault::Syntax(at) => Stop::Refused(Refusal::Syntax(stopped_at(tokens, at))),
-        ParseFault::Memory => Stop::Memory,
-    }
-}
-
-/// The answer for a design that was taken, and the bytes of its table.
-fn judge_table<'b>(
+/// The answer for a lawful design and the rows of its table, which is refused where it is none of the
+/// thin form.
+fn judge_rows<'b, 'a>(
     alloc: Global,
     bytes: &'b [u8],
     tokens: &[Token<'_>],
-    design: Design<'_>,
-    table: &[u8],
-) -> Result<Answer<'b>, Stop>
+    rows: &Table,
+) -> Result<Answer<'b>, Stop<'a>>
     requires lexed { AreTokens bytes.now (lexemes tokens.now) }
-    requires spans { Rise 0 (length bytes.now) (lexemes tokens.now) }
-    requires thin { IsThin (words_of (lexemes tokens.now)) (thin_of design) }
-    ensures { MatchResult result (λ answer. DueOn None None bytes.entry.now table.now (answer_view answer)) (λ stop. StopsWhere (RefusesFiles None None bytes.entry.now table.now) stop) }
-{
-    match table_of(alloc, design, table) {
-        Ok(Some(rows)) => match answer_of(alloc, bytes, tokens, design, &rows) {
-            Ok(answer) => Ok(answer),
-            Err(_) => Err(Stop::Memory),
-        },
-        Ok(None) => Err(Stop::Refused(Refusal::NotBuilt(Part::Table))),
-        Err(_) => Err(Stop::Memory),
-    }
-}
-
-/// The answer for the tokens of a design, and the bytes of its table.
-fn judge_design<'b>(
-    alloc: Global,
-    bytes: &'b [u8],
-    tokens: &[Token<'_>],
-    table: &[u8],
-) -> Result<Answer<'b>, Stop>
-    requires lexed { AreTokens bytes.now (lexemes tokens.now) }
-    requires spans { Rise 0 (length bytes.now) (lexemes tokens.now) }
-    requires rules { AllHaveRules (lexemes tokens.now) }
-    requires spelled { HasTree (lexemes tokens.now) }
-    ensures { MatchResult result (λ answer. DueOn None None bytes.entry.now table.now (answer_view answer)) (λ stop. StopsWhere (RefusesFiles None None bytes.entry.now table.now) stop) }
+    ensures { (top word : Option (List ℕ)) (table : List ℕ) → AreLawful top word bytes.entry.now table (lexemes tokens.now) (plain_table rows.now)
+        → MatchResult result (λ answer. DueOn top word bytes.entry.now table (answer_view answer)) (λ stop. StopsWhere (RefusesFiles top word bytes.entry.now table) stop) }
 {
     let Some(design) = design_of(tokens) else {
         return Err(Stop::Refused(Refusal::NotBuilt(Part::Design)));
     };
-    judge_table(alloc, bytes, tokens, design, table)
-}
-
-/// The answer for the tokens of a design, which is refused where a top or a clock is named.
-#[tactic(auto, using(crate::proofs::Judged::named_top, crate::proofs::Judged::named_clock))]
-fn judge_tokens<'b>(
-    alloc: Global,
-    options: Options<'_>,
-    bytes: &'b [u8],
-    tokens: &[Token<'_>],
-    table: &[u8],
-) -> Result<Answer<'b>, Stop>
-    requires lexed { AreTokens bytes.now (lexemes tokens.now) }
-    requires spans { Rise 0 (length bytes.now) (lexemes tokens.now) }
-    requires rules { AllHaveRules (lexemes tokens.now) }
-    requires spelled { HasTree (lexemes tokens.now) }
-    ensures { MatchResult result (λ answer. DueOn (texts_of options.entry.top) (texts_of options.entry.clock) bytes.entry.now table.now (answer_view answer))
-        (λ stop. StopsWhere (RefusesFiles (texts_of options.entry.top) (texts_of options.entry.clock) bytes.entry.now table.now) stop) }
-{
-    match options.top {
-        Some(_) => Err(Stop::Refused(Refusal::NotBuilt(Part::Design))),
-        None => match options.clock {
-            Some(_) => Err(Stop::Refused(Refusal::NotBuilt(Part::Design))),
-            None => judge_design(alloc, bytes, tokens, table),
-        },
+    match answer_of(alloc, bytes, tokens, design, rows) {
+        Ok(answer) => Ok(answer),
+        Err(_) => Err(Stop::Memory),
     }
 }
 
-/// The answer for the tokens of a design, which have to spell a tree.
-fn judge_words<'b, 'a>(
+/// The answer for a lawful design and the bytes of its table.
+fn judge_table<'b, 'a>(
     alloc: Global,
-    options: Options<'_>,
     bytes: &'b [u8],
-    tokens: &'a [Token<'a>],
+    lawful: &LawfulDesign<'a>,
     table: &[u8],
-    arena: &'a Bump,
-) -> Result<Answer<'b>, Stop>
-    requires lexed { AreTokens bytes.now (lexemes tokens.now) }
-    requires spans { Rise 0 (length bytes.now) (lexemes tokens.now) }
-    requires few { length tokens.now < 2 ^ 32 }
-    ensures { MatchResult result (λ answer. DueOn (texts_of options.entry.top) (texts_of options.entry.clock) bytes.entry.now table.now (answer_view answer))
-        (λ stop. StopsWhere (RefusesFiles (texts_of options.entry.top) (texts_of options.entry.clock) bytes.entry.now table.now) stop) }
+) -> Result<Answer<'b>, Stop<'a>>
+    requires lexed { AreTokens bytes.now (lexemes lawful.now.tokens.now) }
+    ensures { (top word : Option (List ℕ)) → IsLawfulDesign bytes.entry.now top word (lexemes lawful.now.tokens.now) (plain_flat lawful.now.flat) lawful.now.order.clock lawful.now.order.rising
+        → MatchResult result (λ answer. DueOn top word bytes.entry.now table.now (answer_view answer)) (λ stop. StopsWhere (RefusesFiles top word bytes.entry.now table.now) stop) }
 {
-    match parse(tokens, arena) {
-        Ok(_) => judge_tokens(alloc, options, bytes, tokens, table),
-        Err(fault) => Err(unparsed(tokens, fault)),
-    }
+    let rows = match read_rows(alloc, lawful, table) {
+        Ok(rows) => rows,
+        Err(fault) => return Err(stop_of(fault)),
+    };
+    judge_rows(alloc, bytes, lawful.tokens, &rows)
 }
 
-/// The answer for the bytes of a design and of its table, or the first refusal.
-pub(crate) fn judge<'b>(
+/// The answer for the bytes of a design and of its table, or the first refusal. Names in a refusal live
+/// in the arena.
+pub(crate) fn judge<'b, 'a>(
     alloc: Global,
     options: Options<'_>,
     design: &'b [u8],
     table: &[u8],
-) -> Result<Answer<'b>, Stop>
+    arena: &'a Bump,
+) -> Result<Answer<'b>, Stop<'a>>
     requires { length design.now ≤ 1048576 }
     ensures { MatchResult result (λ answer. DueOn (texts_of options.entry.top) (texts_of options.entry.clock) design.entry.now table.now (answer_view answer))
         (λ stop. StopsWhere (RefusesFiles (texts_of options.entry.top) (texts_of options.entry.clock) design.entry.now table.now) stop) }
 {
-    let arena = Bump::new(alloc);
-    match lex(design, &arena) {
-        Ok(tokens) => judge_words(alloc, options, design, tokens, table, &arena),
+    match lawful_design(alloc, design, options.top, options.clock, arena) {
+        Ok(lawful) => judge_table(alloc, design, &lawful, table),
         Err(fault) => Err(stop_of(fault)),
     }
 }

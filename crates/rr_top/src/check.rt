@@ -25,7 +25,7 @@ use std::thread::Threads;
 const WORKERS: u32 = 4;
 
 /// The circuit of a text, whose bytes are let go.
-fn circuit_in(alloc: Global, bytes: Vec<u8>) -> Result<Circuit, Stop>
+fn circuit_in<'a>(alloc: Global, bytes: Vec<u8>) -> Result<Circuit, Stop<'a>>
     requires { length bytes.items ≤ 268435456 }
     ensures { (proof : List ℕ) → MatchResult result (λ c. IsCircuitOf bytes.items c) (λ stop. StopsWhere (RefusesCertificate bytes.items proof) stop) }
 {
@@ -39,7 +39,7 @@ fn circuit_in(alloc: Global, bytes: Vec<u8>) -> Result<Circuit, Stop>
 }
 
 /// The formula of the circuit of a text. Text and circuit are let go.
-fn formula_in(alloc: Global, bytes: Vec<u8>) -> Result<Formula, Stop>
+fn formula_in<'a>(alloc: Global, bytes: Vec<u8>) -> Result<Formula, Stop<'a>>
     requires { length bytes.items ≤ 268435456 }
     ensures { (proof : List ℕ) → MatchResult result (λ f. IsFormulaOf bytes.items f) (λ stop. StopsWhere (RefusesCertificate bytes.items proof) stop) }
 {
@@ -53,7 +53,7 @@ fn formula_in(alloc: Global, bytes: Vec<u8>) -> Result<Formula, Stop>
 }
 
 /// The proof of a text over a formula. The text is let go.
-fn journal_in(alloc: Global, formula: &Formula, bytes: Vec<u8>) -> Result<Journal, Stop>
+fn journal_in<'a>(alloc: Global, formula: &Formula, bytes: Vec<u8>) -> Result<Journal, Stop<'a>>
     ensures proof { IfOk result (λ j. IsProofOver formula.now bytes.items j.lines) }
     ensures ids { IfOk result (λ j. All (λ s. length formula.now.clauses < s.id) j.lines) }
     ensures within { IfOk result (λ j. All (λ s. All (IsWithin formula.now.vars) s.clause) j.lines) }
@@ -72,12 +72,12 @@ fn journal_in(alloc: Global, formula: &Formula, bytes: Vec<u8>) -> Result<Journa
 }
 
 /// The verdict on a certificate, or the first refusal.
-fn verdict_on<R: Threads + Sync>(
+fn verdict_on<'a, R: Threads + Sync>(
     rt: &R,
     alloc: Global,
     circuit: Vec<u8>,
     proof: Vec<u8>,
-) -> Result<Verdict, Stop>
+) -> Result<Verdict, Stop<'a>>
     requires { length circuit.items ≤ 268435456 }
     ensures { MatchResult result (λ v. IsJudged circuit.items proof.items v) (λ stop. StopsWhere (RefusesCertificate circuit.items proof.items) stop) }
 {
@@ -130,12 +130,12 @@ fn told<'b>(alloc: Global, verdict: Verdict) -> Result<Answer<'b>, AllocError>
 }
 
 /// The answer for a circuit's and a proof's text, or the first refusal.
-fn judge_certificate<'b, R: Threads + Sync>(
+fn judge_certificate<'b, 'a, R: Threads + Sync>(
     rt: &R,
     alloc: Global,
     circuit: Vec<u8>,
     proof: Vec<u8>,
-) -> Result<Answer<'b>, Stop>
+) -> Result<Answer<'b>, Stop<'a>>
     requires { length circuit.items ≤ 268435456 }
     ensures { MatchResult result (λ answer. AnswersCertificate circuit.items proof.items (answer_view answer)) (λ stop. StopsWhere (RefusesCertificate circuit.items proof.items) stop) }
 {

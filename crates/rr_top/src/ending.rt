@@ -1,8 +1,8 @@
 //! How a run ends, and the texts that say so.
 ghost use Rattle.std.specs.Prelude.{◌≡◌, ◌++◌, Some, IfOk, string_bytes};
+ghost use Rattle.rr_top.specs.Refusals.{plain_refusal};
 ghost use Rattle.rr_top.specs.Texts.{absent_text, read_fault_text, refused_text};
 
-use rr_lex::Wrong;
 use std::alloc::{AllocError, Global};
 use std::fmt;
 
@@ -11,10 +11,8 @@ use std::fmt;
 pub enum Part {
     /// The command that the words name.
     Command,
-    /// A design that is none of the thin form.
+    /// A lawful design that is none of the thin form.
     Design,
-    /// A table that is none for the design.
-    Table,
 }
 
 impl fmt::Display for Part {
@@ -27,7 +25,6 @@ impl fmt::Display for Part {
         match self {
             Part::Command => write!(f, "command"),
             Part::Design => write!(f, "design"),
-            Part::Table => write!(f, "table"),
         }
     }
 }
@@ -60,36 +57,28 @@ impl fmt::Display for Flaw {
 
 /// Why the input is refused.
 #[derive(Clone, Copy, Debug, PartialEq, Eq)]
-pub enum Refusal {
-    /// A file has more bytes than its limit: so many.
+pub enum Refusal<'a> {
+    /// A file has more bytes than its limit: so many (16).
     TooManyBytes(u64),
-    /// The first fault of the design's text, at this byte.
-    Text(Wrong, u32),
-    /// The first word without a rule in the grammar begins at this byte.
-    Unsupported(u32),
-    /// The tokens spell no source text; reading stopped at this byte.
-    Syntax(u32),
-    /// This part is not built yet.
+    /// What is wrong with a design or its table first (1 to 33).
+    Input(rr_run::Refusal<'a>),
+    /// This part is not built yet (0).
     NotBuilt(Part),
-    /// The first bad line of a certificate is this one, counted from 1.
+    /// The first bad line of a certificate is this one, counted from 1 (34 to 36).
     Flawed(Flaw, u64),
 }
 
-impl fmt::Display for Refusal {
+impl fmt::Display for Refusal<'_> {
     ghost use Rattle.std.specs.Prelude.{Some};
+    ghost use Rattle.rr_top.specs.Refusals.{plain_refusal};
     ghost use Rattle.rr_top.specs.Texts.{refusal_text};
 
-    ghost output = { λ refusal. Some (refusal_text refusal) };
+    ghost output = { λ refusal. Some (refusal_text (plain_refusal refusal)) };
 
     fn fmt<W: fmt::Write>(&self, f: &mut fmt::Formatter<W>) -> fmt::Result {
         match self {
             Refusal::TooManyBytes(count) => write!(f, "16 TooMany bytes {count}"),
-            Refusal::Text(Wrong::Byte, at) => write!(f, "1 BadByte at {at}"),
-            Refusal::Text(Wrong::Number, at) => write!(f, "2 BadNumber at {at}"),
-            Refusal::Text(Wrong::Comment, at) => write!(f, "3 OpenComment at {at}"),
-            Refusal::Text(Wrong::Directive, at) => write!(f, "4 Directive at {at}"),
-            Refusal::Unsupported(at) => write!(f, "5 Unsupported at {at}"),
-            Refusal::Syntax(at) => write!(f, "6 Syntax at {at}"),
+            Refusal::Input(refusal) => write!(f, "{refusal}"),
             Refusal::NotBuilt(part) => write!(f, "0 NotBuilt {part}"),
             Refusal::Flawed(flaw, line) => write!(f, "{flaw} line {line}"),
         }
@@ -110,7 +99,7 @@ pub enum Ending<'a> {
     /// The put on the output failed.
     OutFault,
     /// The input is refused.
-    Refused(Refusal),
+    Refused(Refusal<'a>),
     /// The answer was carried out, and has this status.
     Done(u8),
 }
@@ -175,8 +164,8 @@ pub(crate) fn read_fault_text(alloc: Global, name: &str) -> Result<String, Alloc
     format!(in alloc; "fault read {name}\n")
 }
 
-pub(crate) fn refused_text(alloc: Global, refusal: Refusal) -> Result<String, AllocError>
-    ensures { IfOk result (λ text. string_bytes text ≡ refused_text refusal) }
+pub(crate) fn refused_text(alloc: Global, refusal: Refusal<'_>) -> Result<String, AllocError>
+    ensures { IfOk result (λ text. string_bytes text ≡ refused_text (plain_refusal refusal.entry)) }
 {
     format!(in alloc; "refused {refusal}\n")
 }

@@ -1,22 +1,15 @@
-//! Laws of thin designs, of their tables, and of what is due.
+//! Laws of thin designs, and of what is due.
 
 ghost use Rattle.std.specs.Prelude.{◌≡◌, ℕ, List};
 ghost use Rattle.rr_edge.specs.Held.{Held};
 ghost use Rattle.rr_syntax.specs.Words.{Word};
 ghost use Rattle.rr_words.specs.Plan.{Plan};
-ghost use Rattle.rr_top.specs.declared.table.Row.{Row};
 ghost use Rattle.rr_top.specs.Thin.{Thin, IsThin};
-ghost use Rattle.rr_top.specs.Table.{IsTable};
 ghost use Rattle.rr_top.specs.Verdicts.{Verdict, Judges};
 
 /// No words spell two thin designs.
 pub fn one_thin_design()
     ensures { (ws : List Word) (t u : Thin) → IsThin ws t → IsThin ws u → t ≡ u }
-{}
-
-/// No bytes are two tables of a design.
-pub fn one_thin_table()
-    ensures { (t : Thin) (bytes : List ℕ) (rows others : List Row) → IsTable t bytes rows → IsTable t bytes others → rows ≡ others }
 {}
 
 /// A told shelf decides each command once.

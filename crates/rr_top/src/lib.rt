@@ -12,6 +12,7 @@ ghost use Rattle.rr_top.specs.Endings.{PlanEnds};
 ghost use Rattle.rr_top.specs.Run.{Ends, course, IsCourse, HasDone, HasFailed, IsCheck, IsRefused, IsAbsent, IsExhausted, IsUnread, WhereCommand, SomeFault, Follows, AllGiven, NoneRefuses, NoFaults};
 ghost use Rattle.rr_top.specs.Rust.{report_text, SaysWhy};
 
+use bumpalo::Bump;
 use rr_edge::{Shelf, Sink};
 use rr_words::{Command, USAGE, WordsFault, read_words};
 use std::alloc::Global;
@@ -25,8 +26,10 @@ mod design;
 mod ending;
 mod laws;
 mod repair;
+#[cfg(test)]
+mod run_tests;
 mod search;
-mod table;
+mod simulate;
 #[cfg(test)]
 mod tests;
 
@@ -35,10 +38,10 @@ use check::run_check;
 pub use design::Right;
 pub use ending::{Ending, Flaw, Part, Refusal};
 use ending::{Report, Text, status};
-pub use laws::{one_thin_design, one_thin_table, one_verdict};
+pub use laws::{one_thin_design, one_verdict};
 use repair::{Names, out_of_memory, put_piece, refused, run_repair};
 pub use search::Choice;
-pub use table::{ROW_LIMIT, Row};
+use simulate::run_simulation;
 
 /// The most bytes of a design.
 pub const DESIGN_LIMIT: u64 = 1048576;
@@ -52,11 +55,12 @@ pub const CIRCUIT_LIMIT: u64 = 268435456;
 /// The most bytes of a certificate's proof.
 pub const PROOF_LIMIT: u64 = 1073741824;
 
-/// How the command ends. Every command but `repair` and `check` is refused.
+/// How the command ends; `sites` and `make` are refused. Names in a refusal live in the arena.
 fn run_command<'a, R: Threads + Sync, H: Shelf, K: Sink>(
     rt: &R,
     alloc: Global,
     command: Command<'a>,
+    arena: &'a Bump,
     shelf: &mut H,
     out: &mut K,
 ) -> Report<'a>
@@ -81,10 +85,24 @@ fn run_command<'a, R: Threads + Sync, H: Shelf, K: Sink>(
                 table,
                 options,
             };
-            run_repair(alloc, names, shelf, out)
+            run_repair(alloc, names, arena, shelf, out)
+        }
+        Command::Run {
+            design,
+            table,
+            top,
+            clock,
+        } => {
+            let options = Options { top, clock };
+            let names = Names {
+                design,
+                table,
+                options,
+            };
+            run_simulation(alloc, names, arena, shelf, out)
         }
         Command::Check { circuit, proof } => run_check(rt, alloc, circuit, proof, shelf, out),
-        Command::Run { .. } | Command::Sites { .. } | Command::Make { .. } => {
+        Command::Sites { .. } | Command::Make { .. } => {
             refused(alloc, Refusal::NotBuilt(Part::Command))
         }
     }
@@ -108,6 +126,7 @@ fn attempt<'a, R: Threads + Sync, H: Shelf, K: Sink>(
     rt: &R,
     alloc: Global,
     words: &'a [String],
+    arena: &'a Bump,
     shelf: &mut H,
     out: &mut K,
 ) -> Report<'a>
@@ -120,7 +139,7 @@ fn attempt<'a, R: Threads + Sync, H: Shelf, K: Sink>(
         Ok(command) => command,
         Err(fault) => return unread(fault),
     };
-    run_command(rt, alloc, command, shelf, out)
+    run_command(rt, alloc, command, arena, shelf, out)
 }
 
 /// Runs the command that the words name, and puts the report.
@@ -137,7 +156,8 @@ fn conduct<R: Threads + Sync, H: Shelf, K: Sink, E: Sink>(
         (outside (H.told shelf.new) (H.faults shelf.new) (K.written out.new) (K.faults out.new))
         (E.written notes.old) (E.written notes.new) (E.faults notes.old) (E.faults notes.new) result) }
 {
-    let report = attempt(rt, alloc, words, shelf, out);
+    let arena = Bump::new(alloc);
+    let report = attempt(rt, alloc, words, &arena, shelf, out);
     match put_piece(notes, report.text.as_bytes()) {
         Ok(()) => status(report.ending),
         Err(_) => 4,
@@ -148,8 +168,8 @@ fn conduct<R: Threads + Sync, H: Shelf, K: Sink, E: Sink>(
 /// an output and a report, and answers the program's status: 0 done, 1 no repair or a certificate that
 /// does not hold, 3 refused input, 4 a fault or an absent name, 5 want of memory, 6 usage.
 ///
-/// Of the commands `repair DESIGN TABLE CERT`, on thin designs, and `check CIRCUIT PROOF` are built; the
-/// shelf is only read.
+/// Of the commands `repair DESIGN TABLE CERT`, on thin designs, `run DESIGN TABLE` and
+/// `check CIRCUIT PROOF` are built; the shelf is only read.
 pub fn run<R: Threads + Sync, H: Shelf, K: Sink, E: Sink>(
     rt: &R,
     alloc: Global,
@@ -168,8 +188,9 @@ pub fn run<R: Threads + Sync, H: Shelf, K: Sink, E: Sink>(
     ensures kept { H.told shelf.new ≡ H.told shelf.old }
 
     // Status 0. Of `repair`: the bytes put out are the tokens of an instance of the design with k changes, which
-    // matches every expected cell, and no instance with fewer does. Of `check`: `accepted` is put out, and the proof
-    // that was read refutes the formula of the circuit that was read.
+    // matches every expected cell, and no instance with fewer does. Of `run`: the bytes put out are the table of the
+    // rows that were read with the outputs of the one run of the design on them. Of `check`: `accepted` is put out, and
+    // the proof that was read refutes the formula of the circuit that was read.
     ensures done { result ≡ 0 → WhereCommand (map string_bytes words.now) (HasDone
         (course (map string_bytes words.now)
         (outside (H.told shelf.old) (H.faults shelf.old) (K.written out.old) (K.faults out.old))

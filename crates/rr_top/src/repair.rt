@@ -14,6 +14,7 @@ use crate::ending::{
     refused_text,
 };
 use crate::{DESIGN_LIMIT, TABLE_LIMIT};
+use bumpalo::Bump;
 use rr_edge::{Shelf, ShelfFault, Sink, SinkFault};
 use std::alloc::Global;
 
@@ -35,8 +36,8 @@ pub(crate) fn out_of_memory<'a>() -> Report<'a>
     }
 }
 
-pub(crate) fn refused<'a>(alloc: Global, refusal: Refusal) -> Report<'a>
-    ensures { RefusedOrNoMemory refusal result }
+pub(crate) fn refused<'a>(alloc: Global, refusal: Refusal<'a>) -> Report<'a>
+    ensures { RefusedOrNoMemory refusal.entry result }
 {
     match refused_text(alloc, refusal) {
         Ok(text) => Report {
@@ -107,10 +108,11 @@ pub(crate) fn deliver<'a, K: Sink>(answer: Answer<'_>, out: &mut K) -> Report<'a
     }
 }
 
-/// The command: how it ends, with the text that reports it.
+/// The command: how it ends, with the text that reports it. Names in a refusal live in the arena.
 pub(crate) fn run_repair<'a, H: Shelf, K: Sink>(
     alloc: Global,
     names: Names<'a>,
+    arena: &'a Bump,
     shelf: &mut H,
     out: &mut K,
 ) -> Report<'a>
@@ -128,7 +130,7 @@ pub(crate) fn run_repair<'a, H: Shelf, K: Sink>(
         Ok(bytes) => bytes,
         Err(report) => return report,
     };
-    match judge(alloc, names.options, &design, &table) {
+    match judge(alloc, names.options, &design, &table, arena) {
         Ok(answer) => deliver(answer, out),
         Err(Stop::Memory) => out_of_memory(),
         Err(Stop::Refused(refusal)) => refused(alloc, refusal),

@@ -1,11 +1,14 @@
 //! The choice of least cost that mends a design.
-ghost use Rattle.std.specs.Prelude.{◌≡◌, List, Bool, MatchOption, IsTrue, ◌↔◌};
-ghost use Rattle.rr_top.specs.Thin.{Thin, output_of};
-ghost use Rattle.rr_top.specs.Choices.{off as off_choice, cost, changed as changed_right, instance, MeetsCell, Matches, Mends, Least, NoneMends};
-ghost use Rattle.rr_top.specs.Search.{RightMatches, IsFixed, IsFlip};
+ghost use Rattle.std.specs.Prelude.{◌≡◌, ◌<◌, [], List, Bool, MatchOption, IsTrue, ◌↔◌, get_or, length};
+ghost use Rattle.rr_trace.specs.Misses.{Agrees};
+ghost use Rattle.rr_trace.specs.View.{plain_table};
+ghost use Rattle.rr_top.specs.Thin.{Thin, bit, output_of};
+ghost use Rattle.rr_top.specs.Table.{input_in, output_in};
+ghost use Rattle.rr_top.specs.Choices.{off as off_choice, cost, changed as changed_right, instance, MeetsRow, Matches, Mends, Least, NoneMends, RightMatches};
+ghost use Rattle.rr_top.specs.Search.{IsFixed, IsFlip};
 
 use crate::design::Right;
-use crate::table::Row;
+use rr_trace::{Cell, Table};
 
 /// Whether the literal's switch is on, and the value that it then has.
 #[derive(Clone, Copy, Debug, PartialEq, Eq)]
@@ -31,22 +34,52 @@ fn output(right: Right, input: bool) -> bool
     }
 }
 
-/// Whether a cell allows the value.
-fn meets(cell: Option<bool>, value: bool) -> bool
-    ensures { IsTrue result ↔ MeetsCell cell value }
+/// The input's value in a row, which has none where the input is the clock: that counts as 0.
+fn input_of(row: &[u128]) -> bool
+    ensures { result ≡ input_in row.now }
 {
-    match cell {
-        Some(expected) => value == expected,
+    match row.first() {
+        Some(value) => *value == 1,
+        None => false,
+    }
+}
+
+/// Whether what a row knows of the output allows the value.
+fn meets(row: &[Cell], value: bool) -> bool
+    ensures { IsTrue result ↔ Agrees (output_in row.now) (bit value) }
+{
+    let number = if value { 1 } else { 0 };
+    match row.first() {
+        Some(cell) => cell.known & cell.value == cell.known & number,
         None => true,
     }
 }
 
-/// Whether each known cell is the output's value.
-fn matches(right: Right, rows: &[Row]) -> bool
-    ensures { IsTrue result ↔ RightMatches right rows.now }
+/// Whether the output's value agrees with what the row with this number knows of it.
+fn meets_row(right: Right, rows: &Table, row: usize) -> bool
+    ensures { IsTrue result ↔ MeetsRow right (get_or (plain_table rows.now).inputs row []) (get_or (plain_table rows.now).expected row []) }
 {
-    rows.iter()
-        .all(|row| meets(row.expected, output(right, row.input)))
+    let input = match rows.inputs.get(row) {
+        Some(values) => input_of(values.as_slice()),
+        None => false,
+    };
+    let value = output(right, input);
+    match rows.expected.get(row) {
+        Some(cells) => meets(cells.as_slice(), value),
+        None => true,
+    }
+}
+
+/// Whether so it is in each row.
+fn matches(right: Right, rows: &Table) -> bool
+    ensures { IsTrue result ↔ RightMatches right (plain_table rows.now) }
+{
+    for row in 0..rows.expected.len() {
+        if !meets_row(right, rows, row) {
+            return false;
+        }
+    }
+    true
 }
 
 /// The right side with the other literal.
@@ -74,8 +107,8 @@ fn flipped(right: Right) -> Option<(Choice, Right)>
 
 /// A choice of least cost that mends the design.
 #[tactic(auto, using(crate::proofs::Leasts::off_mends, crate::proofs::Leasts::off_least))]
-pub(crate) fn least(right: Right, rows: &[Row]) -> Option<Choice>
-    ensures { (t : Thin) → t.right ≡ right → MatchOption result (NoneMends t rows.now) (λ c. Mends t rows.now c × Least t rows.now (cost c)) }
+pub(crate) fn least(right: Right, rows: &Table) -> Option<Choice>
+    ensures { (t : Thin) → t.right ≡ right → MatchOption result (NoneMends t (plain_table rows.now)) (λ c. Mends t (plain_table rows.now) c × Least t (plain_table rows.now) (cost c)) }
 {
     if matches(right, rows) {
         return Some(OFF);

@@ -2,21 +2,23 @@ use super::*;
 use rr_edge::{MemoryShelf, MemorySink};
 use std::process::Abort;
 
+/// A command line with the two files under its names, which calls fail, and what is wanted.
 #[derive(Clone, Copy)]
-struct Case {
-    words: &'static str,
-    design: &'static str,
-    table: &'static str,
-    shelf_fails: u64,
-    out_fails: u64,
-    notes_fails: u64,
-    room: u64,
-    status: u8,
-    out: &'static str,
-    notes: &'static str,
+pub(crate) struct Case {
+    pub(crate) words: &'static str,
+    pub(crate) design: &'static str,
+    pub(crate) table: &'static str,
+    pub(crate) shelf_fails: u64,
+    pub(crate) out_fails: u64,
+    pub(crate) notes_fails: u64,
+    pub(crate) room: u64,
+    pub(crate) status: u8,
+    pub(crate) out: &'static str,
+    pub(crate) notes: &'static str,
 }
 
-const NONE: u64 = 99;
+/// No call has this number.
+pub(crate) const NONE: u64 = 99;
 
 /// A mask that has to be 1.
 const FIRST: Case = Case {
@@ -63,7 +65,7 @@ pub(crate) fn words_of<R: Abort + AllocGlobal>(rt: &R, line: &str) -> Vec<String
     words
 }
 
-fn check<R: Abort + AllocGlobal + Threads + Sync>(rt: &R, case: &Case) {
+pub(crate) fn check<R: Abort + AllocGlobal + Threads + Sync>(rt: &R, case: &Case) {
     let alloc = rt.alloc();
     let words = words_of(rt, case.words);
     let mut shelf = MemoryShelf::new(alloc, list(rt, case.shelf_fails));
@@ -157,19 +159,23 @@ fn refuses<R: Abort + AllocGlobal + Threads + Sync>(
 }
 
 /// A table that is refused.
-fn no_table<R: Abort + AllocGlobal + Threads + Sync>(rt: &R, table: &'static str) {
+fn no_table<R: Abort + AllocGlobal + Threads + Sync>(
+    rt: &R,
+    table: &'static str,
+    notes: &'static str,
+) {
+    refuses(rt, FIRST.words, FIRST.design, table, notes);
+}
+
+/// A lawful design that is none of the thin form.
+fn no_design<R: Abort + AllocGlobal + Threads + Sync>(rt: &R, design: &'static str) {
     refuses(
         rt,
         FIRST.words,
-        FIRST.design,
-        table,
-        "refused 0 NotBuilt table\n",
+        design,
+        "a,y\n0,0\n",
+        "refused 0 NotBuilt design\n",
     );
-}
-
-/// A design that is refused.
-fn no_design<R: Abort + AllocGlobal + Threads + Sync>(rt: &R, design: &'static str) {
-    refuses(rt, FIRST.words, design, "", "refused 0 NotBuilt design\n");
 }
 
 /// Words that name a command that is not built.
@@ -252,13 +258,35 @@ fn designs_are_beyond_repair(rt: HostRuntime) {
 }
 
 #[test]
+fn tables_are_taken(rt: HostRuntime) {
+    check(
+        &rt,
+        &Case {
+            table: "time, y ,a\r\n5,\"0\",0b0\r\n\r\n10,0x1,1",
+            ..FIRST
+        },
+    );
+    keeps(&rt, FIRST.design, "a\n0\n1\n");
+    keeps(&rt, FIRST.design, "a,y\nx,0\n");
+}
+
+#[test]
 fn tables_are_refused(rt: HostRuntime) {
-    no_table(&rt, "a\n0\n1\n");
-    no_table(&rt, "a,y\n0,0\n1,1");
-    no_table(&rt, "y,a\n0,0\n");
-    no_table(&rt, "a,y\nx,0\n");
-    no_table(&rt, "a,y\n0,2\n");
-    no_table(&rt, "");
+    no_table(&rt, "", "refused 26 NoHeader row 0\n");
+    no_table(&rt, "a,b\n", "refused 27 UnknownColumn row 0 column 1\n");
+    no_table(&rt, "a,a\n", "refused 28 ColumnTwice row 0 column 1\n");
+    no_table(&rt, "y\n", "refused 29 MissingInput input a\n");
+    no_table(&rt, "a,y\n1\n", "refused 30 RowLength row 1\n");
+    no_table(
+        &rt,
+        "a,y\n0,0\n1,q\n",
+        "refused 31 BadCell row 2 column 1\n",
+    );
+    no_table(
+        &rt,
+        "a,y\n0,2\n",
+        "refused 32 CellTooLarge row 1 column 1\n",
+    );
 }
 
 #[test]
@@ -267,8 +295,6 @@ fn designs_are_refused(rt: HostRuntime) {
         &rt,
         "module m(input a, output y);\n  assign y = a && 1'b0;\nendmodule\n",
     );
-    no_design(&rt, "module m(input a, output a); assign a = a; endmodule");
-    no_design(&rt, "module m(input a, output y); assign a = a; endmodule");
     no_design(
         &rt,
         "module m(input a, output y); assign y = a & 1'sb0; endmodule",
@@ -277,7 +303,13 @@ fn designs_are_refused(rt: HostRuntime) {
         &rt,
         "module m(input a, output y); assign y = a & 1'bx; endmodule",
     );
-    no_design(&rt, "");
+    refuses(
+        &rt,
+        FIRST.words,
+        "module m(input a, output y); assign y = ~a; endmodule",
+        "a,b\n",
+        "refused 27 UnknownColumn row 0 column 1\n",
+    );
 }
 
 /// A design that is refused before its tree is read.
@@ -316,21 +348,45 @@ fn words_and_texts_are_refused(rt: HostRuntime) {
 }
 
 #[test]
-fn options_are_refused(rt: HostRuntime) {
-    let notes = "refused 0 NotBuilt design\n";
+fn options_are_kept(rt: HostRuntime) {
+    check(
+        &rt,
+        &Case {
+            words: "rtl_repair repair d.v t.csv c --top m",
+            ..FIRST
+        },
+    );
+    check(
+        &rt,
+        &Case {
+            words: "rtl_repair repair d.v t.csv c --clock=a",
+            design: "module m(input a, output y); assign y = 1'b1; endmodule",
+            table: "a,y\n7,0\n",
+            out: "module m(input a, output y); assign y =  1'h0 ; endmodule",
+            notes: "repaired 1\nsite 0 literal 40 1'h0\nproposals 0\n",
+            ..FIRST
+        },
+    );
     refuses(
         &rt,
-        "rtl_repair repair d.v t.csv c --top m",
+        "rtl_repair repair d.v t.csv c --top n",
         FIRST.design,
         "",
-        notes,
+        "refused 7 NoTop at 0\n",
     );
     refuses(
         &rt,
         "rtl_repair repair d.v t.csv c --clock a",
         FIRST.design,
         "",
-        notes,
+        "refused 22 ClockUse at 42\n",
+    );
+    refuses(
+        &rt,
+        "rtl_repair repair d.v t.csv c --clock b",
+        FIRST.design,
+        "",
+        "refused 11 UnknownName at 7\n",
     );
 }
 
@@ -369,7 +425,6 @@ fn texts_are_refused(rt: HostRuntime) {
 
 #[test]
 fn commands_are_refused(rt: HostRuntime) {
-    unbuilt(&rt, "rtl_repair run none.v none.csv");
     unbuilt(&rt, "rtl_repair sites none.v");
     unbuilt(&rt, "rtl_repair make 1 c");
 }
@@ -464,7 +519,7 @@ fn is_told<R: Abort + AllocGlobal + Threads + Sync>(
 }
 
 #[test]
-fn limits_are_kept(rt: HostRuntime) {
+fn limits_of_bytes_are_kept(rt: HostRuntime) {
     let alloc = rt.alloc();
     let blanks = vec![in alloc; b' '; DESIGN_LIMIT as usize + 1].expect(&rt, "room");
     assert_eq!(rt;
@@ -472,18 +527,32 @@ fn limits_are_kept(rt: HostRuntime) {
         3
     );
     assert_eq!(rt;
-        is_told(&rt, &blanks[1..], b"", "refused 0 NotBuilt design\n"),
+        is_told(&rt, &blanks[1..], b"", "refused 7 NoTop at 0\n"),
         3
     );
+    assert_eq!(rt;
+        is_told(
+            &rt,
+            FIRST.design.as_bytes(),
+            b"\xff",
+            "refused 33 NotUtf8\n"
+        ),
+        3
+    );
+}
+
+#[test]
+fn limits_of_rows_are_kept(rt: HostRuntime) {
+    let alloc = rt.alloc();
     let mut table = Vec::from_slice(alloc, b"a,y\n".as_slice()).expect(&rt, "room");
-    for _ in 0..ROW_LIMIT {
+    for _ in 0..65_536 {
         table.extend_from_slice(b"1,1\n").expect(&rt, "room");
     }
     let design = FIRST.design.as_bytes();
     assert_eq!(rt; is_told(&rt, design, &table, FIRST.notes), 0);
     table.extend_from_slice(b"1,1\n").expect(&rt, "room");
     assert_eq!(rt;
-        is_told(&rt, design, &table, "refused 0 NotBuilt table\n"),
+        is_told(&rt, design, &table, "refused 16 TooMany rows 65537\n"),
         3
     );
 }

@@ -1,6 +1,3 @@
-use Rattle.std.proofs.Common.{◌≡◌, length, arith, get_or, sym}
-use Rattle.rr_lex.specs.Tokens.{lexemes}
-use Rattle.std.proofs.lemmas.List.{length-map}
 use Rattle.rr_top.proofs.Places.{spans_order, spans_within}
 use Rattle.rr_top.proofs.Patched.{is_changed}
 use Rattle.rr_top.proofs.answer.repaired.Goals as goal

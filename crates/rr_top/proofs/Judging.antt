@@ -1,0 +1,72 @@
+-- Refusals of a design and its table, and what a text without a tree is.
+use Rattle.std.proofs.Common.{◌≡◌, ◌⊎◌, inl, inr, refl, ℕ, List, Option, Bool}
+use Rattle.rr_run.specs.declared.fault.Fault.{Fault}
+use Rattle.rr_run.specs.declared.fault.Fault.TheVariants as fault
+use Rattle.rr_run.specs.declared.fault.RunFault.{RunFault}
+use Rattle.rr_run.specs.declared.fault.RunFault.TheVariants as run_fault
+use Rattle.rr_run.specs.Refusals.{Refusal as RunRefusal, At, TooMany, NoHeader, UnknownColumn, ColumnTwice, MissingInput, RowLength, BadCell, CellTooLarge, NotUtf8, StopsWhere as RunStops}
+use Rattle.rr_run.specs.Runs.{IsLawfulDesign, RefusesDesign, RefusesTable, Refuses as RefusesRun}
+use Rattle.rr_flat.specs.Plain.{Flat}
+use Rattle.rr_lex.specs.Tokens.{Lexeme}
+use Rattle.rr_top.specs.Verdicts.{IsSyntax, RefusesFiles, RefusesTexts}
+use Rattle.rr_top.specs.Rust.{stop_from, StopsWhere}
+
+other_fault : (a b : Fault) (at offset : ℕ) → (a ≡ b → ⊥) → At a at ≡ At b offset → ⊥
+other_fault a b at offset apart is = apart (let same : a ≡ b = cc in same)
+
+placed : (f : Fault) (at : ℕ) → (f ≡ fault.Syntax → ⊥) → IsSyntax (At f at) → ⊥
+placed f at apart (offset, is) = other_fault f fault.Syntax at offset apart is
+
+at_placed : (f : Fault) (at : ℕ) → (IsSyntax (At f at) → ⊥) ⊎ IsSyntax (At f at)
+at_placed fault.BadByte at = inl (placed fault.BadByte at (λ e. cc))
+at_placed fault.BadNumber at = inl (placed fault.BadNumber at (λ e. cc))
+at_placed fault.OpenComment at = inl (placed fault.OpenComment at (λ e. cc))
+at_placed fault.Directive at = inl (placed fault.Directive at (λ e. cc))
+at_placed fault.Unsupported at = inl (placed fault.Unsupported at (λ e. cc))
+at_placed fault.Syntax at = inr (at, refl)
+at_placed fault.NoTop at = inl (placed fault.NoTop at (λ e. cc))
+at_placed fault.UnknownModule at = inl (placed fault.UnknownModule at (λ e. cc))
+at_placed fault.SelfInstance at = inl (placed fault.SelfInstance at (λ e. cc))
+at_placed fault.NameTwice at = inl (placed fault.NameTwice at (λ e. cc))
+at_placed fault.UnknownName at = inl (placed fault.UnknownName at (λ e. cc))
+at_placed fault.BadRange at = inl (placed fault.BadRange at (λ e. cc))
+at_placed fault.NotConstant at = inl (placed fault.NotConstant at (λ e. cc))
+at_placed fault.PortMismatch at = inl (placed fault.PortMismatch at (λ e. cc))
+at_placed fault.TooWide at = inl (placed fault.TooWide at (λ e. cc))
+at_placed fault.TwoDrivers at = inl (placed fault.TwoDrivers at (λ e. cc))
+at_placed fault.WrongAssign at = inl (placed fault.WrongAssign at (λ e. cc))
+at_placed fault.Race at = inl (placed fault.Race at (λ e. cc))
+at_placed fault.Latch at = inl (placed fault.Latch at (λ e. cc))
+at_placed fault.Loop at = inl (placed fault.Loop at (λ e. cc))
+at_placed fault.ClockUse at = inl (placed fault.ClockUse at (λ e. cc))
+at_placed fault.TwoClocks at = inl (placed fault.TwoClocks at (λ e. cc))
+at_placed fault.BadTarget at = inl (placed fault.BadTarget at (λ e. cc))
+at_placed fault.WildLabel at = inl (placed fault.WildLabel at (λ e. cc))
+
+-- whether the place of a refusal is decided
+pub placed_or_syntax : (r : RunRefusal) → (IsSyntax r → ⊥) ⊎ IsSyntax r
+placed_or_syntax (At f at) = at_placed f at
+placed_or_syntax (TooMany limit count) = inl (λ (offset, is). cc)
+placed_or_syntax NoHeader = inl (λ (offset, is). cc)
+placed_or_syntax (UnknownColumn column) = inl (λ (offset, is). cc)
+placed_or_syntax (ColumnTwice column) = inl (λ (offset, is). cc)
+placed_or_syntax (MissingInput name) = inl (λ (offset, is). cc)
+placed_or_syntax (RowLength row) = inl (λ (offset, is). cc)
+placed_or_syntax (BadCell row column) = inl (λ (offset, is). cc)
+placed_or_syntax (CellTooLarge row column) = inl (λ (offset, is). cc)
+placed_or_syntax NotUtf8 = inl (λ (offset, is). cc)
+
+-- what the calls below refuse, the commands refuse
+module _ (top word : Option (List ℕ)) (design table : List ℕ) where
+  pub stops_design : (f : RunFault) → RunStops (RefusesDesign design top word) f → StopsWhere (RefusesFiles top word design table) (stop_from f)
+  stops_design (run_fault.Refused r) h = inl h
+  stops_design run_fault.Memory h = tt
+
+  pub stops_table : (ts : List Lexeme) (flat : Flat) (clock : Option ℕ) (rising : Bool) → IsLawfulDesign design top word ts flat clock rising → (f : RunFault)
+      → RunStops (RefusesTable flat clock table) f → StopsWhere (RefusesFiles top word design table) (stop_from f)
+  stops_table ts flat clock rising lawful (run_fault.Refused r) h = inr (record { tokens = ts; flat = flat; clock = clock; rising = rising; design = lawful; refused = h })
+  stops_table ts flat clock rising lawful run_fault.Memory h = tt
+
+  pub stops_run : (f : RunFault) → RunStops (RefusesRun design table top word) f → StopsWhere (RefusesTexts top word design table) (stop_from f)
+  stops_run (run_fault.Refused r) h = h
+  stops_run run_fault.Memory h = tt
