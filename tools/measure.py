@@ -147,7 +147,7 @@ def main():
             row(f"reading a circuit of {GATES} gates", found["read-circuit"][1], memory, "")
             row("making its formula", found["formula"][1], memory, "")
             read = found["read-proof"][1]
-            row(f"reading a proof of {size:.0f} MB", read, memory, f"{python / read:.0f} times Python's int of each number")
+            row(f"reading a proof of {size:.0f} MB", read, memory, f"{python / read:.0f} times as fast as Python reads its numbers")
         row(f"checking it with {workers} workers", found["check-proof"][1], memory, "")
     text, seconds, memory = run([program, "check", circuit, proof])
     row(f"`check` on both files: {text.strip()}", seconds, memory, "")
@@ -157,7 +157,7 @@ def main():
     with open(f"{folder}/printed.csv", "wb") as out:
         _, seconds, memory = run([program, "run", source, table], out)
     python = python_table(table)
-    row(f"`run` on {ROWS} rows, {size:.1f} MB", seconds, memory, f"{seconds / python:.1f} times Python's reading and writing of the table; {memory / size:.0f} times its bytes")
+    row(f"`run` on {ROWS} rows, {size:.1f} MB", seconds, memory, f"{seconds / python:.0f} times as long as Python reads and writes the table; memory {memory / size:.0f} times its bytes")
 
     text, _, memory = run([measure, "gates", "5860"])
     found = steps(text)
