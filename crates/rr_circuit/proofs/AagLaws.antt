@@ -10,7 +10,7 @@ use Rattle.rr_circuit.specs.declared.Gate.{Gate}
 use Rattle.rr_circuit.specs.declared.aag.Counts.{Counts}
 use Rattle.rr_circuit.specs.Values.{IsOperandAt, IsGateAt}
 use Rattle.rr_circuit.specs.Aag.{AreCounts, header_line, gate_line, text_of, IsLine, AreLines, line_count, IsUnread, IsBadLine, GoesWrong}
-use Rattle.rr_circuit.proofs.Numerals.{own, same_head, same_tail, number_unique}
+use Rattle.rr_decimal.proofs.Numerals.{own, same_head, same_tail, number_unique}
 
 -- ---- lines and their ends
 pub text_of-append : (xs ys : List (List ℕ)) → text_of (xs ++ ys) ≡ text_of xs ++ text_of ys

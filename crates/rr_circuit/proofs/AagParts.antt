@@ -11,7 +11,7 @@ use Rattle.rr_circuit.specs.declared.Gate.{Gate}
 use Rattle.rr_circuit.specs.declared.aag.Counts.{Counts}
 use Rattle.rr_circuit.specs.Values.{IsGateAt, IsNetlist}
 use Rattle.rr_circuit.specs.Aag.{header_line, input_line, output_line, gate_line, input_lines, output_lines, gate_lines, text_of, IsLine, AreLines, GoesWrong}
-use Rattle.rr_circuit.proofs.Numerals.{number_unique}
+use Rattle.rr_decimal.proofs.Numerals.{number_unique}
 use Rattle.rr_circuit.proofs.AagLaws.{text_of-append, text_grows, AreLines-append, AreLines-push}
 
 no_wire : Wire

@@ -12,7 +12,7 @@ use Rattle.rr_circuit.specs.declared.aag.AagFault.{AagFault}
 use Rattle.rr_circuit.specs.declared.aag.AagFault.TheVariants.{BadCircuit, Memory}
 use Rattle.rr_circuit.specs.Values.{OutputNetlist, IsWire, IsNetlist, AreWires}
 use Rattle.rr_circuit.specs.Aag.{AreCounts, counts_of, header_line, gate_line, input_lines, output_lines, gate_lines, text_of, aag_lines, AreLines, line_count, IsUnread, IsText, IsBadLine, IsTextOf, IsCircuit, IsCause, ReadsAs, GoesWrong, GoesWrongBy}
-use Rattle.rr_circuit.proofs.Numerals.{same_tail, number_unique}
+use Rattle.rr_decimal.proofs.Numerals.{same_tail, number_unique}
 use Rattle.rr_circuit.proofs.AagLaws.{text_of-append, first_line, text_joins, bad_line, bad_end, lines_cut, same_counts}
 use Rattle.rr_circuit.proofs.AagParts.{lines_in, length-lines_in, are_lines_in, lines_out, length-lines_out, are_lines_out, lines_all, length-lines_all, are_lines_all}
 

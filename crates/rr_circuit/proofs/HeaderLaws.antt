@@ -4,7 +4,7 @@ use Rattle.std.specs.Prelude.{codes}
 use Rattle.std.specs.Fmt.{decimal}
 use Rattle.rr_circuit.specs.declared.aag.Counts.{Counts}
 use Rattle.rr_circuit.specs.Aag.{AreCounts, header_line}
-use Rattle.rr_circuit.proofs.Numerals.{number_unique}
+use Rattle.rr_decimal.proofs.Numerals.{number_unique}
 use Rattle.rr_circuit.proofs.AagLaws.{after_word, header_nested, header_cut}
 
 -- no header of any counts stands there

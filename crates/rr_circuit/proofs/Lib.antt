@@ -3,7 +3,6 @@ pub mod ShareLaws
 pub mod CopyLaws
 pub mod Copies
 pub mod Valuations
-pub mod Numerals
 pub mod AagLaws
 pub mod HeaderLaws
 pub mod AagParts

@@ -1,16 +1,14 @@
 //! The text of a circuit in ASCII AIGER, and its reader.
 
-ghost use Rattle.std.specs.Prelude.{◌≡◌, ◌≢◌, ◌⊎◌, ℕ, ◌+◌, ◌*◌, ◌^◌, ◌<◌, ◌≤◌, ◌↔◌, List, All, codes, [], ◌∷◌, ◌++◌, length, decimal, IfSome, IfNone, IfOk, IfErr, OnOk, IsTrue, slice_index_or, ◌-◌};
-ghost use Rattle.std.specs.Option.{SomeIff};
+ghost use Rattle.std.specs.Prelude.{◌≡◌, ◌≢◌, ℕ, ◌+◌, ◌*◌, ◌^◌, ◌<◌, ◌≤◌, ◌↔◌, List, All, codes, [], ◌∷◌, ◌++◌, length, decimal, IfSome, IfNone, IfOk, IfErr, OnOk, IsTrue};
 ghost use Rattle.rr_circuit.specs.Aag.{AreCounts, header_line, output_line, gate_line, input_lines, output_lines, gate_lines, text_of, aag, IsCircuit, IsTextOf, IsText, IsCause, IsUnread, ReadsAs, GoesWrong, GoesWrongBy};
 ghost use Rattle.rr_circuit.specs.Values.{OutputNetlist, IsGateAt, IsNetlist};
 ghost use Rattle.rr_circuit.specs.declared.aag.Counts.{Counts};
 ghost use Rattle.rr_circuit.specs.declared.Gate.{Gate};
 ghost use Rattle.rr_circuit.specs.declared.Wire.{Wire};
-ghost use Rattle.std.specs.Bool.{OnFalse};
 
 use crate::{Circuit, Gate, LIMIT, Wire};
-use itoa::Buffer;
+use rr_decimal::{number_then, push_number};
 use std::alloc::{AllocError, AllocFailed, Global};
 use thiserror::Error;
 
@@ -52,16 +50,6 @@ struct Counts {
     inputs: u64,
     outputs: u64,
     gates: u64,
-}
-
-// Puts a number and a byte at the end.
-fn push_number(out: &mut Vec<u8>, number: u64, stop: u8) -> Result<(), AllocError>
-    ensures { OnOk result (out.new.items ≡ out.old.items ++ (decimal number ++ stop ∷ [])) }
-{
-    let mut buffer = Buffer::new();
-    out.extend_from_slice(buffer.format(number).as_bytes())?;
-    out.push(stop)?;
-    Ok(())
 }
 
 fn push_header(out: &mut Vec<u8>, counts: Counts) -> Result<(), AllocError>
@@ -136,45 +124,6 @@ pub fn write_aag(alloc: Global, circuit: &Circuit) -> Result<Vec<u8>, AllocError
     push_outputs(&mut out, &circuit.outputs)?;
     push_gates(&mut out, 1 + circuit.inputs, &circuit.gates)?;
     Ok(out)
-}
-
-// Whether so many digits at the head of a text are those of a number: there is one, and no zero
-// stands before others.
-fn are_digits_written(text: &[u8], count: usize) -> bool
-    requires { count ≤ length text.now }
-    ensures yes { IsTrue result → (0 < count) × (slice_index_or text.now 0 0 ≡ 48 → count ≡ 1) }
-    ensures no { OnFalse result ((count ≡ 0) ⊎ ((slice_index_or text.now 0 0 ≡ 48) × (count ≢ 1))) }
-{
-    count == 1 || (count > 1 && text[0] != b'0')
-}
-
-// The number with one digit more; none where it would be 2^64 or greater.
-fn with_digit(value: u64, digit: u8) -> Option<u64>
-    requires low { 48 ≤ digit }
-    requires high { digit ≤ 57 }
-    ensures { SomeIff result (value * 10 + (digit - 48) < 2 ^ 64) (value * 10 + (digit - 48)) }
-{
-    value.checked_mul(10)?.checked_add(u64::from(digit - b'0'))
-}
-
-// The number at the head of a text, where this byte follows it, and what follows that byte.
-fn number_then(text: &[u8], stop: u8) -> Option<(u64, &[u8])>
-    requires { stop < 48 }
-    ensures some { IfSome result (λ r. text.now ≡ decimal r.0 ++ stop ∷ r.1.now) }
-    ensures fits { IfSome result (λ r. r.0 < 2 ^ 64) }
-    ensures none { IfNone result ((n : ℕ) (rest : List ℕ) → n < 2 ^ 64 → text.now ≢ decimal n ++ stop ∷ rest) }
-{
-    let mut value: u64 = 0;
-    for (at, &byte) in text.iter().enumerate() {
-        if byte < b'0' || b'9' < byte {
-            if byte == stop && are_digits_written(text, at) {
-                return Some((value, &text[at + 1..]));
-            }
-            return None;
-        }
-        value = with_digit(value, byte)?;
-    }
-    None
 }
 
 // Whether these are the numbers of a header.

@@ -1,5 +1,7 @@
 //! Circuits of AND gates over inputs (AIGER, "The AIGER And-Inverter Graph (AIG) Format Version
-//! 20071012"): a builder that makes them, an evaluator, and a copy onto another builder.
+//! 20071012"): a builder that makes them, an evaluator, a copy onto another builder, and the ASCII
+//! text with its reader. It is right where the wires' values are the one solution of the equations of
+//! the gates for every input. It stands on `rr_decimal`'s numbers.
 #![tactic(auto)]
 
 ghost use Rattle.std.specs.Prelude.{◌≡◌, ℕ, ◌+◌, ◌*◌, ◌^◌, ◌<◌, ◌≤◌, Bool, true, false, not, ◌&&◌, ◌||◌, [], if◌then◌else◌, length, slice_get, IfOk, OnOk};
