@@ -1,10 +1,6 @@
 -- Faults of the targets and names that were collected from a text.
-use Rattle.std.proofs.Common.{◌≡◌, ◌∙◌, sym, ap, ℕ, Bool, true, false, List, [], ◌∷◌, ◌++◌, map, Option, None, Some, refl, append-nil}
-use Rattle.std.specs.Prelude.{flat_map, IfNone, IfSome}
-use Rattle.rr_syntax.specs.declared.tree.Named.{Named}
-use Rattle.rr_syntax.specs.View.{plain_identifier}
-use Rattle.rr_flat.specs.Targets.{part_name}
-use Rattle.rr_parts.specs.Parts.{part_identifier, part_token}
+use Rattle.std.proofs.Common.{◌≡◌, ◌∙◌, sym, ap, ℕ, Bool, true, false, List, [], ◌∷◌, ◌++◌, map, None, Some, refl, append-nil}
+use Rattle.std.specs.Prelude.{flat_map}
 use Rattle.rr_syntax.specs.Tree.{Tree}
 use Rattle.rr_flat.specs.Reads.{Assigned, assigned_parts}
 use Rattle.rr_flat.specs.Writers.{no_block}
@@ -13,7 +9,7 @@ use Rattle.rr_assign.specs.Aims.{bad_of_block, unless}
 use Rattle.rr_parts.specs.Firsts.{earliest}
 use Rattle.rr_parts.specs.View.{plain_target}
 use Rattle.rr_parts.specs.declared.lists.Target.{Target}
-use Rattle.rr_parts.proofs.Walks.{flat_map_map, empty_of}
+use Rattle.rr_parts.proofs.Walks.{flat_map_map}
 
 parts_same : (f : Tree → List ℕ) (now : Bool) (ts : List Tree) → flat_map (λ a. f a.part) (assigned_parts now ts) ≡ flat_map f ts
 unfolding assigned_parts

@@ -1,21 +1,21 @@
 -- Each variable has one kind exactly where no target is at fault.
-use Rattle.std.proofs.Common.{◌≡◌, ◌∙◌, sym, ap, subst, ℕ, zero, suc, ◌+◌, ◌<◌, ◌⊎◌, inl, inr, Bool, true, false, not, cond, ◌&&◌, ◌||◌, List, [], ◌∷◌, ◌++◌, length, map, get_or, Option, None, Some, refl, arith, append_assoc, append-nil}
+use Rattle.std.proofs.Common.{◌≡◌, ◌∙◌, sym, ap, subst, ℕ, zero, suc, ◌+◌, ◌<◌, ◌⊎◌, inl, inr, Bool, true, false, not, cond, ◌&&◌, List, [], ◌∷◌, ◌++◌, length, map, get_or, Option, None, Some, refl, arith, append_assoc, append-nil}
 use Rattle.std.specs.Prelude.{flat_map, All, nat_eq}
 use Rattle.std.specs.List.{list_any}
-use Rattle.std.proofs.lemmas.Bool.{eqb-true, eq-eqb, and_parts, or_parts}
+use Rattle.std.proofs.lemmas.Bool.{eqb-true, eq-eqb, or_parts}
 use Rattle.rr_expr.specs.declared.types.Entity.{Entity}
 use Rattle.rr_expr.specs.declared.types.Entity.TheVariants.{Constant, Signal as SignalEntity, Instance}
 use Rattle.rr_expr.specs.Scopes.{meant}
 use Rattle.rr_flat.specs.declared.design.Part as design
 use Rattle.rr_flat.specs.declared.design.Part.TheVariants as part
 use Rattle.rr_flat.specs.Lawful.{AssignedIn, AssignedSomewhere, RightKinds}
-use Rattle.rr_flat.specs.Plain.{Block, Flat}
+use Rattle.rr_flat.specs.Plain.{Flat}
 use Rattle.rr_flat.specs.Reads.{Assigned, assigned_by}
-use Rattle.rr_flat.specs.Sound.{IsPart, drivers_of, clocked_of, combinational_of}
+use Rattle.rr_flat.specs.Sound.{IsPart}
 use Rattle.rr_flat.specs.Targets.{part_name}
 use Rattle.rr_flat.specs.Writers.{scope_at, block_at}
 use Rattle.rr_assign.specs.Kinds.{Aim, aim_of, is_combinational, aims_of_part, aims, same_signal, differs, clashes, wrong_after, wrong_kinds}
-use Rattle.rr_parts.specs.Parts.{block_of, signal_of, signal_named}
+use Rattle.rr_parts.specs.Parts.{block_of, signal_of}
 use Rattle.rr_parts.proofs.Covering.{HasWalk, Member, all_member, clocked_member, combinational_member}
 use Rattle.rr_assign.proofs.Same.{some_same}
 use Rattle.rr_parts.proofs.Walks.{left_empty, right_empty}

@@ -1,9 +1,9 @@
 -- How the kinds of variables are noted.
-use Rattle.std.proofs.Common.{◌≡◌, ◌∙◌, sym, ap, subst, ℕ, zero, suc, ◌+◌, ◌<◌, ◌≤◌, ◌⊎◌, inl, inr, Bool, true, false, not, cond, ◌&&◌, ◌||◌, List, [], ◌∷◌, ◌++◌, length, map, take, drop, get_or, set, Option, None, Some, is_some, is_none, refl, arith, append_assoc, append-nil}
-use Rattle.std.specs.Prelude.{nat_eq, Result, OnOk}
+use Rattle.std.proofs.Common.{◌≡◌, ◌∙◌, sym, ap, subst, ℕ, ◌+◌, ◌<◌, ◌≤◌, ◌⊎◌, inl, inr, Bool, true, false, not, cond, ◌&&◌, List, [], ◌∷◌, ◌++◌, length, map, take, drop, get_or, set, Option, None, Some, is_some, is_none, refl, append_assoc, append-nil}
+use Rattle.std.specs.Prelude.{Result, OnOk}
 use Rattle.std.specs.List.{list_any}
 use Rattle.std.specs.Option.{option_or}
-use Rattle.std.proofs.lemmas.Bool.{cases_eq, eqb-true, eq-eqb, ne_eqb, and_parts, or_parts, or_right}
+use Rattle.std.proofs.lemmas.Bool.{cases_eq, eqb-true, eq-eqb, ne_eqb, or_right}
 use Rattle.std.proofs.lemmas.List.{drop_all, length-set, map-append, take-append-drop, take_all, take_more}
 use Rattle.rr_head.proofs.Steps.{rest}
 use Rattle.rr_flat.specs.declared.design.Part as design
@@ -18,7 +18,7 @@ use Rattle.rr_parts.specs.Parts.{block_of, entry}
 use Rattle.rr_parts.specs.Firsts.{earliest}
 use Rattle.rr_assign.specs.Kinds.{Aim, aim_of, aims_of_part, is_combinational, same_signal, differs, clashes, wrong_after, kind_fault, kind_of, HoldsKinds, AreNoted}
 use Rattle.rr_parts.proofs.Covering.{Member}
-use Rattle.rr_assign.proofs.KindLaw.{AreFine, fine_nothing, fine_all, fine_more, all_fine, none_any, any_none, member_right}
+use Rattle.rr_assign.proofs.KindLaw.{AreFine, fine_nothing, fine_all, any_none}
 use Rattle.rr_assign.proofs.Same.{entry_same, entry_other, some_same}
 use Rattle.rr_parts.proofs.Walks.{earliest_append, none_of, right_empty}
 

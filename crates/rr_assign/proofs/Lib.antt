@@ -1,5 +1,4 @@
 pub mod WildNodes
-pub mod TargetNodes
 pub mod LabelLaw
 pub mod AimLaw
 pub mod KindLaw

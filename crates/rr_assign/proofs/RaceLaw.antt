@@ -1,10 +1,9 @@
 -- No clocked block reads what another writes at once exactly where no name is at fault.
-use Rattle.std.proofs.Common.{◌≡◌, ◌∙◌, sym, ap, subst, ℕ, zero, suc, ◌+◌, ◌<◌, ◌⊎◌, inl, inr, Bool, true, false, not, cond, ◌&&◌, ◌||◌, List, [], ◌∷◌, ◌++◌, length, map, get_or, Option, None, Some, refl, arith}
+use Rattle.std.proofs.Common.{◌≡◌, ◌∙◌, sym, ap, subst, ℕ, zero, suc, ◌+◌, ◌<◌, ◌⊎◌, inl, inr, Bool, true, false, not, cond, ◌||◌, List, [], ◌∷◌, length, Option, None, Some, refl, arith}
 use Rattle.std.specs.Prelude.{flat_map, nat_eq}
 use Rattle.std.specs.List.{list_any}
-use Rattle.std.proofs.lemmas.Bool.{cases_eq, eqb-true, eqb-false, eq-eqb, ne_eqb, and_parts, or_cases}
+use Rattle.std.proofs.lemmas.Bool.{cases_eq, eq-eqb, ne_eqb, and_parts, or_cases}
 use Rattle.rr_syntax.specs.Tree.{Identifier}
-use Rattle.rr_expr.specs.declared.types.Entity.TheVariants.{Signal as SignalEntity}
 use Rattle.rr_expr.specs.Scopes.{meant}
 use Rattle.rr_flat.specs.Lawful.{AssignedIn, NoRace}
 use Rattle.rr_flat.specs.Plain.{Block, Flat}
@@ -16,7 +15,6 @@ use Rattle.rr_assign.specs.Races.{writer_of, writers_of, writers_from, is_other,
 use Rattle.rr_assign.proofs.Same.{is_the_yes}
 use Rattle.rr_parts.proofs.Covering.{Member, empty_member, member_empty}
 use Rattle.rr_assign.proofs.KindLaw.{member_at, at_member, member_left, member_right, member_cases, member_map, map_member, signal_is}
-use Rattle.rr_assign.proofs.Same.{some_same}
 use Rattle.rr_parts.proofs.Walks.{left_empty, right_empty}
 
 -- the writers

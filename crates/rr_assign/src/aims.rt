@@ -1,7 +1,6 @@
 //! Targets that may not be assigned as they are (IEEE 1364-2005 sections 6.1, 9.2 and 12.3.9.2).
 ghost use Rattle.std.specs.Prelude.{◌≡◌, IfOk, IfSome, IfNone, flat_map};
-ghost use Rattle.rr_syntax.specs.Expressions.{is_target as is_target_tree, are_targets as are_target_trees};
-ghost use Rattle.rr_syntax.specs.View.{plain, plain_list};
+ghost use Rattle.rr_syntax.specs.View.{plain};
 ghost use Rattle.rr_flat.specs.Lawful.{RightTargets};
 ghost use Rattle.rr_expr.specs.Scopes.{meant};
 ghost use Rattle.rr_flat.specs.Targets.{is_fixed as is_fixed_in, target_parts};
@@ -17,7 +16,7 @@ use rr_parts::{
     Target, add_assigned, add_parts, block_of, driver_of, identifier_of, instance_of, is_fixed,
     is_input, is_variable, scope_of, signal_named, signal_of, walk_of,
 };
-use rr_syntax::Expr;
+use rr_syntax::{Expr, is_target};
 use std::alloc::{AllocError, Global};
 
 fn may_drive(flat: &Flat, id: Option<u32>, fixed: bool) -> bool
@@ -36,36 +35,6 @@ fn may_assign(flat: &Flat, id: Option<u32>) -> bool
         Some(id) => is_variable(flat, id) && !is_input(flat, id),
         None => false,
     }
-}
-
-#[cycle(targets)]
-#[tactic(auto, using(crate::proofs::TargetNodes::target_nodes))]
-fn is_target(expr: &Expr) -> bool
-    ensures { result ≡ is_target_tree (plain expr.now) }
-{
-    match expr {
-        Expr::Name { .. } | Expr::Bit { .. } | Expr::Part { .. } | Expr::Indexed { .. } => true,
-        Expr::Concat { parts } => are_targets(parts),
-        Expr::Literal { .. }
-        | Expr::Unary { .. }
-        | Expr::Binary { .. }
-        | Expr::Cond { .. }
-        | Expr::Repeat { .. }
-        | Expr::Cast { .. }
-        | Expr::Paren { .. } => false,
-    }
-}
-
-#[cycle(targets)]
-fn are_targets(list: &[Expr]) -> bool
-    ensures { result ≡ are_target_trees (plain_list list.now) }
-{
-    for expr in list.iter() {
-        if !is_target(expr) {
-            return false;
-        }
-    }
-    true
 }
 
 #[tactic(auto, unfolding(rr_expr::specs::Scopes::meant, rr_expr::specs::Scopes::lookup))]

@@ -1,4 +1,3 @@
-pub mod BareParts
 pub mod Fitting
 pub mod Once
 pub mod Reading

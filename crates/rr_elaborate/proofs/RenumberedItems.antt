@@ -4,8 +4,7 @@ use Rattle.std.proofs.Common.{ℕ, ◌≡◌, ◌∙◌, ◌+◌, List, [], ◌�
 use Rattle.std.specs.List.{AllByRecursion}
 use Rattle.rr_syntax.specs.Tree.{Identifier, PortDeclaration, ParameterDeclaration, NetAssignment, ModuleItem, Ports, Nets, Variables, Integers, Parameters, Assigns, Always, Instances, ModuleDeclaration, SourceText, IsSameSource, bare_port, bare_parameter, bare_net, bare_pair, bare_instance, bare_item, bare_header, bare_module, bare_source}
 use Rattle.rr_syntax.specs.Items.{spell_type, spell_port, spell_parameter, spell_net, spell_pair, spell_events, spell_overrides, spell_instance, spell_item, spell_parameters, spell_ports, spell_module, spell_separated, spell_identifier, IsHeader, WellFormedModule, WellFormedSource, NumberedAll, NumberedNet, NumberedPair, NumberedInstance, NumberedItem, NumberedPort, NumberedParameter, NumberedParameters, NumberedPorts, NumberedModule, NumberedSource}
-use Rattle.rr_syntax.proofs.BareItems.{spell_port-bare, spell_parameter-bare, spell_item-bare, spell_module-bare}
-use Rattle.rr_elaborate.proofs.BareParts.{spell_names-bare, spell_type-bare, spell_net-bare, spell_pair-bare, spell_events-bare, spell_overrides-bare, spell_instance-bare, spell_parameters-bare, spell_ports-bare}
+use Rattle.rr_syntax.proofs.BareItems.{spell_port-bare, spell_parameter-bare, spell_item-bare, spell_module-bare, spell_names-bare, spell_type-bare, spell_net-bare, spell_pair-bare, spell_events-bare, spell_overrides-bare, spell_instance-bare, spell_parameters-bare, spell_ports-bare}
 use Rattle.rr_elaborate.proofs.RenumberedStatements.{renumbered_statement, renumbered_statement-bare}
 use Rattle.rr_elaborate.proofs.RenumberedParts.{renumbered_separated, renumbered_all, separated-bare, all-bare, renumbered_names, names-bare, renumbered_type, type-bare, renumbered_port, port-bare, renumbered_parameter, parameter-bare, renumbered_net, net-bare, renumbered_pair, pair-bare, renumbered_events, events-bare, renumbered_overrides, overrides-bare, renumbered_instance, instance-bare}
 

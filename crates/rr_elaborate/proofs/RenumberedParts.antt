@@ -5,7 +5,7 @@ use Rattle.rr_syntax.specs.Tree.{Tree, Trees, Identifier, Range, PortDeclaration
 use Rattle.rr_syntax.specs.Expressions.{spell}
 use Rattle.rr_syntax.specs.Items.{spell_where, spell_identifier, spell_type, spell_dir, spell_assignment, spell_edge, spell_connection, NumberedEach, NumberedSeparated, NumberedAll, NumberedIdentifier, NumberedRange, NumberedType, NumberedPort, NumberedAssignment, NumberedParameter, NumberedValue, NumberedNet, NumberedPair, NumberedEdge, NumberedEvents, NumberedConnection, NumberedConnections, NumberedOverrides, NumberedInstance}
 use Rattle.rr_syntax.proofs.BareExpressions.{spell-bare}
-use Rattle.rr_elaborate.proofs.BareParts.{spell_identifier-bare, spell_type-bare, spell_assignment-bare, spell_edge-bare, spell_connection-bare}
+use Rattle.rr_syntax.proofs.BareItems.{spell_identifier-bare, spell_type-bare, spell_assignment-bare, spell_edge-bare, spell_connection-bare}
 use Rattle.rr_elaborate.proofs.RenumberedExpressions.{renumbered, renumbered_more, renumbered-bare, renumbered_more-bare}
 
 -- lists, of which R numbers each

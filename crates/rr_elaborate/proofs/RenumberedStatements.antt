@@ -4,8 +4,7 @@ use Rattle.rr_syntax.specs.Tree.{Trees, End, More, Identifier, Statement, Statem
 use Rattle.rr_syntax.specs.Expressions.{spell}
 use Rattle.rr_syntax.specs.Statements.{spell_label, spell_labels, spell_statement, spell_arm, NumberedLabel, NumberedLabels, NumberedStatement, NumberedStatements, NumberedArm, NumberedArms}
 use Rattle.rr_syntax.proofs.BareExpressions.{spell-bare}
-use Rattle.rr_syntax.proofs.BareStatements.{spell_statement-bare, spell_arm-bare}
-use Rattle.rr_elaborate.proofs.BareParts.{spell_label-bare, spell_labels-bare}
+use Rattle.rr_syntax.proofs.BareStatements.{spell_statement-bare, spell_arm-bare, spell_label-bare, spell_labels-bare}
 use Rattle.rr_elaborate.proofs.RenumberedExpressions.{renumbered, renumbered_more, renumbered-bare, renumbered_more-bare}
 
 -- the name of a block, whose colon is number `at`

@@ -7,7 +7,7 @@ ghost use Rattle.rr_lex.specs.Tokens.{AreTokens, IsTextFault, lexemes};
 ghost use Rattle.rr_head.specs.Faults.{Refuses as RefusesFlat};
 ghost use Rattle.rr_flat.specs.View.{plain_flat};
 ghost use Rattle.rr_flat.specs.Walk.{flat_of};
-ghost use Rattle.rr_parse.specs.Exact.{IsParsed, IsRefusal};
+ghost use Rattle.rr_parse.specs.Exact.{IsRefusal};
 ghost use Rattle.rr_elaborate.specs.Designs.{IsDesign, IsText, Refuses, placed as placed_by, start_of as start_in};
 
 use bumpalo::Bump;
@@ -17,7 +17,7 @@ use rr_lex::{TextFault, Wrong, lex};
 use rr_parse::parse;
 use rr_parse_expr::ParseFault;
 use rr_syntax::{Source, Token};
-use std::alloc::{AllocError, Global};
+use std::alloc::Global;
 
 /// A flat design with the tokens of its text, which its numbers of tokens name.
 #[derive(Drop)]

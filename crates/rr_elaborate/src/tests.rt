@@ -1,7 +1,7 @@
 //! Texts with their flat designs, and texts without one.
-use crate::{Design, DesignFault, FlatFault, Wrong, elaborate};
+use crate::{DesignFault, FlatFault, Wrong, elaborate};
 use bumpalo::Bump;
-use std::alloc::{AllocError, Global};
+use std::alloc::Global;
 use std::test::Fail;
 
 /// Why a text has no flat design with the last module that stands in none.

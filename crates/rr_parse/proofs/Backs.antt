@@ -1,17 +1,16 @@
 -- What is good is well-formed and within the depth.
-use Rattle.std.proofs.Common.{◌≡◌, ℕ, zero, suc, ◌+◌, ◌≤◌, ◌<◌, max, List, [], ◌∷◌, length, refl, sym, ◌∙◌, arith, Bool, true, false, not, Option, Some, None, ◌⊎◌, inl, inr}
+use Rattle.std.proofs.Common.{◌≡◌, ℕ, suc, ◌≤◌, List, [], ◌∷◌, length, refl, arith, Bool, true, false, not, Option, Some, None, inl, inr}
 use Rattle.std.specs.List.{AllByRecursion}
-use Rattle.rr_syntax.specs.Tree.{Tree, Trees, End, More, Identifier, Range, PortDeclaration, ParamAssignment, ParameterDeclaration, NetIdentifier, NetAssignment, EdgeEvent, EventControl, Star, Edges, Levels, NamedConnection, Connections, Positions, Names, ModuleInstance, ModuleItem, Ports, Nets, Variables, Integers, Parameters, Assigns, Always, Instances, ModuleDeclaration}
-use Rattle.rr_syntax.specs.Expressions.{WellFormed, WellFormedMore, depth, height, is_target}
-use Rattle.rr_syntax.specs.Statements.{WellFormedStatement, depth_statement}
-use Rattle.rr_syntax.specs.Items.{count, greatest, IsTypedOnce, IsHeader, WellFormedRange, WellFormedPort, WellFormedAssignment, WellFormedParameter, WellFormedValue, WellFormedNet, WellFormedPair, WellFormedEvents, WellFormedConnection, WellFormedConnections, WellFormedOverrides, WellFormedInstance, WellFormedItem, WellFormedHead, WellFormedModule, depth_range, depth_port, depth_assignment, depth_parameter, depth_value, depth_net, depth_pair, depth_events, depth_connection, depth_connections, depth_overrides, depth_instance, depth_item, height_item, depth_module, height_module}
-use Rattle.rr_grammar.specs.Formats.{Format, list}
-use Rattle.rr_grammar.specs.Leaves.{identifier, expression, range, AllOption}
+use Rattle.rr_syntax.specs.Tree.{Tree, Trees, End, More, Identifier, Range, PortDeclaration, ParamAssignment, ParameterDeclaration, NetIdentifier, NetAssignment, EventControl, Star, Edges, Levels, NamedConnection, Connections, Positions, Names, ModuleInstance, ModuleItem, Ports, Nets, Variables, Integers, Parameters, Assigns, Always, Instances, ModuleDeclaration}
+use Rattle.rr_syntax.specs.Expressions.{WellFormed, WellFormedMore, depth, height}
+use Rattle.rr_syntax.specs.Items.{greatest, IsHeader, WellFormedRange, WellFormedPort, WellFormedAssignment, WellFormedParameter, WellFormedValue, WellFormedNet, WellFormedPair, WellFormedEvents, WellFormedConnection, WellFormedConnections, WellFormedOverrides, WellFormedInstance, WellFormedItem, WellFormedHead, WellFormedModule, depth_range, depth_port, depth_assignment, depth_parameter, depth_value, depth_net, depth_pair, depth_events, depth_connection, depth_connections, depth_overrides, depth_instance, depth_item, height_item, depth_module, height_module}
+use Rattle.rr_grammar.specs.Formats.{list}
+use Rattle.rr_grammar.specs.Leaves.{expression, range, AllOption}
 use Rattle.rr_grammar.specs.Declarations.{port, setting, net, pair, parameter, head_parameter}
-use Rattle.rr_grammar.specs.Parts.{AllTrees, edge, events}
+use Rattle.rr_grammar.specs.Parts.{AllTrees, events}
 use Rattle.rr_grammar.specs.Connections.{optional_closed, connection, connections, overrides, one_instance}
 use Rattle.rr_grammar.specs.ItemForms.{item}
-use Rattle.rr_grammar.specs.ModuleForms.{IsNil, heads, port_list, one_module}
+use Rattle.rr_grammar.specs.ModuleForms.{heads, port_list, one_module}
 
 -- each of a list is good, so each is right, and the greatest is within the bound
 all_back : {A : Type 0} (W G : A → Type 0) (f : A → ℕ) (n : ℕ) → ((a : A) → G a → W a × (f a ≤ n)) → (xs : List A) → AllByRecursion G xs → AllByRecursion W xs × (greatest f xs ≤ n)

@@ -1,7 +1,6 @@
 -- A list with one part more.
-use Rattle.std.proofs.Common.{◌≡◌, ℕ, ◌+◌, ◌<◌, List, [], ◌∷◌, ◌++◌, Bool, Result, Ok, Err, refl}
+use Rattle.std.proofs.Common.{◌≡◌, ℕ, ◌+◌, ◌<◌, List, [], ◌∷◌, ◌++◌, Bool, refl}
 use Rattle.rr_syntax.specs.declared.token.Token.{Token}
-use Rattle.rr_parse.specs.declared.tokens.Piece.{Piece}
 use Rattle.rr_parse.specs.Chains.{Reads, found, comma_at, Behind, Row, Run, Between, Alternate}
 use Rattle.rr_grammar.specs.Formats.{Finds}
 use Rattle.rr_grammar.specs.Parts.{separator_of}

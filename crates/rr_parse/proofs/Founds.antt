@@ -1,8 +1,8 @@
 -- What stands at a token, part by part: from what was read of the parts to what was read of the whole.
-use Rattle.std.proofs.Common.{◌≡◌, ℕ, zero, suc, ◌+◌, ◌≤◌, ◌<◌, List, [], ◌∷◌, ◌++◌, length, drop, map, Bool, true, false, not, cond, nat_eq, refl, ap, ◌∙◌, sym, arith, Option, Some, None, Result, Ok, Err, length-append, length-drop, subst}
+use Rattle.std.proofs.Common.{◌≡◌, ℕ, ◌+◌, ◌≤◌, ◌<◌, List, [], ◌∷◌, length, drop, Bool, true, false, cond, nat_eq, refl, ap, ◌∙◌, sym, arith, Some, None, Result, Ok, Err, length-append, subst}
 use Rattle.std.proofs.lemmas.Bool.Decides.{Decides-eqb}
 use Rattle.rr_syntax.specs.declared.token.Token.{Token}
-use Rattle.rr_syntax.specs.Words.{Word, words, Marked, Reserved, mark_comma}
+use Rattle.rr_syntax.specs.Words.{Word, words, Marked, Reserved}
 use Rattle.rr_parse_expr.specs.Reading.{Found, mapped, chain, mark, rest, no_mark, expect}
 use Rattle.rr_parse_expr.specs.declared.expression.ParseFault.{ParseFault}
 use Rattle.rr_parse_expr.specs.declared.expression.ParseFault.TheVariants.{Unsupported, Syntax, Memory}

@@ -1,20 +1,20 @@
 -- Lists that were read part by part are those of the grammar.
-use Rattle.std.proofs.Common.{◌≡◌, ℕ, zero, suc, ◌+◌, ◌≤◌, ◌<◌, List, [], ◌∷◌, ◌++◌, length, drop, map, Bool, true, false, cond, nat_eq, refl, ap, ◌∙◌, sym, arith, Option, Some, None, Result, Ok, Err, ◌⊎◌, inl, inr, length-append, length-drop, append_assoc, append-nil, subst}
+use Rattle.std.proofs.Common.{◌≡◌, ℕ, zero, suc, ◌+◌, ◌≤◌, ◌<◌, List, [], ◌∷◌, ◌++◌, length, drop, map, Bool, true, false, nat_eq, refl, ap, ◌∙◌, sym, arith, Some, None, Result, Ok, Err, ◌⊎◌, inl, inr, length-append, length-drop, append_assoc, append-nil, subst}
 use Rattle.std.proofs.lemmas.Bool.Decides.{Decides-eqb}
 use Rattle.rr_syntax.specs.declared.token.Token.{Token}
 use Rattle.rr_syntax.specs.Words.{Word, words, keyword_or, mark_comma}
 use Rattle.rr_syntax.specs.Items.{spell_all, spell_each, spell_separated, NumberedAll, NumberedEach, NumberedSeparated}
-use Rattle.rr_parse_expr.specs.Reading.{Found, mapped, chain, mark, rest, no_mark, expect}
+use Rattle.rr_parse_expr.specs.Reading.{Found, mark, rest, expect}
 use Rattle.rr_parse_expr.specs.declared.expression.ParseFault.{ParseFault}
 use Rattle.rr_parse_expr.specs.declared.expression.ParseFault.TheVariants.{Unsupported, Syntax, Memory}
 use Rattle.rr_parse_expr.proofs.Answered.{not_equal, rest_drop}
 use Rattle.rr_parse_expr.proofs.TokenWords.{length_words}
-use Rattle.rr_parse_stmt.specs.Reading.{keyword, no_word}
+use Rattle.rr_parse_stmt.specs.Reading.{keyword}
 use Rattle.rr_grammar.specs.Formats.{Format, both, or_else, more, some_of, list, again, any_of, repeated, Finds, FindsNone}
 use Rattle.rr_grammar.specs.Parts.{separator_of, separated, firsts, seconds}
 use Rattle.rr_parse.specs.declared.tokens.Piece.{Piece}
 use Rattle.rr_parse.specs.declared.lists.Separated.{Separated}
-use Rattle.rr_parse.specs.Answer.{Misses, Answers, MarkAt, WordAt, the_same}
+use Rattle.rr_parse.specs.Answer.{Misses, Answers}
 use Rattle.rr_parse.specs.Chains.{Reads, found, Refuses, comma_at, Behind, Row, IsList, AnswersList, Run, IsRun, AnswersAll, Between, Alternate, Closes, IsSeparated, AnswersSeparated}
 use Rattle.rr_parse.specs.Trees.{plain_list_by, FindsSeparated, AnswersParts}
 use Rattle.rr_parse.proofs.Founds.{same, if_true, if_false, expect_here, other_mark, chain_here, chain_none, chain_then, mapped_none, finds_both, mark_here, word_here}

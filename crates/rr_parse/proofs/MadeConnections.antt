@@ -1,22 +1,21 @@
 -- Connections and instances that were read, from their parts.
-use Rattle.std.proofs.Common.{◌≡◌, ℕ, ◌+◌, ◌≤◌, ◌<◌, List, [], ◌∷◌, ◌++◌, length, drop, map, Bool, true, false, cond, refl, ap, ◌∙◌, sym, arith, Option, Some, None, Result, Ok, Err, length-append, subst}
+use Rattle.std.proofs.Common.{◌≡◌, ℕ, ◌+◌, ◌≤◌, ◌<◌, List, [], ◌∷◌, ◌++◌, length, drop, map, false, refl, ap, sym, arith, Option, Some, None, Result, Ok, Err, subst}
 use Rattle.rr_syntax.specs.declared.token.Token.{Token}
 use Rattle.rr_syntax.specs.declared.tree.Expr.{Expr}
 use Rattle.rr_syntax.specs.declared.tree.Named.{Named as Name}
 use Rattle.rr_syntax.specs.declared.tree.Connection.{Connection}
 use Rattle.rr_syntax.specs.declared.tree.Conns.{Conns}
 use Rattle.rr_syntax.specs.declared.tree.Conns.TheVariants as variant
-use Rattle.rr_syntax.specs.declared.tree.Instance.{Instance}
 use Rattle.rr_syntax.specs.Words.{Word, Marked, words, mark_close_parenthesis, mark_dot, mark_hash, mark_open_parenthesis}
-use Rattle.rr_syntax.specs.Tree.{Tree, Trees, End, More, Identifier, NamedConnection, Connections, Positions, Names, bare, bare_parts, bare_identifier, bare_value, bare_connection, bare_connections, bare_overrides, bare_instance}
-use Rattle.rr_syntax.specs.Expressions.{spell, spell_more, spell_parts, Numbered, NumberedMore}
-use Rattle.rr_syntax.specs.Items.{spell_identifier, spell_optional, spell_connection, spell_connections, spell_overrides, spell_instance, spell_each, spell_separated, NumberedIdentifier, NumberedValue, NumberedConnection, NumberedConnections, NumberedOverrides, NumberedInstance, NumberedEach, NumberedSeparated}
+use Rattle.rr_syntax.specs.Tree.{Tree, End, Connections, Positions, Names, bare, bare_identifier, bare_value, bare_connection, bare_connections, bare_overrides, bare_instance}
+use Rattle.rr_syntax.specs.Expressions.{spell, spell_parts, Numbered, NumberedMore}
+use Rattle.rr_syntax.specs.Items.{spell_identifier, spell_optional, spell_connection, spell_connections, spell_overrides, spell_instance, spell_separated, NumberedIdentifier, NumberedValue, NumberedConnection, NumberedConnections, NumberedOverrides, NumberedInstance, NumberedEach, NumberedSeparated}
 use Rattle.rr_syntax.specs.View.{plain, plain_list, plain_identifier, plain_value, plain_connection, plain_connections, plain_overrides, plain_instance}
 use Rattle.rr_parse_expr.specs.Reading.{rest, mark}
 use Rattle.rr_parse_expr.specs.declared.expression.ParseFault.{ParseFault}
-use Rattle.rr_grammar.specs.Formats.{before_mark, behind_mark, list, Finds, FindsNone}
+use Rattle.rr_grammar.specs.Formats.{before_mark, behind_mark, list, Finds}
 use Rattle.rr_grammar.specs.Leaves.{identifier, expression}
-use Rattle.rr_grammar.specs.Connections.{front_close, front_dot, optional_words, present, IsAbsent, IsPresent, absent_closed, present_closed, optional_closed, connection, to_connection, of_connection, behind, IsEmpty, AreNames, ArePositions, to_positions, to_names, empty_closed, names_closed, positions_closed, connected, connections, overrides, one_instance, to_instance, of_instance}
+use Rattle.rr_grammar.specs.Connections.{optional_words, present, IsAbsent, IsPresent, absent_closed, present_closed, optional_closed, connection, to_connection, of_connection, behind, IsEmpty, AreNames, ArePositions, to_positions, to_names, empty_closed, names_closed, positions_closed, connected, connections, overrides, one_instance, to_instance, of_instance}
 use Rattle.rr_grammar.specs.Parts.{trees}
 use Rattle.rr_grammar.proofs.Exacts.{list_exact}
 use Rattle.rr_grammar.proofs.LeavesExact.{expression_exact}

@@ -1,28 +1,24 @@
 -- Declarations that were read, from their parts.
-use Rattle.std.proofs.Common.{◌≡◌, ℕ, ◌+◌, ◌≤◌, ◌<◌, List, [], ◌∷◌, ◌++◌, length, drop, map, Bool, true, false, not, cond, nat_eq, refl, ap, ◌∙◌, sym, arith, Option, Some, None, length-append, append_assoc, subst}
-use Rattle.std.proofs.lemmas.Bool.Decides.{Decides-eqb}
+use Rattle.std.proofs.Common.{◌≡◌, ℕ, ◌+◌, ◌≤◌, List, [], ◌∷◌, ◌++◌, length, drop, map, Bool, true, false, not, cond, nat_eq, refl, ap, ◌∙◌, sym, arith, Option, Some, None, length-append, append_assoc, subst}
 use Rattle.rr_syntax.specs.declared.token.Token.{Token}
 use Rattle.rr_syntax.specs.declared.tree.Dir.{Dir}
 use Rattle.rr_syntax.specs.declared.tree.Dir.TheVariants as dir
 use Rattle.rr_syntax.specs.declared.tree.Expr.{Expr}
 use Rattle.rr_syntax.specs.declared.tree.Named.{Named as Name}
 use Rattle.rr_syntax.specs.declared.tree.Bounds.{Bounds}
-use Rattle.rr_syntax.specs.declared.tree.Group.{Group}
 use Rattle.rr_syntax.specs.declared.tree.Setting.{Setting}
 use Rattle.rr_syntax.specs.declared.tree.Params.{Params}
-use Rattle.rr_syntax.specs.declared.tree.NetName.{NetName}
-use Rattle.rr_syntax.specs.declared.tree.Pair.{Pair}
 use Rattle.rr_syntax.specs.Words.{Word, Marked, Reserved, words, keyword_input, keyword_integer, keyword_localparam, keyword_output, keyword_parameter, keyword_reg, keyword_signed, keyword_wire, mark_colon, mark_equals, mark_open_bracket}
-use Rattle.rr_syntax.specs.Tree.{Tree, Range, Identifier, bare_range, bare_identifier, bare_port, bare_assignment, bare_parameter, bare_value, bare_net, bare_pair}
+use Rattle.rr_syntax.specs.Tree.{Tree, bare_range, bare_identifier, bare_port, bare_assignment, bare_parameter, bare_net, bare_pair}
 use Rattle.rr_syntax.specs.Expressions.{spell, Numbered}
-use Rattle.rr_syntax.specs.Items.{spell_where, spell_identifier, spell_range, spell_type, spell_dir, spell_port, spell_assignment, spell_parameter, spell_value, spell_net, spell_pair, spell_separated, NumberedIdentifier, NumberedRange, NumberedType, NumberedPort, NumberedAssignment, NumberedParameter, NumberedValue, NumberedNet, NumberedPair, NumberedSeparated}
+use Rattle.rr_syntax.specs.Items.{spell_where, spell_identifier, spell_range, spell_type, spell_dir, spell_port, spell_assignment, spell_parameter, spell_net, spell_pair, spell_separated, NumberedIdentifier, NumberedRange, NumberedType, NumberedPort, NumberedAssignment, NumberedParameter, NumberedValue, NumberedNet, NumberedPair, NumberedSeparated}
 use Rattle.rr_syntax.specs.View.{plain, plain_identifier, plain_range, plain_port, plain_assignment, plain_parameter, plain_value, plain_net, plain_pair}
-use Rattle.rr_parse_expr.specs.Reading.{Found, mapped, mark, rest}
+use Rattle.rr_parse_expr.specs.Reading.{mapped, mark, rest}
 use Rattle.rr_parse_expr.proofs.Answered.{not_equal, rest_drop}
 use Rattle.rr_parse_stmt.specs.Reading.{keyword}
 use Rattle.rr_grammar.specs.Formats.{list, Finds, FindsNone}
 use Rattle.rr_grammar.specs.Leaves.{identifier, expression, target_of, flag, choice, where_mark, range, typed, direction, of_input, of_output}
-use Rattle.rr_grammar.specs.Declarations.{port, to_port, of_port, setting, to_setting, of_setting, net, to_net, of_net, pair, to_pair, of_pair, kind, of_kind, parameter, to_parameter, of_parameter, head_parameter, is_global}
+use Rattle.rr_grammar.specs.Declarations.{port, to_port, of_port, setting, to_setting, of_setting, net, to_net, of_net, pair, to_pair, of_pair, kind, parameter, to_parameter, of_parameter, head_parameter, is_global}
 use Rattle.rr_grammar.proofs.Exacts.{mapped_some}
 use Rattle.rr_grammar.proofs.LeavesExact.{range_words, range_bare}
 use Rattle.rr_grammar.proofs.DeclarationsExact.{net_words, net_bare}
@@ -31,7 +27,7 @@ use Rattle.rr_parse.specs.declared.declarations.Type as typing
 use Rattle.rr_parse.specs.declared.declarations.ParameterType.{ParameterType}
 use Rattle.rr_parse.specs.Answer.{MarkAt, WordAt, FindsDirection, bounds_of, plain_bounds}
 use Rattle.rr_parse.specs.Trees.{plain_type, plain_kind}
-use Rattle.rr_parse.proofs.Founds.{same, if_true, if_false, behind, mapped_none, chain_then, cond_second, finds_both, finds_after_mark, finds_shaped, finds_respelled, finds_narrowed, finds_guarded, finds_absent, finds_there}
+use Rattle.rr_parse.proofs.Founds.{same, if_true, if_false, mapped_none, chain_then, cond_second, finds_both, finds_after_mark, finds_shaped, finds_respelled, finds_narrowed, finds_guarded, finds_absent, finds_there}
 use denote.Ref.{Bor}
 
 -- ---- ranges

@@ -1,5 +1,5 @@
 -- Event controls that were read, from their parts.
-use Rattle.std.proofs.Common.{◌≡◌, ℕ, ◌+◌, ◌≤◌, ◌<◌, List, [], ◌∷◌, ◌++◌, length, drop, map, Bool, true, false, cond, refl, ap, ◌∙◌, sym, arith, Option, Some, None, Result, Ok, Err, ◌==◌, ◌||◌, ◌⊎◌, inl, inr, length-append, subst}
+use Rattle.std.proofs.Common.{◌≡◌, ℕ, ◌+◌, List, [], ◌∷◌, ◌++◌, length, drop, map, Bool, true, false, refl, ap, ◌∙◌, sym, arith, Some, None, Result, Ok, Err, ◌==◌, ◌||◌, inl, inr, subst}
 use Rattle.rr_syntax.specs.declared.token.Token.{Token}
 use Rattle.rr_syntax.specs.declared.tree.Expr.{Expr}
 use Rattle.rr_syntax.specs.declared.tree.Named.{Named as Name}
@@ -7,23 +7,22 @@ use Rattle.rr_syntax.specs.declared.tree.Event.{Event}
 use Rattle.rr_syntax.specs.declared.tree.Events.{Events}
 use Rattle.rr_syntax.specs.declared.tree.Events.TheVariants as variant
 use Rattle.rr_syntax.specs.Words.{Word, Marked, words, keyword_negedge, keyword_posedge, mark_close_parenthesis, mark_open_parenthesis, mark_star}
-use Rattle.rr_syntax.specs.Tree.{Tree, Trees, End, More, EdgeEvent, EventControl, Star, Edges, Levels, bare, bare_identifier, bare_edge, bare_events}
+use Rattle.rr_syntax.specs.Tree.{Tree, Trees, More, EdgeEvent, EventControl, Star, Edges, Levels, bare, bare_identifier, bare_edge, bare_events}
 use Rattle.rr_syntax.specs.Expressions.{spell, Numbered, NumberedMore}
-use Rattle.rr_syntax.specs.Items.{spell_identifier, spell_edge, spell_edges, spell_levels, spell_events, spell_all, NumberedIdentifier, NumberedEdge, NumberedEvents, NumberedAll, NumberedEach}
+use Rattle.rr_syntax.specs.Items.{spell_identifier, spell_edge, spell_edges, spell_levels, spell_events, NumberedIdentifier, NumberedEdge, NumberedEvents, NumberedAll, NumberedEach}
 use Rattle.rr_syntax.specs.Items as items
 use Rattle.rr_syntax.specs.View.{plain, plain_list, plain_identifier, plain_edge, plain_events}
-use Rattle.rr_parse_expr.specs.Reading.{rest, mark}
+use Rattle.rr_parse_expr.specs.Reading.{rest}
 use Rattle.rr_parse_expr.specs.declared.expression.ParseFault.{ParseFault}
-use Rattle.rr_grammar.specs.Formats.{both, behind_mark, Finds, FindsNone}
+use Rattle.rr_grammar.specs.Formats.{both, behind_mark, Finds}
 use Rattle.rr_grammar.specs.Leaves.{identifier, expression, choice}
-use Rattle.rr_grammar.specs.Parts.{separator_of, separated, seconds, firsts, trees, edge, to_edge, of_edge, to_edges, to_levels, inside, GoodEdges, GoodLevels, GoodStar, stars, front_star, edge_list, level_list, star_alone, star_closed, bracketed, in_brackets, events}
+use Rattle.rr_grammar.specs.Parts.{separator_of, seconds, firsts, trees, edge, to_edge, of_edge, to_edges, to_levels, inside, GoodEdges, GoodLevels, GoodStar, stars, edge_list, level_list, star_alone, star_closed, bracketed, in_brackets}
 use Rattle.rr_grammar.proofs.PartsExact.{edges_words, edges_bare, levels_words, levels_bare, bracketed_exact}
 use Rattle.rr_parse.specs.declared.tokens.Piece.{Piece}
 use Rattle.rr_parse.specs.declared.lists.Separated.{Separated}
 use Rattle.rr_parse.specs.Answer.{Answers, MarkAt}
 use Rattle.rr_parse.specs.Trees.{FindsSeparated}
 use Rattle.rr_parse.proofs.Founds.{passes, finds_both, mapped_none, behind_mark_none, finds_after_mark, finds_before_mark, finds_nothing, finds_shaped, finds_respelled, finds_imaged}
-use denote.Ref.{Bor}
 
 pub made_edge : {T : List Token} {from : ℕ} (rising : Bool) (n : Name) {first next : ℕ} → Finds (choice keyword_posedge keyword_negedge) T from rising first → Finds identifier T first (plain_identifier n) next →
     Finds edge T from (plain_edge (record { rising = rising; name = n.name; token = n.token })) next

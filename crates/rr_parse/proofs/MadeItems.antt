@@ -1,8 +1,7 @@
 -- Items that were read, from their parts.
-use Rattle.std.proofs.Common.{◌≡◌, ℕ, suc, ◌+◌, ◌≤◌, ◌<◌, List, [], ◌∷◌, ◌++◌, length, drop, map, Bool, true, false, cond, nat_eq, refl, ap, ◌∙◌, sym, arith, Option, Some, None, Result, Ok, Err, length-append, subst}
+use Rattle.std.proofs.Common.{◌≡◌, ℕ, List, [], ◌∷◌, drop, map, true, false, refl, arith, Option, Some, None, Result, subst}
 use Rattle.rr_syntax.specs.declared.token.Token.{Token}
 use Rattle.rr_syntax.specs.declared.tree.Named.{Named as Name}
-use Rattle.rr_syntax.specs.declared.tree.Bounds.{Bounds}
 use Rattle.rr_syntax.specs.declared.tree.Group.{Group}
 use Rattle.rr_syntax.specs.declared.tree.Params.{Params}
 use Rattle.rr_syntax.specs.declared.tree.NetName.{NetName}
@@ -13,16 +12,15 @@ use Rattle.rr_syntax.specs.declared.tree.Instance.{Instance}
 use Rattle.rr_syntax.specs.declared.tree.Item.{Item}
 use Rattle.rr_syntax.specs.declared.tree.Item.TheVariants as variant
 use Rattle.rr_syntax.specs.declared.tree.Stmt.{Stmt}
-use Rattle.rr_syntax.specs.Words.{Word, Marked, words, keyword_always, keyword_assign, keyword_integer, keyword_reg, keyword_wire, mark_at, mark_semicolon}
-use Rattle.rr_syntax.specs.Tree.{ModuleItem, bare_item, bare_identifier}
+use Rattle.rr_syntax.specs.Words.{words, keyword_always, keyword_assign, keyword_integer, keyword_reg, keyword_wire, mark_at, mark_semicolon}
+use Rattle.rr_syntax.specs.Tree.{bare_item, bare_identifier}
 use Rattle.rr_syntax.specs.Statements.{NumberedStatement}
-use Rattle.rr_syntax.specs.Items.{spell_identifier, spell_type, spell_net, spell_pair, spell_events, spell_overrides, spell_instance, spell_item, spell_separated, NumberedIdentifier, NumberedType, NumberedPort, NumberedParameter, NumberedNet, NumberedPair, NumberedEvents, NumberedOverrides, NumberedInstance, NumberedItem, NumberedSeparated, NumberedRange}
+use Rattle.rr_syntax.specs.Items.{spell_identifier, spell_type, spell_net, spell_pair, spell_instance, spell_item, NumberedIdentifier, NumberedType, NumberedNet, NumberedPair, NumberedEvents, NumberedOverrides, NumberedInstance, NumberedItem, NumberedSeparated}
 use Rattle.rr_syntax.specs.View.{plain_identifier, plain_range, plain_port, plain_parameter, plain_net, plain_pair, plain_events, plain_overrides, plain_instance, plain_statement, plain_item}
-use Rattle.rr_parse_expr.specs.Reading.{mark}
 use Rattle.rr_parse_expr.specs.declared.expression.ParseFault.{ParseFault}
 use Rattle.rr_parse_expr.proofs.Answered.{not_equal}
 use Rattle.rr_parse_stmt.specs.Reading.{keyword}
-use Rattle.rr_grammar.specs.Formats.{list, Finds, FindsNone}
+use Rattle.rr_grammar.specs.Formats.{list, Finds}
 use Rattle.rr_grammar.specs.Leaves.{identifier, typed}
 use Rattle.rr_grammar.specs.Declarations.{port, net, pair, parameter}
 use Rattle.rr_grammar.specs.Parts.{events}

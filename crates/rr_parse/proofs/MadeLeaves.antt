@@ -1,12 +1,12 @@
 -- Names, reserved words, expressions and statements that were read.
-use Rattle.std.proofs.Common.{◌≡◌, ℕ, ◌+◌, ◌≤◌, ◌<◌, List, [], ◌∷◌, ◌++◌, length, drop, get_or, Bool, true, false, cond, nat_eq, refl, ap, ◌∙◌, sym, arith, Option, Some, None}
+use Rattle.std.proofs.Common.{◌≡◌, ℕ, ◌+◌, ◌≤◌, ◌<◌, List, [], ◌∷◌, length, drop, get_or, true, false, nat_eq, refl, ap, ◌∙◌, arith, Some, None}
 use Rattle.rr_syntax.specs.declared.token.Token.{Token}
 use Rattle.rr_syntax.specs.declared.token.Kind.TheVariants as variant
 use Rattle.rr_syntax.specs.declared.tree.Expr.{Expr}
 use Rattle.rr_syntax.specs.declared.tree.Stmt.{Stmt}
 use Rattle.rr_syntax.specs.declared.tree.Named.{Named as Name}
 use Rattle.rr_syntax.specs.Words.{Word, words}
-use Rattle.rr_syntax.specs.Tree.{Tree, Statement, bare, bare_identifier, bare_statement}
+use Rattle.rr_syntax.specs.Tree.{Statement, bare, bare_identifier}
 use Rattle.rr_syntax.specs.Expressions.{is_target, unary_level}
 use Rattle.rr_syntax.specs.Items.{spell_where, spell_identifier, NumberedIdentifier}
 use Rattle.rr_syntax.specs.View.{plain, plain_identifier, plain_statement}

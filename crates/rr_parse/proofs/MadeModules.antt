@@ -1,24 +1,21 @@
 -- Modules that were read, from their parts.
-use Rattle.std.proofs.Common.{◌≡◌, ℕ, suc, ◌+◌, ◌≤◌, ◌<◌, List, [], ◌∷◌, ◌++◌, length, drop, map, Bool, true, false, cond, nat_eq, refl, ap, ◌∙◌, sym, arith, Option, Some, None, Result, Ok, Err, ◌⊎◌, inl, inr, length-append, subst}
+use Rattle.std.proofs.Common.{◌≡◌, ℕ, ◌+◌, ◌≤◌, ◌<◌, List, [], ◌∷◌, ◌++◌, length, drop, map, false, refl, ap, ◌∙◌, sym, arith, Option, Some, None, Result, Ok, Err, inl, inr, subst}
 use Rattle.rr_syntax.specs.declared.token.Token.{Token}
 use Rattle.rr_syntax.specs.declared.tree.Named.{Named as Name}
 use Rattle.rr_syntax.specs.declared.tree.Group.{Group}
 use Rattle.rr_syntax.specs.declared.tree.Params.{Params}
 use Rattle.rr_syntax.specs.declared.tree.Item.{Item}
-use Rattle.rr_syntax.specs.declared.tree.Module.{Module}
-use Rattle.rr_syntax.specs.Words.{Word, Marked, Reserved, words, keyword_endmodule, keyword_module, mark_close_parenthesis, mark_hash, mark_open_parenthesis, mark_semicolon}
-use Rattle.rr_syntax.specs.Tree.{Identifier, PortDeclaration, ParameterDeclaration, ModuleDeclaration, bare_header, bare_identifier, bare_parameter, bare_port, bare_module}
+use Rattle.rr_syntax.specs.Words.{Marked, words, keyword_endmodule, keyword_module, mark_close_parenthesis, mark_hash, mark_open_parenthesis, mark_semicolon}
+use Rattle.rr_syntax.specs.Tree.{Identifier, PortDeclaration, ParameterDeclaration, bare_header, bare_identifier, bare_parameter, bare_port, bare_module}
 use Rattle.rr_syntax.specs.Items.{spell_identifier, spell_parameter, spell_parameters, spell_port, spell_ports, spell_item, spell_module, spell_separated, NumberedIdentifier, NumberedParameter, NumberedParameters, NumberedPort, NumberedPorts, NumberedItem, NumberedModule, NumberedSeparated, NumberedAll}
 use Rattle.rr_syntax.specs.View.{plain_identifier, plain_parameter, plain_port, plain_header, plain_item, plain_module}
 use Rattle.rr_parse_expr.specs.Reading.{mark, rest}
 use Rattle.rr_parse_expr.specs.declared.expression.ParseFault.{ParseFault}
 use Rattle.rr_parse_expr.proofs.Answered.{not_equal}
-use Rattle.rr_parse_stmt.specs.Reading.{keyword}
-use Rattle.rr_grammar.specs.Formats.{behind_mark, list, repeated, Finds, FindsNone}
+use Rattle.rr_grammar.specs.Formats.{behind_mark, list, repeated, Finds}
 use Rattle.rr_grammar.specs.Leaves.{identifier}
 use Rattle.rr_grammar.specs.Declarations.{port, head_parameter}
-use Rattle.rr_grammar.specs.Connections.{front_close}
-use Rattle.rr_grammar.specs.ItemForms.{item, front_ports}
+use Rattle.rr_grammar.specs.ItemForms.{item}
 use Rattle.rr_grammar.specs.ModuleForms.{front_hash, as_they_are, IsNil, some_heads, no_heads, heads, PortList, ports_words, ports_inside, bare_ports, ports_numbered, BothNil, AreGroups, AreNames, to_groups, to_names, empty_ports, group_ports, name_ports, ports_in, front_open, same_ports, with_ports, NoPorts, without_ports, port_list, to_module, of_module, one_module}
 use Rattle.rr_grammar.proofs.ModulesExact.{heads_list_exact, ports_in_exact}
 use Rattle.rr_parse.specs.declared.tokens.Piece.{Piece}

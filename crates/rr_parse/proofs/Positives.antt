@@ -1,13 +1,13 @@
 -- No part is spelled by no words.
-use Rattle.std.proofs.Common.{◌≡◌, ℕ, ◌+◌, ◌≤◌, ◌<◌, List, [], ◌∷◌, ◌++◌, length, Result, Ok, Err, arith, length-append}
+use Rattle.std.proofs.Common.{ℕ, ◌+◌, ◌≤◌, ◌<◌, List, [], ◌∷◌, ◌++◌, length, Ok, arith, length-append}
 use Rattle.rr_syntax.specs.declared.token.Token.{Token}
 use Rattle.rr_syntax.specs.declared.tree.Dir.{Dir}
 use Rattle.rr_syntax.specs.declared.tree.Dir.TheVariants as dir
-use Rattle.rr_syntax.specs.Words.{Word, Marked, mark_equals}
+use Rattle.rr_syntax.specs.Words.{Marked, mark_equals}
 use Rattle.rr_syntax.specs.Tree.{Identifier, PortDeclaration, ParamAssignment, ParameterDeclaration, NetIdentifier, NetAssignment, NamedConnection, ModuleInstance}
 use Rattle.rr_syntax.specs.Expressions.{spell}
 use Rattle.rr_syntax.specs.Items.{spell_identifier, spell_type, spell_dir, spell_port, spell_assignment, spell_parameter, spell_net, spell_pair, spell_connection, spell_instance, spell_separated}
-use Rattle.rr_grammar.specs.Formats.{Format, Finds}
+use Rattle.rr_grammar.specs.Formats.{Format}
 use Rattle.rr_parse.specs.declared.tokens.Piece.{Piece}
 use Rattle.rr_parse.specs.Answer.{Answers}
 

@@ -1,12 +1,12 @@
 -- Each word that a well-formed source text spells has a rule in the profile.
-use Rattle.std.proofs.Common.{◌≡◌, ℕ, zero, suc, ◌+◌, ◌≤◌, ◌<◌, List, [], ◌∷◌, ◌++◌, length, drop, map, Bool, true, false, cond, not, nat_eq, refl, ap, ◌∙◌, sym, arith, Option, Some, None, IsTrue, ◌⊎◌, inl, inr, append_assoc, append-nil, codes, subst}
+use Rattle.std.proofs.Common.{◌≡◌, ℕ, zero, suc, ◌+◌, ◌≤◌, ◌<◌, List, [], ◌∷◌, ◌++◌, length, drop, Bool, true, false, cond, nat_eq, refl, ap, ◌∙◌, sym, arith, Option, Some, None, IsTrue, ◌⊎◌, inl, inr, append_assoc, append-nil, codes, subst}
 use Rattle.std.proofs.lemmas.Bool.Decides.{Decides-eqb, nat_tests}
 use Rattle.std.proofs.Math.Seq.{drop-nil}
 use Rattle.std.specs.List.{AllByRecursion}
 use Rattle.rr_syntax.specs.declared.token.Token.{Token}
 use Rattle.rr_syntax.specs.declared.tree.Dir.{Dir}
 use Rattle.rr_syntax.specs.declared.tree.Dir.TheVariants as dir
-use Rattle.rr_syntax.specs.Words.{Word, Named, System, Digits, Marked, Reserved, words, keyword_case, keyword_casex, keyword_casez, keyword_localparam, keyword_negedge, keyword_parameter, keyword_posedge, keyword_signed, keyword_or, mark_comma, mark_equals, mark_hash, mark_less_or_equal, mark_open_parenthesis, mark_part_down, mark_part_up}
+use Rattle.rr_syntax.specs.Words.{Word, Named, System, Digits, Marked, Reserved, words, keyword_case, keyword_casex, keyword_casez, keyword_localparam, keyword_negedge, keyword_parameter, keyword_posedge, keyword_signed, mark_equals, mark_hash, mark_less_or_equal, mark_open_parenthesis, mark_part_down, mark_part_up}
 use Rattle.rr_syntax.specs.Tree.{Tree, Trees, Name, Literal, Bit, Part, Indexed, Unary, Binary, Cond, Concat, Repeat, Cast, Paren, End, More, Identifier, Statement, Statements, Arm, Arms, Null, Block, If, IfElse, Case, Assign, Done, Then, CaseItem, NoArms, MoreArms, Range, PortDeclaration, ParamAssignment, ParameterDeclaration, NetIdentifier, NetAssignment, EdgeEvent, EventControl, Star, Edges, Levels, NamedConnection, Connections, Positions, Names, ModuleInstance, ModuleItem, Ports, Nets, Variables, Integers, Parameters, Assigns, Always, Instances, ModuleDeclaration, SourceText}
 use Rattle.rr_syntax.specs.Expressions.{spell, spell_parts, spell_more, WellFormed, WellFormedParts, WellFormedMore, infix_level, is_prefix}
 use Rattle.rr_syntax.specs.Statements.{spell_label, spell_labels, spell_statement, spell_statements, spell_arm, spell_arms, is_case, WellFormedStatement, WellFormedStatements, WellFormedArm, WellFormedArms}

@@ -1,17 +1,15 @@
 -- The source text that was read is the one that the tokens spell, and where none was read, none is spelled.
-use Rattle.std.proofs.Common.{◌≡◌, ℕ, zero, suc, ◌+◌, ◌≤◌, ◌<◌, max, List, [], ◌∷◌, ◌++◌, length, drop, map, refl, ap, ◌∙◌, sym, arith, Option, Some, None, append-nil, length-drop, subst}
-use Rattle.std.specs.List.{AllByRecursion}
+use Rattle.std.proofs.Common.{◌≡◌, ℕ, List, [], ◌∷◌, length, drop, map, ap, ◌∙◌, sym, arith, Some, None, append-nil, length-drop, subst}
 use Rattle.rr_syntax.specs.declared.token.Token.{Token}
-use Rattle.rr_syntax.specs.declared.tree.Module.{Module}
 use Rattle.rr_syntax.specs.declared.tree.Source.{Source}
 use Rattle.rr_syntax.specs.Words.{Word, words}
 use Rattle.rr_syntax.specs.Tree.{ModuleDeclaration, SourceText, bare_module, bare_source}
-use Rattle.rr_syntax.specs.Items.{spell_module, spell_source, spell_all, WellFormedModule, WellFormedSource, depth_source, greatest, height_module, NumberedModule, NumberedSource, NumberedAll}
+use Rattle.rr_syntax.specs.Items.{spell_module, spell_source, spell_all, WellFormedSource, depth_source, NumberedSource}
 use Rattle.rr_syntax.specs.View.{plain_module, plain_source}
 use Rattle.rr_syntax.proofs.BareItems.{spell_source-bare, WellFormedSource-bare, depth_source-bare}
 use Rattle.rr_parse_expr.proofs.TokenWords.{length_words, words_past}
-use Rattle.rr_grammar.specs.Formats.{Format, Finds, FindsNone, repeated}
-use Rattle.rr_grammar.specs.ModuleForms.{one_module, modules}
+use Rattle.rr_grammar.specs.Formats.{Finds, FindsNone}
+use Rattle.rr_grammar.specs.ModuleForms.{modules}
 use Rattle.rr_grammar.proofs.Goods.{modules_good}
 use Rattle.rr_grammar.proofs.ModulesExact.{modules_exact, no_module}
 use Rattle.rr_parse.specs.Exact.{Spells, NoneSpells, IsSpelled, NotSpelled}
@@ -19,7 +17,6 @@ use Rattle.rr_parse.proofs.Backs.{modules_back}
 use Rattle.rr_parse_expr.specs.declared.expression.ParseFault.{ParseFault}
 use Rattle.rr_parse_expr.specs.declared.expression.ParseFault.TheVariants.{Unsupported, Syntax, Memory}
 use Rattle.rr_parse.specs.Answer.{Misses}
-use denote.Ref.{Bor}
 
 -- the tokens are read in full
 read_in_full : (T : List Token) (ms : List ModuleDeclaration) (next : ℕ) → next ≡ length T → Finds (modules 498 497) T 0 ms next → (modules 498 497).read (words T) ≡ Some (map bare_module ms, [])

@@ -5,7 +5,7 @@ use Rattle.rr_syntax.specs.Words.{words, mark_comma}
 use Rattle.rr_parse_expr.specs.Reading.{mark}
 use Rattle.rr_parse_expr.specs.declared.expression.ParseFault.{ParseFault}
 use Rattle.rr_parse_expr.specs.declared.expression.ParseFault.TheVariants.{Memory}
-use Rattle.rr_grammar.specs.Formats.{Finds, FindsNone}
+use Rattle.rr_grammar.specs.Formats.{Finds}
 use Rattle.rr_grammar.specs.Parts.{separator_of}
 use Rattle.rr_parse.specs.declared.tokens.Piece.{Piece}
 use Rattle.rr_parse.specs.declared.lists.Separated.{Separated}

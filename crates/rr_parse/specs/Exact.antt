@@ -1,5 +1,5 @@
 -- Which source text the tokens spell, and why there is none.
-use Rattle.std.specs.Prelude.{ℕ, ◌≡◌, ◌≤◌, List, length}
+use Rattle.std.specs.Prelude.{◌≡◌, ◌≤◌, List, length}
 use Rattle.rr_syntax.specs.declared.token.Token.{Token}
 use Rattle.rr_syntax.specs.declared.tree.Source.{Source}
 use Rattle.rr_syntax.specs.Words.{words}

@@ -1,6 +1,6 @@
 //! Connections and instances (IEEE 1364-2005 sections 12.1.2, 12.2.2 and 12.3.6, annex A.4.1).
 
-ghost use Rattle.std.specs.Prelude.{◌≡◌, ◌≤◌, ◌<◌, ◌+◌, ◌^◌, [], length, map};
+ghost use Rattle.std.specs.Prelude.{◌≤◌, ◌<◌, ◌+◌, ◌^◌, [], length};
 ghost use Rattle.rr_syntax.specs.View.{plain, plain_connection, plain_connections, plain_instance, plain_overrides, plain_value};
 ghost use Rattle.rr_grammar.specs.Connections.{connected as connected_of, connection as connection_of, connections as connections_of, names_closed as named_of, one_instance as instance_of, optional_closed as optional_of, overrides as overrides_of, positions_closed as positions_of};
 ghost use Rattle.rr_grammar.specs.Formats.{list as list_of};
@@ -10,11 +10,9 @@ ghost use Rattle.rr_parse.specs.Trees.{plain_list_by};
 
 use crate::expressions::{closed, entry};
 use crate::lists::list;
-use crate::tokens::{
-    CLOSE_PARENTHESIS, DOT, HASH, Input, OPEN_PARENTHESIS, Piece, mark, mark_at, name,
-};
+use crate::tokens::{CLOSE_PARENTHESIS, DOT, HASH, Input, OPEN_PARENTHESIS, Piece, mark, name};
 use bumpalo::collections::into_bump_slice;
-use rr_parse_expr::ParseFault;
+use rr_parse_expr::{ParseFault, mark_at};
 use rr_syntax::{Connection, Conns, Expr, Instance};
 
 /// An expression, if one stands there, and the closing bracket.

@@ -1,9 +1,9 @@
 //! Declarations and continuous assignments (IEEE 1364-2005 sections 6.1 and 12.2, annexes A.2.1 and
 //! A.2.4).
 
-ghost use Rattle.std.specs.Prelude.{◌≡◌, ◌≤◌, ◌<◌, ◌+◌, ◌^◌, length, map};
+ghost use Rattle.std.specs.Prelude.{◌≡◌, ◌≤◌, ◌<◌, ◌+◌, ◌^◌, length};
 ghost use Rattle.rr_syntax.specs.View.{plain_assignment, plain_identifier, plain_net, plain_pair, plain_parameter, plain_value};
-ghost use Rattle.rr_syntax.specs.Words.{keyword_localparam, mark_equals};
+ghost use Rattle.rr_syntax.specs.Words.{mark_equals};
 ghost use Rattle.rr_grammar.specs.Declarations.{head_parameter as head_of, kind as kind_of, net as net_of, pair as pair_of, parameter as parameter_of, setting as setting_of};
 ghost use Rattle.rr_grammar.specs.Formats.{list as list_of};
 ghost use Rattle.rr_grammar.specs.ItemForms.{begins_parameters};
@@ -14,10 +14,10 @@ ghost use Rattle.rr_parse.specs.Trees.{plain_kind, plain_list_by, plain_type};
 use crate::expressions::{expression, range, target};
 use crate::lists::list;
 use crate::tokens::{
-    EQUALS, INTEGER, Input, LOCALPARAM, PARAMETER, Piece, SIGNED, choice, flag, keyword_at, mark,
-    mark_at, name,
+    EQUALS, INTEGER, Input, LOCALPARAM, PARAMETER, Piece, SIGNED, choice, flag, mark, name,
 };
-use rr_parse_expr::ParseFault;
+use rr_parse_expr::{ParseFault, mark_at};
+use rr_parse_stmt::keyword_at;
 use rr_syntax::{Bounds, Expr, Named, NetName, Pair, Params, Setting};
 
 /// `signed` and a range, where they stand.

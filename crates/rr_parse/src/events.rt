@@ -11,10 +11,10 @@ ghost use Rattle.rr_parse.specs.Trees.{AnswersParts};
 use crate::expressions::entry;
 use crate::lists::{Separated, alternating};
 use crate::tokens::{
-    CLOSE_PARENTHESIS, Input, NEGEDGE, OPEN_PARENTHESIS, POSEDGE, Piece, STAR, choice, keyword_at,
-    mark, mark_at, name,
+    CLOSE_PARENTHESIS, Input, NEGEDGE, OPEN_PARENTHESIS, POSEDGE, Piece, STAR, choice, mark, name,
 };
-use rr_parse_expr::ParseFault;
+use rr_parse_expr::{ParseFault, mark_at};
+use rr_parse_stmt::keyword_at;
 use rr_syntax::{Event, Events, Expr};
 
 /// `posedge` or `negedge`, and a name (section 9.7.2).

@@ -1,19 +1,17 @@
 //! Expressions and statements in items, with the marks that stand around them.
 
-ghost use Rattle.std.specs.Prelude.{◌≡◌, ◌≤◌, ◌<◌, ◌+◌, ◌^◌, length};
+ghost use Rattle.std.specs.Prelude.{◌≤◌, ◌<◌, ◌+◌, ◌^◌, length};
 ghost use Rattle.rr_syntax.specs.View.{plain, plain_range};
 ghost use Rattle.rr_parse_expr.specs.Reading.{no_mark};
-ghost use Rattle.rr_parse_stmt.specs.Reading.{no_word};
 ghost use Rattle.rr_grammar.specs.Formats.{before_mark};
 ghost use Rattle.rr_grammar.specs.ItemForms.{statement_of};
 ghost use Rattle.rr_grammar.specs.Leaves.{expression as expression_of, range as range_of, target_of};
 ghost use Rattle.rr_parse.specs.Answer.{Answers, bounds_of, plain_behind, plain_bounds, statement_behind};
 
-use crate::targets::is_target;
-use crate::tokens::{CLOSE_BRACKET, COLON, Input, OPEN_BRACKET, Piece, mark, mark_at};
-use rr_parse_expr::{ParseFault, expr_within, operand_within};
+use crate::tokens::{CLOSE_BRACKET, COLON, Input, OPEN_BRACKET, Piece, mark};
+use rr_parse_expr::{ParseFault, expr_within, mark_at, operand_within};
 use rr_parse_stmt::stmt;
-use rr_syntax::{Bounds, Expr, Stmt};
+use rr_syntax::{Bounds, Expr, Stmt, is_target};
 
 /// The longest expression of a depth.
 pub(crate) fn expression<'a>(

@@ -1,6 +1,6 @@
 //! Items of modules (IEEE 1364-2005 section 12.1, annex A.1.4), by their first token.
 
-ghost use Rattle.std.specs.Prelude.{◌≡◌, ◌≤◌, ◌<◌, ◌+◌, ◌^◌, length};
+ghost use Rattle.std.specs.Prelude.{◌≤◌, ◌<◌, ◌^◌, length};
 ghost use Rattle.rr_syntax.specs.View.{plain_item};
 ghost use Rattle.rr_grammar.specs.Formats.{repeated};
 ghost use Rattle.rr_grammar.specs.ItemForms.{always_item as always_of, assigns_item as assigns_of, instances_item as instances_of, integers_item as integers_of, item as item_of, nets_item as nets_of, parameters_item as parameters_of, ports_item as ports_of, variables_item as variables_of};
@@ -14,9 +14,10 @@ use crate::expressions::statement;
 use crate::lists::all;
 use crate::ports::{begins_port, port};
 use crate::tokens::{
-    ALWAYS, ASSIGN, AT, INTEGER, Input, Piece, REG, SEMICOLON, WIRE, keyword_at, mark, name, word,
+    ALWAYS, ASSIGN, AT, INTEGER, Input, Piece, REG, SEMICOLON, WIRE, mark, name, word,
 };
 use rr_parse_expr::ParseFault;
+use rr_parse_stmt::keyword_at;
 use rr_syntax::Item;
 
 /// Ports that are declared among the items (section 12.3.3).

@@ -1,4 +1,6 @@
-//! Reads source texts of the Verilog profile from tokens.
+//! Reads source texts of the Verilog profile from tokens (IEEE 1364-2005 annex A). It is right where
+//! the tree is the one that spells the tokens, or where none does. It stands on the readers of
+//! expressions and statements, and its proof on `rr_grammar`.
 #![tactic(auto)]
 
 mod connections;
@@ -11,7 +13,6 @@ mod lists;
 mod modules;
 mod ports;
 mod source;
-mod targets;
 #[cfg(test)]
 mod tests;
 mod tokens;

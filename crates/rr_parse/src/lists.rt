@@ -1,15 +1,16 @@
 //! Lists of parts, each read by a function that is handed in.
 
-ghost use Rattle.std.specs.Prelude.{◌≡◌, ◌≤◌, ◌<◌, ◌+◌, ◌^◌, ℕ, ◌∷◌, [], ◌++◌, length, IfOk, MatchOption, Ok, List};
+ghost use Rattle.std.specs.Prelude.{◌≡◌, ◌≤◌, ◌<◌, ◌+◌, ◌^◌, ℕ, ◌∷◌, [], ◌++◌, length, IfOk, MatchOption, Ok};
 ghost use Rattle.rr_parse.specs.declared.tokens.Piece.{Piece};
 ghost use Rattle.rr_grammar.specs.Formats.{Finds, FindsNone};
 ghost use Rattle.rr_grammar.specs.Parts.{separator_of};
 ghost use Rattle.rr_parse.specs.Chains.{AnswersAll, AnswersList, AnswersSeparated};
 
-use crate::tokens::{COMMA, OR, Piece, keyword_at, mark_at};
+use crate::tokens::{COMMA, OR, Piece};
 use bumpalo::Bump;
 use bumpalo::collections::into_bump_slice;
-use rr_parse_expr::ParseFault;
+use rr_parse_expr::{ParseFault, mark_at};
+use rr_parse_stmt::keyword_at;
 use rr_syntax::Token;
 use std::alloc::AllocError;
 

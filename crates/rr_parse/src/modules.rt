@@ -1,7 +1,7 @@
 //! Modules (IEEE 1364-2005 section 12.1, annex A.1.2).
 
-ghost use Rattle.std.specs.Prelude.{◌≡◌, ◌≤◌, ◌<◌, ◌+◌, ◌^◌, length, map};
-ghost use Rattle.rr_syntax.specs.View.{plain_identifier, plain_module, plain_parameter};
+ghost use Rattle.std.specs.Prelude.{◌≤◌, ◌<◌, ◌+◌, ◌^◌, length};
+ghost use Rattle.rr_syntax.specs.View.{plain_module, plain_parameter};
 ghost use Rattle.rr_grammar.specs.Formats.{repeated};
 ghost use Rattle.rr_grammar.specs.ModuleForms.{group_ports as groups_of, heads as heads_of, name_ports as names_of, one_module as module_of, port_list as port_list_of, ports_in as ports_of};
 ghost use Rattle.rr_parse.specs.Answer.{Answers};
@@ -12,11 +12,12 @@ use crate::items::items;
 use crate::lists::all;
 use crate::ports::{begins_port, ports};
 use crate::tokens::{
-    CLOSE_PARENTHESIS, ENDMODULE, HASH, Input, MODULE, OPEN_PARENTHESIS, Piece, SEMICOLON,
-    keyword_at, mark, mark_at, name, word,
+    CLOSE_PARENTHESIS, ENDMODULE, HASH, Input, MODULE, OPEN_PARENTHESIS, Piece, SEMICOLON, mark,
+    name, word,
 };
 use bumpalo::collections::into_bump_slice;
-use rr_parse_expr::ParseFault;
+use rr_parse_expr::{ParseFault, mark_at};
+use rr_parse_stmt::keyword_at;
 use rr_syntax::{Group, Module, Named, Params};
 
 /// The depth of an expression in the brackets of a module: the module is one level, and the node

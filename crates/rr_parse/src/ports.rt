@@ -11,8 +11,9 @@ ghost use Rattle.rr_parse.specs.Trees.{plain_list_by};
 
 use crate::declarations::{names, typed};
 use crate::lists::list;
-use crate::tokens::{INPUT, Input, OUTPUT, Piece, REG, WIRE, keyword_at};
+use crate::tokens::{INPUT, Input, OUTPUT, Piece, REG, WIRE};
 use rr_parse_expr::ParseFault;
+use rr_parse_stmt::keyword_at;
 use rr_syntax::{Dir, Group, Token};
 
 /// Whether a reserved word begins port declarations.

@@ -1,6 +1,6 @@
 //! The tree of a source text.
 
-ghost use Rattle.std.specs.Prelude.{◌≡◌, ◌≤◌, ◌<◌, ◌^◌, length, MatchResult};
+ghost use Rattle.std.specs.Prelude.{◌<◌, ◌^◌, length, MatchResult};
 ghost use Rattle.rr_parse.specs.Exact.{IsParsed, IsRefusal, IsSpelled, NotSpelled};
 
 use crate::modules::modules;

@@ -1,20 +1,18 @@
 //! What stands at a token: marks, reserved words and names.
 
-ghost use Rattle.std.specs.Prelude.{◌≡◌, ◌≤◌, ◌<◌, ◌+◌, ◌^◌, length, drop, MatchResult};
+ghost use Rattle.std.specs.Prelude.{◌≤◌, ◌<◌, ◌+◌, ◌^◌, length};
 ghost use Rattle.rr_syntax.specs.Words.{words};
 ghost use Rattle.rr_syntax.specs.View.{plain_identifier};
-ghost use Rattle.rr_parse_expr.specs.Reading.{mark as mark_of, no_mark};
-ghost use Rattle.rr_parse_stmt.specs.Reading.{keyword as keyword_of, no_word};
+ghost use Rattle.rr_parse_expr.specs.Reading.{no_mark};
+ghost use Rattle.rr_parse_stmt.specs.Reading.{no_word};
 ghost use Rattle.rr_grammar.specs.Formats.{Finds};
 ghost use Rattle.rr_grammar.specs.Leaves.{choice as choice_of, flag as flag_of, identifier};
 ghost use Rattle.rr_parse.specs.Answer.{Answers, AnswersMark, AnswersWord, the_same};
 
 use bumpalo::Bump;
-use rr_parse_expr::ParseFault;
+use rr_parse_expr::{ParseFault, mark_at};
+use rr_parse_stmt::keyword_at;
 use rr_syntax::{Kind, Named, Token};
-
-/// What stands for the mark or the reserved word where none stands.
-const NONE: u8 = 255;
 
 pub(crate) const OPEN_PARENTHESIS: u8 = 0;
 
@@ -82,34 +80,6 @@ pub(crate) struct Input<'a> {
 pub(crate) struct Piece<T> {
     pub(crate) value: T,
     pub(crate) next: u32,
-}
-
-/// The mark that stands at a place, if one does.
-#[tactic(auto, using(rr_parse_expr::proofs::TokenWords::words_at, rr_parse_expr::proofs::TokenWords::words_past), unfolding(rr_parse_expr::specs::Reading::mark))]
-pub(crate) fn mark_at(tokens: &[Token], at: u32) -> u8
-    ensures { result ≡ mark_of (drop at (words tokens.now)) }
-{
-    match tokens.get(at as usize) {
-        Some(token) => match token.kind {
-            Kind::Mark(found) => found.0,
-            _ => NONE,
-        },
-        None => NONE,
-    }
-}
-
-/// The reserved word that stands at a place, if one does.
-#[tactic(auto, using(rr_parse_expr::proofs::TokenWords::words_at, rr_parse_expr::proofs::TokenWords::words_past), unfolding(rr_parse_stmt::specs::Reading::keyword))]
-pub(crate) fn keyword_at(tokens: &[Token], at: u32) -> u8
-    ensures { result ≡ keyword_of (drop at (words tokens.now)) }
-{
-    match tokens.get(at as usize) {
-        Some(token) => match token.kind {
-            Kind::Keyword(found) => found.0,
-            _ => NONE,
-        },
-        None => NONE,
-    }
 }
 
 /// The token after this mark, where it stands at a place.

@@ -1,4 +1,6 @@
-//! Reads expressions of the Verilog profile from tokens.
+//! Reads expressions of the Verilog profile from tokens (IEEE 1364-2005 section 5.1 and annex A.8).
+//! It is right where the tree is the longest well-formed one of a depth that begins at a token. It
+//! stands on `rr_syntax`'s trees.
 #![tactic(auto)]
 
 mod expression;
@@ -11,3 +13,4 @@ mod tests;
 
 pub use expression::{ParseFault, expr, expr_within, operand, operand_within};
 pub use laws::one_tree;
+pub use marks::mark_at;

@@ -92,9 +92,9 @@ fn level(expr: &Expr) -> u8
     }
 }
 
-/// The mark that stands at a place, if one does.
+/// The mark that stands at a place, by its number in the table of marks; 255 where none does.
 #[tactic(auto, using(crate::proofs::TokenWords::words_at, crate::proofs::TokenWords::words_past), unfolding(crate::specs::Reading::mark))]
-pub(crate) fn mark_at(tokens: &[Token], at: u32) -> u8
+pub fn mark_at(tokens: &[Token], at: u32) -> u8
     ensures { result ≡ mark (drop at (words tokens.now)) }
 {
     match tokens.get(at as usize) {

@@ -90,26 +90,7 @@ fn show(expr: &Expr, out: &mut String<Global>) -> Result<(), AllocError> {
     match expr {
         Expr::Name { name, .. } => out.push_str(*name),
         Expr::Literal { number, .. } => out.push_str(if number.value == 2 { "2" } else { "?" }),
-        Expr::Bit { name, index, .. } => show_one(*name, "[", index, "]", out),
-        Expr::Part {
-            name,
-            left,
-            right,
-            ..
-        } => {
-            show_one(*name, "[", left, ":", out)?;
-            show_one("", "", right, "]", out)
-        }
-        Expr::Indexed {
-            name,
-            from,
-            width,
-            up,
-            ..
-        } => {
-            show_one(*name, "[", from, if *up { "+:" } else { "-:" }, out)?;
-            show_one("", "", width, "]", out)
-        }
+        Expr::Bit { .. } | Expr::Part { .. } | Expr::Indexed { .. } => show_select(expr, out),
         Expr::Unary { op, of } => show_one("(", spelled(*op), of, ")", out),
         Expr::Binary { op, left, right } => {
             show_one("", "(", left, spelled(*op), out)?;
@@ -131,6 +112,34 @@ fn show(expr: &Expr, out: &mut String<Global>) -> Result<(), AllocError> {
             show_one(name, "(", of, ")", out)
         }
         Expr::Paren { of } => show_one("", "<", of, ">", out),
+    }
+}
+
+/// Writes a name with its select.
+#[cycle(show)]
+fn show_select(expr: &Expr, out: &mut String<Global>) -> Result<(), AllocError> {
+    match expr {
+        Expr::Bit { name, index, .. } => show_one(*name, "[", index, "]", out),
+        Expr::Part {
+            name,
+            left,
+            right,
+            ..
+        } => {
+            show_one(*name, "[", left, ":", out)?;
+            show_one("", "", right, "]", out)
+        }
+        Expr::Indexed {
+            name,
+            from,
+            width,
+            up,
+            ..
+        } => {
+            show_one(*name, "[", from, if *up { "+:" } else { "-:" }, out)?;
+            show_one("", "", width, "]", out)
+        }
+        _ => Ok(()),
     }
 }
 

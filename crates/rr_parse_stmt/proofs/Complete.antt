@@ -7,7 +7,7 @@ use Rattle.rr_syntax.specs.Expressions.{depth, height, WellFormed, WellFormedMor
 use Rattle.rr_syntax.specs.Statements.{is_open, spell_label, spell_labels, spell_statement, spell_statements, spell_arm, spell_arms, is_case, HasColon, defaults, HasArms, WellFormedStatement, WellFormedStatements, WellFormedArm, WellFormedArms, depth_statement, height_statements, depth_arm, height_arms}
 use Rattle.rr_syntax.proofs.BareExpressions.{is_target-bare}
 use Rattle.rr_syntax.proofs.Equations.{spellings, statement_spellings, more-End, more-More, labels-End, statement-Null, arms-NoArms, statements-Done}
-use Rattle.rr_parse_expr.specs.Reading.{Found, Reader, mapped, chain, mark, rest, expect, closed, snoc, reads, nothing}
+use Rattle.rr_parse_expr.specs.Reading.{Found, mark, rest, snoc, reads, nothing}
 use Rattle.rr_parse_expr.proofs.Facts.{follow_level, follow-colon, follow-comma}
 use Rattle.rr_parse_expr.proofs.Complete.{appended, appended-snoc, appended-End}
 use Rattle.rr_parse_stmt.specs.Reading.{keyword, no_word, name, label, snoc_statement, snoc_arm, body, labels_after, labels, arms, assigned, statement, arm, below_statement, below_arm, no_statement, no_arm}

@@ -1,10 +1,10 @@
 pub mod Answered
 pub mod Before
+pub mod Choices
 pub mod Complete
 pub mod Exactly
 pub mod FromExpressions
 pub mod Names
 pub mod Sound
 pub mod Steps
-pub mod Targets
 pub mod WholeSources

@@ -5,7 +5,7 @@ use Rattle.rr_syntax.specs.Words.{Word, keyword_begin, keyword_default, keyword_
 use Rattle.rr_syntax.specs.Tree.{Tree, Trees, End, More, Identifier, Statement, Statements, Arm, Arms, Null, Block, If, IfElse, Case, Assign, Done, CaseItem, NoArms}
 use Rattle.rr_syntax.specs.Expressions.{is_target, unary_level}
 use Rattle.rr_syntax.specs.Statements.{is_case, defaults}
-use Rattle.rr_parse_expr.specs.Reading.{Found, Reader, mapped, chain, mark, rest, expect, closed, snoc, reads, nothing}
+use Rattle.rr_parse_expr.specs.Reading.{Found, Reader, mapped, chain, mark, rest, expect, closed, snoc}
 use Rattle.rr_parse_expr.specs.Reading as expressions
 use Rattle.rr_parse_stmt.specs.Reading.{keyword, StatementReader, ArmReader, name, label, snoc_statement, snoc_arm, body, block, tested, after_then, conditional, labels_after, labels, default_arm, labelled_arm, arm_by, arms, cases, assigned, target, assignment, statement_by, statement, arm, below_statement, below_arm}
 

@@ -7,13 +7,11 @@ ghost use Rattle.rr_parse_expr.specs.Reading.{below, closed as closed_of, no_mar
 ghost use Rattle.rr_parse_stmt.specs.Reading.{labels as labels_of, target as target_of, tested as tested_of};
 ghost use Rattle.rr_parse_stmt.specs.Answer.{AnswersLabelling, AnswersLabels, AnswersTarget, AnswersTree, FindsTree};
 
-use crate::parts::{
-    CLOSE_PARENTHESIS, COLON, COMMA, OPEN_PARENTHESIS, add_label, is_target, mark_at,
-};
+use crate::parts::{CLOSE_PARENTHESIS, COLON, COMMA, OPEN_PARENTHESIS, add_label};
 use bumpalo::Bump;
 use bumpalo::collections::into_bump_slice;
-use rr_parse_expr::{ParseFault, expr_within, operand_within};
-use rr_syntax::{Expr, Token};
+use rr_parse_expr::{ParseFault, expr_within, mark_at, operand_within};
+use rr_syntax::{Expr, Token, is_target};
 use std::alloc::AllocError;
 
 /// An expression and the token after what was read.

@@ -1,17 +1,17 @@
 //! What stands at a token: marks, reserved words and names.
 
-ghost use Rattle.std.specs.Prelude.{◌≡◌, ◌≤◌, ◌<◌, ◌+◌, [], ◌∷◌, ◌++◌, length, drop, IfOk};
+ghost use Rattle.std.specs.Prelude.{◌≡◌, ◌≤◌, ◌<◌, ◌+◌, [], ◌∷◌, ◌++◌, drop, IfOk};
 ghost use Rattle.rr_syntax.specs.Words.{words};
-ghost use Rattle.rr_syntax.specs.Expressions.{is_target as is_target_of, are_targets as are_targets_of};
 ghost use Rattle.rr_syntax.specs.Statements.{defaults as defaults_of};
 ghost use Rattle.rr_syntax.specs.Tree.{MoreArms, NoArms};
-ghost use Rattle.rr_syntax.specs.View.{plain, plain_arm, plain_list};
+ghost use Rattle.rr_syntax.specs.View.{plain_arm};
 ghost use Rattle.rr_parse_expr.specs.Reading.{mark};
 ghost use Rattle.rr_parse_stmt.specs.Reading.{keyword, sign};
 ghost use Rattle.rr_parse_stmt.specs.Answer.{AnswersName};
 ghost use Rattle.rr_parse_stmt.specs.Loops.{at_most_one};
 
 use bumpalo::Bump;
+use rr_parse_expr::mark_at;
 use rr_syntax::{Arm, Expr, Kind, Named, Stmt, Token};
 use std::alloc::AllocError;
 
@@ -50,23 +50,9 @@ pub(crate) const ENDCASE: u8 = 22;
 
 pub(crate) const IF: u8 = 41;
 
-/// The mark that stands at a place, if one does.
-#[tactic(auto, using(rr_parse_expr::proofs::TokenWords::words_at, rr_parse_expr::proofs::TokenWords::words_past), unfolding(rr_parse_expr::specs::Reading::mark))]
-pub(crate) fn mark_at(tokens: &[Token], at: u32) -> u8
-    ensures { result ≡ mark (drop at (words tokens.now)) }
-{
-    match tokens.get(at as usize) {
-        Some(token) => match token.kind {
-            Kind::Mark(found) => found.0,
-            _ => NONE,
-        },
-        None => NONE,
-    }
-}
-
-/// The reserved word that stands at a place, if one does.
+/// The reserved word that stands at a place, by its number in the table of words; 255 where none does.
 #[tactic(auto, using(rr_parse_expr::proofs::TokenWords::words_at, rr_parse_expr::proofs::TokenWords::words_past), unfolding(crate::specs::Reading::keyword))]
-pub(crate) fn keyword_at(tokens: &[Token], at: u32) -> u8
+pub fn keyword_at(tokens: &[Token], at: u32) -> u8
     ensures { result ≡ keyword (drop at (words tokens.now)) }
 {
     match tokens.get(at as usize) {
@@ -104,38 +90,6 @@ pub(crate) fn name_at<'a>(tokens: &'a [Token<'a>], at: u32) -> Option<Named<'a>>
         },
         None => None,
     }
-}
-
-/// Whether a tree may be assigned (IEEE 1364-2005 annex A.8.5).
-#[tactic(auto, using(crate::proofs::Targets::target_forms))]
-#[cycle(targets)]
-pub(crate) fn is_target(expr: &Expr) -> bool
-    ensures { result ≡ is_target_of (plain expr.now) }
-{
-    match expr {
-        Expr::Name { .. } | Expr::Bit { .. } | Expr::Part { .. } | Expr::Indexed { .. } => true,
-        Expr::Concat { parts } => are_targets(parts),
-        Expr::Literal { .. }
-        | Expr::Unary { .. }
-        | Expr::Binary { .. }
-        | Expr::Cond { .. }
-        | Expr::Repeat { .. }
-        | Expr::Cast { .. }
-        | Expr::Paren { .. } => false,
-    }
-}
-
-#[tactic(auto, using(crate::proofs::Targets::target_forms))]
-#[cycle(targets)]
-fn are_targets(parts: &[Expr]) -> bool
-    ensures { result ≡ are_targets_of (plain_list parts.now) }
-{
-    for part in parts.iter() {
-        if !is_target(part) {
-            return false;
-        }
-    }
-    true
 }
 
 /// The number of default arms with this one, where it is not the second.

@@ -1,6 +1,6 @@
 //! The reader of statements.
 
-ghost use Rattle.std.specs.Prelude.{◌≡◌, ◌≤◌, ◌<◌, ◌+◌, ◌^◌, [], suc, length, drop, cond, nat_eq, IfOk, IsTrue, Some};
+ghost use Rattle.std.specs.Prelude.{◌≡◌, ◌≤◌, ◌<◌, ◌+◌, ◌^◌, [], suc, length, drop, cond, nat_eq, IfOk, Some};
 ghost use Rattle.rr_syntax.specs.Words.{words, keyword_else, mark_colon};
 ghost use Rattle.rr_syntax.specs.Statements.{is_case as case_of};
 ghost use Rattle.rr_parse_expr.specs.Reading.{below, mark as mark_of};
@@ -12,10 +12,11 @@ use crate::expressions::{LabelList, Placed, closed, labels, target, tested};
 use crate::nodes::{ArmPiece, LabelPiece, Piece, case_item, if_alone, if_else, no_labels};
 use crate::parts::{
     BEGIN, CASE, CASEX, CASEZ, COLON, DEFAULT, ELSE, END, ENDCASE, IF, SEMICOLON, add_arm,
-    add_statement, counted, keyword_at, mark_at, name_at, sign_at,
+    add_statement, counted, keyword_at, name_at, sign_at,
 };
 use bumpalo::Bump;
 use bumpalo::collections::into_bump_slice;
+use rr_parse_expr::mark_at;
 use rr_syntax::{Arm, Keyword, Stmt, Token};
 use std::alloc::AllocError;
 

@@ -1,6 +1,6 @@
 //! The statement at a token.
 
-ghost use Rattle.std.specs.Prelude.{◌≡◌, ◌≤◌, ◌<◌, ◌^◌, length, MatchResult};
+ghost use Rattle.std.specs.Prelude.{◌≤◌, ◌<◌, ◌^◌, length, MatchResult};
 ghost use Rattle.rr_parse_stmt.specs.Exact.{IsStatement, Fails};
 
 use crate::reader::statement;

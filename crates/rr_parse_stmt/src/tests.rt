@@ -69,6 +69,26 @@ fn show_expr(expr: &Expr, out: &mut String<Global>) -> Result<(), AllocError> {
     }
 }
 
+fn show_assignment(
+    target: &Expr,
+    now: bool,
+    value: &Expr,
+    out: &mut String<Global>,
+) -> Result<(), AllocError> {
+    show_expr(target, out)?;
+    out.push_str(if now { "=" } else { "<=" })?;
+    show_expr(value, out)?;
+    out.push_str(";")
+}
+
+fn case_word(kind: Keyword) -> &'static str {
+    if kind == Keyword::CASE {
+        "case "
+    } else {
+        "casez "
+    }
+}
+
 /// Writes a statement with a pair of brackets for each part of an `if`.
 #[cycle(show)]
 fn show(stmt: &Stmt, out: &mut String<Global>) -> Result<(), AllocError> {
@@ -101,23 +121,14 @@ fn show(stmt: &Stmt, out: &mut String<Global>) -> Result<(), AllocError> {
             }
         }
         Stmt::Case { kind, on, arms } => {
-            out.push_str(if *kind == Keyword::CASE {
-                "case "
-            } else {
-                "casez "
-            })?;
+            out.push_str(case_word(*kind))?;
             show_expr(on, out)?;
             for arm in arms.iter() {
                 show_arm(arm, out)?;
             }
             out.push_str(" end")
         }
-        Stmt::Assign { target, now, value } => {
-            show_expr(target, out)?;
-            out.push_str(if *now { "=" } else { "<=" })?;
-            show_expr(value, out)?;
-            out.push_str(";")
-        }
+        Stmt::Assign { target, now, value } => show_assignment(target, *now, value, out),
     }
 }
 
@@ -157,8 +168,8 @@ fn shown(alloc: Global, text: &str) -> Result<String<Global>, Fail> {
 }
 
 #[test]
-fn each_statement(rt: HostRuntime) -> Result<(), Fail> {
-    let cases: [(&str, &str); 20] = [
+fn each_block_and_assignment(rt: HostRuntime) -> Result<(), Fail> {
+    let cases: [(&str, &str); 10] = [
         ("; ;", "; 1"),
         ("begin end", "{} 2"),
         ("begin : b ; a = b ; end", "{b:;a=b;} 9"),
@@ -169,6 +180,16 @@ fn each_statement(rt: HostRuntime) -> Result<(), Fail> {
         ("a [ 2 ] <= b ;", "*<=b; 7"),
         ("a [ 2 : 1 ] = b ;", "*=b; 9"),
         ("{ a , { b [ i ] } } = c + d ;", "*=*; 15"),
+    ];
+    for (text, wanted) in cases {
+        assert!(rt; shown(rt.alloc(), text)?.as_str() == wanted, "{text}");
+    }
+    Ok(())
+}
+
+#[test]
+fn each_if_and_case(rt: HostRuntime) -> Result<(), Fail> {
+    let cases: [(&str, &str); 10] = [
         ("if ( a ) ; end", "if a(;) 5"),
         ("if ( a ) b = c ; else ;", "if a(b=c;)else(;) 10"),
         ("if ( a ) if ( b ) ; else ;", "if a(if b(;)else(;)) 11"),

@@ -43,27 +43,27 @@ map-map g h [] = refl
 map-map g h (x ∷ xs) = rw (h x, map-map g h xs) refl
 
 -- spelling
-spell_identifier-bare : (i : Identifier) → spell_identifier (bare_identifier i) ≡ spell_identifier i
+pub spell_identifier-bare : (i : Identifier) → spell_identifier (bare_identifier i) ≡ spell_identifier i
 unfolding spell_identifier bare_identifier
 spell_identifier-bare i = refl
 
-names-bare : (names : List Identifier) → spell_separated spell_identifier (map bare_identifier names) ≡ spell_separated spell_identifier names
-names-bare names = spell_separated-map spell_identifier bare_identifier spell_identifier-bare names
+pub spell_names-bare : (names : List Identifier) → spell_separated spell_identifier (map bare_identifier names) ≡ spell_separated spell_identifier names
+spell_names-bare names = spell_separated-map spell_identifier bare_identifier spell_identifier-bare names
 
 spell_range-bare : (r : Option Range) → spell_range (bare_range r) ≡ spell_range r
 unfolding spell_range bare_range
 spell_range-bare None = refl
 spell_range-bare (Some r) = rw (spell-bare r.left, spell-bare r.right) refl
 
-spell_type-bare : (signed : Bool) (r : Option Range) → spell_type signed (bare_range r) ≡ spell_type signed r
+pub spell_type-bare : (signed : Bool) (r : Option Range) → spell_type signed (bare_range r) ≡ spell_type signed r
 unfolding spell_type
 spell_type-bare signed r = rw (spell_range-bare r) refl
 
 pub spell_port-bare : (p : PortDeclaration) → spell_port (bare_port p) ≡ spell_port p
 unfolding spell_port bare_port
-spell_port-bare p = rw (spell_type-bare p.signed p.range, names-bare p.names) refl
+spell_port-bare p = rw (spell_type-bare p.signed p.range, spell_names-bare p.names) refl
 
-spell_assignment-bare : (a : ParamAssignment) → spell_assignment (bare_assignment a) ≡ spell_assignment a
+pub spell_assignment-bare : (a : ParamAssignment) → spell_assignment (bare_assignment a) ≡ spell_assignment a
 unfolding spell_assignment bare_assignment
 spell_assignment-bare a = rw (spell-bare a.value) refl
 
@@ -76,15 +76,15 @@ unfolding spell_value bare_value
 spell_value-bare None = refl
 spell_value-bare (Some t) = rw (spell-bare t) refl
 
-spell_net-bare : (n : NetIdentifier) → spell_net (bare_net n) ≡ spell_net n
+pub spell_net-bare : (n : NetIdentifier) → spell_net (bare_net n) ≡ spell_net n
 unfolding spell_net bare_net
 spell_net-bare n = rw (spell_value-bare n.value) refl
 
-spell_pair-bare : (p : NetAssignment) → spell_pair (bare_pair p) ≡ spell_pair p
+pub spell_pair-bare : (p : NetAssignment) → spell_pair (bare_pair p) ≡ spell_pair p
 unfolding spell_pair bare_pair
 spell_pair-bare p = rw (spell-bare p.target, spell-bare p.value) refl
 
-spell_edge-bare : (e : EdgeEvent) → spell_edge (bare_edge e) ≡ spell_edge e
+pub spell_edge-bare : (e : EdgeEvent) → spell_edge (bare_edge e) ≡ spell_edge e
 unfolding spell_edge bare_edge
 spell_edge-bare e = refl
 
@@ -108,7 +108,7 @@ unfolding spell_levels bare
 spell_levels-bare End commas = refl
 spell_levels-bare (More t ts) commas = rw (spell-bare t, spell_more_levels-bare ts commas) refl
 
-spell_events-bare : (e : EventControl) → spell_events (bare_events e) ≡ spell_events e
+pub spell_events-bare : (e : EventControl) → spell_events (bare_events e) ≡ spell_events e
 unfolding spell_events bare_events
 spell_events-bare (Star brackets) = refl
 spell_events-bare (Edges list commas) = rw (spell_edges-bare list commas) refl
@@ -119,7 +119,7 @@ unfolding spell_optional bare_value
 spell_optional-bare None = refl
 spell_optional-bare (Some t) = spell-bare t
 
-spell_connection-bare : (c : NamedConnection) → spell_connection (bare_connection c) ≡ spell_connection c
+pub spell_connection-bare : (c : NamedConnection) → spell_connection (bare_connection c) ≡ spell_connection c
 unfolding spell_connection bare_connection
 spell_connection-bare c = rw (spell_optional-bare c.value) refl
 
@@ -128,12 +128,12 @@ unfolding spell_connections bare_connections
 spell_connections-bare (Positions ts) = rw (spell_parts-bare ts) refl
 spell_connections-bare (Names cs) = rw (spell_separated-map spell_connection bare_connection spell_connection-bare cs) refl
 
-spell_overrides-bare : (c : Option Connections) → spell_overrides (bare_overrides c) ≡ spell_overrides c
+pub spell_overrides-bare : (c : Option Connections) → spell_overrides (bare_overrides c) ≡ spell_overrides c
 unfolding spell_overrides bare_overrides
 spell_overrides-bare None = refl
 spell_overrides-bare (Some c) = rw (spell_connections-bare c) refl
 
-spell_instance-bare : (i : ModuleInstance) → spell_instance (bare_instance i) ≡ spell_instance i
+pub spell_instance-bare : (i : ModuleInstance) → spell_instance (bare_instance i) ≡ spell_instance i
 unfolding spell_instance bare_instance
 spell_instance-bare i = rw (spell_connections-bare i.connections) refl
 
@@ -141,22 +141,22 @@ pub spell_item-bare : (i : ModuleItem) → spell_item (bare_item i) ≡ spell_it
 unfolding spell_item bare_item
 spell_item-bare (Ports p) = rw (spell_port-bare p) refl
 spell_item-bare (Nets signed range names) = rw (spell_type-bare signed range, spell_separated-map spell_net bare_net spell_net-bare names) refl
-spell_item-bare (Variables signed range names) = rw (spell_type-bare signed range, names-bare names) refl
-spell_item-bare (Integers names) = rw (names-bare names) refl
+spell_item-bare (Variables signed range names) = rw (spell_type-bare signed range, spell_names-bare names) refl
+spell_item-bare (Integers names) = rw (spell_names-bare names) refl
 spell_item-bare (Parameters p) = rw (spell_parameter-bare p) refl
 spell_item-bare (Assigns pairs) = rw (spell_separated-map spell_pair bare_pair spell_pair-bare pairs) refl
 spell_item-bare (Always events s token) = rw (spell_events-bare events, spell_statement-bare s) refl
 spell_item-bare (Instances m token overrides list) = rw (spell_overrides-bare overrides, spell_separated-map spell_instance bare_instance spell_instance-bare list) refl
 
-spell_parameters-bare : (ps : List ParameterDeclaration) → spell_parameters (map bare_parameter ps) ≡ spell_parameters ps
+pub spell_parameters-bare : (ps : List ParameterDeclaration) → spell_parameters (map bare_parameter ps) ≡ spell_parameters ps
 unfolding spell_parameters
 spell_parameters-bare [] = refl
 spell_parameters-bare (p ∷ ps) = rw (spell_separated-map spell_parameter bare_parameter spell_parameter-bare (p ∷ ps)) refl
 
-spell_ports-bare : (header : Option (List Identifier)) (groups : List PortDeclaration) → spell_ports (bare_header header) (map bare_port groups) ≡ spell_ports header groups
+pub spell_ports-bare : (header : Option (List Identifier)) (groups : List PortDeclaration) → spell_ports (bare_header header) (map bare_port groups) ≡ spell_ports header groups
 unfolding spell_ports bare_header
 spell_ports-bare None groups = refl
-spell_ports-bare (Some names) groups = rw (names-bare names, spell_separated-map spell_port bare_port spell_port-bare groups) refl
+spell_ports-bare (Some names) groups = rw (spell_names-bare names, spell_separated-map spell_port bare_port spell_port-bare groups) refl
 
 pub spell_module-bare : (m : ModuleDeclaration) → spell_module (bare_module m) ≡ spell_module m
 unfolding spell_module bare_module

@@ -14,12 +14,12 @@ is_open-bare (IfElse t s u) = is_open-bare u
 is_open-bare (Case kind t arms) = refl
 is_open-bare (Assign t now v) = refl
 
-spell_label-bare : (l : Option Identifier) → spell_label (bare_label l) ≡ spell_label l
+pub spell_label-bare : (l : Option Identifier) → spell_label (bare_label l) ≡ spell_label l
 unfolding spell_label bare_label bare_identifier
 spell_label-bare None = refl
 spell_label-bare (Some i) = refl
 
-spell_labels-bare : (ts : Trees) (colon : Bool) → spell_labels (bare_parts ts) colon ≡ spell_labels ts colon
+pub spell_labels-bare : (ts : Trees) (colon : Bool) → spell_labels (bare_parts ts) colon ≡ spell_labels ts colon
 unfolding spell_labels bare
 spell_labels-bare End colon = refl
 spell_labels-bare (More t ts) colon = ap (λ ws. ws ++ (Marked mark_colon ∷ [])) (spell_parts-bare (More t ts))

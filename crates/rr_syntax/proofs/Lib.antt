@@ -11,4 +11,5 @@ pub mod Nonempty
 pub mod Rows
 pub mod Sums
 pub mod TablesAgreeing
+pub mod TargetForms
 pub mod Examples

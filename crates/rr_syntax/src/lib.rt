@@ -1,4 +1,6 @@
-//! Spans, tokens and syntax trees of the Verilog profile.
+//! Spans, tokens and syntax trees of the Verilog profile (IEEE 1364-2005 annexes A and B). Trees are
+//! right where they are well-formed and spell their tokens, each leaf with its token's number. It
+//! stands on no other crate, and all that speaks of Verilog stands on it.
 #![tactic(auto)]
 
 mod laws;
@@ -6,6 +8,7 @@ mod nesting;
 mod places;
 mod site;
 mod spelling;
+mod targets;
 mod token;
 mod tree;
 
@@ -14,6 +17,7 @@ pub use nesting::depth;
 pub use places::token_at;
 pub use site::{ModulePlace, Site, SiteKind};
 pub use spelling::spell_len;
+pub use targets::is_target;
 pub use token::{KEYWORDS, Keyword, Kind, MARKS, Mark, Number, Span, Token};
 pub use tree::{
     Arm, Bounds, Connection, Conns, Dir, Event, Events, Expr, Group, Instance, Item, Module, Named,

@@ -1,4 +1,4 @@
-use Rattle.std.proofs.Common.{◌∙◌, sym, ap, map, take, length, arith}
+use Rattle.std.proofs.Common.{◌∙◌, sym, map, take, arith}
 use Rattle.rr_flat.specs.View.{plain_flat}
 use Rattle.rr_parts.specs.Parts.{entry}
 use Rattle.rr_assign.specs.View.{plain_aim}

@@ -1,4 +1,4 @@
-use Rattle.std.proofs.Common.{◌≡◌, ◌≤◌, length, map, take}
+use Rattle.std.proofs.Common.{◌≤◌, length, map, take}
 use Rattle.rr_flat.specs.View.{plain_flat}
 use Rattle.rr_parts.specs.Parts.{entry}
 use Rattle.rr_assign.specs.Kinds.{HoldsKinds}

@@ -1,6 +1,6 @@
 use Rattle.std.proofs.Common.{◌++◌, ◌∷◌, [], sym, subst, Some, None}
 use Rattle.rr_assign.specs.Races.{HoldsWriters, writer_table}
-use Rattle.rr_assign.proofs.Racing.{writers_kept, written_held}
+use Rattle.rr_assign.proofs.Racing.{writers_kept}
 use Rattle.rr_assign.proofs.races.note_writer.Goals as goal
 
 pub returns-in-None-clause-held : goal.returns-in-None-clause-held

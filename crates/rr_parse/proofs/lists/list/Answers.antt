@@ -1,4 +1,4 @@
-use Rattle.std.proofs.Common.{rules, sym, ◌∙◌, arith, Ok, ◌+◌, ◌≡◌, ◌∷◌, [], ◌<◌, ◌^◌, length}
+use Rattle.std.proofs.Common.{rules, sym, ◌∙◌, arith, Ok, ◌+◌, ◌≡◌, ◌∷◌, []}
 use Rattle.rr_syntax.specs.Words.{mark_comma}
 use Rattle.rr_parse_expr.proofs.Answered.{mark_inside}
 use Rattle.rr_parse.proofs.Chained.{row_first, row_more}

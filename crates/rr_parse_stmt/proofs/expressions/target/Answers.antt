@@ -3,7 +3,8 @@ use Rattle.rr_syntax.specs.Words.{words}
 use Rattle.rr_syntax.specs.Expressions.{unary_level}
 use Rattle.rr_parse_expr.specs.Reading.{below}
 use Rattle.rr_parse_stmt.proofs.Steps.{target-none}
-use Rattle.rr_parse_stmt.proofs.Answered.{tree_some, tree_none, made_target, target_refused}
+use Rattle.rr_parse_stmt.proofs.Answered.{tree_some, tree_none}
+use Rattle.rr_parse_stmt.proofs.Choices.{made_target, target_refused}
 use Rattle.rr_parse_stmt.proofs.expressions.target.Goals as goal
 
 pub returns-in-None : goal.returns-in-None

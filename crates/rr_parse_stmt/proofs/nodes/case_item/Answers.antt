@@ -2,7 +2,7 @@ use Rattle.std.proofs.Common.{refl, ap, ◌∙◌}
 use Rattle.rr_syntax.specs.declared.tree.Stmt.{Stmt}
 use Rattle.rr_syntax.specs.Tree.{CaseItem}
 use Rattle.rr_syntax.specs.View.{plain_list, plain_statement}
-use Rattle.rr_parse_stmt.proofs.Answered.{case_item_is}
+use Rattle.rr_parse_stmt.proofs.Choices.{case_item_is}
 use denote.MutBor.{as_bor}
 use Rattle.rr_parse_stmt.proofs.nodes.case_item.Goals as goal
 

@@ -1,6 +1,6 @@
 use Rattle.std.proofs.Common.{◌≡◌, ◌<◌, length, arith}
 use Rattle.std.proofs.lemmas.Bool.Decides.{nat_tests}
-use Rattle.rr_parse_stmt.proofs.Answered.{counted_labels, counted_first, counted_second}
+use Rattle.rr_parse_stmt.proofs.Choices.{counted_labels, counted_first, counted_second}
 use Rattle.rr_parse_stmt.proofs.parts.counted.Goals as goal
 
 pub returns-then-not-is_empty : goal.returns-then-not-is_empty

@@ -9,7 +9,8 @@ use Rattle.rr_parse_expr.proofs.Answered.{mark_inside}
 use Rattle.rr_parse_stmt.specs.Reading.{keyword, label, body, tested, labels, arms, below_statement, below_arm}
 use Rattle.rr_parse_stmt.proofs.Steps.{block-none, if-none}
 use Rattle.rr_parse_stmt.proofs.Sound.{case_less}
-use Rattle.rr_parse_stmt.proofs.Answered.{keyword_inside, tree_some, tree_none, stmt_some, stmt_none, arm_some, arm_none, labels_some, labels_nothing, label_is, label_fails, body_is, body_fails, arms_is, arms_fails, bodied_start, bodied_more, bodied_fail, bodied_end, made_block, block_fails, made_if, made_else, else_fails, then_fails, armed_start, arm_added, armed_end, armed_next, armed_fail, armed_twice, at_most_is, at_most_none, made_case, case_test_fails, case_arms_fail, made_default, default_none, default_fits, made_arm, labels_fails, labelled_fails, no_room, is_null, is_block, is_if, is_case_at, is_assignment, no_arm_room, is_default, is_labelled}
+use Rattle.rr_parse_stmt.proofs.Answered.{keyword_inside, tree_some, tree_none, stmt_some, stmt_none, arm_some, arm_none, labels_some, labels_nothing, label_is, label_fails, body_is, body_fails, arms_is, arms_fails, bodied_start, bodied_more, bodied_fail, bodied_end, made_block, block_fails}
+use Rattle.rr_parse_stmt.proofs.Choices.{made_if, made_else, else_fails, then_fails, armed_start, arm_added, armed_end, armed_next, armed_fail, armed_twice, at_most_is, at_most_none, made_case, case_test_fails, case_arms_fail, made_default, default_none, default_fits, made_arm, labels_fails, labelled_fails, no_room, is_null, no_arm_room, is_default, is_labelled, is_block, is_if, is_case_at, is_assignment}
 use Rattle.rr_parse_stmt.proofs.reader.+statements.Goals as goal
 
 pub arm-returns-then-room-eq0 : goal.arm-returns-then-room-eq0

@@ -1,7 +1,8 @@
 use Rattle.std.proofs.Common.{◌+◌, drop, arith}
 use Rattle.rr_syntax.specs.Words.{words, mark_semicolon}
 use Rattle.rr_parse_expr.specs.Reading.{below, closed}
-use Rattle.rr_parse_stmt.proofs.Answered.{tree_some, tree_none, sign_inside, assign_fails, made_assign}
+use Rattle.rr_parse_stmt.proofs.Answered.{tree_some, tree_none}
+use Rattle.rr_parse_stmt.proofs.Choices.{sign_inside, assign_fails, made_assign}
 use Rattle.rr_parse_stmt.proofs.reader.assigned.Goals as goal
 
 pub overflow_add-left : goal.overflow_add-left

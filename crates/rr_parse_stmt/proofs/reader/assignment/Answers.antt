@@ -2,7 +2,7 @@ use Rattle.std.proofs.Common.{◌∙◌, drop, sym}
 use Rattle.rr_syntax.specs.Words.{words}
 use Rattle.rr_parse_expr.specs.Reading.{below}
 use Rattle.rr_parse_stmt.specs.Reading.{target}
-use Rattle.rr_parse_stmt.proofs.Answered.{target_some, no_target, target_fails, sign_fails}
+use Rattle.rr_parse_stmt.proofs.Choices.{target_some, no_target, target_fails, sign_fails}
 use Rattle.rr_parse_stmt.proofs.reader.assignment.Goals as goal
 
 pub returns-in-None : goal.returns-in-None

@@ -1,6 +1,6 @@
 use Rattle.std.proofs.Common.{◌∙◌, sym}
-use Rattle.rr_parse_stmt.proofs.Targets.{targets_next, targets_not, targets_start}
-use Rattle.rr_parse.proofs.targets.+targets.Goals as goal
+use Rattle.rr_syntax.proofs.TargetForms.{targets_next, targets_not, targets_start}
+use Rattle.rr_syntax.proofs.targets.+targets.Goals as goal
 
 pub are_targets-loop-part-init : goal.are_targets-loop-part-init
 are_targets-loop-part-init t c = targets_start c.args.parts.now

@@ -1,7 +1,7 @@
 use Rattle.std.proofs.Common.{◌≡◌, take, true}
 use Rattle.rr_syntax.specs.Expressions.{are_targets}
 use Rattle.rr_syntax.specs.View.{plain_list}
-use Rattle.rr_parse_stmt.proofs.parts.+targets.Given as goal
+use Rattle.rr_syntax.proofs.targets.+targets.Given as goal
 
 abbrev pub invariant-are_targets-loop-part : goal.invariant-are_targets-loop-part
 invariant-are_targets-loop-part l = are_targets (plain_list (take l.part-index l.parts)) ≡ true

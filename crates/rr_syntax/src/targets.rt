@@ -4,12 +4,13 @@ ghost use Rattle.std.specs.Prelude.{◌≡◌};
 ghost use Rattle.rr_syntax.specs.Expressions.{is_target as is_target_of, are_targets as are_targets_of};
 ghost use Rattle.rr_syntax.specs.View.{plain, plain_list};
 
-use rr_syntax::Expr;
+use crate::tree::Expr;
 
-/// Whether a tree may be assigned (IEEE 1364-2005 annex A.8.5).
-#[tactic(auto, using(rr_parse_stmt::proofs::Targets::target_forms))]
+/// Whether a tree may be assigned: a name, a select of one, or such trees in braces (IEEE 1364-2005
+/// annex A.8.5).
+#[tactic(auto, using(crate::proofs::TargetForms::target_forms))]
 #[cycle(targets)]
-pub(crate) fn is_target(expr: &Expr) -> bool
+pub fn is_target(expr: &Expr) -> bool
     ensures { result ≡ is_target_of (plain expr.now) }
 {
     match expr {
@@ -25,7 +26,7 @@ pub(crate) fn is_target(expr: &Expr) -> bool
     }
 }
 
-#[tactic(auto, using(rr_parse_stmt::proofs::Targets::target_forms))]
+#[tactic(auto, using(crate::proofs::TargetForms::target_forms))]
 #[cycle(targets)]
 fn are_targets(parts: &[Expr]) -> bool
     ensures { result ≡ are_targets_of (plain_list parts.now) }
