@@ -1,5 +1,5 @@
 -- targets whose bits have values
-use Rattle.std.proofs.Common.{◌≡◌, ◌∙◌, sym, ap, ℕ, ◌<◌, ◌≤◌, true, false, List, [], ◌∷◌, ◌++◌, length, Option, None, Some, nat_eq, nat_lt, refl, arith, pos, inl, inr, length-append, append-nil}
+use Rattle.std.proofs.Common.{◌≡◌, ◌∙◌, sym, ap, ℕ, ◌<◌, ◌≤◌, true, false, List, [], ◌∷◌, ◌++◌, length, Option, None, Some, nat_eq, nat_lt, refl, arith, pos, inl, inr, append-nil}
 use Rattle.std.specs.List.{All, AllByRecursion}
 use Rattle.std.proofs.lemmas.Bool.{and_parts, both_ways, or_cases, eqb-true, ltb-true}
 use Rattle.std.proofs.lemmas.List.Elements.{All-from_recursion}
@@ -10,7 +10,7 @@ use Rattle.rr_expr.specs.declared.types.Entity.TheVariants.{Constant, Signal, In
 use Rattle.rr_expr.specs.Faults.{constant_count, constant_span}
 use Rattle.rr_expr.specs.Scopes.{Names, meant, entity_range, entity_shape, range_width}
 use Rattle.rr_expr.specs.Selects.{place, lowest_place, integer_with}
-use Rattle.rr_expr.specs.Values.{form, widths, value, nowhere}
+use Rattle.rr_expr.specs.Values.{form, value, nowhere}
 use Rattle.rr_flat.specs.Targets.{has_bit, is_bit_of, target_bits, targets_bits}
 use Rattle.rr_flat.specs.Walk.{shape_faults}
 use Rattle.rr_flat.proofs.Clears.{clear}
@@ -19,10 +19,9 @@ use Rattle.rr_target.specs.Pieces.{all_bits, bits_of}
 use Rattle.rr_target.proofs.Nodes.{shaped_small}
 use Rattle.rr_target.proofs.Runs.{covers_in}
 use Rattle.rr_cycle.specs.Exec.{Environment}
-use Rattle.rr_cycle.proofs.TargetBits.{one_of_name, bits_of_name}
-use Rattle.rr_cycle.proofs.Wiring.{length_there}
-use Rattle.rr_cycle.proofs.Writes.{has_append, or_left, or_right}
+use Rattle.rr_flat.proofs.Bits.{has_append, or_left, or_right, one_of_name, bits_of_name}
 use Rattle.rr_exec.specs.Work.{Fits, Holds}
+use Rattle.rr_cycle.proofs.Settling.{target_size}
 
 abbrev IsThere : ℕ → Bit → Type 0
 IsThere n b = (b.signal < n) × (b.place < 128)
@@ -83,27 +82,6 @@ pub target_fits : (s : Names) (n : ℕ) (e : Environment) (t : Tree) (ps : List 
 target_fits s n e t ps h q = All-from_recursion (Fits n) ps (pieces_there n ps (λ b i. let r = target_named s e t b (ap (λ (bs : List (Option Bit)). has_bit bs b) (sym q) ∙ i) in name_there s n r.0 b h r.1))
 
 -- and that are no more than the target's width
-mutual
-  unfolding target_bits form
-
-  pub target_size : (s : Names) (e : Environment) (t : Tree) → length (target_bits s e t) ≤ (form s t).width
-  target_size s e (Name token name) = omega (arith, length_there (meant s name) (pos 0) (entity_shape (meant s name)).width)
-  target_size s e (Literal token n) = omega arith
-  target_size s e (BitSelect token name i) = omega arith
-  target_size s e (Part token name l r) = omega (arith, length_there (meant s name) (place (entity_range (meant s name)) (integer_with (form s r) (value s r nowhere))) (constant_span s l r))
-  target_size s e (Indexed token name x n up) = omega (arith, length_there (meant s name) (lowest_place (entity_range (meant s name)) up (integer_with (form s x) (value s x e)) (constant_count s n)) (constant_count s n))
-  target_size s e (Unary op t) = omega arith
-  target_size s e (Binary op l r) = omega arith
-  target_size s e (Cond a b c) = omega arith
-  target_size s e (Concat ts) = targets_size s e ts
-  target_size s e (Repeat n ts) = omega arith
-  target_size s e (Cast signed t) = omega arith
-  target_size s e (Paren t) = omega arith
-
-  pub targets_size : (s : Names) (e : Environment) (ts : Trees) → length (targets_bits s e ts) ≤ widths s ts
-  targets_size s e End = omega arith
-  targets_size s e (More t ts) = omega (arith, length-append (targets_bits s e ts) (target_bits s e t), target_size s e t, targets_size s e ts)
-
 pub target_few : (s : Names) (e : Environment) (t : Tree) (ps : List Piece) → shape_faults s t ≡ [] → all_bits ps ≡ target_bits s e t → length (all_bits ps) ≤ 128
 target_few s e t ps h q = omega (arith, ap length q, target_size s e t, shaped_small s t (clear s t h))
 
@@ -111,6 +89,3 @@ target_few s e t ps h q = omega (arith, ap length q, target_size s e t, shaped_s
 pub no_pieces : (bs : List (Option Bit)) (ps : List Piece) → ps ≡ [] → bs ++ all_bits ps ≡ bs
 unfolding all_bits
 no_pieces bs ps h = rw h (append-nil bs)
-
-pub faultless : {X : Type 0} (o : Option X) (f : X) → o ≡ None → o ≡ Some f → ⊥
-faultless o f h k = cc

@@ -18,7 +18,8 @@ use Rattle.rr_target.specs.declared.piece.Piece.{Piece}
 use Rattle.rr_target.specs.Pieces.{bit_in, bits_in, bits_of, all_bits, covers}
 use Rattle.rr_target.proofs.Runs.{bit_is, covers_in, has_in, IsIn}
 use Rattle.rr_cycle.specs.Exec.{Environment, put, write, Update, applied}
-use Rattle.rr_cycle.proofs.Writes.{bit_eq, place_inside, write_outside, write_there}
+use Rattle.rr_cycle.proofs.Writes.{write_outside, write_there}
+use Rattle.rr_flat.proofs.Bits.{bit_eq, place_inside}
 use Rattle.rr_exec.specs.declared.writes.Later.{Later}
 use Rattle.rr_exec.specs.Work.{Fits, update_of, updates_in}
 

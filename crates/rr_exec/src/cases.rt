@@ -1,17 +1,16 @@
 //! Conditions and labels (IEEE 1364-2005 sections 9.4 and 9.5).
 ghost use Rattle.std.specs.Prelude.{◌≡◌, ◌≤◌, None, [], false, length};
 ghost use Rattle.rr_syntax.specs.View.{plain, plain_list, plain_arms};
-ghost use Rattle.rr_bits.specs.Words.{word as word_of};
 ghost use Rattle.rr_expr.specs.Faults.{fault};
 ghost use Rattle.rr_expr.specs.Operators.{joined as joined_shapes};
 ghost use Rattle.rr_expr.specs.Scopes.{Names, env_of};
 ghost use Rattle.rr_expr.specs.Values.{form, value as value_of};
 ghost use Rattle.rr_flat.specs.Walk.{list_faults, arms_faults, shape_faults};
 ghost use Rattle.rr_exec.specs.Work.{AreNarrow, ArmsNarrow};
-ghost use Rattle.rr_cycle.specs.Exec.{is_true as holds, joined_all as joined_of_all, case_shape as shape_of_case, joined_labels, wild_digits as wild_places, wild as wild_of, is_equal as are_equal, is_matched as matches};
+ghost use Rattle.rr_cycle.specs.Exec.{is_true as holds, joined_all as joined_of_all, case_shape as shape_of_case, wild_digits as wild_places, wild as wild_of, is_equal as are_equal, is_matched as matches};
 
 use rr_bits::Bits;
-use rr_expr::{Env, Scope, Shape, shape, value};
+use rr_expr::{Env, Scope, Shape, shape_of, value};
 use rr_syntax::{Arm, Expr, Keyword, Number};
 
 /// Width and sign of an expression that has a shape.
@@ -21,13 +20,7 @@ pub fn own_shape(expr: &Expr, scope: &Scope) -> Shape
     ensures low { 1 ≤ result.width }
     ensures high { result.width ≤ 128 }
 {
-    match shape(expr, scope) {
-        Ok(own) => own,
-        Err(_) => Shape {
-            width: 1,
-            signed: false,
-        },
-    }
+    shape_of(expr, scope)
 }
 
 /// Whether a condition is true: some bit of it is one.

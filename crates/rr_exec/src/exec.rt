@@ -1,5 +1,5 @@
 //! Statements (IEEE 1364-2005 section 9).
-ghost use Rattle.std.specs.Prelude.{◌≡◌, ◌≤◌, ◌<◌, [], All, IfOk, OnOk, None, length};
+ghost use Rattle.std.specs.Prelude.{◌≡◌, ◌≤◌, ◌<◌, [], All, OnOk, None, length};
 ghost use Rattle.rr_syntax.specs.View.{plain, plain_arms, plain_statement, plain_statements};
 ghost use Rattle.rr_expr.specs.Scopes.{env_of};
 ghost use Rattle.rr_flat.specs.Targets.{target_bits};

@@ -5,7 +5,7 @@ ghost use Rattle.rr_expr.specs.Scopes.{range_width};
 ghost use Rattle.rr_flat.specs.Walk.{shape_faults, list_faults, statement_faults, statements_faults, arms_faults};
 ghost use Rattle.rr_exec.specs.Work.{Holds};
 
-use crate::{Machine, apply, execute, merged};
+use crate::{Machine, apply, execute, merged, own_shape};
 use rr_bits::Bits;
 use rr_expr::{Entity, Env, Scope, shape};
 use rr_syntax::{Arm, Expr, Keyword, Mark, Number, Stmt};
@@ -71,6 +71,19 @@ fn has_shape(expr: &Expr, scope: &Scope) -> bool
         Ok(_) => true,
         Err(_) => false,
     }
+}
+
+/// The sum of four and eight bits has eight.
+#[test]
+fn shapes(rt: HostRuntime) -> Result<(), Fail> {
+    let scope = names(rt.alloc())?;
+    let sum = binary!(name!("a"), 14, name!("b"));
+    let found = has_shape(&sum, &scope);
+    assert!(rt; found);
+    if found {
+        assert_eq!(rt; own_shape(&sum, &scope).width, 8);
+    }
+    Ok(())
 }
 
 fn have_shapes(list: &[Expr], scope: &Scope) -> bool

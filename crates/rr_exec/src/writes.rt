@@ -1,5 +1,5 @@
 //! Bits that are written.
-ghost use Rattle.std.specs.Prelude.{◌≡◌, ◌≤◌, ◌<◌, ◌+◌, ◌-◌, ◌∷◌, ◌++◌, [], ℕ, All, OnOk, cond, false, get_or, length, nat_lt, not, ◌&&◌, drop, map};
+ghost use Rattle.std.specs.Prelude.{◌≡◌, ◌≤◌, ◌<◌, ◌+◌, ◌-◌, ◌∷◌, ◌++◌, [], ℕ, All, OnOk, cond, false, get_or, length, nat_lt, not, ◌&&◌, drop};
 ghost use Rattle.rr_bits.specs.Words.{word as word_of};
 ghost use Rattle.rr_expr.specs.Scopes.{env_of};
 ghost use Rattle.rr_target.specs.Pieces.{all_bits, bits_of};

@@ -1,14 +1,14 @@
 -- extending a context keeps the low bits
-use Rattle.std.proofs.Common.{◌≡◌, ℕ, zero, suc, ◌+◌, ◌-◌, ◌*◌, ◌/◌, ◌%◌, ◌^◌, ◌==◌, ◌<◌, ◌≤◌, Bool, true, false, cond, not, ◌&&◌, ◌||◌, List, [], ◌∷◌, length, get_or, take, refl, sym, ◌∙◌, ap, nat_lt, arith, ◌⊎◌, inl, inr}
-use Rattle.std.proofs.lemmas.Bool.{and_parts, cases_lt}
+use Rattle.std.proofs.Common.{◌≡◌, ℕ, zero, suc, ◌+◌, ◌-◌, ◌*◌, ◌/◌, ◌%◌, ◌^◌, ◌==◌, ◌<◌, ◌≤◌, Bool, true, false, cond, not, ◌&&◌, ◌||◌, List, [], ◌∷◌, length, get_or, take, refl, sym, ◌∙◌, ap, nat_lt, arith}
+use Rattle.std.proofs.lemmas.Bool.{and_parts}
 use Rattle.std.proofs.lemmas.List.{get_or-take, length-take-le}
 use Rattle.std.proofs.lemmas.Nat.{mul-mod, pow-mod, pow_pos, pow-add}
 use Rattle.std.proofs.Math.Nat.{add-mod, mod-mod, add-mul-mod_self_left, lt_of_mul-lt-mul_left}
 use Rattle.rr_syntax.specs.Tree.{Tree, Name, Literal, Bit as BitSelect, Part, Indexed, Unary, Binary, Cond, Concat, Repeat, Cast, Paren}
-use Rattle.rr_bits.specs.Words.{number, word, tabulate, extend, add, sub, mul, both, either, one_of, inverted, negated, shl, power, is_zero, select}
+use Rattle.rr_bits.specs.Words.{number, word, tabulate, extend, add, sub, mul, one_of, inverted, negated, shl, power, is_zero, select}
 use Rattle.rr_bits.specs.Fields.{length_word, number_word}
 use Rattle.rr_bits.proofs.Numbers.{word_number, word_same, number-lt}
-use Rattle.rr_bits.proofs.Places.{length_tabulate, get_tabulate, tabulate_same}
+use Rattle.rr_bits.proofs.Places.{length_tabulate, get_tabulate}
 use Rattle.rr_expr.specs.declared.types.Bit.{Bit}
 use Rattle.rr_expr.specs.declared.operators.Infix.{Infix}
 use Rattle.rr_expr.specs.declared.operators.Infix.TheVariants.{Arithmetic, Divide, Remainder, Power, Shifted, Compared, Both, Either}
@@ -16,11 +16,10 @@ use Rattle.rr_expr.specs.declared.operators.Operation.{Operation}
 use Rattle.rr_expr.specs.declared.operators.Operation.TheVariants.{Add, Subtract, Multiply, And, Or, Xor, Xnor}
 use Rattle.rr_expr.specs.declared.operators.Prefix.{Prefix}
 use Rattle.rr_expr.specs.declared.operators.Prefix.TheVariants.{Plus, Minus, Invert, Reduced}
-use Rattle.rr_expr.specs.declared.operators.Shift.{Shift}
 use Rattle.rr_expr.specs.declared.operators.Shift.TheVariants.{Left, Right, SignedRight}
 use Rattle.rr_expr.specs.declared.types.Shape.{Shape}
-use Rattle.rr_expr.specs.LowBits.{keeps_low, low_infix, low_prefix, low_shift, LowBitsKept}
-use Rattle.rr_expr.specs.Operators.{infixes, prefixes, joined, truth, reduction_holds, relation_holds, own_with, operation_value, shift_value, infix_value, prefix_value}
+use Rattle.rr_expr.specs.LowBits.{keeps_low, low_infix, low_prefix, LowBitsKept}
+use Rattle.rr_expr.specs.Operators.{infixes, prefixes, joined, truth, reduction_holds, relation_holds, own_with, operation_value, infix_value, prefix_value}
 use Rattle.rr_expr.specs.Scopes.{Names, meant, entity_range, entity_value}
 use Rattle.rr_expr.specs.Selects.{place, span, count, lowest_place, integer_with, repeated}
 use Rattle.rr_expr.specs.Values.{form, value, values, nowhere}

@@ -1,5 +1,5 @@
 -- the value depends only on the bits that are named
-use Rattle.std.proofs.Common.{◌≡◌, ℕ, zero, ◌+◌, ◌-◌, ◌*◌, ◌==◌, ◌<◌, ◌≤◌, ◌⊎◌, inl, inr, Bool, true, false, cond, List, ◌++◌, Option, Some, None, is_none, refl, sym, ◌∙◌, ap, ◌&&◌, ◌||◌, get_or, ℤ, pos, negsuc, ◌+ℤ◌, arith}
+use Rattle.std.proofs.Common.{◌≡◌, ℕ, ◌-◌, ◌*◌, ◌==◌, ◌<◌, ◌≤◌, ◌⊎◌, inl, inr, Bool, true, false, cond, List, ◌++◌, Option, Some, None, is_none, refl, sym, ◌∙◌, ap, get_or, ℤ, pos, negsuc, ◌+ℤ◌}
 use Rattle.std.proofs.lemmas.List.{get_or_past}
 use Rattle.std.proofs.lemmas.Bool.{cases_lt}
 use Rattle.rr_syntax.specs.Tree.{Tree, Trees, Name, Literal, Bit as BitSelect, Part, Indexed, Unary, Binary, Cond, Concat, Repeat, Cast, Paren, End, More}
@@ -16,7 +16,7 @@ use Rattle.rr_expr.specs.Operators.{infixes, prefixes, own_with, prefix_value, i
 use Rattle.rr_expr.specs.Scopes.{Names, meant, entity_range, entity_value, is_scalar, range_width}
 use Rattle.rr_expr.specs.Selects.{place, lowest_place, integer_with, repeated, is_against}
 use Rattle.rr_expr.specs.Values.{form, widths, value, values, nowhere}
-use Rattle.rr_expr.specs.Faults.{fault, faults, first, first_part, or_else, fault_if, width_fault, name_fault, base_fault, count_fault, takes_constants, is_bad, constant_count, constant_span}
+use Rattle.rr_expr.specs.Faults.{fault, faults, first, first_part, or_else, fault_if, width_fault, name_fault, base_fault, count_fault, is_bad, constant_count, constant_span}
 use Rattle.rr_expr.specs.Reading.{IsBitOf, IsWithin, NamesAt, NamesBit, NamesBits}
 
 first_none : (f g : Option ExprFault) → or_else f g ≡ None → f ≡ None

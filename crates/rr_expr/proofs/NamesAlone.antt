@@ -1,5 +1,5 @@
 -- shape, value and fault depend on the scope at the names that occur alone
-use Rattle.std.proofs.Common.{◌≡◌, ℕ, ◌+◌, ◌-◌, ◌*◌, ◌==◌, ◌⊎◌, inl, inr, Bool, true, false, cond, List, [], ◌++◌, refl, ap, ◌||◌, get_or}
+use Rattle.std.proofs.Common.{◌≡◌, ℕ, ◌+◌, ◌-◌, ◌*◌, ◌==◌, inl, inr, Bool, true, cond, List, ◌++◌, refl, ◌||◌, get_or}
 use Rattle.rr_syntax.specs.Tree.{Tree, Trees, Name, Literal, Bit as BitSelect, Part, Indexed, Unary, Binary, Cond, Concat, Repeat, Cast, Paren, End, More}
 use Rattle.rr_bits.specs.Words.{extend, select, is_zero}
 use Rattle.rr_expr.specs.declared.types.Bit.{Bit}

@@ -1,5 +1,5 @@
 -- trees that are one
-use Rattle.std.proofs.Common.{◌≡◌, ℕ, ◌+◌, ◌<◌, ◌≤◌, List, [], ◌∷◌, ◌++◌, Bool, length, get_or, take, refl, ap, ◌∙◌, sym, arith}
+use Rattle.std.proofs.Common.{◌≡◌, ℕ, ◌+◌, ◌<◌, List, [], ◌∷◌, ◌++◌, length, get_or, take, refl, ap, ◌∙◌, sym}
 use Rattle.std.proofs.lemmas.List.{take_more}
 use denote.Ref.{Bor}
 use Rattle.rr_syntax.specs.declared.tree.Expr.{Expr, the_lemmas}

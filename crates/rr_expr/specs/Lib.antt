@@ -3,6 +3,7 @@ pub mod Scopes
 pub mod Selects
 pub mod Values
 pub mod Faults
+pub mod FormFaults
 pub mod Indices
 pub mod Reading
 pub mod Notes

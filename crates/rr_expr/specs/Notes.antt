@@ -5,6 +5,7 @@ use Rattle.rr_syntax.specs.Tree.{Tree}
 use Rattle.rr_syntax.specs.View.{plain}
 use Rattle.rr_expr.specs.declared.notes.Known.{Known}
 use Rattle.rr_expr.specs.declared.notes.Notes.{Notes}
+use Rattle.rr_expr.specs.declared.notes.Table.{Table}
 use Rattle.rr_expr.specs.Indices.{integer_of}
 use Rattle.rr_expr.specs.Scopes.{Names}
 use Rattle.rr_expr.specs.Selects.{integer_with}
@@ -21,6 +22,14 @@ abbrev pub IsRightNote : Names → Option Known → Type 0
 IsRightNote s None = Unit {0}
 IsRightNote s (Some k) = IsRight s k
 
+-- each that a table keeps has its value
+unfoldable pub HasRight : Names → Table → Type 0
+HasRight s table = All (IsRightNote s) table.kept
+
+abbrev HasRightOrNone : Names → Option Table → Type 0
+HasRightOrNone s None = Unit {0}
+HasRightOrNone s (Some table) = HasRight s table
+
 -- each that is kept has its value
 unfoldable pub Noted : Names → Notes → Type 0
-Noted s notes = All (IsRightNote s) notes.kept
+Noted s notes = HasRightOrNone s notes.table

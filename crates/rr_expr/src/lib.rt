@@ -1,4 +1,6 @@
-//! Widths, signs and values of expressions (IEEE 1364-2005 section 5).
+//! Widths, signs and values of expressions (IEEE 1364-2005 section 5). It is right where shape and
+//! value are those of the definition by cases on plain trees, over lists of truth values. It stands
+//! on `rr_syntax`'s trees and `rr_bits`'s words.
 #![tactic(auto)]
 
 ghost use Rattle.std.specs.Prelude.{◌≡◌, ◌≤◌, IfOk, IfErr, Some, None, true, false, []};
@@ -23,9 +25,10 @@ use rr_bits::Bits;
 use rr_syntax::Expr;
 pub use scope::Scope;
 pub use selects::{Index, below_index, index_of, near_place};
+pub use shapes::first_token;
 use shapes::shape_in;
 pub use types::{Bit, Entity, Env, ExprFault, Shape};
-use values::value_in;
+use values::{own_shape, value_in};
 
 /// Width and sign of an expression (IEEE 1364-2005 sections 5.4.1 and 5.5.1), or its first fault in
 /// the order of the tokens; of two at one token the lower in the order of the variants.
@@ -35,6 +38,18 @@ pub fn shape(expr: &Expr, scope: &Scope) -> Result<Shape, ExprFault>
     ensures fault { IfErr result (λ f. fault scope.now (plain expr.now) false ≡ Some f) }
 {
     shape_in(expr, scope, false)
+}
+
+/// Width and sign of an expression that has a shape. It looks for no fault, so it evaluates only the
+/// constants that widths stand on.
+pub fn shape_of(expr: &Expr, scope: &Scope) -> Shape
+    requires none { fault scope.now (plain expr.now) false ≡ None }
+    ensures value { result ≡ form scope.now (plain expr.now) }
+    ensures low { 1 ≤ result.width }
+    ensures high { result.width ≤ 128 }
+{
+    let mut notes = Notes::new();
+    own_shape(expr, scope, &mut notes)
 }
 
 /// The value of an expression that has a shape, in a context of a width and a sign (IEEE 1364-2005
@@ -47,14 +62,8 @@ pub fn value(expr: &Expr, scope: &Scope, env: &Env, width: u32, signed: bool) ->
     ensures { result ≡ value_of scope.now (plain expr.now) (env_of env.now.values.items) width signed }
 {
     let mut notes = Notes::new();
-    value_in(
-        expr,
-        scope,
-        env.values.as_slice(),
-        width,
-        signed,
-        &mut notes,
-    )
+    let context = Shape { width, signed };
+    value_in(expr, scope, env.values.as_slice(), context, &mut notes)
 }
 
 /// The value and the sign of a constant expression, or its first fault; a signal in it is one, as is
@@ -67,10 +76,7 @@ pub fn constant(expr: &Expr, scope: &Scope) -> Result<(Bits, bool), ExprFault>
 {
     let shape = shape_in(expr, scope, true)?;
     let mut notes = Notes::new();
-    Ok((
-        value_in(expr, scope, &[], shape.width, shape.signed, &mut notes),
-        shape.signed,
-    ))
+    Ok((value_in(expr, scope, &[], shape, &mut notes), shape.signed))
 }
 
 #[cfg(test)]

@@ -1,5 +1,5 @@
 //! Vectors of IEEE 1364-2005 section 5.
-use crate::{Entity, Env, ExprFault, Scope, constant, shape, value};
+use crate::{Entity, Env, ExprFault, Scope, constant, first_token, shape, shape_of, value};
 use rr_syntax::{Expr, Mark, Number};
 use std::alloc::{AllocError, Global};
 use std::test::Fail;
@@ -232,7 +232,7 @@ fn in_context(expr: &Expr, width: u32, signed: bool, alloc: Global) -> Option<u1
         values: Vec::new(alloc),
     };
     match shape(expr, &scope) {
-        Ok(shape) if shape.width <= width && width <= 128 => {
+        Ok(shape) if shape == shape_of(expr, &scope) && shape.width <= width && width <= 128 => {
             Some(value(expr, &scope, &env, width, signed).to_u128())
         }
         Ok(_) | Err(_) => None,
@@ -255,6 +255,7 @@ fn carries(rt: HostRuntime) {
         left: &sum,
         right: &by,
     };
+    assert_eq!(rt; first_token(&half), 1);
     assert_eq!(rt; in_context(&half, 4, false, rt.alloc()), Some(0));
     assert_eq!(rt; in_context(&half, 5, false, rt.alloc()), Some(8));
 }

@@ -1,11 +1,11 @@
 //! Width, sign and value of expressions without a fault.
-ghost use Rattle.std.specs.Prelude.{◌≡◌, ◌≤◌, ◌<◌, ◌*◌, length, IsTrue, not};
-ghost use Rattle.rr_bits.specs.Words.{is_zero, select};
+ghost use Rattle.std.specs.Prelude.{◌≡◌, ◌≤◌, ◌<◌, ◌*◌, length, IsTrue, not, cond};
+ghost use Rattle.rr_bits.specs.Words.{is_zero, select, extend};
 ghost use Rattle.rr_syntax.specs.View.{plain, plain_list};
 ghost use Rattle.rr_expr.specs.Faults.{fits, fit, constant_count, constant_span, is_width as is_a_width};
 ghost use Rattle.rr_expr.specs.Indices.{integer_of};
 ghost use Rattle.rr_expr.specs.Notes.{Noted, integer_in};
-ghost use Rattle.rr_expr.specs.Operators.{infix_value, infix_shape as infix_shaped};
+ghost use Rattle.rr_expr.specs.Operators.{infix_value, infix_shape as infix_shaped, prefix_value, prefix_shape as prefix_shaped, own_with, relation_holds, joined as joined_shape};
 ghost use Rattle.rr_expr.specs.Scopes.{env_of, meant, entity_shape as shape_of_entity, entity_range as range_of_entity, entity_value as value_of_entity};
 ghost use Rattle.rr_expr.specs.Selects.{integer_with, repeated as repeated_list, place, lowest_place};
 ghost use Rattle.rr_expr.specs.Values.{form, nowhere, unsigned_of, value as value_of, own, widths, values as values_of};
@@ -13,8 +13,8 @@ ghost use Rattle.rr_expr.specs.Values.{form, nowhere, unsigned_of, value as valu
 use crate::entities::{entity_range, entity_shape, entity_value};
 use crate::notes::{Known, Notes};
 use crate::operators::{
-    Infix, Prefix, computed, holds, infix_of, infix_shape, joined, prefix_of, prefix_shape,
-    reduced, shifted, truth,
+    Infix, Prefix, Relation, computed, holds, infix_of, infix_shape, joined, prefix_of,
+    prefix_shape, reduced, shifted, truth,
 };
 use crate::scope::Scope;
 use crate::selects::{Index, count_of, index_of, indexed, picked, span_of};
@@ -105,6 +105,10 @@ pub(crate) fn constant_index<'e>(expr: &'e Expr<'e>, scope: &Scope, notes: &mut 
     ensures value { integer_of result ≡ integer_in scope.now (plain expr.now) }
     ensures noted { Noted scope.now notes.new }
 {
+    // A literal is read in less time than it is found.
+    if let Expr::Literal { .. } = expr {
+        return own_index(expr, scope, &[], notes);
+    }
     match notes.find(expr) {
         Some(index) => index,
         None => {
@@ -132,7 +136,7 @@ pub(crate) fn own_value<'e>(
     ensures noted { Noted scope.now notes.new }
 {
     let shape = own_shape(expr, scope, notes);
-    value_in(expr, scope, env, shape.width, shape.signed, notes)
+    value_in(expr, scope, env, shape, notes)
 }
 
 /// The same as a number, signed where the operand is.
@@ -145,7 +149,7 @@ fn own_index<'e>(expr: &'e Expr<'e>, scope: &Scope, env: &[u128], notes: &mut No
     ensures noted { Noted scope.now notes.new }
 {
     let shape = own_shape(expr, scope, notes);
-    let word = value_in(expr, scope, env, shape.width, shape.signed, notes);
+    let word = value_in(expr, scope, env, shape, notes);
     index_of(word, shape.signed)
 }
 
@@ -208,131 +212,299 @@ fn is_true<'e>(expr: &'e Expr<'e>, scope: &Scope, env: &[u128], notes: &mut Note
     own_value(expr, scope, env, notes).to_u128() != 0
 }
 
-/// The value in a context of that width and sign.
+/// A word in a context of a width and a sign.
+fn extended(word: Bits, context: Shape) -> Bits
+    requires low { 1 ≤ context.width }
+    requires high { context.width ≤ 128 }
+    ensures { result ≡ extend context.width context.signed word }
+{
+    word.extend(context.width, context.signed)
+}
+
+/// The bit of a name at an index.
+#[cycle(values)]
+#[tactic(auto, using(crate::proofs::Equations::values_of))]
+fn bit_value<'e>(
+    name: &str,
+    index: &'e Expr<'e>,
+    scope: &Scope,
+    env: &[u128],
+    notes: &mut Notes<'e>,
+) -> Bits
+    requires name { IsTrue (is_a_width (shape_of_entity (meant scope.now name.now)).width) }
+    requires index { IsTrue (fits scope.now (plain index.now)) }
+    requires noted { Noted scope.now notes.old }
+    ensures value { result ≡ select (value_of_entity (env_of env.now) (meant scope.now name.now)) (place (range_of_entity (meant scope.now name.now)) (integer_with (form scope.now (plain index.now)) (value_of scope.now (plain index.now) (env_of env.now)))) 1 }
+    ensures noted { Noted scope.now notes.new }
+{
+    let base = scope.meaning(name);
+    let index = own_index(index, scope, env, notes);
+    picked(entity_value(&base, env), entity_range(&base), index, 1)
+}
+
+/// The bits of a name from one index to another.
+#[cycle(values)]
+#[tactic(auto, using(crate::proofs::Equations::values_of))]
+fn part_value<'e>(
+    name: &str,
+    left: &'e Expr<'e>,
+    right: &'e Expr<'e>,
+    scope: &Scope,
+    env: &[u128],
+    notes: &mut Notes<'e>,
+) -> Bits
+    requires name { IsTrue (is_a_width (shape_of_entity (meant scope.now name.now)).width) }
+    requires left { IsTrue (fits scope.now (plain left.now)) }
+    requires right { IsTrue (fits scope.now (plain right.now)) }
+    requires span { IsTrue (is_a_width (constant_span scope.now (plain left.now) (plain right.now))) }
+    requires noted { Noted scope.now notes.old }
+    ensures value { result ≡ select (value_of_entity (env_of env.now) (meant scope.now name.now)) (place (range_of_entity (meant scope.now name.now)) (integer_in scope.now (plain right.now))) (constant_span scope.now (plain left.now) (plain right.now)) }
+    ensures noted { Noted scope.now notes.new }
+{
+    let base = scope.meaning(name);
+    let left = constant_index(left, scope, notes);
+    let right = constant_index(right, scope, notes);
+    picked(
+        entity_value(&base, env),
+        entity_range(&base),
+        right,
+        span_of(left, right),
+    )
+}
+
+/// That many bits of a name, from an index up or down.
+#[cycle(values)]
+#[tactic(auto, using(crate::proofs::Equations::values_of))]
+fn indexed_value<'e>(
+    name: &str,
+    from: &'e Expr<'e>,
+    width: &'e Expr<'e>,
+    up: bool,
+    scope: &Scope,
+    env: &[u128],
+    notes: &mut Notes<'e>,
+) -> Bits
+    requires name { IsTrue (is_a_width (shape_of_entity (meant scope.now name.now)).width) }
+    requires from { IsTrue (fits scope.now (plain from.now)) }
+    requires width { IsTrue (fits scope.now (plain width.now)) }
+    requires count { IsTrue (is_a_width (constant_count scope.now (plain width.now))) }
+    requires noted { Noted scope.now notes.old }
+    ensures value { result ≡ select (value_of_entity (env_of env.now) (meant scope.now name.now)) (lowest_place (range_of_entity (meant scope.now name.now)) up (integer_with (form scope.now (plain from.now)) (value_of scope.now (plain from.now) (env_of env.now))) (constant_count scope.now (plain width.now))) (constant_count scope.now (plain width.now)) }
+    ensures noted { Noted scope.now notes.new }
+{
+    let base = scope.meaning(name);
+    let count = count_of(constant_index(width, scope, notes)) as u32;
+    let index = own_index(from, scope, env, notes);
+    indexed(
+        entity_value(&base, env),
+        entity_range(&base),
+        index,
+        count,
+        up,
+    )
+}
+
+/// The value of an operator before its operand.
+#[cycle(values)]
+#[tactic(auto, using(crate::proofs::Equations::values_of))]
+fn unary_value<'e>(
+    op: Prefix,
+    of: &'e Expr<'e>,
+    scope: &Scope,
+    env: &[u128],
+    context: Shape,
+    notes: &mut Notes<'e>,
+) -> Bits
+    requires fits { IsTrue (fits scope.now (plain of.now)) }
+    requires low { (prefix_shaped op (form scope.now (plain of.now))).width ≤ context.width }
+    requires positive { 1 ≤ context.width }
+    requires high { context.width ≤ 128 }
+    requires noted { Noted scope.now notes.old }
+    ensures value { result ≡ prefix_value op (form scope.now (plain of.now)) (value_of scope.now (plain of.now) (env_of env.now)) context.width context.signed }
+    ensures width { length result ≡ context.width }
+    ensures noted { Noted scope.now notes.new }
+{
+    match op {
+        Prefix::Plus => value_in(of, scope, env, context, notes),
+        Prefix::Minus => value_in(of, scope, env, context, notes).negated(),
+        Prefix::Invert => value_in(of, scope, env, context, notes).inverted(),
+        Prefix::Reduced(op) => {
+            extended(
+                truth(reduced(op, own_value(of, scope, env, notes))),
+                context,
+            )
+        }
+    }
+}
+
+/// Whether a comparison holds; its operands have a context of their own (IEEE 1364-2005 section 5.5.2).
+#[cycle(values)]
+#[tactic(auto, using(crate::proofs::Equations::values_of))]
+fn compares<'e>(
+    op: Relation,
+    left: &'e Expr<'e>,
+    right: &'e Expr<'e>,
+    scope: &Scope,
+    env: &[u128],
+    notes: &mut Notes<'e>,
+) -> bool
+    requires left { IsTrue (fits scope.now (plain left.now)) }
+    requires right { IsTrue (fits scope.now (plain right.now)) }
+    requires noted { Noted scope.now notes.old }
+    ensures value { result ≡ relation_holds op (joined_shape (form scope.now (plain left.now)) (form scope.now (plain right.now))).signed (own_with (joined_shape (form scope.now (plain left.now)) (form scope.now (plain right.now))) (value_of scope.now (plain left.now) (env_of env.now))) (own_with (joined_shape (form scope.now (plain left.now)) (form scope.now (plain right.now))) (value_of scope.now (plain right.now) (env_of env.now))) }
+    ensures noted { Noted scope.now notes.new }
+{
+    let left_shape = own_shape(left, scope, notes);
+    let shape = joined(left_shape, own_shape(right, scope, notes));
+    let left = value_in(left, scope, env, shape, notes);
+    let right = value_in(right, scope, env, shape, notes);
+    holds(op, shape.signed, left, right)
+}
+
+/// The value of an operator between its operands.
+#[cycle(values)]
+#[tactic(auto, using(crate::proofs::Equations::values_of))]
+fn binary_value<'e>(
+    op: Infix,
+    left: &'e Expr<'e>,
+    right: &'e Expr<'e>,
+    scope: &Scope,
+    env: &[u128],
+    context: Shape,
+    notes: &mut Notes<'e>,
+) -> Bits
+    requires left { IsTrue (fits scope.now (plain left.now)) }
+    requires right { IsTrue (fits scope.now (plain right.now)) }
+    requires low { (infix_shaped op (form scope.now (plain left.now)) (form scope.now (plain right.now))).width ≤ context.width }
+    requires positive { 1 ≤ context.width }
+    requires high { context.width ≤ 128 }
+    requires noted { Noted scope.now notes.old }
+    ensures value { result ≡ infix_value op (form scope.now (plain left.now)) (form scope.now (plain right.now)) (value_of scope.now (plain left.now) (env_of env.now)) (value_of scope.now (plain right.now) (env_of env.now)) context.width context.signed }
+    ensures width { length result ≡ context.width }
+    ensures noted { Noted scope.now notes.new }
+{
+    match op {
+        Infix::Arithmetic(op) => {
+            let left = value_in(left, scope, env, context, notes);
+            computed(op, left, value_in(right, scope, env, context, notes))
+        }
+        Infix::Divide => {
+            let left = value_in(left, scope, env, context, notes);
+            left.div(value_in(right, scope, env, context, notes), context.signed)
+        }
+        Infix::Remainder => {
+            let left = value_in(left, scope, env, context, notes);
+            left.rem(value_in(right, scope, env, context, notes), context.signed)
+        }
+        Infix::Power => {
+            let exponent = own_value(right, scope, env, notes).to_u128();
+            value_in(left, scope, env, context, notes).power(exponent)
+        }
+        Infix::Shifted(op) => {
+            let by = own_value(right, scope, env, notes).to_u128();
+            let left = value_in(left, scope, env, context, notes);
+            shifted(op, context.signed, left, by)
+        }
+        Infix::Compared(op) => {
+            extended(truth(compares(op, left, right, scope, env, notes)), context)
+        }
+        Infix::Both => {
+            let left = is_true(left, scope, env, notes);
+            extended(truth(is_true(right, scope, env, notes) && left), context)
+        }
+        Infix::Either => {
+            let left = is_true(left, scope, env, notes);
+            extended(truth(is_true(right, scope, env, notes) || left), context)
+        }
+    }
+}
+
+/// The value of the operand that a test chooses.
+#[cycle(values)]
+#[tactic(auto, using(crate::proofs::Equations::values_of))]
+fn chosen_value<'e>(
+    test: &'e Expr<'e>,
+    yes: &'e Expr<'e>,
+    no: &'e Expr<'e>,
+    scope: &Scope,
+    env: &[u128],
+    context: Shape,
+    notes: &mut Notes<'e>,
+) -> Bits
+    requires test { IsTrue (fits scope.now (plain test.now)) }
+    requires yes { IsTrue (fits scope.now (plain yes.now)) }
+    requires no { IsTrue (fits scope.now (plain no.now)) }
+    requires yes_low { (form scope.now (plain yes.now)).width ≤ context.width }
+    requires no_low { (form scope.now (plain no.now)).width ≤ context.width }
+    requires positive { 1 ≤ context.width }
+    requires high { context.width ≤ 128 }
+    requires noted { Noted scope.now notes.old }
+    ensures value { result ≡ cond (is_zero (own scope.now (plain test.now) (env_of env.now))) (value_of scope.now (plain no.now) (env_of env.now) context.width context.signed) (value_of scope.now (plain yes.now) (env_of env.now) context.width context.signed) }
+    ensures width { length result ≡ context.width }
+    ensures noted { Noted scope.now notes.new }
+{
+    if own_value(test, scope, env, notes).to_u128() == 0 {
+        value_in(no, scope, env, context, notes)
+    } else {
+        value_in(yes, scope, env, context, notes)
+    }
+}
+
+/// The value in a context of a width and a sign.
 #[cycle(values)]
 #[tactic(auto, using(crate::proofs::Equations::values_of))]
 pub(crate) fn value_in<'e>(
     expr: &'e Expr<'e>,
     scope: &Scope,
     env: &[u128],
-    width: u32,
-    signed: bool,
+    context: Shape,
     notes: &mut Notes<'e>,
 ) -> Bits
     requires fits { IsTrue (fits scope.now (plain expr.now)) }
-    requires low { (form scope.now (plain expr.now)).width ≤ width }
-    requires positive { 1 ≤ width }
-    requires high { width ≤ 128 }
+    requires low { (form scope.now (plain expr.now)).width ≤ context.width }
+    requires positive { 1 ≤ context.width }
+    requires high { context.width ≤ 128 }
     requires noted { Noted scope.now notes.old }
-    ensures value { result ≡ value_of scope.now (plain expr.now) (env_of env.now) width signed }
-    ensures width { length result ≡ width }
+    ensures value { result ≡ value_of scope.now (plain expr.now) (env_of env.now) context.width context.signed }
+    ensures width { length result ≡ context.width }
     ensures noted { Noted scope.now notes.new }
 {
     match expr {
-        Expr::Name { name, .. } => { entity_value(&scope.meaning(name), env).extend(width, signed) }
-        Expr::Literal { number, .. } => Bits::from_u128(number.width, number.value).extend(
-            width, signed,
-        ),
+        Expr::Name { name, .. } => extended(entity_value(&scope.meaning(name), env), context),
+        Expr::Literal { number, .. } => {
+            extended(Bits::from_u128(number.width, number.value), context)
+        }
         Expr::Bit { name, index, .. } => {
-            let base = scope.meaning(name);
-            let index = own_index(index, scope, env, notes);
-            picked(entity_value(&base, env), entity_range(&base), index, 1).extend(width, signed)
+            extended(bit_value(name, index, scope, env, notes), context)
         }
         Expr::Part {
             name,
             left,
             right,
             ..
-        } => {
-            let base = scope.meaning(name);
-            let left = constant_index(left, scope, notes);
-            let right = constant_index(right, scope, notes);
-            picked(
-                entity_value(&base, env),
-                entity_range(&base),
-                right,
-                span_of(left, right),
-            )
-            .extend(width, signed)
-        }
+        } => extended(part_value(name, left, right, scope, env, notes), context),
         Expr::Indexed {
             name,
             from,
-            width: count,
+            width,
             up,
             ..
         } => {
-            let base = scope.meaning(name);
-            let count = count_of(constant_index(count, scope, notes)) as u32;
-            let index = own_index(from, scope, env, notes);
-            indexed(
-                entity_value(&base, env),
-                entity_range(&base),
-                index,
-                count,
-                *up,
-            )
-            .extend(width, signed)
+            let word = indexed_value(name, from, width, *up, scope, env, notes);
+            extended(word, context)
         }
-        Expr::Unary { op, of } => match prefix_of(*op) {
-            Prefix::Plus => value_in(of, scope, env, width, signed, notes),
-            Prefix::Minus => value_in(of, scope, env, width, signed, notes).negated(),
-            Prefix::Invert => value_in(of, scope, env, width, signed, notes).inverted(),
-            Prefix::Reduced(op) => truth(reduced(op, own_value(of, scope, env, notes))).extend(
-                width, signed,
-            ),
-        },
-        Expr::Binary { op, left, right } => match infix_of(*op) {
-            Infix::Arithmetic(op) => {
-                let left = value_in(left, scope, env, width, signed, notes);
-                computed(op, left, value_in(right, scope, env, width, signed, notes))
-            }
-            Infix::Divide => {
-                let left = value_in(left, scope, env, width, signed, notes);
-                left.div(value_in(right, scope, env, width, signed, notes), signed)
-            }
-            Infix::Remainder => {
-                let left = value_in(left, scope, env, width, signed, notes);
-                left.rem(value_in(right, scope, env, width, signed, notes), signed)
-            }
-            Infix::Power => {
-                let exponent = own_value(right, scope, env, notes).to_u128();
-                value_in(left, scope, env, width, signed, notes).power(exponent)
-            }
-            Infix::Shifted(op) => {
-                let by = own_value(right, scope, env, notes).to_u128();
-                let left = value_in(left, scope, env, width, signed, notes);
-                shifted(op, signed, left, by)
-            }
-            Infix::Compared(op) => {
-                let left_shape = own_shape(left, scope, notes);
-                let shape = joined(left_shape, own_shape(right, scope, notes));
-                let left = value_in(left, scope, env, shape.width, shape.signed, notes);
-                let right = value_in(right, scope, env, shape.width, shape.signed, notes);
-                truth(holds(op, shape.signed, left, right)).extend(width, signed)
-            }
-            Infix::Both => {
-                let left = is_true(left, scope, env, notes);
-                truth(is_true(right, scope, env, notes) && left).extend(width, signed)
-            }
-            Infix::Either => {
-                let left = is_true(left, scope, env, notes);
-                truth(is_true(right, scope, env, notes) || left).extend(width, signed)
-            }
-        },
-        Expr::Cond { test, yes, no } => {
-            if own_value(test, scope, env, notes).to_u128() == 0 {
-                value_in(no, scope, env, width, signed, notes)
-            } else {
-                value_in(yes, scope, env, width, signed, notes)
-            }
+        Expr::Unary { op, of } => unary_value(prefix_of(*op), of, scope, env, context, notes),
+        Expr::Binary { op, left, right } => {
+            binary_value(infix_of(*op), left, right, scope, env, context, notes)
         }
-        Expr::Concat { parts } => parts_value(parts, scope, env, notes).extend(width, signed),
+        Expr::Cond { test, yes, no } => chosen_value(test, yes, no, scope, env, context, notes),
+        Expr::Concat { parts } => extended(parts_value(parts, scope, env, notes), context),
         Expr::Repeat { count, parts } => {
             let copies = count_of(constant_index(count, scope, notes));
-            repeated(parts_value(parts, scope, env, notes), copies).extend(width, signed)
+            let word = parts_value(parts, scope, env, notes);
+            extended(repeated(word, copies), context)
         }
-        Expr::Cast { of, .. } => own_value(of, scope, env, notes).extend(width, signed),
-        Expr::Paren { of } => value_in(of, scope, env, width, signed, notes),
+        Expr::Cast { of, .. } => extended(own_value(of, scope, env, notes), context),
+        Expr::Paren { of } => value_in(of, scope, env, context, notes),
     }
 }

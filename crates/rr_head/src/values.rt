@@ -1,9 +1,8 @@
 //! Constant expressions and ranges.
 ghost use Rattle.std.specs.Prelude.{◌≡◌, ◌+◌, ◌<◌, ◌≤◌, IfOk, fold, is_none, unwrap_or};
 ghost use Rattle.rr_bits.specs.Words.{reading};
-ghost use Rattle.rr_syntax.specs.View.{plain, plain_list, plain_range};
+ghost use Rattle.rr_syntax.specs.View.{plain, plain_range};
 ghost use Rattle.rr_expr.specs.Scopes.{range_width as width_of_range};
-ghost use Rattle.rr_expr.specs.Faults.{first, first_part};
 ghost use Rattle.rr_head.specs.Faults.{sooner};
 ghost use Rattle.rr_head.specs.Values.{constant as constant_in, bound_of, is_beyond as beyond, bound_or_zero as bound_value, bound_faults, between as between_bounds, range_in};
 ghost use Rattle.rr_head.specs.Sound.{IsRange};
@@ -11,7 +10,7 @@ ghost use Rattle.rr_head.specs.Sound.{IsRange};
 use crate::fault::FlatFault;
 use crate::first::{note, note_if};
 use rr_bits::Bits;
-use rr_expr::{Scope, constant};
+use rr_expr::{Scope, constant, first_token};
 use rr_syntax::{Bounds, Expr};
 
 /// The word and the sign of a constant expression, or its first fault.
@@ -22,39 +21,6 @@ pub fn constant_of(expr: &Expr, names: &Scope) -> Result<(Bits, bool), FlatFault
     match constant(expr, names) {
         Ok(value) => Ok(value),
         Err(fault) => Err(FlatFault::from(fault)),
-    }
-}
-
-/// The number of the first token of an expression: that of its first name or literal, less the marks before it.
-#[cycle(firsts)]
-#[tactic(auto, using(rr_expr::proofs::Equations::firsts))]
-pub fn first_token(expr: &Expr) -> u32
-    ensures { result ≡ first (plain expr.now) }
-{
-    match expr {
-        Expr::Name { token, .. }
-        | Expr::Literal { token, .. }
-        | Expr::Bit { token, .. }
-        | Expr::Part { token, .. }
-        | Expr::Indexed { token, .. } => *token,
-        Expr::Unary { of, .. } | Expr::Paren { of } => first_token(of).saturating_sub(1),
-        Expr::Binary { left, .. } => first_token(left),
-        Expr::Cond { test, .. } => first_token(test),
-        Expr::Concat { parts } => first_of_parts(parts).saturating_sub(1),
-        Expr::Repeat { count, .. } => first_token(count).saturating_sub(1),
-        Expr::Cast { of, .. } => first_token(of).saturating_sub(2),
-    }
-}
-
-/// The number of the first token of the first part.
-#[cycle(firsts)]
-#[tactic(auto, using(rr_expr::proofs::Equations::firsts))]
-fn first_of_parts(parts: &[Expr]) -> u32
-    ensures { result ≡ first_part (plain_list parts.now) }
-{
-    match parts {
-        [] => 0,
-        [part, ..] => first_token(part),
     }
 }
 

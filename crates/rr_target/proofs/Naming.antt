@@ -1,11 +1,11 @@
 -- The bits that expressions name at nodes of the arena, and lists that grow by them.
-use Rattle.std.proofs.Common.{◌≡◌, ◌∙◌, sym, ap, subst, ℕ, ◌+◌, ◌<◌, ◌≤◌, ◌⊎◌, inl, inr, Bool, true, false, cond, List, [], ◌∷◌, ◌++◌, length, drop, get_or, Option, None, Some, is_none, refl, ℤ, pos}
+use Rattle.std.proofs.Common.{◌≡◌, ◌∙◌, sym, ap, subst, ℕ, ◌+◌, ◌<◌, ◌≤◌, ◌⊎◌, inl, inr, Bool, true, false, List, [], ◌∷◌, ◌++◌, length, drop, get_or, None, Some, is_none, ℤ, pos}
 use Rattle.std.proofs.lemmas.List.{drop_all}
 use Rattle.rr_syntax.specs.declared.token.Mark.{Mark}
 use Rattle.rr_syntax.specs.declared.token.Number.{Number}
 use Rattle.rr_syntax.specs.declared.tree.Expr.{Expr}
 use Rattle.rr_syntax.specs.declared.tree.Expr.TheVariants as expr
-use Rattle.rr_syntax.specs.Tree.{Tree, Trees, Name, Literal, Bit as BitSelect, Part, Indexed, Unary, Binary, Cond, Concat, Repeat, Cast, Paren, End, More}
+use Rattle.rr_syntax.specs.Tree.{Tree, Name, Literal, Part, Indexed, Unary, Binary, Cond, Concat, Repeat, Cast, Paren}
 use Rattle.rr_syntax.specs.View.{plain, plain_list}
 use Rattle.rr_syntax.proofs.Rows.{plain_concat, plain_repeat}
 use Rattle.rr_expr.specs.declared.types.Bit.{Bit}
@@ -18,7 +18,7 @@ use Rattle.rr_expr.specs.Values.{form, value, nowhere}
 use Rattle.rr_flat.specs.Reads.{TargetReads, TargetsRead}
 use Rattle.rr_flat.specs.Targets.{has_bit, is_bit_of, bits_there, is_constant}
 use Rattle.rr_target.specs.declared.piece.Piece.{Piece}
-use Rattle.rr_target.specs.Lists.{covered, Grown}
+use Rattle.rr_target.specs.Lists.{Grown}
 use Rattle.rr_target.specs.Pieces.{bits_of, covers, part_bits}
 use Rattle.rr_target.proofs.Growing.{grown_push, grown_none, grown_both, grown_same, rest_is}
 use Rattle.rr_target.proofs.Nodes.{bits-Name, bits-Bit, bits-Part, bits-Indexed, none_parts}

@@ -1,5 +1,5 @@
 -- Names and selects at nodes of the arena, and what a shape of a whole says of its parts.
-use Rattle.std.proofs.Common.{◌≡◌, ◌∙◌, sym, ap, ℕ, zero, suc, ◌-◌, ◌*◌, ◌<◌, ◌≤◌, ◌==◌, max, Bool, true, false, ◌&&◌, ◌||◌, List, [], ◌∷◌, Option, None, Some, nat_lt, get_or, refl, arith, ℤ, pos, ◌-ℤ◌}
+use Rattle.std.proofs.Common.{◌≡◌, ◌∙◌, sym, ap, ℕ, zero, suc, ◌-◌, ◌*◌, ◌<◌, ◌≤◌, ◌==◌, max, Bool, true, false, ◌&&◌, List, [], ◌∷◌, Option, None, Some, nat_lt, refl, arith, pos}
 use Rattle.std.proofs.lemmas.Bool.{and_parts, ltb-true}
 use Rattle.rr_syntax.specs.declared.token.Mark.{Mark}
 use Rattle.rr_syntax.specs.declared.token.Number.{Number}
@@ -12,14 +12,13 @@ use Rattle.rr_expr.specs.declared.types.Bit.{Bit}
 use Rattle.rr_expr.specs.declared.types.Entity.{Entity}
 use Rattle.rr_expr.specs.declared.types.Entity.TheVariants.{Constant, Signal, Instance}
 use Rattle.rr_expr.specs.declared.types.ExprFault.{ExprFault}
-use Rattle.rr_expr.specs.declared.types.ExprFault.TheVariants.{BadRange, NotConstant}
-use Rattle.rr_expr.specs.declared.types.Shape.{Shape}
+use Rattle.rr_expr.specs.declared.types.ExprFault.TheVariants.{BadRange}
 use Rattle.rr_expr.specs.Scopes.{Names, meant, entity_shape, entity_range, is_scalar}
 use Rattle.rr_expr.specs.Selects.{place, lowest_place, integer_with, is_against}
 use Rattle.rr_expr.specs.Values.{form, widths, value, nowhere}
-use Rattle.rr_expr.specs.Faults.{fits, fit, fault, faults, or_else, fault_if, width_fault, name_fault, base_fault, count_fault, takes_constants, constant_count, constant_span, is_bad, first, first_part, is_width}
+use Rattle.rr_expr.specs.Faults.{fits, fit, fault, faults, or_else, fault_if, width_fault, name_fault, base_fault, count_fault, constant_count, constant_span, first, first_part, is_width}
 use Rattle.rr_expr.proofs.Sound.{fits_without_fault, width_positive}
-use Rattle.rr_flat.specs.Targets.{target_bits, bits_there, bit_there, is_constant, is_bit_of, has_bit}
+use Rattle.rr_flat.specs.Targets.{target_bits, bits_there}
 use Rattle.rr_target.specs.Pieces.{part_bits}
 use denote.Ref.{Bor}
 

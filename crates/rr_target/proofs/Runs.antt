@@ -1,5 +1,5 @@
 -- The bits of runs of places.
-use Rattle.std.proofs.Common.{◌≡◌, ◌∙◌, sym, ap, ℕ, zero, suc, ◌+◌, ◌-◌, ◌<◌, ◌≤◌, ◌⊎◌, inl, inr, Bool, true, false, cond, not, ◌&&◌, ◌||◌, List, [], ◌∷◌, ◌++◌, Option, None, Some, nat_eq, nat_lt, refl, arith, min, ℤ, pos, negsuc, ◌+ℤ◌, ◌-ℤ◌, int_lt, unsigned_abs}
+use Rattle.std.proofs.Common.{◌≡◌, ◌∙◌, sym, ap, ℕ, zero, suc, ◌+◌, ◌-◌, ◌<◌, ◌≤◌, inl, inr, Bool, true, false, cond, not, ◌||◌, List, [], ◌∷◌, Option, None, Some, nat_eq, nat_lt, refl, arith, ℤ, pos, negsuc, ◌+ℤ◌, ◌-ℤ◌, int_lt, unsigned_abs}
 use Rattle.std.proofs.lemmas.Bool.{and_from, and_parts, or_cases, ltb-true, lt-ltb, le-ltb, eqb-true, eq-eqb}
 use Rattle.std.proofs.lemmas.Int.{ints}
 use lib.IntN.{nat_abs}

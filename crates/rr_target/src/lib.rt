@@ -1,4 +1,6 @@
-//! The bits that names and selects of a flat design name (IEEE 1364-2005 section 5.2.1).
+//! The bits that names and selects of a flat design name (IEEE 1364-2005 section 5.2.1). It is right
+//! where the pieces are, bit by bit, those of `rr_flat`'s `Targets` and `Reads`. It stands on
+//! `rr_flat` and `rr_expr`.
 #![tactic(auto)]
 
 mod piece;

@@ -1,8 +1,8 @@
 //! Runs of places of a signal.
-ghost use Rattle.std.specs.Prelude.{◌≡◌, ◌≤◌, ◌++◌, ◌∷◌, [], OnOk, ℤ, pos, ◌+ℤ◌, min, not, ◌&&◌, nat_eq, nat_lt};
+ghost use Rattle.std.specs.Prelude.{◌≡◌, ◌≤◌, ◌++◌, ◌∷◌, [], OnOk, min, not, ◌&&◌, nat_eq, nat_lt};
 ghost use Rattle.rr_expr.specs.Selects.{count as at_least_zero};
 ghost use Rattle.rr_expr.specs.declared.types.Bit.{Bit};
-ghost use Rattle.rr_target.specs.Pieces.{bit_in, bits_in, bits_of, covers};
+ghost use Rattle.rr_target.specs.Pieces.{covers};
 
 use std::alloc::AllocError;
 

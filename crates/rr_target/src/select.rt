@@ -12,7 +12,7 @@ ghost use Rattle.rr_target.specs.Pieces.{bits_of, part_bits};
 
 use crate::piece::Piece;
 use rr_expr::{
-    Entity, Env, Index, Scope, below_index, constant, index_of, near_place, shape, value,
+    Entity, Env, Index, Scope, below_index, constant, index_of, near_place, shape_of, value,
 };
 use rr_syntax::Expr;
 
@@ -47,10 +47,8 @@ fn index_in(expr: &Expr, scope: &Scope, env: &Env) -> Index
     requires { fault scope.now (plain expr.now) false ≡ None }
     ensures { integer_of result ≡ integer_with (form scope.now (plain expr.now)) (value_of scope.now (plain expr.now) (env_of env.now.values.items)) }
 {
-    match shape(expr, scope) {
-        Ok(own) => index_of(value(expr, scope, env, own.width, own.signed), own.signed),
-        Err(_) => ZERO,
-    }
+    let own = shape_of(expr, scope);
+    index_of(value(expr, scope, env, own.width, own.signed), own.signed)
 }
 
 /// A constant index.
@@ -71,10 +69,7 @@ fn width_of(expr: &Expr, scope: &Scope) -> u32
     ensures low { 1 ≤ result }
     ensures high { result ≤ 128 }
 {
-    match shape(expr, scope) {
-        Ok(own) => own.width,
-        Err(_) => 1,
-    }
+    shape_of(expr, scope).width
 }
 
 /// The number of bits of a range.

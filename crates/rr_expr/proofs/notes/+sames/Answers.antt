@@ -1,4 +1,4 @@
-use Rattle.std.proofs.Common.{arith, ◌∙◌, sym}
+use Rattle.std.proofs.Common.{arith}
 use Rattle.rr_expr.proofs.Same.{same_next}
 use Rattle.rr_expr.proofs.notes.+sames.Goals as goal
 

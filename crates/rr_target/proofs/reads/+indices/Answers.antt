@@ -1,7 +1,6 @@
-use Rattle.std.proofs.Common.{◌≡◌, ◌∙◌, sym, ap, rules}
+use Rattle.std.proofs.Common.{rules}
 use Rattle.std.proofs.lemmas.Result.{on_ok_weaker}
 use Rattle.rr_syntax.specs.declared.tree.Expr.{the_lemmas}
-use Rattle.rr_syntax.specs.View.{plain, plain_list}
 use Rattle.rr_target.proofs.Naming.{reads-Bit, reads-Indexed, reads-Concat, reads-Name, reads-Part, reads-Literal, reads-Unary, reads-Binary, reads-Cond, reads-Repeat, reads-Cast, reads-Paren, reads_start, reads_here, reads_more, reads_done}
 use Rattle.rr_target.proofs.Nodes.{shaped-Bit, shaped-Indexed, shaped-Concat}
 use Rattle.rr_target.proofs.reads.+indices.Goals as goal

@@ -1,10 +1,9 @@
-use Rattle.std.proofs.Common.{◌≡◌, ◌∙◌, sym, ap, rules}
+use Rattle.std.proofs.Common.{◌∙◌, sym, rules}
 use Rattle.std.proofs.lemmas.Result.{on_ok_weaker}
 use Rattle.rr_syntax.specs.declared.tree.Expr.{the_lemmas}
-use Rattle.rr_syntax.specs.View.{plain, plain_list}
 use Rattle.rr_target.proofs.Growing.{grown_at}
 use Rattle.rr_target.proofs.Naming.{pushed-Name, pushed-Part, pushed-Bit, pushed-Indexed, whole-Bit, whole-Indexed, grown-Literal, grown-Unary, grown-Cast, grown-Paren, grown-Binary, grown-Cond, grown-Concat, grown-Repeat, names_start, names_here, names_more, names_done}
-use Rattle.rr_target.proofs.Nodes.{shaped-Name, shaped-Bit, shaped-Part, shaped-Indexed, shaped-Unary, shaped-Cast, shaped-Paren, shaped-Binary, shaped-Cond, shaped-Concat, shaped-Repeat}
+use Rattle.rr_target.proofs.Nodes.{shaped-Bit, shaped-Indexed, shaped-Unary, shaped-Cast, shaped-Paren, shaped-Binary, shaped-Cond, shaped-Concat, shaped-Repeat}
 use Rattle.rr_target.proofs.reads.+named.Goals as goal
 
 pub add_named_by_all-loop-part-init : goal.add_named_by_all-loop-part-init

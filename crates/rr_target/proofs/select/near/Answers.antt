@@ -1,4 +1,4 @@
-use Rattle.std.proofs.Common.{◌≡◌, ◌∙◌, ◌+◌, ◌<◌, ◌≤◌, ap, pos, ◌-ℤ◌, ℤ, arith}
+use Rattle.std.proofs.Common.{◌≡◌, ◌∙◌, ◌<◌, ap, pos, ◌-ℤ◌, ℤ, arith}
 use lib.IntN.{nat_abs}
 use Rattle.rr_expr.specs.declared.types.Entity.TheVariants as entity
 use Rattle.rr_expr.specs.Indices.{integer_of}

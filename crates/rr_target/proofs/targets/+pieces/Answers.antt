@@ -1,7 +1,5 @@
-use Rattle.std.proofs.Common.{◌≡◌, ◌∙◌, sym, ap, rules}
-use Rattle.std.proofs.lemmas.Result.{on_ok_weaker}
+use Rattle.std.proofs.Common.{rules}
 use Rattle.rr_syntax.specs.declared.tree.Expr.{the_lemmas}
-use Rattle.rr_syntax.specs.View.{plain, plain_list}
 use Rattle.rr_expr.specs.Scopes.{env_of}
 use Rattle.rr_target.specs.Pieces.{all_bits}
 use Rattle.rr_target.proofs.Writing.{bits_start, bits_here, bits_more, bits_done}

@@ -1,8 +1,7 @@
-use Rattle.std.proofs.Common.{◌≡◌, ◌∙◌, sym, ap, rules, ◌||◌}
+use Rattle.std.proofs.Common.{◌∙◌, sym, ap, rules, ◌||◌}
 use Rattle.std.proofs.lemmas.Result.{on_ok_weaker}
 use Rattle.rr_syntax.specs.declared.tree.Expr.{the_lemmas}
-use Rattle.rr_syntax.specs.View.{plain, plain_list}
-use Rattle.rr_target.proofs.Nodes.{shaped-Name, shaped-Bit, shaped-Part, shaped-Indexed, shaped-Concat}
+use Rattle.rr_target.proofs.Nodes.{shaped-Bit, shaped-Indexed, shaped-Concat}
 use Rattle.rr_target.proofs.Writing.{writes-Name, writes-Part, writes-Bit, writes-Indexed, writes-Concat, assigns-Name, assigns-Part, assigns-Bit, assigns-Indexed, assigns-Concat, parts-Literal, parts-Unary, parts-Binary, parts-Cond, parts-Repeat, parts-Cast, parts-Paren, may_nothing, must_nothing, writes_start, writes_here, writes_more, writes_done, assigns_done}
 use Rattle.std.proofs.Common.{◌&&◌}
 use Rattle.rr_target.specs.Lists.{may, must}

@@ -1,4 +1,4 @@
-use Rattle.std.proofs.Common.{◌∙◌, sym, ap, ◌&&◌}
+use Rattle.std.proofs.Common.{◌∙◌, sym, ap}
 use Rattle.rr_flat.specs.Targets.{is_bit_of}
 use Rattle.rr_target.proofs.writes.write_at.Goals as goal
 

@@ -1,12 +1,10 @@
-use Rattle.std.proofs.Common.{Some}
-use Rattle.std.proofs.lemmas.List.Elements.{All-set}
-use Rattle.rr_expr.specs.Notes.{Noted, IsRightNote}
+use Rattle.rr_expr.specs.Notes.{Noted}
 use Rattle.rr_expr.proofs.notes.Notes.keep.Goals as goal
 
-pub returns-then-self-cheapest : goal.returns-then-self-cheapest
+pub returns-in-Some : goal.returns-in-Some
 unfolding Noted
-returns-then-self-cheapest c s h right = All-set (IsRightNote s) c.args.self.now.kept c.least_at-cheapest.result (Some c.args.known) right h
+returns-in-Some c s h right = c.keep.ensures s (rw c.in-Some.is at h) right
 
-pub returns-else-self-cheapest : goal.returns-else-self-cheapest
+pub returns-in-None : goal.returns-in-None
 unfolding Noted
-returns-else-self-cheapest c s h right = h
+returns-in-None c s h right = c.keep-in-None.ensures s (c.new-table.ensures s) right
