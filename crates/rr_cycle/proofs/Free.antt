@@ -20,9 +20,9 @@ use Rattle.rr_cycle.specs.Cycles.{IsInputBit}
 use Rattle.rr_cycle.specs.Designs.{IsElaborated, IsLawful}
 use Rattle.rr_cycle.proofs.HeadOf.{all_index}
 use Rattle.rr_cycle.proofs.Sequence.{Among, OfKind, target_named, write_named}
-use Rattle.rr_cycle.proofs.TargetBits.{target_written, bits_of_name}
+use Rattle.rr_cycle.proofs.TargetBits.{target_written}
 use Rattle.rr_cycle.proofs.WalkOf.{Aims, IsTop, Sourced, sourced}
-use Rattle.rr_cycle.proofs.Writes.{place_has}
+use Rattle.rr_flat.proofs.Bits.{place_has, bits_of_name}
 
 -- a name that may be driven or assigned is no input
 no_drive : (flat : Flat) (e : Entity) (fixed : Bool) (id : ℕ) (range : Option (ℕ × ℕ)) (signed : Bool) → MayDrive flat e fixed → e ≡ Signal id range signed → (signal_at flat.signals id).port ≡ Input → ⊥

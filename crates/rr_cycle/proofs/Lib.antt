@@ -9,3 +9,4 @@ pub mod HeadOf
 pub mod WalkOf
 pub mod Free
 pub mod Settled
+pub mod Ranked

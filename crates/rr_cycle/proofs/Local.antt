@@ -14,7 +14,8 @@ use Rattle.rr_flat.specs.Reads.{TargetReads, StatementReads, StatementsRead, Arm
 use Rattle.rr_flat.specs.Targets.{has_bit, target_bits, writes_target, assigns_target}
 use Rattle.rr_cycle.specs.Exec.{Environment, assigned, is_true, labels_of, case_shape, is_matched, executed, executed_all, executed_arm, executed_case, executed_default}
 use Rattle.rr_cycle.proofs.TargetBits.{Agree, target_local, target_written, assigned_there}
-use Rattle.rr_cycle.proofs.Writes.{missed, or_none, write_agree, write_outside}
+use Rattle.rr_cycle.proofs.Writes.{write_agree, write_outside}
+use Rattle.rr_flat.proofs.Bits.{missed, or_none}
 
 pub test_same : (s : Names) (c : Tree) (e f : Environment) → Agree e f (NamesBit s c) → is_true s c e ≡ is_true s c f
 test_same s c e f h = ap (λ (xs : List Bool). not (is_zero xs)) (value_by_named_bits s c e f h (form s c).width (form s c).signed)

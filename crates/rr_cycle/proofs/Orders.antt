@@ -1,4 +1,4 @@
--- Steps in an order: performing them settles an environment, and only one is settled.
+-- Steps in an order: performing them settles an environment.
 use Rattle.std.proofs.Common.{◌≡◌, ℕ, zero, suc, ◌≤◌, ◌<◌, refl, ◌∙◌, sym, arith, Bool, ◌⊎◌, inl, inr}
 use Rattle.std.proofs.lemmas.Bool.{cases_eq}
 
@@ -46,36 +46,4 @@ module _ {S B : Type 0} (act : S → (B → Bool) → B → Bool) (Writes : S �
   settles h e (suc i) j l m = elim (cases_eq j i) [
     | inl q ↦ rw q (again h (performed i e) i l)
     | inr q ↦ stays h (performed i e) i j l (omega arith) (settles h e i j (omega arith) (omega arith))
-  ]
-
-  data Found (b : B) : ℕ → Type 0 where
-    writer : {i : ℕ} (j : ℕ) → j < i → Writes (step j) b → Found b i
-    none : {i : ℕ} → ((j : ℕ) → j < i → Writes (step j) b → ⊥) → Found b i
-
-  found : Steps → (b : B) (i : ℕ) → i ≤ n → Found b i
-  found h b zero l = none (λ j m w. absurd (omega arith))
-  found h b (suc i) l = elim (h.decided i l b) [
-    | inl w ↦ writer i (omega arith) w
-    | inr w ↦ elim (found h b i (omega arith)) [
-      | writer j m v ↦ writer j (omega arith) v
-      | none v ↦ none {i = suc i} (λ j m x. elim (cases_eq j i) [ inl q ↦ w (rw q at x) | inr q ↦ v j (omega arith) x ])
-    ]
-  ]
-
-  agree : Steps → (e f : B → Bool) → ((j : ℕ) → j < n → Keeps (step j) e) → ((j : ℕ) → j < n → Keeps (step j) f) →
-      ((b : B) → ((j : ℕ) → j < n → Writes (step j) b → ⊥) → e b ≡ f b) → (i : ℕ) → i ≤ n → (j : ℕ) → j < i → (b : B) → Writes (step j) b → e b ≡ f b
-  agree h e f ke kf base zero l j m b w = absurd (omega arith)
-  agree h e f ke kf base (suc i) l j m b w =
-      let named : (c : B) → Names (step j) c → e c ≡ f c = λ c t. elim (found h c n (omega arith)) [
-        | writer k o v ↦ let x = h.after k j o (omega arith) c v t in agree h e f ke kf base i (omega arith) k (omega arith) c v
-        | none v ↦ base c v
-      ] in
-      sym (ke j (omega arith) b) ∙ h.local j (omega arith) e f b w named ∙ kf j (omega arith) b
-
-  -- environments that all steps keep, and that agree on the bits that no step writes, are one
-  pub only : Steps → (e f : B → Bool) → ((j : ℕ) → j < n → Keeps (step j) e) → ((j : ℕ) → j < n → Keeps (step j) f) →
-      ((b : B) → ((j : ℕ) → j < n → Writes (step j) b → ⊥) → e b ≡ f b) → (b : B) → e b ≡ f b
-  only h e f ke kf base b = elim (found h b n (omega arith)) [
-    | writer j m w ↦ agree h e f ke kf base n (omega arith) j m b w
-    | none v ↦ base b v
   ]

@@ -26,8 +26,9 @@ use Rattle.rr_cycle.specs.Exec.{Environment, assigned, is_true, labels_of, case_
 use Rattle.rr_cycle.specs.Performing.{run_blocks, updates_of_blocks}
 use Rattle.rr_cycle.proofs.Local.{outside, test_same, match_same}
 use Rattle.rr_cycle.proofs.Settling.{search_below, true_or_not}
-use Rattle.rr_cycle.proofs.TargetBits.{Agree, target_local, one_of_name, bits_of_name}
-use Rattle.rr_cycle.proofs.Writes.{or_left, or_right, write_agree, missed}
+use Rattle.rr_cycle.proofs.TargetBits.{Agree, target_local}
+use Rattle.rr_cycle.proofs.Writes.{write_agree}
+use Rattle.rr_flat.proofs.Bits.{or_left, or_right, missed, one_of_name, bits_of_name}
 
 abbrev Within : (Bit → Type 0) → (Bit → Type 0) → Type 0
 Within P R = (b : Bit) → P b → R b

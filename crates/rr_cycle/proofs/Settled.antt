@@ -1,5 +1,5 @@
 -- the laws of cycles
-use Rattle.std.proofs.Common.{◌≡◌, ℕ, List, [], ◌∷◌, Bool, true, Option, None, Ok, refl, ap, arith, subst, inl, inr}
+use Rattle.std.proofs.Common.{◌≡◌, ℕ, List, [], ◌∷◌, Bool, true, Option, None, Ok, refl, arith, inl, inr}
 use Rattle.rr_syntax.specs.Tree.{ModuleDeclaration, SourceText}
 use Rattle.rr_expr.specs.declared.types.Bit.{Bit}
 use Rattle.rr_flat.specs.declared.design.Step.{Step}
@@ -22,7 +22,8 @@ use Rattle.rr_cycle.specs.Exec.{Environment, applied}
 use Rattle.rr_cycle.specs.Performing.{base, performed, run_blocks, updates_of_blocks}
 use Rattle.rr_cycle.proofs.Free.{free_inputs}
 use Rattle.rr_cycle.proofs.Sequence.{next_in_order, only_next}
-use Rattle.rr_cycle.proofs.Settling.{settled_by_steps, only_one}
+use Rattle.rr_cycle.proofs.Ranked.{one_settled, run_once}
+use Rattle.rr_cycle.proofs.Settling.{settled_by_steps}
 
 pub settles : (flat : Flat) (clock : Option ℕ) (rising : Bool) (steps : List Step) → IsElaborated flat → IsInOrder flat clock rising steps → (state : Environment) (row : List ℕ) →
     Settled flat clock state row (performed flat steps (base flat clock state row))
@@ -31,9 +32,8 @@ settles flat clock rising steps e o state row = settled_by_steps flat o.0 clock 
 pub settled_exists : (flat : Flat) (clock : Option ℕ) (rising : Bool) (steps : List Step) → IsElaborated flat → IsInOrder flat clock rising steps → (state : Environment) (row : List ℕ) → (env : Environment) × Settled flat clock state row env
 settled_exists flat clock rising steps e o state row = (performed flat steps (base flat clock state row), settles flat clock rising steps e o state row)
 
-pub settled_only : (flat : Flat) (clock : Option ℕ) (rising : Bool) (steps : List Step) → IsInOrder flat clock rising steps → (state : Environment) (row : List ℕ) (e f : Environment) →
-    Settled flat clock state row e → Settled flat clock state row f → e ≡ f
-settled_only flat clock rising steps o state row e f h k = only_one flat o.0 clock rising steps o.1.0 o.1.1 state row e f h k
+pub settled_only : (flat : Flat) → IsLawful flat → (clock : Option ℕ) (state : Environment) (row : List ℕ) (e f : Environment) → Settled flat clock state row e → Settled flat clock state row f → e ≡ f
+settled_only flat l clock state row e f h k = one_settled flat l.0 l.1 clock state row e f h k
 
 -- A design without a part: the source has one module, without ports and items
 
@@ -128,13 +128,5 @@ runs_exist flat clock rising steps e o (row ∷ rows) state =
 pub run_exists : (flat : Flat) (clock : Option ℕ) (rising : Bool) (steps : List Step) → IsElaborated flat → IsInOrder flat clock rising steps → (rows : List (List ℕ)) → (outputs : List (List ℕ)) × Run flat clock rows outputs
 run_exists flat clock rising steps e o rows = runs_exist flat clock rising steps e o rows zeros
 
-runs_same : (flat : Flat) (clock : Option ℕ) (rising : Bool) (steps : List Step) → IsInOrder flat clock rising steps → (rows a b : List (List ℕ)) (s t x y : Environment) → s ≡ t →
-    Runs flat clock s rows a x → Runs flat clock t rows b y → a ≡ b
-runs_same flat clock rising steps o [] a b s t x y q ended ended = refl
-runs_same flat clock rising steps o (row ∷ rows) a b s t x y q (cycle {more = m} e f h k r) (cycle {more = n} g i u v w) =
-    let same : e ≡ g = settled_only flat clock rising steps o t row e g (subst (λ z. Settled flat clock z row e) q h) u in
-    let next : f ≡ i = next_only flat g f i (subst (λ z. IsNext flat z f) same k) v in
-    rw (ap (outputs_of flat) same, runs_same flat clock rising steps o rows m n f i x y next r w) refl
-
-pub run_only : (flat : Flat) (clock : Option ℕ) (rising : Bool) (steps : List Step) → IsInOrder flat clock rising steps → (rows a b : List (List ℕ)) → Run flat clock rows a → Run flat clock rows b → a ≡ b
-run_only flat clock rising steps o rows a b h k = runs_same flat clock rising steps o rows a b zeros zeros h.0 k.0 refl h.1 k.1
+pub run_only : (flat : Flat) → IsLawful flat → (clock : Option ℕ) (rows a b : List (List ℕ)) → Run flat clock rows a → Run flat clock rows b → a ≡ b
+run_only flat l clock rows a b h k = run_once flat l.0 l.1 clock rows a b h k

@@ -1,4 +1,4 @@
--- a lawful design whose steps have an order has exactly one settled environment
+-- performing the steps of a lawful design in their order settles an environment
 use Rattle.std.proofs.Common.{◌≡◌, ℕ, zero, suc, ◌≤◌, ◌<◌, max, List, [], ◌∷◌, ◌++◌, length, get_or, drop, drop-cons, refl, ap, ◌∙◌, sym, arith, Bool, true, false, ◌&&◌, ◌||◌, nat_eq, nat_lt, Option, Some, None, ◌⊎◌, inl, inr, length-append, subst, pos}
 use mathlib.Core.Path.{fun_ext}
 use Rattle.std.proofs.lemmas.Bool.{and_parts, both_ways, cases_eq, cases_Bool, or_cases, eqb-true, eq-eqb, and_from, lt-ltb, ltb-true}
@@ -25,10 +25,11 @@ use Rattle.rr_cycle.specs.Cycles.{driver_value, side_shape, side_value, row_inpu
 use Rattle.rr_cycle.specs.Exec.{Environment, write}
 use Rattle.rr_cycle.specs.Performing.{act, performed, any_writes, any_is, base}
 use Rattle.rr_cycle.proofs.Local.{outside, statement_local}
-use Rattle.rr_cycle.proofs.Orders.{Steps, performed as steps_done, untouched, settles, only}
+use Rattle.rr_cycle.proofs.Orders.{Steps, performed as steps_done, untouched, settles}
 use Rattle.rr_cycle.proofs.TargetBits.{Agree}
 use Rattle.rr_cycle.proofs.Wiring.{length_there, side_bit}
-use Rattle.rr_cycle.proofs.Writes.{cases_place, missed, or_left, or_right, has_place, place_has, write_agree, write_outside, write_there}
+use Rattle.rr_cycle.proofs.Writes.{write_agree, write_outside, write_there}
+use Rattle.rr_flat.proofs.Bits.{cases_place, missed, or_left, or_right, has_place, place_has}
 
 -- a number below n with a property, or none
 pub search_below : (P : ℕ → Type 0) → ((k : ℕ) → P k ⊎ (P k → ⊥)) → (n : ℕ) → ((k : ℕ) × ((k < n) × P k)) ⊎ ((k : ℕ) → k < n → P k → ⊥)
@@ -49,7 +50,7 @@ true_or_not false = inr (λ h. both_ways false refl h)
 mutual
   unfolding target_bits form
 
-  target_size : (s : Names) (e : Environment) (t : Tree) → length (target_bits s e t) ≤ (form s t).width
+  pub target_size : (s : Names) (e : Environment) (t : Tree) → length (target_bits s e t) ≤ (form s t).width
   target_size s e (Name token name) = omega (arith, length_there (meant s name) (pos 0) (entity_shape (meant s name)).width)
   target_size s e (Literal token n) = omega arith
   target_size s e (BitSelect token name i) = omega arith
@@ -63,11 +64,11 @@ mutual
   target_size s e (Cast signed t) = omega arith
   target_size s e (Paren t) = omega arith
 
-  targets_size : (s : Names) (e : Environment) (ts : Trees) → length (targets_bits s e ts) ≤ widths s ts
+  pub targets_size : (s : Names) (e : Environment) (ts : Trees) → length (targets_bits s e ts) ≤ widths s ts
   targets_size s e End = omega arith
   targets_size s e (More t ts) = omega (arith, length-append (targets_bits s e ts) (target_bits s e t), target_size s e t, targets_size s e ts)
 
-driven_size : (flat : Flat) (side : Side) → length (driven_by flat side) ≤ (side_shape flat side).width
+pub driven_size : (flat : Flat) (side : Side) → length (driven_by flat side) ≤ (side_shape flat side).width
 unfolding driven_by side_shape
 driven_size flat (Written t i) = target_size (scope_at flat i) nowhere t
 driven_size flat (Whole id) = omega (arith, length_there (entity_of_signal flat id) (pos 0) (signal_at flat.signals id).width)
@@ -77,11 +78,11 @@ place_below [] i x h = cc
 place_below (y ∷ ys) zero x h = omega arith
 place_below (y ∷ ys) (suc i) x h = let l = place_below ys i x h in omega arith
 
-split : (xs ys : List Assigned) → AllByRecursion (λ a. a.now ≡ true) (xs ++ ys) → AllByRecursion (λ a. a.now ≡ true) xs × AllByRecursion (λ a. a.now ≡ true) ys
+pub split : (xs ys : List Assigned) → AllByRecursion (λ a. a.now ≡ true) (xs ++ ys) → AllByRecursion (λ a. a.now ≡ true) xs × AllByRecursion (λ a. a.now ≡ true) ys
 split [] ys h = (tt, h)
 split (x ∷ xs) ys h = let p = split xs ys h.1 in ((h.0, p.0), p.1)
 
-no_parts : (s : Names) (ts : List Tree) (b : Bit) → AllByRecursion (λ a. a.now ≡ true) (assigned_parts false ts) → may_write s ts b ≡ false
+pub no_parts : (s : Names) (ts : List Tree) (b : Bit) → AllByRecursion (λ a. a.now ≡ true) (assigned_parts false ts) → may_write s ts b ≡ false
 unfolding assigned_parts may_write
 no_parts s [] b h = refl
 no_parts s (t ∷ ts) b h = absurd (both_ways false refl h.0)
@@ -90,7 +91,7 @@ no_parts s (t ∷ ts) b h = absurd (both_ways false refl h.0)
 mutual
   unfolding assigned_by writes
 
-  none_later : (s : Names) (t : Statement) (b : Bit) → AllByRecursion (λ a. a.now ≡ true) (assigned_by t) → writes false s t b ≡ false
+  pub none_later : (s : Names) (t : Statement) (b : Bit) → AllByRecursion (λ a. a.now ≡ true) (assigned_by t) → writes false s t b ≡ false
   none_later s Null b h = refl
   none_later s (Sequence label ss) b h = none_later_all s ss b h
   none_later s (If c t) b h = none_later s t b h
@@ -110,21 +111,21 @@ mutual
   none_later_arms s NoArms b h = refl
   none_later_arms s (MoreArms arm rest) b h = let p = split (assigned_by_arm arm) (assigned_by_arms rest) h in rw (none_later_arm s arm b p.0, none_later_arms s rest b p.1) refl
 
-names_false : (x : Bool) (flat : Flat) (k i : ℕ) (c : Bit) → x ≡ false → SideReads flat (driver_at flat k).value c → NamesIf x flat k i c
+pub names_false : (x : Bool) (flat : Flat) (k i : ℕ) (c : Bit) → x ≡ false → SideReads flat (driver_at flat k).value c → NamesIf x flat k i c
 names_false true flat k i c h r = absurd (both_ways true h refl)
 names_false false flat k i c h r = r
 
-names_true : (x : Bool) (flat : Flat) (k i : ℕ) (c : Bit) → x ≡ true → taken_at (side_signed flat (driver_at flat k).value) (side_taken flat (driver_at flat k).value) i ≡ Some c → NamesIf x flat k i c
+pub names_true : (x : Bool) (flat : Flat) (k i : ℕ) (c : Bit) → x ≡ true → taken_at (side_signed flat (driver_at flat k).value) (side_taken flat (driver_at flat k).value) i ≡ Some c → NamesIf x flat k i c
 names_true true flat k i c h r = r
 names_true false flat k i c h r = absurd (both_ways false refl h)
 
-sign_same : (flat : Flat) (side : Side) → side_signed flat side ≡ (side_shape flat side).signed
+pub sign_same : (flat : Flat) (side : Side) → side_signed flat side ≡ (side_shape flat side).signed
 unfolding side_signed side_shape
 sign_same flat (Written t i) = refl
 sign_same flat (Whole id) = refl
 
 -- a side that does not wire stands on what it reads
-side_local : (flat : Flat) (side : Side) (e f : Environment) (w : ℕ) (signed : Bool) → side_is_wiring flat side ≡ false → Agree e f (SideReads flat side) → side_value flat side e w signed ≡ side_value flat side f w signed
+pub side_local : (flat : Flat) (side : Side) (e f : Environment) (w : ℕ) (signed : Bool) → side_is_wiring flat side ≡ false → Agree e f (SideReads flat side) → side_value flat side e w signed ≡ side_value flat side f w signed
 unfolding side_is_wiring side_value SideReads
 side_local flat (Written t i) e f w signed h a = value_by_named_bits (scope_at flat i) t e f a w signed
 side_local flat (Whole id) e f w signed h a = absurd (both_ways true h refl)
@@ -301,78 +302,12 @@ module _ (flat : Flat) (word : Option (List ℕ)) (clock : Option ℕ) (rising :
     apart = λ i j l m b v w. order.once i j l m (apart (step i) (step j) (order.each i l) (order.each j m) b v w);
   }
 
-  -- an environment with all the equations is kept by each step
-  pub keeps : (state : Environment) (row : List ℕ) (e : Environment) → Settled flat clock state row e → (s : Step) → IsStep flat s → (b : Bit) → act flat s e b ≡ e b
-  unfolding IsStep Writes act
-  keeps state row e h (Driver k) l b = elim (cases_Bool (has_bit (driven flat k) b)) [
-    | inl t ↦
-        let r = has_place (driven flat k) b t in
-        write_there (driven flat k) (driver_value flat k e) e b r.0 r.1 (λ j q. ap place_of (lawful.one_writer (Driven k j) (Driven k r.0) b (l.0, q) (l.0, r.1)))
-        ∙ sym (h.drivers k r.0 b (l.0, r.1))
-    | inr t ↦ write_outside (driven flat k) (driver_value flat k e) e b t
-  ]
-  keeps state row e h (Wire k i) l b = elim (cases_place (get_or (driven flat k) i None) b) [
-    | inl q ↦ single (get_or (driven flat k) i None) b (get_or (driver_value flat k e) i false) e q ∙ sym (h.drivers k i b (l.0, q))
-    | inr q ↦
-        write_outside (get_or (driven flat k) i None ∷ []) (get_or (driver_value flat k e) i false ∷ []) e b
-        (missed (has_bit (get_or (driven flat k) i None ∷ []) b) (λ t. q (one_place (get_or (driven flat k) i None) b t)))
-  ]
-  keeps state row e h (Block k) l b = ap (λ (f : Environment). f b) (h.blocks k l)
-
-  -- the step that writes a driven bit, or one of a block
-  step_of_driven : (k i : ℕ) (b : Bit) → Writes flat (Driven k i) b → (j : ℕ) × ((j < length steps) × StepWrites flat (step j) b)
-  unfolding IsStep StepWrites Writes
-  step_of_driven k i b w = elim (cases_Bool (wires flat k)) [
-    | inl t ↦ let r = order.all (Wire k i) (w.0, t, place_below (driven flat k) i b w.1) in (r.0, (r.1.0, rw r.1.1 w))
-    | inr t ↦ let r = order.all (Driver k) (w.0, t) in (r.0, (r.1.0, rw r.1.1 (i, w)))
-  ]
-
-  step_of_block : (k : ℕ) (b : Bit) → Writes flat (Combinational k) b → (j : ℕ) × ((j < length steps) × StepWrites flat (step j) b)
-  unfolding IsStep StepWrites Writes
-  step_of_block k b w = let r = order.all (Block k) w.0 in (r.0, (r.1.0, rw r.1.1 w))
-
   -- a register is written by no step, and an input neither
   by_step : (s : Step) (b : Bit) (l : ℕ) → Writes flat (Clocked l) b → StepWrites flat s b → ⊥
   unfolding StepWrites
   by_step (Driver k) b l w v = omega (arith, ap kind_of (lawful.one_writer (Clocked l) (Driven k v.0) b w v.1))
   by_step (Wire k i) b l w v = omega (arith, ap kind_of (lawful.one_writer (Clocked l) (Driven k i) b w v))
   by_step (Block k) b l w v = omega (arith, ap kind_of (lawful.one_writer (Clocked l) (Combinational k) b w v))
-
-  data Kind (b : Bit) : Type 0 where
-    register : (k : ℕ) → Writes flat (Clocked k) b → Kind b
-    input : IsInputBit flat b → Kind b
-    other : ((k : ℕ) → Writes flat (Clocked k) b → ⊥) → (IsInputBit flat b → ⊥) → Kind b
-
-  kind : (b : Bit) → Kind b
-  unfolding Writes
-  kind b = elim (search_below (λ k. writes_at_all flat (block_at flat.clocked k) b ≡ true) (λ k. true_or_not (writes_at_all flat (block_at flat.clocked k) b)) (length flat.clocked)) [
-    | inl q ↦ register q.0 q.1
-    | inr q ↦ elim (cases_Bool (input_test flat b)) [
-      | inl t ↦ input (tested_input flat b t)
-      | inr t ↦ other (λ k w. q k w.0 w.1) (λ i. both_ways (input_test flat b) t (input_tested flat b i))
-    ]
-  ]
-
-  none : (b : Bit) → ((k : ℕ) → Writes flat (Clocked k) b → ⊥) → ((j : ℕ) → j < length steps → StepWrites flat (step j) b → ⊥) → (x : Writer) → Writes flat x b → ⊥
-  none b r s (Clocked k) w = r k w
-  none b r s (Driven k j) w = let q = step_of_driven k j b w in s q.0 q.1.0 q.1.1
-  none b r s (Combinational k) w = let q = step_of_block k b w in s q.0 q.1.0 q.1.1
-
-  same_off_steps : (state : Environment) (row : List ℕ) (e f : Environment) → Settled flat clock state row e → Settled flat clock state row f →
-      (b : Bit) → ((j : ℕ) → j < length steps → StepWrites flat (step j) b → ⊥) → e b ≡ f b
-  same_off_steps state row e f h k b w = elim (kind b) [
-    | register n v ↦ h.registers n b v ∙ sym (k.registers n b v)
-    | input v ↦ h.inputs b v ∙ sym (k.inputs b v)
-    | other r i ↦ h.others b i (none b r w) ∙ sym (k.others b i (none b r w))
-  ]
-
-  only_at : (state : Environment) (row : List ℕ) (e f : Environment) → Settled flat clock state row e → Settled flat clock state row f → (b : Bit) → e b ≡ f b
-  only_at state row e f h k =
-      only (act flat) (StepWrites flat) (StepNames flat) step (length steps) all_steps e f
-      (λ j l. keeps state row e h (step j) (order.each j l)) (λ j l. keeps state row f k (step j) (order.each j l)) (same_off_steps state row e f h k)
-
-  pub only_one : (state : Environment) (row : List ℕ) (e f : Environment) → Settled flat clock state row e → Settled flat clock state row f → e ≡ f
-  only_one state row e f h k = fun_ext (only_at state row e f h k)
 
   -- what performing the steps makes
   abbrev made : Environment → List ℕ → Environment

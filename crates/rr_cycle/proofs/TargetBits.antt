@@ -1,21 +1,20 @@
 -- which bits targets name
-use Rattle.std.proofs.Common.{◌≡◌, ℕ, zero, suc, List, [], ◌∷◌, ◌++◌, Bool, true, false, cond, ◌&&◌, ◌||◌, nat_eq, nat_lt, Option, Some, None, is_none, refl, ap, ◌∙◌, sym, inl, inr, ℤ, pos, ◌+ℤ◌, int_lt, unsigned_abs, subst}
-use Rattle.std.proofs.lemmas.Bool.{cases_Bool, and_from, both_ways, or_cases, eq-eqb}
+use Rattle.std.proofs.Common.{◌≡◌, List, [], ◌∷◌, ◌++◌, Bool, true, false, cond, ◌&&◌, ◌||◌, Option, Some, None, is_none, refl, ap, ◌∙◌, sym, inl, inr, ℤ}
+use Rattle.std.proofs.lemmas.Bool.{both_ways, or_cases}
 use Rattle.rr_syntax.specs.Tree.{Tree, Trees, Name, Literal, Bit as BitSelect, Part, Indexed, Unary, Binary, Cond, Concat, Repeat, Cast, Paren, End, More}
 use Rattle.rr_expr.specs.declared.types.Bit.{Bit}
-use Rattle.rr_expr.specs.declared.types.Entity.{Entity}
-use Rattle.rr_expr.specs.declared.types.Entity.TheVariants.{Constant, Signal, Instance}
 use Rattle.rr_expr.specs.declared.types.ExprFault.{ExprFault}
 use Rattle.rr_expr.specs.Faults.{fault, constant_count}
 use Rattle.rr_expr.specs.Reading.{NamesBit}
-use Rattle.rr_expr.specs.Scopes.{Names, meant, entity_range, range_width}
+use Rattle.rr_expr.specs.Scopes.{Names, meant, entity_range}
 use Rattle.rr_expr.specs.Selects.{place, lowest_place, integer_with}
 use Rattle.rr_expr.specs.Values.{form, value, nowhere}
 use Rattle.rr_expr.proofs.NamedBits.{value_by_named_bits, constant_names}
 use Rattle.rr_flat.specs.Reads.{TargetReads, TargetsRead}
-use Rattle.rr_flat.specs.Targets.{same_bit, is_bit_of, bit_there, bits_there, target_bits, targets_bits, has_bit, is_constant, target_parts, targets_parts, part_name, is_fixed, may_write, must_write}
+use Rattle.rr_flat.specs.Targets.{is_bit_of, bit_there, bits_there, target_bits, targets_bits, has_bit, is_constant, target_parts, targets_parts, part_name, is_fixed, may_write, must_write}
 use Rattle.rr_cycle.specs.Exec.{Environment}
-use Rattle.rr_cycle.proofs.Writes.{has_append, or_left, or_right, same_is, some_bit}
+use Rattle.rr_flat.proofs.Bits.{has_append, or_left, or_right}
+use Rattle.rr_flat.proofs.Bits.{one_of_name, bits_of_name}
 
 -- the environments have the same bits here
 abbrev pub Agree : Environment → Environment → (Bit → Type 0) → Type 0
@@ -53,41 +52,6 @@ mutual
   pub targets_local : (s : Names) (e f : Environment) (ts : Trees) → Agree e f (TargetsRead s ts) → targets_bits s e ts ≡ targets_bits s f ts
   targets_local s e f End h = refl
   targets_local s e f (More t ts) h = rw (targets_local s e f ts (λ b r. h b (inr r)), target_local s e f t (λ b r. h b (inl r))) refl
-
--- a bit that is there is one of its name
-bit_is_of : (e : Entity) (p : ℤ) (b : Bit) → bit_there e p ≡ Some b → is_bit_of e b ≡ true
-bit_is_of (Constant bits signed) p b h = cc
-bit_is_of Instance p b h = cc
-bit_is_of (Signal id range signed) p b h = elim (cases_Bool (int_lt p (pos 0))) [
-  | inl t ↦ absurd (let g : None ≡ Some b = rw t at h in cc)
-  | inr t ↦ elim (cases_Bool (nat_lt (unsigned_abs p) (range_width range))) [
-    | inl u ↦ let g : Some (record { signal = id; place = unsigned_abs p }) ≡ Some b = rw (t, u) at h in here g u
-    | inr u ↦ absurd (let g : None ≡ Some b = rw (t, u) at h in cc)
-  ]
-]
-  where
-    here : Some (record { signal = id; place = unsigned_abs p }) ≡ Some b → nat_lt (unsigned_abs p) (range_width range) ≡ true → is_bit_of (Signal id range signed) b ≡ true
-    here g u = subst (λ c. is_bit_of (Signal id range signed) c ≡ true) (some_bit (record { signal = id; place = unsigned_abs p }) b g) (and_from (nat_eq id id) (nat_lt (unsigned_abs p) (range_width range)) (eq-eqb id id refl) u)
-
-one_bit : (o : Option Bit) (b : Bit) → has_bit (o ∷ []) b ≡ true → o ≡ Some b
-unfolding has_bit
-one_bit None b h = absurd (both_ways false refl h)
-one_bit (Some a) b h = elim (or_cases (same_bit a b) false h) [ inl t ↦ ap Some (same_is a b t) | inr t ↦ absurd (both_ways false refl t) ]
-
-has_one : (e : Entity) (p : ℤ) (b : Bit) → has_bit (bit_there e p ∷ []) b ≡ true → bit_there e p ≡ Some b
-has_one e p b h = one_bit (bit_there e p) b h
-
-pub one_of_name : (e : Entity) (p : ℤ) (b : Bit) → has_bit (bit_there e p ∷ []) b ≡ true → is_bit_of e b ≡ true
-one_of_name e p b h = bit_is_of e p b (has_one e p b h)
-
-pub bits_of_name : (e : Entity) (p : ℤ) (n : ℕ) (b : Bit) → has_bit (bits_there e p n) b ≡ true → is_bit_of e b ≡ true
-unfolding bits_there has_bit
-bits_of_name e p zero b h = absurd (both_ways false refl h)
-bits_of_name e p (suc n) b h =
-    elim (or_cases (has_bit (bit_there e p ∷ []) b) (has_bit (bits_there e (p +ℤ pos 1) n) b) (sym (has_append (bit_there e p ∷ []) (bits_there e (p +ℤ pos 1) n) b) ∙ h)) [
-      | inl t ↦ one_of_name e p b t
-      | inr t ↦ bits_of_name e (p +ℤ pos 1) n b t
-    ]
 
 may_append : (s : Names) (ps qs : List Tree) (b : Bit) → may_write s (ps ++ qs) b ≡ (may_write s ps b || may_write s qs b)
 unfolding may_write

@@ -23,13 +23,13 @@ pub fn inputs_are_free()
     ensures { (flat : Flat) → IsElaborated flat → IsLawful flat → (b : Bit) → IsInputBit flat b → (x : Writer) → Writes flat x b → ⊥ }
 {}
 
-/// A lawful design of a source whose steps have an order has, for each state and each row of inputs,
-/// exactly one settled environment; there is such a design.
+/// A lawful design has, for each state and each row of inputs, at most one settled environment, and one
+/// where it is that of a source and its steps have an order; there is such a design.
 pub fn one_settled_environment()
     ensures exists { (flat : Flat) (clock : Option ℕ) (rising : Bool) (steps : List Step) → IsElaborated flat → IsInOrder flat clock rising steps
         → (state : Environment) (row : List ℕ) → (env : Environment) × Settled flat clock state row env }
-    ensures only { (flat : Flat) (clock : Option ℕ) (rising : Bool) (steps : List Step) → IsInOrder flat clock rising steps
-        → (state : Environment) (row : List ℕ) (e f : Environment) → Settled flat clock state row e → Settled flat clock state row f → e ≡ f }
+    ensures only { (flat : Flat) → IsLawful flat → (clock : Option ℕ)
+        (state : Environment) (row : List ℕ) (e f : Environment) → Settled flat clock state row e → Settled flat clock state row f → e ≡ f }
     ensures met { (flat : Flat) × ((clock : Option ℕ) × ((rising : Bool) × ((steps : List Step) × (IsElaborated flat × IsInOrder flat clock rising steps)))) }
 {}
 
@@ -40,10 +40,10 @@ pub fn one_next_state()
     ensures only { (flat : Flat) (env e f : Environment) → IsNext flat env e → IsNext flat env f → e ≡ f }
 {}
 
-/// It has exactly one run for each list of rows.
+/// A lawful design has at most one run for each list of rows, and one where it is that of a source and its
+/// steps have an order.
 pub fn one_run()
     ensures exists { (flat : Flat) (clock : Option ℕ) (rising : Bool) (steps : List Step) → IsElaborated flat → IsInOrder flat clock rising steps
         → (rows : List (List ℕ)) → (outputs : List (List ℕ)) × Run flat clock rows outputs }
-    ensures only { (flat : Flat) (clock : Option ℕ) (rising : Bool) (steps : List Step) → IsInOrder flat clock rising steps
-        → (rows a b : List (List ℕ)) → Run flat clock rows a → Run flat clock rows b → a ≡ b }
+    ensures only { (flat : Flat) → IsLawful flat → (clock : Option ℕ) (rows a b : List (List ℕ)) → Run flat clock rows a → Run flat clock rows b → a ≡ b }
 {}

@@ -1,3 +1,4 @@
+pub mod Bits
 pub mod NotesOfNodes
 pub mod TableLemmas
 pub mod Orders

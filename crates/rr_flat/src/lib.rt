@@ -1,4 +1,7 @@
-//! Elaboration: the flat design of a source (IEEE 1364-2005 section 12).
+//! Elaboration: the flat design of a source (IEEE 1364-2005 section 12). It is right where the design
+//! is the one of the definition of the walk, or the fault its first one. It stands on `rr_head`,
+//! which opens each module's instance, and says what later crates mean by lawful designs and ordered
+//! steps.
 #![tactic(auto)]
 
 mod design;

@@ -25,8 +25,9 @@ use Rattle.rr_target.proofs.Growing.{rest_is}
 use Rattle.rr_latch.specs.Paths.{listed, listed_in, in_all, taken, Logged, Ran, BranchTells, known_by_case}
 use Rattle.rr_latch.specs.Unassigned.{ReadEarly, AnyReadEarly, ArmsReadEarly}
 use Rattle.rr_latch.proofs.Knowing.{ext, known_kept, known_arms_kept}
-use Rattle.rr_latch.proofs.Logs.{logged_none, logged_both, newly, undone, or_false, and_true}
-use Rattle.rr_latch.proofs.Shapes.{statements_shaped, arms_shaped}
+use Rattle.rr_latch.proofs.Logs.{logged_none, logged_both, newly, undone, and_true}
+use Rattle.rr_writers.proofs.Entries.{or_false}
+use Rattle.rr_writers.proofs.Statements.{statements_shaped, arms_shaped}
 use denote.Ref.{Bor}
 
 abbrev pub RanBy : Names → Statement → (Bit → Bool) → (Bit → Bool) → List Bit → List Bit → Type 0

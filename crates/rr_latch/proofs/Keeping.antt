@@ -11,7 +11,7 @@ use Rattle.rr_writers.specs.Assigned.{assigns}
 use Rattle.rr_latch.specs.Paths.{Ran}
 use Rattle.rr_latch.specs.Unassigned.{KeepsBit, ReadEarly}
 use Rattle.rr_latch.proofs.Knowing.{ext, known_kept, keeps_early}
-use Rattle.rr_latch.proofs.Logs.{or_false}
+use Rattle.rr_writers.proofs.Entries.{or_false}
 
 -- what is not assigned at its start are the bits that it writes
 pub record Begun (s : Names) (t : Statement) (ws : List Write) (g : Bit → Bool) : Type 0 where

@@ -9,7 +9,7 @@ use Rattle.rr_expr.specs.Reading.{NamesBit, NamesBits}
 use Rattle.rr_expr.specs.Scopes.{Names}
 use Rattle.rr_flat.specs.Walk.{list_faults}
 use Rattle.rr_target.proofs.Growing.{rest_is}
-use Rattle.rr_latch.proofs.Shapes.{labels_shaped}
+use Rattle.rr_writers.proofs.Statements.{labels_shaped}
 
 pub record LabelsRead (s : Names) (xs : List Expr) (i : ℕ) (f : Bit → Bool) : Type 0 where
   pub shaped : list_faults s (plain_list (drop i xs)) ≡ []

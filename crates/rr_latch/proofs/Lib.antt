@@ -1,8 +1,5 @@
-pub mod Options
-pub mod Places
 pub mod Logs
 pub mod Scanning
-pub mod Shapes
 pub mod Knowing
 pub mod Labels
 pub mod Branching

@@ -5,15 +5,7 @@ use Rattle.rr_expr.specs.declared.types.Bit.{Bit}
 use Rattle.rr_flat.specs.Targets.{same_bit}
 use Rattle.rr_latch.specs.Paths.{assigned, listed, Logged}
 use Rattle.rr_writers.specs.Tables.{entry}
-use Rattle.rr_latch.proofs.Places.{same_is}
-
-pub or_assoc : (a b c : Bool) → ((a || b) || c) ≡ (a || (b || c))
-or_assoc true b c = refl
-or_assoc false b c = refl
-
-pub or_false : (a : Bool) → (a || false) ≡ a
-or_false true = refl
-or_false false = refl
+use Rattle.rr_writers.proofs.Entries.{or_assoc, same_is}
 
 pub or_true : (a : Bool) → (a || true) ≡ true
 or_true true = refl

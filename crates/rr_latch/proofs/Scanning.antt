@@ -1,7 +1,7 @@
 -- Loops over the bits of pieces.
-use Rattle.std.proofs.Common.{◌≡◌, ◌∙◌, sym, ap, ℕ, zero, suc, ◌+◌, ◌<◌, ◌≤◌, inl, inr, Bool, true, false, cond, not, ◌&&◌, ◌||◌, List, [], ◌∷◌, ◌++◌, length, get_or, take, drop, refl, arith, append-nil, length-drop, ◌-◌}
+use Rattle.std.proofs.Common.{◌≡◌, ◌∙◌, sym, ap, ℕ, zero, suc, ◌+◌, ◌<◌, ◌≤◌, inl, inr, Bool, true, false, cond, not, ◌&&◌, ◌||◌, List, [], ◌∷◌, ◌++◌, length, get_or, take, drop, refl, arith, length-drop, ◌-◌}
 use Rattle.std.proofs.lemmas.Bool.{or_cases}
-use Rattle.std.proofs.lemmas.List.{take_more, drop_all, take-append-drop, get_or-drop}
+use Rattle.std.proofs.lemmas.List.{take_more, get_or-drop}
 use Rattle.rr_expr.specs.declared.types.Bit.{Bit}
 use Rattle.rr_flat.specs.Targets.{same_bit}
 use Rattle.rr_target.specs.declared.piece.Piece.{Piece}
@@ -10,11 +10,10 @@ use Rattle.rr_target.specs.Lists.{covered, Grown, may, must}
 use Rattle.rr_target.specs.Pieces.{covers}
 use Rattle.rr_target.proofs.Growing.{covered-push, may-push, must-push}
 use Rattle.rr_latch.specs.Paths.{listed, Logged}
-use Rattle.rr_latch.proofs.Places.{same_is, below, below_none, below_next, below_all, Ranged}
-use Rattle.rr_latch.proofs.Logs.{or_assoc, or_false, or_true, and_true, listed-append, logged_none, logged_both}
-
-pub take_all : {X : Type 0} (i : ℕ) (xs : List X) → length xs ≤ i → take i xs ≡ xs
-take_all i xs l = sym (append-nil (take i xs)) ∙ (ap (λ z. take i xs ++ z) (sym (drop_all i xs l)) ∙ take-append-drop i xs)
+use Rattle.rr_writers.proofs.Marking.{below, below_none, below_next, below_all, Ranged}
+use Rattle.rr_latch.proofs.Logs.{or_true, and_true, listed-append, logged_none, logged_both}
+use Rattle.rr_writers.proofs.Entries.{or_assoc, or_false, same_is}
+use Rattle.rr_writers.proofs.Marking.{take_all}
 
 abbrev pub Has : (Bit → Bool) → (Bit → Bool) → Type 0
 Has P f = (b : Bit) → P b ≡ true → f b ≡ true

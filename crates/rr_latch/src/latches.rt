@@ -1,5 +1,5 @@
 //! Combinational blocks that keep a bit.
-ghost use Rattle.std.specs.Prelude.{◌≡◌, ◌<◌, [], length, true, false, IfOk, IfNone, IfSome, OnOk, ◌&&◌, not};
+ghost use Rattle.std.specs.Prelude.{◌≡◌, ◌<◌, [], true, false, IfOk, IfNone, IfSome, OnOk, ◌&&◌, not};
 ghost use Rattle.rr_syntax.specs.View.{plain_statement};
 ghost use Rattle.rr_expr.specs.declared.types.Bit.{Bit as BitOfSignal};
 ghost use Rattle.rr_flat.specs.Latches.{NoLatch};

@@ -21,9 +21,8 @@ use Rattle.rr_target.specs.Pieces.{all_bits, bit_in, bits_in, bits_of}
 use Rattle.rr_target.proofs.Runs.{covers_in, run_of, signal_run}
 use Rattle.rr_cycle.specs.Cycles.{bit_value, signal_value}
 use Rattle.rr_cycle.specs.Exec.{Environment, put, write}
-use Rattle.rr_cycle.proofs.TargetBits.{bits_of_name}
 use Rattle.rr_cycle.proofs.Wiring.{length_there}
-use Rattle.rr_cycle.proofs.Writes.{has_append, place_has}
+use Rattle.rr_flat.proofs.Bits.{has_append, place_has, bits_of_name}
 use Rattle.rr_exec.specs.Work.{Fits}
 use Rattle.rr_exec.proofs.Pieces.{all_bits_at, at_run, bits_left, count_more, env_set}
 use Rattle.rr_meaning.proofs.Scoping.{IsSound, wide}

@@ -16,7 +16,7 @@ use Rattle.rr_flat.specs.Writers.{Clocked, Writer, Writes, block_at, writes_at_a
 use Rattle.rr_cycle.specs.Cycles.{IsInputBit, given, head, is_clock, row_inputs, tail, zeros}
 use Rattle.rr_cycle.specs.Exec.{Environment}
 use Rattle.rr_cycle.specs.Performing.{any_is, any_writes, base}
-use Rattle.rr_cycle.proofs.Writes.{missed}
+use Rattle.rr_flat.proofs.Bits.{missed}
 use Rattle.rr_exec.proofs.Pieces.{env_set}
 use Rattle.rr_meaning.specs.Work.{cut_to, given_over, masked}
 

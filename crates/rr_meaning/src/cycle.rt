@@ -1,5 +1,5 @@
 //! Settled environments, the clock edge, and runs.
-ghost use Rattle.std.specs.Prelude.{◌≡◌, ◌≤◌, ◌<◌, ◌∷◌, ◌++◌, ◌&&◌, [], ℕ, All, IfOk, OnOk, cond, false, true, length, map, List};
+ghost use Rattle.std.specs.Prelude.{◌≡◌, ◌<◌, ◌∷◌, ◌++◌, [], ℕ, All, IfOk, OnOk, cond, false, true, length, map, List};
 ghost use Rattle.rr_expr.specs.Scopes.{env_of};
 ghost use Rattle.rr_expr.specs.declared.types.Bit.{Bit as FlatBit};
 ghost use Rattle.rr_head.specs.Plain.{signal_at};
@@ -7,7 +7,7 @@ ghost use Rattle.rr_flat.specs.Ordered.{IsStep};
 ghost use Rattle.rr_flat.specs.View.{plain_flat};
 ghost use Rattle.rr_cycle.specs.Cycles.{IsNext, Run, Settled, is_clock as is_clock_of, outputs_of, row_inputs as inputs_but, zeros as zeros_of};
 ghost use Rattle.rr_cycle.specs.Exec.{Environment, applied};
-ghost use Rattle.rr_cycle.specs.Performing.{any_writes, base, performed, run_blocks, updates_of_blocks};
+ghost use Rattle.rr_cycle.specs.Performing.{any_writes, performed, run_blocks, updates_of_blocks};
 ghost use Rattle.rr_cycle.specs.Designs.{IsElaborated, IsInOrder, IsLawful};
 ghost use Rattle.rr_meaning.specs.Calls.{IsRow};
 ghost use Rattle.rr_exec.specs.Work.{IsLater, updates_in};

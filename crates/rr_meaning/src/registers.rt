@@ -1,5 +1,5 @@
 //! The bits that clocked blocks write.
-ghost use Rattle.std.specs.Prelude.{◌≡◌, ◌≤◌, ◌<◌, ◌||◌, [], ℕ, All, IfOk, OnOk, true, false, length, Bool};
+ghost use Rattle.std.specs.Prelude.{◌≡◌, ◌<◌, ◌||◌, [], IfOk, OnOk, true, false, length};
 ghost use Rattle.rr_syntax.specs.View.{plain_arms, plain_statement, plain_statements};
 ghost use Rattle.rr_expr.specs.Scopes.{env_of};
 ghost use Rattle.rr_expr.specs.declared.types.Bit.{Bit as FlatBit};

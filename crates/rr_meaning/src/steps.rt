@@ -1,5 +1,5 @@
 //! The steps of an order (IEEE 1364-2005 sections 6.1, 9.9.2.1 and 12.3.9.2).
-ghost use Rattle.std.specs.Prelude.{◌≡◌, ◌≤◌, ◌<◌, ◌∷◌, ◌++◌, [], ℕ, All, OnOk, None, false, get_or, length, pos, ◌+ℤ◌};
+ghost use Rattle.std.specs.Prelude.{◌≡◌, ◌≤◌, ◌<◌, ◌∷◌, ◌++◌, [], All, OnOk, None, false, get_or, length, pos, ◌+ℤ◌};
 ghost use Rattle.rr_expr.specs.Scopes.{env_of};
 ghost use Rattle.rr_flat.specs.Ordered.{IsStep};
 ghost use Rattle.rr_flat.specs.View.{plain_driver, plain_flat, plain_side};

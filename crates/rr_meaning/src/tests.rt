@@ -1,6 +1,5 @@
 //! Designs with rows of inputs, and the outputs that they give, by hand from IEEE 1364-2005 sections 4, 5, 6, 9 and
 //! 12; values are those of two states.
-ghost use Rattle.std.specs.Prelude.{◌≤◌, length};
 ghost use Rattle.rr_flat.specs.View.{plain_flat};
 ghost use Rattle.rr_cycle.specs.Designs.{IsElaborated};
 
@@ -50,7 +49,7 @@ fn gives(alloc: Global, text: &str, table: &str, expected: &str) -> Result<bool,
 }
 
 #[test]
-fn registers(rt: HostRuntime) -> Result<(), Fail> {
+fn registers_with_a_reset(rt: HostRuntime) -> Result<(), Fail> {
     let alloc = rt.alloc();
     assert!(rt;
         gives(
@@ -63,11 +62,47 @@ fn registers(rt: HostRuntime) -> Result<(), Fail> {
     assert!(rt;
         gives(
             alloc,
+            "module m(input clk, input rst, input en, output reg [3:0] q); always @(posedge clk) if (rst) q <= 4'h0; else if (en) q <= q + 4'h1; endmodule",
+            "rst,en\n1,0\n0,1\n0,1\n0,0\n1,1\n0,0\n",
+            "rst,en,q\n1,0,0\n0,1,0\n0,1,1\n0,0,2\n1,1,2\n0,0,0\n"
+        )?
+    );
+    assert!(rt;
+        gives(
+            alloc,
+            "module m(input clk, input rst_n, input d, output reg q); always @(posedge clk or negedge rst_n) if (!rst_n) q <= 1'b0; else q <= d; endmodule",
+            "rst_n,d\n1,1\n0,1\n1,1\n1,0\n",
+            "rst_n,d,q\n1,1,0\n0,1,1\n1,1,0\n1,0,1\n"
+        )?
+    );
+    Ok(())
+}
+
+#[test]
+fn registers_of_both_edges(rt: HostRuntime) -> Result<(), Fail> {
+    let alloc = rt.alloc();
+    assert!(rt;
+        gives(
+            alloc,
             "module m(input clk, input [3:0] a, input [3:0] b, output reg [3:0] s, output reg c); always @(posedge clk) {c, s} <= a + b; endmodule",
             "a,b\n15,1\n7,8\n0,0\n",
             "a,b,s,c\n15,1,0,0\n7,8,0,1\n0,0,15,0\n"
         )?
     );
+    assert!(rt;
+        gives(
+            alloc,
+            "module m(input clk, input d, output reg q); always @(negedge clk) q <= d; endmodule",
+            "d\n1\n0\n0\n",
+            "d,q\n1,0\n0,1\n0,0\n"
+        )?
+    );
+    Ok(())
+}
+
+#[test]
+fn assignments_in_order(rt: HostRuntime) -> Result<(), Fail> {
+    let alloc = rt.alloc();
     assert!(rt;
         gives(
             alloc,
@@ -95,40 +130,16 @@ fn registers(rt: HostRuntime) -> Result<(), Fail> {
     assert!(rt;
         gives(
             alloc,
-            "module m(input clk, input rst, input en, output reg [3:0] q); always @(posedge clk) if (rst) q <= 4'h0; else if (en) q <= q + 4'h1; endmodule",
-            "rst,en\n1,0\n0,1\n0,1\n0,0\n1,1\n0,0\n",
-            "rst,en,q\n1,0,0\n0,1,0\n0,1,1\n0,0,2\n1,1,2\n0,0,0\n"
-        )?
-    );
-    assert!(rt;
-        gives(
-            alloc,
             "module m(input clk, input rst, output reg a, output reg b); reg s; always @(posedge clk) if (rst) begin a = 1'b1; b = 1'b0; end else begin s = a; a = b; b = s; end endmodule",
             "rst\n1\n0\n0\n",
             "rst,a,b\n1,0,0\n0,1,0\n0,0,1\n"
-        )?
-    );
-    assert!(rt;
-        gives(
-            alloc,
-            "module m(input clk, input rst_n, input d, output reg q); always @(posedge clk or negedge rst_n) if (!rst_n) q <= 1'b0; else q <= d; endmodule",
-            "rst_n,d\n1,1\n0,1\n1,1\n1,0\n",
-            "rst_n,d,q\n1,1,0\n0,1,1\n1,1,0\n1,0,1\n"
-        )?
-    );
-    assert!(rt;
-        gives(
-            alloc,
-            "module m(input clk, input d, output reg q); always @(negedge clk) q <= d; endmodule",
-            "d\n1\n0\n0\n",
-            "d,q\n1,0\n0,1\n0,0\n"
         )?
     );
     Ok(())
 }
 
 #[test]
-fn writes(rt: HostRuntime) -> Result<(), Fail> {
+fn writes_of_parts(rt: HostRuntime) -> Result<(), Fail> {
     let alloc = rt.alloc();
     assert!(rt;
         gives(
@@ -138,6 +149,28 @@ fn writes(rt: HostRuntime) -> Result<(), Fail> {
             "d,q\n3,0\n1,11\n2,9\n0,2\n"
         )?
     );
+    assert!(rt;
+        gives(
+            alloc,
+            "module m(input clk, input d, output reg [1:0] q); always @(posedge clk) q[0] <= d; always @(posedge clk) q[1] <= q[0]; endmodule",
+            "d\n1\n0\n0\n0\n",
+            "d,q\n1,0\n0,1\n0,2\n0,0\n"
+        )?
+    );
+    assert!(rt;
+        gives(
+            alloc,
+            "module m(input [3:0] a, output reg [1:0] x, output reg [1:0] y); always @* {x, y} = a; endmodule",
+            "a\n9\n6\n",
+            "a,x,y\n9,2,1\n6,1,2\n"
+        )?
+    );
+    Ok(())
+}
+
+#[test]
+fn writes_at_an_index(rt: HostRuntime) -> Result<(), Fail> {
+    let alloc = rt.alloc();
     assert!(rt;
         gives(
             alloc,
@@ -165,32 +198,16 @@ fn writes(rt: HostRuntime) -> Result<(), Fail> {
     assert!(rt;
         gives(
             alloc,
-            "module m(input clk, input d, output reg [1:0] q); always @(posedge clk) q[0] <= d; always @(posedge clk) q[1] <= q[0]; endmodule",
-            "d\n1\n0\n0\n0\n",
-            "d,q\n1,0\n0,1\n0,2\n0,0\n"
-        )?
-    );
-    assert!(rt;
-        gives(
-            alloc,
             "module m(input clk, input [2:0] i, input [1:0] d, output reg [7:0] q); always @(posedge clk) q[i +: 2] <= d; endmodule",
             "i,d\n2,3\n7,3\n6,2\n0,0\n",
             "i,d,q\n2,3,0\n7,3,12\n6,2,140\n0,0,140\n"
-        )?
-    );
-    assert!(rt;
-        gives(
-            alloc,
-            "module m(input [3:0] a, output reg [1:0] x, output reg [1:0] y); always @* {x, y} = a; endmodule",
-            "a\n9\n6\n",
-            "a,x,y\n9,2,1\n6,1,2\n"
         )?
     );
     Ok(())
 }
 
 #[test]
-fn sums(rt: HostRuntime) -> Result<(), Fail> {
+fn sums_and_carries(rt: HostRuntime) -> Result<(), Fail> {
     let alloc = rt.alloc();
     assert!(rt;
         gives(
@@ -211,6 +228,20 @@ fn sums(rt: HostRuntime) -> Result<(), Fail> {
     assert!(rt;
         gives(
             alloc,
+            "module m(input [127:0] a, output [127:0] y); assign y = a + 128'd1; endmodule",
+            "a\n340282366920938463463374607431768211455\n9\n",
+            "a,y\n340282366920938463463374607431768211455,0\n9,10\n"
+        )?
+    );
+    Ok(())
+}
+
+#[test]
+fn products_and_differences(rt: HostRuntime) -> Result<(), Fail> {
+    let alloc = rt.alloc();
+    assert!(rt;
+        gives(
+            alloc,
             "module m(input [3:0] a, input [3:0] b, output [3:0] y, output [7:0] z); assign y = a * b; assign z = a * b; endmodule",
             "a,b\n5,5\n15,15\n",
             "a,b,y,z\n5,5,9,25\n15,15,1,225\n"
@@ -224,20 +255,18 @@ fn sums(rt: HostRuntime) -> Result<(), Fail> {
             "a,b,y,z\n5,7,14,254\n7,5,2,2\n"
         )?
     );
+    Ok(())
+}
+
+#[test]
+fn signed_sums(rt: HostRuntime) -> Result<(), Fail> {
+    let alloc = rt.alloc();
     assert!(rt;
         gives(
             alloc,
             "module m(input signed [3:0] a, input signed [3:0] b, output [7:0] y, output [7:0] z); assign y = a + b; assign z = a + {b}; endmodule",
             "a,b\n15,1\n8,15\n7,7\n",
             "a,b,y,z\n15,1,0,16\n8,15,247,23\n7,7,14,14\n"
-        )?
-    );
-    assert!(rt;
-        gives(
-            alloc,
-            "module m(input [127:0] a, output [127:0] y); assign y = a + 128'd1; endmodule",
-            "a\n340282366920938463463374607431768211455\n9\n",
-            "a,y\n340282366920938463463374607431768211455,0\n9,10\n"
         )?
     );
     assert!(rt;
@@ -290,7 +319,7 @@ fn comparisons(rt: HostRuntime) -> Result<(), Fail> {
 }
 
 #[test]
-fn operators(rt: HostRuntime) -> Result<(), Fail> {
+fn operators_on_bits(rt: HostRuntime) -> Result<(), Fail> {
     let alloc = rt.alloc();
     assert!(rt;
         gives(
@@ -311,6 +340,20 @@ fn operators(rt: HostRuntime) -> Result<(), Fail> {
     assert!(rt;
         gives(
             alloc,
+            "module m(input a, output [3:0] y); assign y = 4'b1x0z | {3'b000, a}; endmodule",
+            "a\n0\n1\n",
+            "a,y\n0,8\n1,9\n"
+        )?
+    );
+    Ok(())
+}
+
+#[test]
+fn choices_and_concatenations(rt: HostRuntime) -> Result<(), Fail> {
+    let alloc = rt.alloc();
+    assert!(rt;
+        gives(
+            alloc,
             "module m(input s, input [3:0] a, input [1:0] b, output [3:0] y); assign y = s ? a : b; endmodule",
             "s,a,b\n1,9,2\n0,9,2\n",
             "s,a,b,y\n1,9,2,9\n0,9,2,2\n"
@@ -322,14 +365,6 @@ fn operators(rt: HostRuntime) -> Result<(), Fail> {
             "module m(input [3:0] a, output [7:0] y, output [3:0] z); assign y = {2{a}}; assign z = {a[0], 3'b101}; endmodule",
             "a\n10\n3\n",
             "a,y,z\n10,170,5\n3,51,13\n"
-        )?
-    );
-    assert!(rt;
-        gives(
-            alloc,
-            "module m(input a, output [3:0] y); assign y = 4'b1x0z | {3'b000, a}; endmodule",
-            "a\n0\n1\n",
-            "a,y\n0,8\n1,9\n"
         )?
     );
     Ok(())
@@ -366,7 +401,7 @@ fn selects(rt: HostRuntime) -> Result<(), Fail> {
 }
 
 #[test]
-fn cases(rt: HostRuntime) -> Result<(), Fail> {
+fn labels_of_cases(rt: HostRuntime) -> Result<(), Fail> {
     let alloc = rt.alloc();
     assert!(rt;
         gives(
@@ -395,6 +430,20 @@ fn cases(rt: HostRuntime) -> Result<(), Fail> {
     assert!(rt;
         gives(
             alloc,
+            "module m(input [1:0] s, input [3:0] d, output reg y); always @* begin y = 1'b0; case (s) 2'd0, 2'd1: y = d[s]; 2'd2: y = d[2]; endcase end endmodule",
+            "s,d\n0,1\n1,1\n2,4\n3,15\n",
+            "s,d,y\n0,1,1\n1,1,0\n2,4,1\n3,15,0\n"
+        )?
+    );
+    Ok(())
+}
+
+#[test]
+fn signs_of_cases(rt: HostRuntime) -> Result<(), Fail> {
+    let alloc = rt.alloc();
+    assert!(rt;
+        gives(
+            alloc,
             "module m(input signed [1:0] a, output reg y); always @* case (a) 3'sb111: y = 1'b1; default: y = 1'b0; endcase endmodule",
             "a\n3\n1\n",
             "a,y\n3,1\n1,0\n"
@@ -408,19 +457,11 @@ fn cases(rt: HostRuntime) -> Result<(), Fail> {
             "a,y\n3,2\n1,0\n"
         )?
     );
-    assert!(rt;
-        gives(
-            alloc,
-            "module m(input [1:0] s, input [3:0] d, output reg y); always @* begin y = 1'b0; case (s) 2'd0, 2'd1: y = d[s]; 2'd2: y = d[2]; endcase end endmodule",
-            "s,d\n0,1\n1,1\n2,4\n3,15\n",
-            "s,d,y\n0,1,1\n1,1,0\n2,4,1\n3,15,0\n"
-        )?
-    );
     Ok(())
 }
 
 #[test]
-fn designs(rt: HostRuntime) -> Result<(), Fail> {
+fn open_nets_and_ports(rt: HostRuntime) -> Result<(), Fail> {
     let alloc = rt.alloc();
     assert!(rt;
         gives(
@@ -438,6 +479,12 @@ fn designs(rt: HostRuntime) -> Result<(), Fail> {
             "a,y\n0,1\n1,1\n"
         )?
     );
+    Ok(())
+}
+
+#[test]
+fn instances_of_modules(rt: HostRuntime) -> Result<(), Fail> {
+    let alloc = rt.alloc();
     assert!(rt;
         gives(
             alloc,
@@ -454,6 +501,12 @@ fn designs(rt: HostRuntime) -> Result<(), Fail> {
             "a,y,z\n5,10,2\n15,0,0\n"
         )?
     );
+    Ok(())
+}
+
+#[test]
+fn drivers_in_any_order(rt: HostRuntime) -> Result<(), Fail> {
+    let alloc = rt.alloc();
     assert!(rt;
         gives(
             alloc,

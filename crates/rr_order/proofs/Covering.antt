@@ -7,7 +7,7 @@ use Rattle.rr_target.specs.declared.writes.Write.{Write}
 use Rattle.rr_target.specs.Lists.{covered, may}
 use Rattle.rr_target.specs.Pieces.{covers}
 use Rattle.rr_order.specs.Nodes.{bit_node, IsRow, IsWritten, Added, Covered, Foreign}
-use Rattle.rr_order.proofs.Bits.{or_left, or_right}
+use Rattle.rr_flat.proofs.Bits.{or_left, or_right}
 use Rattle.rr_order.proofs.Lists.{row_none, row_more, written_none, written_more}
 
 abbrev pub Run : ℕ → ℕ → ℕ → (Bit → Type 0) → Bit → Type 0

@@ -29,7 +29,7 @@ use Rattle.rr_target.specs.Lists.{covered, may, Grown}
 use Rattle.rr_sort.specs.Graphs.{names_of}
 use Rattle.rr_sort.proofs.Sorting.{get_old, get_new, graph_count}
 use Rattle.rr_order.specs.Nodes.{bit_node, widths, In, IsRow, IsWritten, Joined, IsGraphOf, IsNamedBy, IsWrittenBy, IsStepGraph, StepsTo, Foreign, Stamped, IsSound, IsThere, total}
-use Rattle.rr_order.proofs.Bits.{missed, place_inside}
+use Rattle.rr_flat.proofs.Bits.{missed, place_inside}
 use Rattle.rr_order.proofs.Designs.{step_added}
 use Rattle.rr_writers.specs.Assigned.{assigns}
 use Rattle.rr_order.proofs.Layouts.{node_once, node_below}

@@ -20,7 +20,7 @@ use Rattle.rr_flat.specs.Reads.{TargetReads, TargetsRead, StatementReads, Statem
 use Rattle.rr_flat.specs.Targets.{has_bit, is_bit_of, bits_there, target_bits, targets_bits, is_fixed, part_name, target_parts, may_write}
 use Rattle.rr_flat.specs.Writers.{scope_at, signal_bits, entity_of_signal, taken, all_taken, nothing}
 use Rattle.rr_order.specs.Nodes.{IsBit, IsSound, widths}
-use Rattle.rr_order.proofs.Bits.{has_append, one_of_name, bits_of_name}
+use Rattle.rr_flat.proofs.Bits.{has_append, one_of_name, bits_of_name}
 
 -- a bit of what some name stands for
 abbrev pub Of : Names → Bit → Type 0

@@ -2,7 +2,6 @@ pub mod Layouts
 pub mod Designs
 pub mod Sequence
 pub mod Rings
-pub mod Bits
 pub mod Inside
 pub mod Naming
 pub mod Building

@@ -12,7 +12,7 @@ use Rattle.rr_flat.specs.Writers.{scope_at, driver_at, block_at, driven, driven_
 use Rattle.rr_order.specs.Loops.{AreOrdered, BitChain}
 use Rattle.rr_order.specs.Nodes.{IsBit, IsSound, IsThere, widths, IsWrittenBy, IsNamedBy}
 use Rattle.rr_expr.specs.Values.{nowhere}
-use Rattle.rr_order.proofs.Bits.{has_place, place_has, place_inside, one_bit}
+use Rattle.rr_flat.proofs.Bits.{has_place, place_has, place_inside, one_bit}
 use Rattle.rr_order.proofs.Inside.{of_there, target_of, taken_of, named_of, read_of, write_of, signal_there, signal_bit}
 
 names_any : (v : Bool) (flat : Flat) (k i j : ℕ) (c : Bit) → v ≡ false → NamesIf v flat k i c → NamesIf v flat k j c

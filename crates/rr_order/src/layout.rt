@@ -1,5 +1,5 @@
 //! The numbers of the nodes of the graph of a design: its bits, its signals and its steps, in this order.
-ghost use Rattle.std.specs.Prelude.{◌≡◌, ◌≤◌, ◌<◌, ℕ, length, get_or, IfOk, OnOk, MatchOption};
+ghost use Rattle.std.specs.Prelude.{◌≡◌, ◌<◌, IfOk, OnOk, MatchOption};
 ghost use Rattle.rr_flat.specs.View.{plain_flat};
 ghost use Rattle.rr_order.specs.Nodes.{IsBit, IsLayout, MoreBits, bit_node, widths};
 

@@ -1,7 +1,9 @@
-//! The order of the steps of a flat design, or a combinational loop.
+//! The order of the steps of a flat design, or a combinational loop (IEEE 1364-2005 sections 6.1 and
+//! 9). It is right where each bit is written before a step reads it, or the bits of the answer name
+//! each other in a ring. It stands on `rr_sort`'s graphs and `rr_target`'s pieces.
 #![tactic(auto)]
 
-ghost use Rattle.std.specs.Prelude.{◌≡◌, ℕ, List};
+ghost use Rattle.std.specs.Prelude.{List};
 ghost use Rattle.rr_expr.specs.declared.types.Bit.{Bit};
 ghost use Rattle.rr_flat.specs.declared.design.Step as design;
 ghost use Rattle.rr_flat.specs.Lawful.{HasRanks};

@@ -1,9 +1,8 @@
 //! Lists of nodes.
 ghost use Rattle.std.specs.Prelude.{◌≡◌, ◌≤◌, ◌<◌, ◌++◌, ◌∷◌, [], ℕ, length, get_or, IfOk, OnOk, true, Some};
-ghost use Rattle.rr_expr.specs.declared.types.Bit.{Bit as PlainBit};
 ghost use Rattle.rr_flat.specs.View.{plain_flat};
 ghost use Rattle.rr_target.specs.Lists.{may};
-ghost use Rattle.rr_order.specs.Nodes.{Added, Foreign, In, IsBit, IsLayout, IsWritten, Stamped, bit_node, total, widths};
+ghost use Rattle.rr_order.specs.Nodes.{Added, Foreign, In, IsLayout, IsWritten, Stamped, total, widths};
 
 use crate::layout::{Layout, node_of};
 use rr_expr::Bit;

@@ -1,5 +1,5 @@
 //! The order of the steps, or a loop.
-ghost use Rattle.std.specs.Prelude.{◌≡◌, ◌≤◌, ◌<◌, ◌+◌, ℕ, length, map, get_or, IfOk};
+ghost use Rattle.std.specs.Prelude.{◌≡◌, ◌<◌, ◌+◌, ℕ, length, map, get_or, IfOk};
 ghost use Rattle.rr_flat.specs.declared.design.Step.TheVariants as design_step;
 ghost use Rattle.rr_flat.specs.Lawful.{HasRanks};
 ghost use Rattle.rr_flat.specs.Ordered.{IsStep};

@@ -1,4 +1,3 @@
 pub mod Telling
 pub mod Causes
-pub mod Ranked
 pub mod Once

@@ -19,7 +19,7 @@ use Rattle.rr_run.specs.declared.fault.Fault.{Fault}
 use Rattle.rr_run.specs.Refusals.{Refusal, At}
 use Rattle.rr_run.specs.Runs.{GivesText, HasNoTable, IsBroken, IsLawfulDesign, IsRun, IsSameRefusal, Refuses, RefusesDesign, Told}
 use Rattle.rr_run.proofs.Causes.{Cause, early, late, cause, denied, law_numbered, number_told, of_design, of_table, table_cause}
-use Rattle.rr_run.proofs.Ranked.{run_once}
+use Rattle.rr_cycle.proofs.Ranked.{run_once}
 
 pub one_lawful : (bytes : List ℕ) (top word : Option Text) (ts us : List Lexeme) (f g : Flat) (c d : Option ℕ) (r s : Bool) →
     IsLawfulDesign bytes top word ts f c r → IsLawfulDesign bytes top word us g d s → (ts ≡ us) × ((f ≡ g) × ((c ≡ d) × (r ≡ s)))

@@ -1,7 +1,7 @@
 //! The run of a design on the inputs of a table, from the bytes of both, or the first refusal (IEEE
-//! 1364-2005 sections 9, 11 and 12). It is right where its text is the table of the rows with the outputs
-//! of the one run of the one lawful design. It stands on the elaboration, the laws, the tables and the
-//! cycle evaluator.
+//! 1364-2005 sections 9, 11 and 12). It is right where its text is the table of the rows with the
+//! outputs of the one run of the one lawful design. It stands on the elaboration, the laws, the
+//! tables and the cycle evaluator.
 #![tactic(auto)]
 
 mod design;

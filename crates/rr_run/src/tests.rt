@@ -186,6 +186,16 @@ fn refusals_of_texts(rt: HostRuntime) -> Result<(), Fail> {
             "5 Unsupported at 19",
         ),
         ("module m(output y);assign y = ;endmodule", "6 Syntax at 30"),
+    ] {
+        assert!(rt; tells(alloc, design, None, expected)?, "{expected}");
+    }
+    Ok(())
+}
+
+#[test]
+fn refusals_of_flat_designs(rt: HostRuntime) -> Result<(), Fail> {
+    let alloc = rt.alloc();
+    for (design, expected) in [
         ("", "7 NoTop at 0"),
         (
             "module m(output y);n u(y);endmodule",
@@ -225,7 +235,7 @@ fn refusals_of_texts(rt: HostRuntime) -> Result<(), Fail> {
 }
 
 #[test]
-fn refusals_of_laws(rt: HostRuntime) -> Result<(), Fail> {
+fn refusals_of_assignments(rt: HostRuntime) -> Result<(), Fail> {
     let alloc = rt.alloc();
     for (design, expected) in [
         (
@@ -248,6 +258,16 @@ fn refusals_of_laws(rt: HostRuntime) -> Result<(), Fail> {
             "module m(output y);wire a;wire b;assign a = b;assign b = ~a;assign y = a;endmodule",
             "21 Loop at 40",
         ),
+    ] {
+        assert!(rt; tells(alloc, design, None, expected)?, "{expected}");
+    }
+    Ok(())
+}
+
+#[test]
+fn refusals_of_clocks_targets_and_labels(rt: HostRuntime) -> Result<(), Fail> {
+    let alloc = rt.alloc();
+    for (design, expected) in [
         (
             "module m(input clk,output reg y);always @(posedge clk) y <= clk;endmodule",
             "22 ClockUse at 60",

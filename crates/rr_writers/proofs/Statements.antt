@@ -26,11 +26,11 @@ use Rattle.rr_writers.specs.Assigned.{assigns, assign_any, arms_assign}
 use Rattle.rr_writers.proofs.Entries.{or_assoc, or_false}
 use denote.Ref.{Bor}
 
-left_empty : {A : Type 0} (xs ys : List A) → xs ++ ys ≡ [] → xs ≡ []
+pub left_empty : {A : Type 0} (xs ys : List A) → xs ++ ys ≡ [] → xs ≡ []
 left_empty [] ys e = refl
 left_empty (x ∷ xs) ys e = cc
 
-right_empty : {A : Type 0} (xs ys : List A) → xs ++ ys ≡ [] → ys ≡ []
+pub right_empty : {A : Type 0} (xs ys : List A) → xs ++ ys ≡ [] → ys ≡ []
 right_empty [] ys e = e
 right_empty (x ∷ xs) ys e = cc
 

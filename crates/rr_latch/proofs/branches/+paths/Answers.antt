@@ -7,8 +7,8 @@ use Rattle.rr_expr.specs.declared.types.Bit.{Bit}
 use Rattle.rr_expr.specs.Reading.{NamesBit}
 use Rattle.rr_latch.specs.Paths.{assigned, listed}
 use Rattle.rr_latch.proofs.Branching.{ran-Null, ran-Block, early-Block, ran-Case, early-Case, node-If, node-IfElse, node-Assign, ran-If, ran-IfElse, early_test-If, early_then-If, early_test-IfElse, early_then-IfElse, early_else-IfElse, branch_left, all_start, all_here, all_more, all_early, all_done, arms_here, arms_more, arms_early, arms_done}
-use Rattle.rr_latch.proofs.Options.{some_map, none_map, none_known}
-use Rattle.rr_latch.proofs.Shapes.{shaped-Block, shaped-If, shaped-IfElse, shaped-Case, shaped-Assign}
+use Rattle.rr_writers.proofs.Options.{some_map, none_map, none_known}
+use Rattle.rr_writers.proofs.Statements.{shaped-Block, shaped-If, shaped-IfElse, shaped-Case, shaped-Assign}
 use Rattle.rr_latch.proofs.branches.+paths.Goals as goal
 
 -- a statement

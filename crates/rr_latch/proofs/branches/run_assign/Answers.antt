@@ -6,7 +6,7 @@ use Rattle.rr_target.specs.Lists.{must}
 use Rattle.rr_flat.specs.Targets.{assigns_target}
 use Rattle.rr_latch.specs.Paths.{assigned}
 use Rattle.rr_latch.proofs.Branching.{early_target, early_value, ran_assign, ran_later, RanBy}
-use Rattle.rr_latch.proofs.Options.{some_map, none_known}
+use Rattle.rr_writers.proofs.Options.{some_map, none_known}
 use Rattle.rr_latch.proofs.branches.run_assign.Goals as goal
 
 pub returns-then-is_some-clause-some : goal.returns-then-is_some-clause-some

@@ -4,7 +4,7 @@ use Rattle.rr_flat.specs.Latches.{ReadsKnown, known}
 use Rattle.rr_target.specs.Lists.{may}
 use Rattle.rr_latch.specs.Paths.{assigned, Ran}
 use Rattle.rr_latch.proofs.Keeping.{begun, block_early, block_open, block_good, block_left}
-use Rattle.rr_latch.proofs.Options.{some_map, none_map, none_known}
+use Rattle.rr_writers.proofs.Options.{some_map, none_map, none_known}
 use Rattle.rr_latch.proofs.latches.kept_bit.Goals as goal
 
 pub returns-then-is_some-clause-some : goal.returns-then-is_some-clause-some

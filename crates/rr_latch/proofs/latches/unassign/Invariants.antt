@@ -1,7 +1,7 @@
 use Rattle.std.proofs.Common.{◌≡◌, ◌&&◌, not}
 use Rattle.rr_expr.specs.declared.types.Bit.{Bit}
 use Rattle.rr_latch.specs.Paths.{assigned}
-use Rattle.rr_latch.proofs.Places.{below}
+use Rattle.rr_writers.proofs.Marking.{below}
 use Rattle.rr_latch.proofs.latches.unassign.Given as goal
 
 abbrev pub invariant-loop-place : goal.invariant-loop-place

@@ -3,7 +3,7 @@ use Rattle.std.proofs.lemmas.List.{take_more}
 use Rattle.rr_target.specs.declared.writes.Write.{Write}
 use Rattle.rr_target.specs.Lists.{may}
 use Rattle.rr_latch.specs.Paths.{assigned}
-use Rattle.rr_latch.proofs.Options.{some_map, none_known}
+use Rattle.rr_writers.proofs.Options.{some_map, none_known}
 use Rattle.rr_latch.proofs.Scanning.{writes_scanned, may_at, Has}
 use Rattle.rr_latch.proofs.latches.unassigned_of.Goals as goal
 

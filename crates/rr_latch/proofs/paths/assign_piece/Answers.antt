@@ -1,5 +1,5 @@
 use Rattle.rr_latch.specs.Paths.{assigned}
-use Rattle.rr_latch.proofs.Places.{below_none}
+use Rattle.rr_writers.proofs.Marking.{below_none}
 use Rattle.rr_latch.proofs.Scanning.{assigning_none, assigning_next}
 use Rattle.rr_latch.proofs.paths.assign_piece.Goals as goal
 

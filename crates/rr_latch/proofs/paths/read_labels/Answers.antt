@@ -1,7 +1,7 @@
 use Rattle.std.proofs.Common.{◌∙◌, sym}
 use Rattle.rr_latch.specs.Paths.{assigned}
 use Rattle.rr_latch.proofs.Labels.{labels_here, labels_more, label_found, labels_done}
-use Rattle.rr_latch.proofs.Options.{some_map, none_known}
+use Rattle.rr_writers.proofs.Options.{some_map, none_known}
 use Rattle.rr_latch.proofs.paths.read_labels.Goals as goal
 
 pub read-requires : goal.read-requires

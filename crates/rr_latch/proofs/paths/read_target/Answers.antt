@@ -1,6 +1,6 @@
 use Rattle.std.proofs.Common.{◌∙◌, sym, ap}
 use Rattle.rr_target.specs.Lists.{covered}
-use Rattle.rr_latch.proofs.Options.{some_map}
+use Rattle.rr_writers.proofs.Options.{some_map}
 use Rattle.rr_latch.proofs.Scanning.{only_grown}
 use Rattle.rr_latch.proofs.paths.read_target.Goals as goal
 

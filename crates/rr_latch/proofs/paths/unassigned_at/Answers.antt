@@ -1,7 +1,7 @@
 use Rattle.std.proofs.Common.{◌∙◌, sym}
 use Rattle.std.proofs.lemmas.Bool.{eq-eqb, ne_eqb}
 use Rattle.rr_latch.specs.Paths.{assigned}
-use Rattle.rr_latch.proofs.Places.{here_covered}
+use Rattle.rr_writers.proofs.Marking.{here_covered}
 use Rattle.rr_latch.proofs.Scanning.{scan_none, scan_next, scan_done}
 use Rattle.rr_latch.proofs.paths.unassigned_at.Goals as goal
 

@@ -1,5 +1,5 @@
 use Rattle.rr_latch.specs.Paths.{assigned}
-use Rattle.rr_latch.proofs.Places.{below}
+use Rattle.rr_writers.proofs.Marking.{below}
 use Rattle.rr_latch.proofs.Scanning.{Has}
 use Rattle.rr_latch.proofs.paths.unassigned_at.Given as goal
 

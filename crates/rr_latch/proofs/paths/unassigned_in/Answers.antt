@@ -3,7 +3,7 @@ use Rattle.std.proofs.lemmas.List.{take_more}
 use Rattle.rr_target.specs.declared.piece.Piece.{Piece}
 use Rattle.rr_target.specs.Lists.{covered}
 use Rattle.rr_latch.specs.Paths.{assigned}
-use Rattle.rr_latch.proofs.Options.{some_map, none_known}
+use Rattle.rr_writers.proofs.Options.{some_map, none_known}
 use Rattle.rr_latch.proofs.Scanning.{list_scanned, covered_at, Has}
 use Rattle.rr_latch.proofs.paths.unassigned_in.Goals as goal
 

@@ -38,5 +38,5 @@ returns-clause-run c = (env_of c.loop-row.machine.env.values.items, rw (take_all
 
 pub returns-clause-only : goal.returns-clause-only
 returns-clause-only c = λ outputs h.
-    run_only _ c.args.order.now.clock c.args.order.now.rising c.args.order.now.steps.items c.requires.ordered (map row_items c.args.inputs.now) outputs _ h
+    run_only _ (c.requires.ordered.0, c.requires.ordered.1.0) c.args.order.now.clock (map row_items c.args.inputs.now) outputs _ h
     (env_of c.loop-row.machine.env.values.items, rw (take_all c.loop-row.row-index c.args.inputs.now c.loop-row-test.false) at c.loop-row.invariant.runs)

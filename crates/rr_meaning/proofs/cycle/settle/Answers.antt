@@ -3,4 +3,4 @@ use Rattle.rr_meaning.proofs.cycle.settle.Goals as goal
 
 pub returns-clause-only : goal.returns-clause-only
 returns-clause-only c = λ e h.
-    settled_only _ c.args.order.now.clock c.args.order.now.rising c.args.order.now.steps.items c.requires.ordered _ c.args.inputs.now e _ h (rw (c.machine_on-machine.ensures.env, c.in_ok-copied.ensures) at c.in_ok-settle_in.ensures.settled)
+    settled_only _ (c.requires.ordered.0, c.requires.ordered.1.0) c.args.order.now.clock _ c.args.inputs.now e _ h (rw (c.machine_on-machine.ensures.env, c.in_ok-copied.ensures) at c.in_ok-settle_in.ensures.settled)

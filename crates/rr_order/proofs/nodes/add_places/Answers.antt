@@ -3,7 +3,7 @@ use Rattle.std.proofs.lemmas.Bool.{cases_eq}
 use Rattle.rr_expr.specs.declared.types.Bit.{Bit}
 use Rattle.rr_flat.specs.View.{plain_flat}
 use Rattle.rr_order.specs.Nodes.{Added, Foreign, widths}
-use Rattle.rr_order.proofs.Bits.{bit_eq}
+use Rattle.rr_flat.proofs.Bits.{bit_eq}
 use Rattle.rr_order.proofs.Lists.{added_none, added_both, added_same}
 use Rattle.rr_order.proofs.nodes.add_places.Goals as goal
 

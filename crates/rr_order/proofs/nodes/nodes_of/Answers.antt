@@ -1,7 +1,7 @@
 use Rattle.std.proofs.Common.{arith, ◌≡◌, ◌<◌, ◌+◌, ℕ, get_or, length, Some, None}
 use Rattle.rr_flat.specs.View.{plain_flat}
 use Rattle.rr_order.specs.Nodes.{widths}
-use Rattle.rr_order.proofs.Bits.{place_inside}
+use Rattle.rr_flat.proofs.Bits.{place_inside}
 use Rattle.rr_order.proofs.Lists.{written_more, written_same, entry_more}
 use Rattle.rr_order.proofs.nodes.nodes_of.Goals as goal
 

@@ -1,4 +1,4 @@
--- Lists of bits.
+-- Lists of bits, and the bits of names.
 use Rattle.std.proofs.Common.{◌≡◌, ℕ, zero, suc, ◌<◌, List, [], ◌∷◌, ◌++◌, length, get_or, Bool, true, false, ◌||◌, nat_eq, nat_lt, Option, Some, None, refl, ap, ◌∙◌, sym, subst, arith, ◌⊎◌, inl, inr, ℤ, pos, ◌+ℤ◌, int_lt, unsigned_abs}
 use Rattle.std.proofs.lemmas.Bool.{cases_Bool, and_parts, and_from, eqb-true, eq-eqb, both_ways, or_cases}
 use Rattle.rr_expr.specs.declared.types.Bit.{Bit}
@@ -7,7 +7,7 @@ use Rattle.rr_expr.specs.declared.types.Entity.TheVariants.{Constant, Signal, In
 use Rattle.rr_expr.specs.Scopes.{range_width}
 use Rattle.rr_flat.specs.Targets.{same_bit, has_bit, is_bit_of, bit_there, bits_there}
 
-abbrev bit_at : ℕ → ℕ → Bit
+abbrev pub bit_at : ℕ → ℕ → Bit
 bit_at s p = record { signal = s; place = p }
 
 pub bit_eq : (a b : Bit) → a.signal ≡ b.signal → a.place ≡ b.place → a ≡ b
@@ -27,7 +27,7 @@ cases_bit a b = elim (cases_Bool (same_bit a b)) [
   | inr t ↦ inr (λ q. both_ways (same_bit a b) t (is_same a b q))
 ]
 
-abbrev or_no_bit : Option Bit → Bit → Bit
+abbrev pub or_no_bit : Option Bit → Bit → Bit
 or_no_bit None d = d
 or_no_bit (Some b) d = b
 
@@ -88,7 +88,7 @@ place_inside (p ∷ ps) b zero h = omega arith
 place_inside (p ∷ ps) b (suc i) h = let l = place_inside ps b i h in omega arith
 
 -- a bit that is there is one of its name
-bit_is_of : (e : Entity) (p : ℤ) (b : Bit) → bit_there e p ≡ Some b → is_bit_of e b ≡ true
+pub bit_is_of : (e : Entity) (p : ℤ) (b : Bit) → bit_there e p ≡ Some b → is_bit_of e b ≡ true
 bit_is_of (Constant bits signed) p b h = cc
 bit_is_of Instance p b h = cc
 bit_is_of (Signal id range signed) p b h = elim (cases_Bool (int_lt p (pos 0))) [
@@ -107,7 +107,7 @@ unfolding has_bit
 one_bit None b h = absurd (both_ways false refl h)
 one_bit (Some a) b h = elim (or_cases (same_bit a b) false h) [ inl t ↦ ap Some (same_is a b t) | inr t ↦ absurd (both_ways false refl t) ]
 
-has_one : (e : Entity) (p : ℤ) (b : Bit) → has_bit (bit_there e p ∷ []) b ≡ true → bit_there e p ≡ Some b
+pub has_one : (e : Entity) (p : ℤ) (b : Bit) → has_bit (bit_there e p ∷ []) b ≡ true → bit_there e p ≡ Some b
 has_one e p b h = one_bit (bit_there e p) b h
 
 pub one_of_name : (e : Entity) (p : ℤ) (b : Bit) → has_bit (bit_there e p ∷ []) b ≡ true → is_bit_of e b ≡ true
