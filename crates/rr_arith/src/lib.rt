@@ -1,6 +1,8 @@
 //! Arithmetic on lists of wires, lowest bit first: each call adds the gates of one operation on words
-//! (IEEE 1364-2005 section 5.1). The wires that were there keep their values, also after an error,
-//! which is want of memory or of numbers for gates.
+//! (IEEE 1364-2005 section 5.1). It is right where for every input the answered wires carry the word
+//! that `rr_bits` gives for the operands' words. It stands on `rr_circuit`'s builder and `rr_bits`'s
+//! words. The wires that were there keep their values, also after an error, which is want of memory
+//! or of numbers for gates.
 #![tactic(auto)]
 
 ghost use Rattle.std.specs.Prelude.{◌≡◌, ℕ, ◌+◌, ◌-◌, ◌*◌, ◌/◌, ◌^◌, ◌%◌, ◌<◌, ◌≤◌, ◌==◌, Bool, true, false, not, ◌&&◌, ◌||◌, length, map, reverse, take, IfOk, slice_index_or, nat_lt, cond};

@@ -1,4 +1,6 @@
-//! Words of 1 to 128 bits: the values of the profile (IEEE 1364-2005 sections 4.3, 5.1 and 5.4).
+//! Words of 1 to 128 bits: the values of the profile (IEEE 1364-2005 sections 4.3, 5.1 and 5.4). It
+//! is right where each call is its operation on lists of truth values, lowest first. It stands on no
+//! other crate.
 #![tactic(auto)]
 
 ghost use Rattle.std.specs.Prelude.{◌≡◌, ℕ, ◌+◌, ◌-◌, ◌*◌, ◌/◌, ◌%◌, ◌^◌, ◌<◌, ◌≤◌, Bool, List, length, get_or, false, ℤ, pos, unsigned_abs, ◌&&◌, ◌++◌};

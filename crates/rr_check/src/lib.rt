@@ -1,4 +1,7 @@
-//! The check of a whole proof, in parts that are checked at once.
+//! The check of a whole proof, in parts that are checked at once (LRAT without RAT lines). It is
+//! right where its verdict is that of the additions in order: accepted, the least one that fails the
+//! hint check, or no empty clause; for every number of workers. It stands on the hint check of
+//! `rr_derive`.
 #![tactic(auto)]
 
 ghost use Rattle.std.specs.Prelude.{◌≡◌, ◌<◌, ◌≤◌, All, IfOk, length};

@@ -62,7 +62,7 @@ fn answer(alloc: Global, text: &str, word: Option<&str>) -> Result<Told, AllocEr
 }
 
 #[test]
-fn names_of_clocks(rt: HostRuntime) -> Result<(), Fail> {
+fn clocks_without_an_edge(rt: HostRuntime) -> Result<(), Fail> {
     let alloc = rt.alloc();
     assert!(rt;
         answer(
@@ -86,6 +86,12 @@ fn names_of_clocks(rt: HostRuntime) -> Result<(), Fail> {
             used: Some(63)
         }
     );
+    Ok(())
+}
+
+#[test]
+fn words_that_name_no_clock(rt: HostRuntime) -> Result<(), Fail> {
+    let alloc = rt.alloc();
     assert!(rt;
         answer(
             alloc,
@@ -118,7 +124,7 @@ fn names_of_clocks(rt: HostRuntime) -> Result<(), Fail> {
 }
 
 #[test]
-fn edges(rt: HostRuntime) -> Result<(), Fail> {
+fn blocks_of_one_edge(rt: HostRuntime) -> Result<(), Fail> {
     let alloc = rt.alloc();
     assert!(rt;
         answer(
@@ -156,6 +162,12 @@ fn edges(rt: HostRuntime) -> Result<(), Fail> {
             None
         )? == Told::Nowhere(88)
     );
+    Ok(())
+}
+
+#[test]
+fn blocks_of_two_edges(rt: HostRuntime) -> Result<(), Fail> {
+    let alloc = rt.alloc();
     assert!(rt;
         answer(
             alloc,
@@ -182,7 +194,7 @@ fn edges(rt: HostRuntime) -> Result<(), Fail> {
 }
 
 #[test]
-fn uses(rt: HostRuntime) -> Result<(), Fail> {
+fn clocks_used_as_data(rt: HostRuntime) -> Result<(), Fail> {
     let alloc = rt.alloc();
     assert!(rt;
         answer(
@@ -206,6 +218,12 @@ fn uses(rt: HostRuntime) -> Result<(), Fail> {
             used: Some(65)
         }
     );
+    Ok(())
+}
+
+#[test]
+fn clocks_of_nets_and_instances(rt: HostRuntime) -> Result<(), Fail> {
+    let alloc = rt.alloc();
     assert!(rt;
         answer(
             alloc,

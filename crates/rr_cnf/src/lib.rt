@@ -1,4 +1,7 @@
-//! Literals, clauses and formulas in conjunctive normal form, and their DIMACS text.
+//! Literals, clauses and formulas in conjunctive normal form, and their DIMACS text (DIMACS
+//! challenge, "Satisfiability: Suggested Format", 1993). It is right where a formula is the list of
+//! the clauses that were pushed, and its text is exactly that of the list. It stands on no other
+//! crate.
 #![tactic(auto)]
 
 mod clause;

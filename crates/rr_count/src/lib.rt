@@ -1,4 +1,5 @@
-//! Counting of true wires.
+//! Counting of true wires. It is right where the answered wire is true exactly where at most so many
+//! of the wires are, for every input. It stands on `rr_circuit`'s builder.
 #![tactic(auto)]
 
 ghost use Rattle.std.specs.Prelude.{◌≡◌, ℕ, ◌<◌, ◌≤◌, Bool, true, false, ◌&&◌, ◌||◌, ◌∷◌, length, IfOk, slice_index_or};

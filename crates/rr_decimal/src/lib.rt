@@ -1,4 +1,6 @@
-//! Decimal numbers in texts: written at the end of one, and read at the head of one.
+//! Decimal numbers in texts: written at the end of one, and read at the head of one. It is right
+//! where the digits are those of the number, and a number is read exactly where one stands. It stands
+//! on no other crate.
 #![tactic(auto)]
 
 ghost use Rattle.std.specs.Prelude.{◌≡◌, ◌≢◌, ◌⊎◌, ℕ, ◌+◌, ◌-◌, ◌*◌, ◌^◌, ◌<◌, ◌≤◌, List, ◌∷◌, ◌++◌, [], length, decimal, IfSome, IfNone, OnOk, IsTrue, slice_index_or};

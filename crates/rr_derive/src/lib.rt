@@ -1,4 +1,6 @@
-//! Proof lines with hints, their check, and their LRAT text.
+//! Proof lines with hints, their check, and their LRAT text (Cruz-Filipe et al., "Efficient Certified
+//! RAT Verification", CADE 2017; without RAT lines). It is right where a line passes exactly where
+//! its hints lead from the clause's negation to a conflict. It stands on `rr_cnf`'s formulas.
 #![tactic(auto)]
 
 mod check;

@@ -1,4 +1,6 @@
-//! The outside of the program: a shelf that holds files by their names, and sinks that take text.
+//! The outside of the program: a shelf that holds files by their names, and sinks that take text. It
+//! is right where the bytes, the faults and their counts are those of the two traits, over memory and
+//! over real files. It stands on no other crate.
 #![tactic(auto)]
 
 ghost use Rattle.std.specs.Prelude.{◌≡◌, ℕ, List, Option};

@@ -1,4 +1,7 @@
-//! The laws that a flat design keeps so that each cycle has one meaning, and the order of its steps.
+//! The laws that a flat design keeps so that each cycle has one meaning, and the order of its steps
+//! (IEEE 1364-2005 sections 6.1, 9, 11 and 12). It is right where an order comes exactly for lawful
+//! designs, and else the first law that is broken, at its first place. It stands on a crate for each
+//! law: `rr_clock`, `rr_assign`, `rr_writers`, `rr_latch`, `rr_order`.
 #![tactic(auto)]
 
 mod clocks;

@@ -57,7 +57,7 @@ fn answer(alloc: Global, text: &str, clock: Option<&str>) -> Result<Told, AllocE
 }
 
 #[test]
-fn words_for_the_clock(rt: HostRuntime) -> Result<(), Fail> {
+fn words_that_name_the_clock(rt: HostRuntime) -> Result<(), Fail> {
     let alloc = rt.alloc();
     assert!(rt;
         answer(
@@ -73,6 +73,12 @@ fn words_for_the_clock(rt: HostRuntime) -> Result<(), Fail> {
             Some("clk")
         )? == Told::Kept
     );
+    Ok(())
+}
+
+#[test]
+fn words_that_name_no_clock(rt: HostRuntime) -> Result<(), Fail> {
+    let alloc = rt.alloc();
     assert!(rt;
         answer(
             alloc,
@@ -105,7 +111,7 @@ fn words_for_the_clock(rt: HostRuntime) -> Result<(), Fail> {
 }
 
 #[test]
-fn clocks(rt: HostRuntime) -> Result<(), Fail> {
+fn resets_beside_the_clock(rt: HostRuntime) -> Result<(), Fail> {
     let alloc = rt.alloc();
     assert!(rt;
         answer(
@@ -121,6 +127,12 @@ fn clocks(rt: HostRuntime) -> Result<(), Fail> {
             None
         )? == Told::Kept
     );
+    Ok(())
+}
+
+#[test]
+fn blocks_of_another_clock(rt: HostRuntime) -> Result<(), Fail> {
+    let alloc = rt.alloc();
     assert!(rt;
         answer(
             alloc,
@@ -160,15 +172,8 @@ fn clocks(rt: HostRuntime) -> Result<(), Fail> {
 }
 
 #[test]
-fn uses_of_the_clock(rt: HostRuntime) -> Result<(), Fail> {
+fn uses_of_the_clock_in_one_module(rt: HostRuntime) -> Result<(), Fail> {
     let alloc = rt.alloc();
-    assert!(rt;
-        answer(
-            alloc,
-            "module c(input k, input d, output reg q); always @(negedge k) q <= d; endmodule module b(input k, input d, output q); c one(k, d, q); endmodule module m(input clk, input d, output q); b one(.k(clk), .d(d), .q(q)); endmodule",
-            None
-        )? == Told::Kept
-    );
     assert!(rt;
         answer(
             alloc,
@@ -180,20 +185,6 @@ fn uses_of_the_clock(rt: HostRuntime) -> Result<(), Fail> {
         answer(
             alloc,
             "module m(input clk, input d, output reg q); always @(posedge clk) q <= clk; endmodule",
-            None
-        )? == Told::Broken { law: 22, at: 71 }
-    );
-    assert!(rt;
-        answer(
-            alloc,
-            "module c(input k, input d, output reg q); always @(negedge k) q <= d; endmodule module b(input k, input d, output q); c one(k, d, q); endmodule module m(input clk, input d, output q); b one(.k(clk), .d(clk & d), .q(q)); endmodule",
-            None
-        )? == Told::Broken { law: 22, at: 202 }
-    );
-    assert!(rt;
-        answer(
-            alloc,
-            "module c(input k, input d, output reg q); always @(posedge k) q <= d & k; endmodule module m(input clk, input d, output q); c one(clk, d, q); endmodule",
             None
         )? == Told::Broken { law: 22, at: 71 }
     );
@@ -215,7 +206,34 @@ fn uses_of_the_clock(rt: HostRuntime) -> Result<(), Fail> {
 }
 
 #[test]
-fn two_drivers(rt: HostRuntime) -> Result<(), Fail> {
+fn uses_of_the_clock_in_instances(rt: HostRuntime) -> Result<(), Fail> {
+    let alloc = rt.alloc();
+    assert!(rt;
+        answer(
+            alloc,
+            "module c(input k, input d, output reg q); always @(negedge k) q <= d; endmodule module b(input k, input d, output q); c one(k, d, q); endmodule module m(input clk, input d, output q); b one(.k(clk), .d(d), .q(q)); endmodule",
+            None
+        )? == Told::Kept
+    );
+    assert!(rt;
+        answer(
+            alloc,
+            "module c(input k, input d, output reg q); always @(negedge k) q <= d; endmodule module b(input k, input d, output q); c one(k, d, q); endmodule module m(input clk, input d, output q); b one(.k(clk), .d(clk & d), .q(q)); endmodule",
+            None
+        )? == Told::Broken { law: 22, at: 202 }
+    );
+    assert!(rt;
+        answer(
+            alloc,
+            "module c(input k, input d, output reg q); always @(posedge k) q <= d & k; endmodule module m(input clk, input d, output q); c one(clk, d, q); endmodule",
+            None
+        )? == Told::Broken { law: 22, at: 71 }
+    );
+    Ok(())
+}
+
+#[test]
+fn two_drivers_of_a_net(rt: HostRuntime) -> Result<(), Fail> {
     let alloc = rt.alloc();
     assert!(rt;
         answer(
@@ -241,20 +259,6 @@ fn two_drivers(rt: HostRuntime) -> Result<(), Fail> {
     assert!(rt;
         answer(
             alloc,
-            "module m(input a, output reg y); always @* y = a; always @* y = ~a; endmodule",
-            None
-        )? == Told::Broken { law: 17, at: 50 }
-    );
-    assert!(rt;
-        answer(
-            alloc,
-            "module m(input clk, input [1:0] i, output reg [3:0] y); always @(posedge clk) y[i] <= 1'b1; always @(posedge clk) y[0] <= 1'b0; endmodule",
-            None
-        )? == Told::Broken { law: 17, at: 92 }
-    );
-    assert!(rt;
-        answer(
-            alloc,
             "module m(input [1:0] a, output y); wire w; assign {y, y} = a; endmodule",
             None
         )? == Told::Broken { law: 17, at: 50 }
@@ -265,6 +269,26 @@ fn two_drivers(rt: HostRuntime) -> Result<(), Fail> {
             "module c(input i, output o); assign o = i; endmodule module m(input a, input b, output y); c one(a, y); c two(b, y); endmodule",
             None
         )? == Told::Broken { law: 17, at: 113 }
+    );
+    Ok(())
+}
+
+#[test]
+fn two_drivers_of_a_variable(rt: HostRuntime) -> Result<(), Fail> {
+    let alloc = rt.alloc();
+    assert!(rt;
+        answer(
+            alloc,
+            "module m(input a, output reg y); always @* y = a; always @* y = ~a; endmodule",
+            None
+        )? == Told::Broken { law: 17, at: 50 }
+    );
+    assert!(rt;
+        answer(
+            alloc,
+            "module m(input clk, input [1:0] i, output reg [3:0] y); always @(posedge clk) y[i] <= 1'b1; always @(posedge clk) y[0] <= 1'b0; endmodule",
+            None
+        )? == Told::Broken { law: 17, at: 92 }
     );
     Ok(())
 }
@@ -345,7 +369,7 @@ fn races(rt: HostRuntime) -> Result<(), Fail> {
 }
 
 #[test]
-fn latches(rt: HostRuntime) -> Result<(), Fail> {
+fn blocks_with_a_latch(rt: HostRuntime) -> Result<(), Fail> {
     let alloc = rt.alloc();
     assert!(rt;
         answer(
@@ -382,6 +406,12 @@ fn latches(rt: HostRuntime) -> Result<(), Fail> {
             None
         )? == Told::Broken { law: 20, at: 39 }
     );
+    Ok(())
+}
+
+#[test]
+fn blocks_without_a_latch(rt: HostRuntime) -> Result<(), Fail> {
+    let alloc = rt.alloc();
     assert!(rt;
         answer(
             alloc,
@@ -407,7 +437,7 @@ fn latches(rt: HostRuntime) -> Result<(), Fail> {
 }
 
 #[test]
-fn loops(rt: HostRuntime) -> Result<(), Fail> {
+fn loops_through_signals(rt: HostRuntime) -> Result<(), Fail> {
     let alloc = rt.alloc();
     assert!(rt;
         answer(
@@ -419,23 +449,29 @@ fn loops(rt: HostRuntime) -> Result<(), Fail> {
     assert!(rt;
         answer(
             alloc,
-            "module m(input a, output [3:0] y); assign y[0] = a; assign y[1] = y[0]; assign y[2] = y[1]; assign y[3] = y[2]; endmodule",
+            "module m(input a, output reg x, output reg y, output reg z); always @* x = z; always @* y = x & a; always @* z = y; endmodule",
             None
-        )? == Told::Kept
+        )? == Told::Broken { law: 21, at: 61 }
     );
+    assert!(rt;
+        answer(
+            alloc,
+            "module n(input i, output o); assign o = ~i; endmodule module m(output y); wire w; n one(w, y); n two(y, w); endmodule",
+            None
+        )? == Told::Broken { law: 21, at: 91 }
+    );
+    Ok(())
+}
+
+#[test]
+fn loops_through_bits(rt: HostRuntime) -> Result<(), Fail> {
+    let alloc = rt.alloc();
     assert!(rt;
         answer(
             alloc,
             "module m(input [2:0] a, output [3:0] y); assign y = {a & y[2:0], 1'b1}; endmodule",
             None
         )? == Told::Broken { law: 21, at: 48 }
-    );
-    assert!(rt;
-        answer(
-            alloc,
-            "module m(input a, output [3:0] y); assign y = {y[2:0], a}; endmodule",
-            None
-        )? == Told::Kept
     );
     assert!(rt;
         answer(
@@ -447,23 +483,9 @@ fn loops(rt: HostRuntime) -> Result<(), Fail> {
     assert!(rt;
         answer(
             alloc,
-            "module m(input a, output reg x, output reg y, output reg z); always @* x = z; always @* y = x & a; always @* z = y; endmodule",
-            None
-        )? == Told::Broken { law: 21, at: 61 }
-    );
-    assert!(rt;
-        answer(
-            alloc,
             "module m(input [1:0] i, output [3:0] y); assign y[3:1] = 3'b0; assign y[0] = y[i]; endmodule",
             None
         )? == Told::Broken { law: 21, at: 70 }
-    );
-    assert!(rt;
-        answer(
-            alloc,
-            "module n(input i, output o); assign o = ~i; endmodule module m(output y); wire w; n one(w, y); n two(y, w); endmodule",
-            None
-        )? == Told::Broken { law: 21, at: 91 }
     );
     assert!(rt;
         answer(
@@ -476,7 +498,27 @@ fn loops(rt: HostRuntime) -> Result<(), Fail> {
 }
 
 #[test]
-fn two_laws_at_once(rt: HostRuntime) -> Result<(), Fail> {
+fn chains_of_bits(rt: HostRuntime) -> Result<(), Fail> {
+    let alloc = rt.alloc();
+    assert!(rt;
+        answer(
+            alloc,
+            "module m(input a, output [3:0] y); assign y[0] = a; assign y[1] = y[0]; assign y[2] = y[1]; assign y[3] = y[2]; endmodule",
+            None
+        )? == Told::Kept
+    );
+    assert!(rt;
+        answer(
+            alloc,
+            "module m(input a, output [3:0] y); assign y = {y[2:0], a}; endmodule",
+            None
+        )? == Told::Kept
+    );
+    Ok(())
+}
+
+#[test]
+fn two_laws_up_to_the_clock(rt: HostRuntime) -> Result<(), Fail> {
     let alloc = rt.alloc();
     assert!(rt;
         answer(
@@ -506,6 +548,12 @@ fn two_laws_at_once(rt: HostRuntime) -> Result<(), Fail> {
             None
         )? == Told::Broken { law: 22, at: 102 }
     );
+    Ok(())
+}
+
+#[test]
+fn two_laws_after_the_clock(rt: HostRuntime) -> Result<(), Fail> {
+    let alloc = rt.alloc();
     assert!(rt;
         answer(
             alloc,
@@ -538,29 +586,8 @@ fn two_laws_at_once(rt: HostRuntime) -> Result<(), Fail> {
 }
 
 #[test]
-fn first_laws(rt: HostRuntime) -> Result<(), Fail> {
+fn one_law_up_to_the_clock(rt: HostRuntime) -> Result<(), Fail> {
     let alloc = rt.alloc();
-    assert!(rt;
-        answer(
-            alloc,
-            "module m(output y);assign y = 1'b0;assign y = 1'b1;endmodule",
-            None
-        )? == Told::Broken { law: 17, at: 42 }
-    );
-    assert!(rt;
-        answer(
-            alloc,
-            "module m(input clk,output reg y);always @(posedge clk) begin y <= 1'b0; y = 1'b1; end endmodule",
-            None
-        )? == Told::Broken { law: 18, at: 72 }
-    );
-    assert!(rt;
-        answer(
-            alloc,
-            "module m(input clk,output reg y);reg t;always @(posedge clk) t = ~t;always @(posedge clk) y <= t;endmodule",
-            None
-        )? == Told::Broken { law: 19, at: 95 }
-    );
     assert!(rt;
         answer(
             alloc,
@@ -589,6 +616,33 @@ fn first_laws(rt: HostRuntime) -> Result<(), Fail> {
             None
         )? == Told::Broken { law: 25, at: 49 }
     );
+    Ok(())
+}
+
+#[test]
+fn one_law_after_the_clock(rt: HostRuntime) -> Result<(), Fail> {
+    let alloc = rt.alloc();
+    assert!(rt;
+        answer(
+            alloc,
+            "module m(output y);assign y = 1'b0;assign y = 1'b1;endmodule",
+            None
+        )? == Told::Broken { law: 17, at: 42 }
+    );
+    assert!(rt;
+        answer(
+            alloc,
+            "module m(input clk,output reg y);always @(posedge clk) begin y <= 1'b0; y = 1'b1; end endmodule",
+            None
+        )? == Told::Broken { law: 18, at: 72 }
+    );
+    assert!(rt;
+        answer(
+            alloc,
+            "module m(input clk,output reg y);reg t;always @(posedge clk) t = ~t;always @(posedge clk) y <= t;endmodule",
+            None
+        )? == Told::Broken { law: 19, at: 95 }
+    );
     assert!(rt;
         answer(
             alloc,
@@ -603,6 +657,12 @@ fn first_laws(rt: HostRuntime) -> Result<(), Fail> {
             None
         )? == Told::Broken { law: 20, at: 41 }
     );
+    Ok(())
+}
+
+#[test]
+fn designs_that_keep_all_laws(rt: HostRuntime) -> Result<(), Fail> {
+    let alloc = rt.alloc();
     assert!(rt;
         answer(
             alloc,
@@ -663,7 +723,7 @@ fn refusal(alloc: Global, text: &str, top: Option<&str>) -> Option<(u32, u32)> {
 }
 
 #[test]
-fn faults_before_the_laws(rt: HostRuntime) -> Result<(), Fail> {
+fn faults_of_texts(rt: HostRuntime) -> Result<(), Fail> {
     let alloc = rt.alloc();
     assert!(rt;
         refusal(alloc, "module m(output y);assign y = \"a\";endmodule", None) == Some((1, 30))
@@ -675,6 +735,12 @@ fn faults_before_the_laws(rt: HostRuntime) -> Result<(), Fail> {
     assert!(rt; refusal(alloc, "`include \"a.v\"", None) == Some((4, 0)));
     assert!(rt; refusal(alloc, "module m(output y);function f;endmodule", None) == Some((5, 19)));
     assert!(rt; refusal(alloc, "module m(output y);assign y = ;endmodule", None) == Some((6, 30)));
+    Ok(())
+}
+
+#[test]
+fn faults_of_flat_designs(rt: HostRuntime) -> Result<(), Fail> {
+    let alloc = rt.alloc();
     assert!(rt; refusal(alloc, "", None) == Some((7, 0)));
     assert!(rt; refusal(alloc, "module m(output y);n u(y);endmodule", None) == Some((8, 19)));
     assert!(rt; refusal(alloc, "module m(output y);m u(y);endmodule", Some("m")) == Some((9, 19)));

@@ -1,4 +1,7 @@
-//! The exact lexer of the Verilog profile, the texts of literals, and the law of patches.
+//! The exact lexer of the Verilog profile, the texts of literals, and the law of patches (IEEE
+//! 1364-2005 section 3 and annex B). It is right where the tokens are the one list of the definition
+//! on whole spans, or the fault the first in the order of the text. It stands on `rr_syntax`'s
+//! tokens.
 #![tactic(auto)]
 
 mod bytes;

@@ -122,14 +122,8 @@ fn refuses_numbers(rt: HostRuntime) -> Result<(), Fail> {
 }
 
 #[test]
-fn reads_tokens(rt: HostRuntime) -> Result<(), Fail> {
-    let alloc = rt.alloc();
-    let three = Kind::Number(number(4, false, 3, 0, 0));
-    let cases: [(&[u8], &[(Kind, u32, u32)]); 17] = [
-        (
-            b"4'd3else",
-            &[(three, 0, 4), (Kind::Keyword(Keyword::ELSE), 4, 8)],
-        ),
+fn reads_names_and_keywords(rt: HostRuntime) -> Result<(), Fail> {
+    let cases: [(&[u8], &[(Kind, u32, u32)]); 5] = [
         (
             b"\\a+b c",
             &[(Kind::Name("a+b"), 0, 4), (Kind::Name("c"), 5, 6)],
@@ -147,6 +141,18 @@ fn reads_tokens(rt: HostRuntime) -> Result<(), Fail> {
                 (Kind::Mark(Mark::OPEN_PARENTHESIS), 7, 8),
             ],
         ),
+    ];
+    for (text, wanted) in cases {
+        if text.len() <= 1048576 {
+            assert!(rt; lexes(rt.alloc(), text, wanted));
+        }
+    }
+    Ok(())
+}
+
+#[test]
+fn reads_marks(rt: HostRuntime) -> Result<(), Fail> {
+    let cases: [(&[u8], &[(Kind, u32, u32)]); 3] = [
         (
             b"a<=b<<<c",
             &[
@@ -174,15 +180,23 @@ fn reads_tokens(rt: HostRuntime) -> Result<(), Fail> {
                 (Kind::Mark(Mark::CLOSE_PARENTHESIS), 3, 4),
             ],
         ),
+    ];
+    for (text, wanted) in cases {
+        if text.len() <= 1048576 {
+            assert!(rt; lexes(rt.alloc(), text, wanted));
+        }
+    }
+    Ok(())
+}
+
+#[test]
+fn reads_numbers_among_tokens(rt: HostRuntime) -> Result<(), Fail> {
+    let three = Kind::Number(number(4, false, 3, 0, 0));
+    let cases: [(&[u8], &[(Kind, u32, u32)]); 3] = [
         (
-            b"(* x *)3",
-            &[(Kind::Number(number(32, true, 3, 0, 0)), 7, 8)],
+            b"4'd3else",
+            &[(three, 0, 4), (Kind::Keyword(Keyword::ELSE), 4, 8)],
         ),
-        (b"(**)", &[]),
-        (b"/* * */ // the end", &[]),
-        (b"/*/ */\\b//", &[(Kind::Name("b//"), 6, 10)]),
-        (b"`timescale 1ns\n4'd3", &[(three, 15, 19)]),
-        (b"`resetall", &[]),
         (
             b"4'dx1",
             &[
@@ -201,40 +215,50 @@ fn reads_tokens(rt: HostRuntime) -> Result<(), Fail> {
     ];
     for (text, wanted) in cases {
         if text.len() <= 1048576 {
-            assert!(rt; lexes(alloc, text, wanted));
+            assert!(rt; lexes(rt.alloc(), text, wanted));
         }
     }
     Ok(())
 }
 
 #[test]
-fn finds_the_first_fault(rt: HostRuntime) -> Result<(), Fail> {
-    let alloc = rt.alloc();
-    let cases: [(&[u8], TextFault); 25] = [
+fn skips_comments_and_directives(rt: HostRuntime) -> Result<(), Fail> {
+    let three = Kind::Number(number(4, false, 3, 0, 0));
+    let cases: [(&[u8], &[(Kind, u32, u32)]); 6] = [
+        (
+            b"(* x *)3",
+            &[(Kind::Number(number(32, true, 3, 0, 0)), 7, 8)],
+        ),
+        (b"(**)", &[]),
+        (b"/* * */ // the end", &[]),
+        (b"/*/ */\\b//", &[(Kind::Name("b//"), 6, 10)]),
+        (b"`timescale 1ns\n4'd3", &[(three, 15, 19)]),
+        (b"`resetall", &[]),
+    ];
+    for (text, wanted) in cases {
+        if text.len() <= 1048576 {
+            assert!(rt; lexes(rt.alloc(), text, wanted));
+        }
+    }
+    Ok(())
+}
+
+/// Whether each of these texts has its first fault.
+fn all_fail(alloc: Global, cases: &[(&[u8], TextFault)]) -> bool {
+    for &(text, wanted) in cases {
+        if text.len() <= 1048576 && !fails(alloc, text, wanted) {
+            return false;
+        }
+    }
+    true
+}
+
+#[test]
+fn finds_bad_bytes(rt: HostRuntime) -> Result<(), Fail> {
+    let cases: [(&[u8], TextFault); 10] = [
         (
             b"module m(output y);assign y = \"a\";endmodule",
             TextFault::BadByte(30),
-        ),
-        (
-            b"module m(output y);assign y = 2'd;endmodule",
-            TextFault::BadNumber(30),
-        ),
-        (b"module m(output y);/* x", TextFault::OpenComment(19)),
-        (b"`include \"a.v\"", TextFault::Directive(0)),
-        (b" `define", TextFault::Directive(1)),
-        (b"`resetallx", TextFault::Directive(0)),
-        (b"a /*/", TextFault::OpenComment(2)),
-        (b"(* x )", TextFault::OpenComment(0)),
-        (b"(* x *) (*", TextFault::OpenComment(8)),
-        (b"4 'z", TextFault::BadNumber(0)),
-        (b"a '", TextFault::BadNumber(2)),
-        (b"2 '\tb1", TextFault::BadNumber(0)),
-        (b"0'd1", TextFault::BadNumber(0)),
-        (b"129'd1", TextFault::BadNumber(0)),
-        (b"99999999999 /* ", TextFault::BadNumber(0)),
-        (
-            b"a 128'd340282366920938463463374607431768211456",
-            TextFault::BadNumber(2),
         ),
         (b"\x00", TextFault::BadByte(0)),
         (b"ab\x7f", TextFault::BadByte(2)),
@@ -246,11 +270,44 @@ fn finds_the_first_fault(rt: HostRuntime) -> Result<(), Fail> {
         (b"\" `define", TextFault::BadByte(0)),
         (b"// x\n\"", TextFault::BadByte(5)),
     ];
-    for (text, wanted) in cases {
-        if text.len() <= 1048576 {
-            assert!(rt; fails(alloc, text, wanted));
-        }
-    }
+    assert!(rt; all_fail(rt.alloc(), &cases));
+    Ok(())
+}
+
+#[test]
+fn finds_bad_numbers(rt: HostRuntime) -> Result<(), Fail> {
+    let cases: [(&[u8], TextFault); 8] = [
+        (
+            b"module m(output y);assign y = 2'd;endmodule",
+            TextFault::BadNumber(30),
+        ),
+        (b"4 'z", TextFault::BadNumber(0)),
+        (b"a '", TextFault::BadNumber(2)),
+        (b"2 '\tb1", TextFault::BadNumber(0)),
+        (b"0'd1", TextFault::BadNumber(0)),
+        (b"129'd1", TextFault::BadNumber(0)),
+        (b"99999999999 /* ", TextFault::BadNumber(0)),
+        (
+            b"a 128'd340282366920938463463374607431768211456",
+            TextFault::BadNumber(2),
+        ),
+    ];
+    assert!(rt; all_fail(rt.alloc(), &cases));
+    Ok(())
+}
+
+#[test]
+fn finds_open_comments_and_directives(rt: HostRuntime) -> Result<(), Fail> {
+    let cases: [(&[u8], TextFault); 7] = [
+        (b"module m(output y);/* x", TextFault::OpenComment(19)),
+        (b"`include \"a.v\"", TextFault::Directive(0)),
+        (b" `define", TextFault::Directive(1)),
+        (b"`resetallx", TextFault::Directive(0)),
+        (b"a /*/", TextFault::OpenComment(2)),
+        (b"(* x )", TextFault::OpenComment(0)),
+        (b"(* x *) (*", TextFault::OpenComment(8)),
+    ];
+    assert!(rt; all_fail(rt.alloc(), &cases));
     Ok(())
 }
 
@@ -418,13 +475,11 @@ fn patched(alloc: Global, arena: &Bump, bytes: &[u8], edits: &[Edit]) -> Result<
     }
 }
 
-#[test]
-fn patches_at_token_edges(rt: HostRuntime) -> Result<(), Fail> {
-    let alloc = rt.alloc();
-    let arena = Bump::new(alloc);
-    let text = patched(
+/// A module of one line, patched where no blank stands between its tokens.
+fn patched_at_edges(alloc: Global, arena: &Bump) -> Result<Vec<u8>, AllocError> {
+    patched(
         alloc,
-        &arena,
+        arena,
         b"module m(input clk,input s,output reg[3:0]q);always@(posedge clk)q<=s?4'd3:4'd0;endmodule",
         &[
             Edit {
@@ -455,7 +510,14 @@ fn patches_at_token_edges(rt: HostRuntime) -> Result<(), Fail> {
                 ],
             },
         ],
-    )?;
+    )
+}
+
+#[test]
+fn patches_at_token_edges(rt: HostRuntime) -> Result<(), Fail> {
+    let alloc = rt.alloc();
+    let arena = Bump::new(alloc);
+    let text = patched_at_edges(alloc, &arena)?;
     assert!(rt;
         text.as_slice()
             == b"module m(input clk,input s,output reg[3:0]q);always@(posedge clk) begin q<= ( s ) && ! s ? 4'ha :4'd0; if ( ! s ) q <= 4'h9 ; end endmodule".as_slice()
@@ -500,24 +562,13 @@ fn patches_between_comments(rt: HostRuntime) -> Result<(), Fail> {
         }],
     )?;
     assert!(rt; text.as_slice() == b"(*x*) ( (*y*)".as_slice());
-    let text = patched(
-        alloc,
-        &arena,
-        b"@(*)a",
-        &[
-            Edit {
-                token: 0,
-                text: None,
-                run: &[b"("],
-            },
-            Edit {
-                token: 3,
-                text: None,
-                run: &[b"begin"],
-            },
-        ],
-    )?;
-    assert!(rt; text.as_slice() == b"@ ( (*) begin a".as_slice());
+    Ok(())
+}
+
+#[test]
+fn patches_beside_names_and_numbers(rt: HostRuntime) -> Result<(), Fail> {
+    let alloc = rt.alloc();
+    let arena = Bump::new(alloc);
     let text = patched(
         alloc,
         &arena,
@@ -540,6 +591,31 @@ fn patches_between_comments(rt: HostRuntime) -> Result<(), Fail> {
         }],
     )?;
     assert!(rt; text.as_slice() == b"a  4'h2  'h1".as_slice());
+    Ok(())
+}
+
+#[test]
+fn patches_of_two_edits(rt: HostRuntime) -> Result<(), Fail> {
+    let alloc = rt.alloc();
+    let arena = Bump::new(alloc);
+    let text = patched(
+        alloc,
+        &arena,
+        b"@(*)a",
+        &[
+            Edit {
+                token: 0,
+                text: None,
+                run: &[b"("],
+            },
+            Edit {
+                token: 3,
+                text: None,
+                run: &[b"begin"],
+            },
+        ],
+    )?;
+    assert!(rt; text.as_slice() == b"@ ( (*) begin a".as_slice());
     let text = patched(
         alloc,
         &arena,

@@ -1,4 +1,6 @@
-//! The drivers and blocks of a flat design, and the targets and names of their texts as lists.
+//! The drivers and blocks of a flat design, and the targets and names of their texts as lists (IEEE
+//! 1364-2005 sections 6.1 and 9.2). It is right where the lists are those of `rr_flat`'s `Reads`, in
+//! the order of the text. It stands on `rr_flat`.
 #![tactic(auto)]
 
 mod lists;

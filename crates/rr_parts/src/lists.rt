@@ -141,23 +141,19 @@ pub fn add_names<'a>(list: &mut Vec<Named<'a>>, expr: &'a Expr<'a>) -> Result<()
         Expr::Part {
             token,
             name,
-            left,
-            right,
-        } => {
-            push_name(list, *token, name)?;
-            add_names(list, left)?;
-            add_names(list, right)
+            left: first,
+            right: second,
         }
-        Expr::Indexed {
+        | Expr::Indexed {
             token,
             name,
-            from,
-            width,
+            from: first,
+            width: second,
             ..
         } => {
             push_name(list, *token, name)?;
-            add_names(list, from)?;
-            add_names(list, width)
+            add_names(list, first)?;
+            add_names(list, second)
         }
         Expr::Unary { of, .. } | Expr::Cast { of, .. } | Expr::Paren { of } => add_names(list, of),
         Expr::Binary { left, right, .. } => {

@@ -1,4 +1,7 @@
-//! Sorts the nodes of a graph so that each stands after those that it names, or finds a cycle.
+//! Sorts the nodes of a graph so that each stands after those that it names, or finds a cycle
+//! (depth-first search; Tarjan, "Depth-First Search and Linear Graph Algorithms", 1972). It is right
+//! where the answer is such an order, or a cycle from the lowest node on one. It stands on no other
+//! crate.
 #![tactic(auto)]
 
 ghost use Rattle.std.specs.Prelude.{◌≡◌, ◌<◌, ◌≤◌, ◌++◌, ◌∷◌, [], ℕ, List, length, map, drop, get_or, IfOk, OnOk, IfSome, IfNone, true, false};

@@ -1,7 +1,9 @@
-//! Where a text leaves the grammar: the first token that no module in progress can take
-//! (IEEE 1364-2005 annex A, as far as the profile has it).
+//! Where a text leaves the grammar: the first token that no module in progress can take (IEEE
+//! 1364-2005 annex A, as far as the profile has it).
 //!
-//! It builds no tree. The reader of modules asks it only for texts that it has refused.
+//! It builds no tree. The reader of modules asks it only for texts that it has refused. That its
+//! answer is a token or the number of tokens is proved; which one is shown by tests. It stands on
+//! `rr_lex`.
 #![tactic(auto)]
 
 mod cursor;

@@ -70,6 +70,11 @@ Fetches told before now name limit (Err report) = FetchStops told before now nam
 abbrev pub RefusedOrNoMemory : RustRefusal → Report → Type 0
 RefusedOrNoMemory refusal report = ((report.ending ≡ Refused refusal) × (report_text report ≡ refused_text (plain_refusal refusal))) ⊎ ((report.ending ≡ NoMemory) × (report_text report ≡ memory_text))
 
+-- the report of why there is no answer
+abbrev pub Stops : Stop → Report → Type 0
+Stops stop.Memory report = (report.ending ≡ NoMemory) × (report_text report ≡ memory_text)
+Stops (stop.Refused refusal) report = RefusedOrNoMemory refusal report
+
 -- a refusal that holds, or want of memory
 abbrev pub StopsWhere : (Refusal → Type 0) → Stop → Type 0
 StopsWhere P stop.Memory = ⊤

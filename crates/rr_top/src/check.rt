@@ -10,7 +10,7 @@ ghost use Rattle.rr_top.specs.Rust.{answer_view, report_text, text_bytes, StopsW
 
 use crate::answer::{Answer, Piece, Stop};
 use crate::ending::{Flaw, Refusal, Report, Text};
-use crate::repair::{deliver, fetch, out_of_memory, refused};
+use crate::repair::{deliver, fetch, stopped};
 use crate::{CIRCUIT_LIMIT, PROOF_LIMIT};
 use rr_check::{Verdict, first_bad};
 use rr_circuit::{AagFault, Circuit, read_aag};
@@ -172,7 +172,6 @@ pub(crate) fn run_check<'a, R: Threads + Sync, H: Shelf, K: Sink>(
     };
     match judge_certificate(rt, alloc, circuit, proof) {
         Ok(answer) => deliver(answer, out),
-        Err(Stop::Memory) => out_of_memory(),
-        Err(Stop::Refused(refusal)) => refused(alloc, refusal),
+        Err(stop) => stopped(alloc, stop),
     }
 }

@@ -1,4 +1,7 @@
 //! The top call: it runs the command of a command line over a shelf of files, an output and a report.
+//! It is right where the status, the bytes put out and the report are those that its files decide,
+//! for each command that is built. It stands on `rr_words`, `rr_edge`, `rr_run` and the crates of
+//! certificates.
 #![tactic(auto)]
 
 ghost use Rattle.std.specs.Prelude.{◌≡◌, ◌<◌, ◌⊎◌, ℕ, List, Some, map, string_bytes};

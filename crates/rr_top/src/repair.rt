@@ -6,7 +6,7 @@ ghost use Rattle.rr_words.specs.Plan.{repair, texts_of};
 ghost use Rattle.rr_top.specs.Effects.{outside};
 ghost use Rattle.rr_top.specs.Texts.{memory_text};
 ghost use Rattle.rr_top.specs.Endings.{Delivers, PlanEnds};
-ghost use Rattle.rr_top.specs.Rust.{answer_view, report_text, Fetches, RefusedOrNoMemory};
+ghost use Rattle.rr_top.specs.Rust.{answer_view, report_text, Fetches, RefusedOrNoMemory, Stops};
 
 use crate::answer::{Answer, Options, Stop, judge};
 use crate::ending::{
@@ -45,6 +45,16 @@ pub(crate) fn refused<'a>(alloc: Global, refusal: Refusal<'a>) -> Report<'a>
             text: Text::Made(text),
         },
         Err(_) => out_of_memory(),
+    }
+}
+
+/// The report of why there is no answer.
+pub(crate) fn stopped<'a>(alloc: Global, stop: Stop<'a>) -> Report<'a>
+    ensures { Stops stop.entry result }
+{
+    match stop {
+        Stop::Memory => out_of_memory(),
+        Stop::Refused(refusal) => refused(alloc, refusal),
     }
 }
 
@@ -132,7 +142,6 @@ pub(crate) fn run_repair<'a, H: Shelf, K: Sink>(
     };
     match judge(alloc, names.options, &design, &table, arena) {
         Ok(answer) => deliver(answer, out),
-        Err(Stop::Memory) => out_of_memory(),
-        Err(Stop::Refused(refusal)) => refused(alloc, refusal),
+        Err(stop) => stopped(alloc, stop),
     }
 }

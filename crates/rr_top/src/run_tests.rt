@@ -260,7 +260,7 @@ fn designs_are_refused_by_both(rt: HostRuntime) {
 }
 
 #[test]
-fn tables_are_refused(rt: HostRuntime) {
+fn headers_are_refused(rt: HostRuntime) {
     let design = CELLS;
     refuses(&rt, WORDS, design, "", "refused 26 NoHeader row 0\n");
     refuses(
@@ -284,6 +284,11 @@ fn tables_are_refused(rt: HostRuntime) {
         "y\n",
         "refused 29 MissingInput input a\n",
     );
+}
+
+#[test]
+fn rows_are_refused(rt: HostRuntime) {
+    let design = CELLS;
     refuses(
         &rt,
         WORDS,
@@ -329,7 +334,7 @@ fn names_are_absent(rt: HostRuntime) {
 }
 
 #[test]
-fn calls_fail(rt: HostRuntime) {
+fn reads_of_runs_fail(rt: HostRuntime) {
     check(
         &rt,
         &Case {
@@ -346,6 +351,10 @@ fn calls_fail(rt: HostRuntime) {
             ..FAULT
         },
     );
+}
+
+#[test]
+fn puts_of_runs_fail(rt: HostRuntime) {
     check(
         &rt,
         &Case {

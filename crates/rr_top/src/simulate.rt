@@ -8,7 +8,7 @@ ghost use Rattle.rr_top.specs.Rust.{answer_view, report_text, StopsWhere};
 
 use crate::answer::{Answer, Options, Piece, Stop, stop_of};
 use crate::ending::{Report, Text};
-use crate::repair::{Names, deliver, fetch, out_of_memory, refused};
+use crate::repair::{Names, deliver, fetch, stopped};
 use crate::{DESIGN_LIMIT, TABLE_LIMIT};
 use bumpalo::Bump;
 use rr_edge::{Shelf, Sink};
@@ -62,7 +62,6 @@ pub(crate) fn run_simulation<'a, H: Shelf, K: Sink>(
     };
     match simulate(alloc, names.options, &design, &table, arena) {
         Ok(answer) => deliver(answer, out),
-        Err(Stop::Memory) => out_of_memory(),
-        Err(Stop::Refused(refusal)) => refused(alloc, refusal),
+        Err(stop) => stopped(alloc, stop),
     }
 }

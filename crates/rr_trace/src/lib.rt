@@ -1,4 +1,6 @@
-//! Tables of inputs and expected outputs, as comma-separated values.
+//! Tables of inputs and expected outputs, as comma-separated values (RFC 4180, as `csv` reads it). It
+//! is right where the table is that of the bytes for the ports of a flat design's top, or the fault
+//! its first one. It stands on `rr_flat`'s designs.
 #![tactic(auto)]
 
 mod cell;

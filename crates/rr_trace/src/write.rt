@@ -17,49 +17,49 @@ use rr_flat::Flat;
 use std::alloc::{AllocError, Global};
 
 /// Writes one record to a writer that stands between two.
-fn write_record(writer: &mut Writer<Vec<u8>>, record: &ByteRecord) -> Result<(), AllocError>
+fn write_record(writer: &mut Writer<Vec<u8>>, line: &ByteRecord) -> Result<(), AllocError>
     requires fields { fields_written writer.old ≡ 0 }
     requires wrote { has_written writer.old ≡ false }
     requires setup { writer_setup writer.old ≡ layout }
-    ensures text { OnOk result (Appends (text_written (λ v. Some v.items) writer.old) (text_written (λ v. Some v.items) writer.new) (row_text layout (fields_of record.now))) }
+    ensures text { OnOk result (Appends (text_written (λ v. Some v.items) writer.old) (text_written (λ v. Some v.items) writer.new) (row_text layout (fields_of line.now))) }
     ensures fields { OnOk result (fields_written writer.new ≡ 0) }
     ensures wrote { OnOk result (has_written writer.new ≡ false) }
     ensures setup { OnOk result (writer_setup writer.new ≡ layout) }
 {
-    writer.write_byte_record(record).map_err(|_| AllocError)
+    writer.write_byte_record(line).map_err(|_| AllocError)
 }
 
 /// Puts the names of ports behind the fields of a record.
-fn put_names(record: &mut ByteRecord, ports: &[Port]) -> Result<(), AllocError>
-    requires { partial_of record.old ≡ [] }
-    ensures fields { OnOk result (fields_of record.new ≡ fields_of record.old ++ map (λ x. x.name.now) ports.now) }
-    ensures partial { OnOk result (partial_of record.new ≡ []) }
+fn put_names(line: &mut ByteRecord, ports: &[Port]) -> Result<(), AllocError>
+    requires { partial_of line.old ≡ [] }
+    ensures fields { OnOk result (fields_of line.new ≡ fields_of line.old ++ map (λ x. x.name.now) ports.now) }
+    ensures partial { OnOk result (partial_of line.new ≡ []) }
 {
     for port in ports.iter() {
-        record.push_field(port.name)?;
+        line.push_field(port.name)?;
     }
     Ok(())
 }
 
 /// Puts values in decimal behind the fields of a record.
-fn put_values(record: &mut ByteRecord, values: &[u128]) -> Result<(), AllocError>
-    requires { partial_of record.old ≡ [] }
-    ensures fields { OnOk result (fields_of record.new ≡ fields_of record.old ++ map decimal values.now) }
-    ensures partial { OnOk result (partial_of record.new ≡ []) }
+fn put_values(line: &mut ByteRecord, values: &[u128]) -> Result<(), AllocError>
+    requires { partial_of line.old ≡ [] }
+    ensures fields { OnOk result (fields_of line.new ≡ fields_of line.old ++ map decimal values.now) }
+    ensures partial { OnOk result (partial_of line.new ≡ []) }
 {
     for value in values.iter() {
-        put_value(record, *value)?;
+        put_value(line, *value)?;
     }
     Ok(())
 }
 
-fn put_value(record: &mut ByteRecord, value: u128) -> Result<(), AllocError>
-    requires { partial_of record.old ≡ [] }
-    ensures fields { OnOk result (fields_of record.new ≡ fields_of record.old ++ (decimal value ∷ [])) }
-    ensures partial { OnOk result (partial_of record.new ≡ []) }
+fn put_value(line: &mut ByteRecord, value: u128) -> Result<(), AllocError>
+    requires { partial_of line.old ≡ [] }
+    ensures fields { OnOk result (fields_of line.new ≡ fields_of line.old ++ (decimal value ∷ [])) }
+    ensures partial { OnOk result (partial_of line.new ≡ []) }
 {
     let mut buffer = Buffer::new();
-    record.push_field(buffer.format(value).as_bytes())
+    line.push_field(buffer.format(value).as_bytes())
 }
 
 /// The names of the inputs but the clock and then of the outputs, as a record.
@@ -75,18 +75,18 @@ fn header_of(alloc: Global, ports: &Ports) -> Result<ByteRecord, AllocError>
 
 /// The values of the inputs and then of the outputs of a row, in place of the fields that were there.
 fn put_row(
-    record: &mut ByteRecord,
+    line: &mut ByteRecord,
     inputs: &[Vec<u128>],
     outputs: &[Vec<u128>],
     row: usize,
 ) -> Result<(), AllocError>
-    requires { partial_of record.old ≡ [] }
-    ensures fields { OnOk result (fields_of record.new ≡ fields_at (plain_values inputs.now) (plain_values outputs.now) row) }
-    ensures partial { OnOk result (partial_of record.new ≡ []) }
+    requires { partial_of line.old ≡ [] }
+    ensures fields { OnOk result (fields_of line.new ≡ fields_at (plain_values inputs.now) (plain_values outputs.now) row) }
+    ensures partial { OnOk result (partial_of line.new ≡ []) }
 {
-    record.clear();
-    put_values(record, values_at(inputs, row))?;
-    put_values(record, values_at(outputs, row))
+    line.clear();
+    put_values(line, values_at(inputs, row))?;
+    put_values(line, values_at(outputs, row))
 }
 
 /// The text of the names and of as many rows as there are of inputs.

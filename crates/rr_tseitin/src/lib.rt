@@ -1,4 +1,7 @@
-//! The formula of a circuit: Tseitin's clauses of its gates, and its outputs as units.
+//! The formula of a circuit: Tseitin's clauses of its gates, and its outputs as units (Tseitin, "On
+//! the Complexity of Derivation in Propositional Calculus", 1968). It is right where the formula is
+//! satisfiable exactly where some input makes every output true. It stands on `rr_circuit` and
+//! `rr_cnf`.
 #![tactic(auto)]
 
 ghost use Rattle.std.specs.Prelude.{◌≡◌, ℕ, Bool, true, ◌+◌, ◌*◌, ◌^◌, ◌<◌, ◌≤◌, ◌↔◌, ◌++◌, ◌∷◌, [], All, length, IfOk, OnOk};

@@ -22,6 +22,6 @@ loop-row-preserved c = (
   c.in_ok-write_record-2.ensures.wrote,
   c.in_ok-write_record-2.ensures.setup,
   c.in_ok-put_row.ensures.partial,
-  next_text (fields_at (plain_values c.args.inputs.now) (plain_values c.args.outputs.now)) _ _ (names_of (plain_ports c.args.ports.now)) (fields_of c.put_row.new.record) c.loop-row.row
+  next_text (fields_at (plain_values c.args.inputs.now) (plain_values c.args.outputs.now)) _ _ (names_of (plain_ports c.args.ports.now)) (fields_of c.put_row.new.line) c.loop-row.row
       c.in_ok-write_record-2.ensures.text c.loop-row.invariant.4 c.in_ok-put_row.ensures.fields,
 )
