@@ -200,8 +200,8 @@ fn parts_of_a_design(rt: HostRuntime) {
         assert_eq!(rt; walk_of(&flat).len(), 2);
         assert_eq!(rt; drivers_of(&flat).len(), 1);
         assert_eq!(rt; clocked_of(&flat).len(), 1);
-        assert_eq!(rt; inputs_of(&flat), &[0, 1]);
-        assert_eq!(rt; reached_of(&flat), &[0]);
+        assert_eq!(rt; inputs_of(&flat).len(), 2);
+        assert_eq!(rt; reached_of(&flat).len(), 1);
         assert!(rt; driver_of(&flat, Part::Driver(0)).is_some());
         assert!(rt; driver_of(&flat, Part::Clocked(0)).is_none());
         assert!(rt; block_of(&flat, Part::Clocked(0)).is_some());
