@@ -54,3 +54,40 @@ fn deep_expression(rt: HostRuntime) {
     };
     assert_eq!(rt; measure_brackets(&name, 500), (1001, 500));
 }
+
+const NAME: Expr<'static> = Expr::Name {
+    token: 1,
+    name: "a",
+};
+
+/// `{b[a], a}`
+const TARGETS: Expr<'static> = Expr::Concat {
+    parts: &[
+        Expr::Bit {
+            token: 3,
+            name: "b",
+            index: &NAME,
+        },
+        NAME,
+    ],
+};
+
+/// `{a, +a}`
+const VALUES: Expr<'static> = Expr::Concat {
+    parts: &[
+        NAME,
+        Expr::Unary {
+            op: Mark::PLUS,
+            of: &NAME,
+        },
+    ],
+};
+
+// Names and their selects may be assigned, in braces too, and no value may.
+#[test]
+fn what_may_be_assigned(rt: HostRuntime) {
+    assert!(rt; is_target(&NAME));
+    assert!(rt; is_target(&TARGETS));
+    assert!(rt; !is_target(&VALUES));
+    assert!(rt; !is_target(&Expr::Paren { of: &NAME }));
+}
