@@ -33,11 +33,7 @@ fn gates_have_their_truth_tables(rt: HostRuntime) -> Result<(), Fail> {
     ]?;
     let circuit = b.finish(outputs);
     for number in 0..8 {
-        let (x, y, z) = (
-            number & 1 == 1,
-            (number >> 1) & 1 == 1,
-            (number >> 2) & 1 == 1,
-        );
+        let (x, y, z) = (number & 1 == 1, number & 2 == 2, number & 4 == 4);
         let values = circuit.eval(alloc, &[x, y, z])?;
         let want = [
             !x,

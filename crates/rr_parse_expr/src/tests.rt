@@ -1,6 +1,6 @@
 //! Expressions at tokens, with trees that the standard's table of operators gives.
 
-use crate::{ParseFault, expr, expr_within, operand, operand_within};
+use crate::{ParseFault, expr, expr_within, mark_at, operand, operand_within};
 use bumpalo::Bump;
 use rr_syntax::{Expr, Keyword, Kind, MARKS, Mark, Number, Span, Token};
 use std::alloc::{AllocError, Global};
@@ -395,5 +395,17 @@ fn in_a_row(alloc: Global, open: &str, between: &str, count: u32) -> Result<Opti
 fn many_operands(rt: HostRuntime) -> Result<(), Fail> {
     assert!(rt; in_a_row(rt.alloc(), "{", ",", 100_000)? == Some(200_001));
     assert!(rt; in_a_row(rt.alloc(), "-", "+", 100_000)? == Some(1000));
+    Ok(())
+}
+
+/// A mark is told by its place in the table, and 255 where none stands.
+#[test]
+fn marks(rt: HostRuntime) -> Result<(), Fail> {
+    let tokens = tokens_of(rt.alloc(), "a <<< begin 3 (")?;
+    assert_eq!(rt; Some(Mark(mark_at(&tokens, 1))), mark_of("<<<"));
+    assert_eq!(rt; Some(Mark(mark_at(&tokens, 4))), mark_of("("));
+    for at in [0, 2, 3, 5, u32::MAX] {
+        assert_eq!(rt; mark_at(&tokens, at), 255);
+    }
     Ok(())
 }

@@ -5,7 +5,7 @@ ghost use Rattle.rr_syntax.specs.Items.{depth_source, spell_source};
 ghost use Rattle.rr_syntax.specs.Statements.{depth_statement, spell_statement};
 ghost use Rattle.rr_syntax.specs.View.{plain_source, plain_statement};
 
-use crate::stmt;
+use crate::{keyword_at, stmt};
 use bumpalo::Bump;
 use bumpalo::collections::into_bump_slice;
 use rr_parse_expr::ParseFault;
@@ -413,5 +413,21 @@ fn measures(alloc: Global, deep: u32) -> Result<Option<(u64, u32)>, Fail> {
 #[test]
 fn whole_source(rt: HostRuntime) -> Result<(), Fail> {
     assert!(rt; measures(rt.alloc(), 497)? == Some((1996, 500)));
+    Ok(())
+}
+
+/// A reserved word is told by its place in the table, and 255 where none stands.
+#[test]
+fn reserved_words(rt: HostRuntime) -> Result<(), Fail> {
+    let mut tokens = Vec::new(rt.alloc());
+    add_all(&mut tokens, "a begin <= 3 endcase")?;
+    assert_eq!(rt; Some(keyword_at(&tokens, 1)), place_in(&KEYWORDS, "begin"));
+    assert_eq!(rt;
+        Some(keyword_at(&tokens, 4)),
+        place_in(&KEYWORDS, "endcase")
+    );
+    for at in [0, 2, 3, 5, u32::MAX] {
+        assert_eq!(rt; keyword_at(&tokens, at), 255);
+    }
     Ok(())
 }
