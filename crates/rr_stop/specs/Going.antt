@@ -1,5 +1,5 @@
 -- Going on through tokens.
-use Rattle.std.specs.Prelude.{ℕ, ◌≤◌, ◌<◌, ◌≡◌, length}
+use Rattle.std.specs.Prelude.{◌≤◌, ◌<◌, ◌≡◌, length}
 use Rattle.rr_stop.specs.declared.cursor.Cursor.{Cursor}
 
 -- the same tokens, of which none is given back

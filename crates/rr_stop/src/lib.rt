@@ -2,8 +2,8 @@
 //! 1364-2005 annex A, as far as the profile has it).
 //!
 //! It builds no tree. The reader of modules asks it only for texts that it has refused. That its
-//! answer is a token or the number of tokens is proved; which one is shown by tests. It stands on
-//! `rr_lex`.
+//! answer is a token or the number of tokens, and the first one exactly where that is not `module`, is
+//! proved; which later one is shown by tests. It stands on `rr_syntax`, and its tests on `rr_lex`.
 #![tactic(auto)]
 
 mod cursor;

@@ -1,12 +1,14 @@
 //! Modules and their items (IEEE 1364-2005 annexes A.1.2 to A.4.1).
 
-ghost use Rattle.std.specs.Prelude.{◌≤◌, ◌<◌, ◌^◌, IfSome, length};
+ghost use Rattle.std.specs.Prelude.{◌≡◌, ◌≤◌, ◌<◌, ◌^◌, IfSome, false, length, true};
+ghost use Rattle.rr_syntax.specs.Words.{word};
+ghost use Rattle.rr_stop.specs.Beginning.{begins_module, is_module as is_module_word};
 ghost use Rattle.rr_stop.specs.Going.{Goes, Takes};
 
 use crate::cursor::Cursor;
 use crate::expressions::{expression, list, range, target};
 use crate::statements::statement;
-use rr_syntax::{Keyword, Mark, Token};
+use rr_syntax::{Keyword, Kind, Mark, Token};
 
 /// The room of an expression in the brackets of a module, which lies below the source and the module,
 /// where the whole has at most the depth 500.
@@ -15,14 +17,40 @@ const BRACKETS: u32 = 499;
 /// The room of an expression or a statement in an item, which lies one deeper.
 const ITEM: u32 = 498;
 
+/// Whether a word is `module`.
+fn is_module(kind: Kind) -> bool
+    ensures { result ≡ is_module_word (word kind.entry) }
+{
+    match kind {
+        Kind::Keyword(found) => found.0 == Keyword::MODULE.0,
+        Kind::Name(_) | Kind::System(_) | Kind::Number(_) | Kind::Mark(_) => false,
+    }
+}
+
+/// Whether the first word is `module`.
+fn begins(tokens: &[Token]) -> bool
+    ensures { result ≡ begins_module tokens.now }
+{
+    match tokens.first() {
+        Some(token) => is_module(token.kind),
+        None => false,
+    }
+}
+
 /// The first token that no module in progress can take, or the number of tokens where the text ends
 /// before its last module does, or where it is all taken. A token at which the tree would be deeper
-/// than 500 cannot be taken.
+/// than 500 cannot be taken. Nothing but `module` can be taken first, so the answer is 0 exactly where
+/// the text does not begin with it.
 pub fn stop(tokens: &[Token]) -> u32
     requires short { length tokens.now < 2 ^ 32 }
     ensures within { result ≤ length tokens.now }
+    ensures none { begins_module tokens.now ≡ false → result ≡ 0 }
+    ensures some { begins_module tokens.now ≡ true → 0 < result }
 {
-    let mut cursor = Cursor { tokens, at: 0 };
+    if !begins(tokens) {
+        return 0;
+    }
+    let mut cursor = Cursor { tokens, at: 1 };
     modules(&mut cursor);
     if cursor.at < tokens.len() {
         cursor.at as u32
@@ -31,18 +59,26 @@ pub fn stop(tokens: &[Token]) -> u32
     }
 }
 
-/// Modules up to the end.
+/// Modules up to the end, from behind the word `module` of the first one.
 fn modules(cursor: &mut Cursor) -> Option<()>
     ensures { Goes cursor.old cursor.new }
 {
+    module(cursor)?;
     while cursor.take_word(Keyword::MODULE) {
-        cursor.name()?;
-        parameters_in_head(cursor)?;
-        ports(cursor)?;
-        cursor.expect(Mark::SEMICOLON)?;
-        items(cursor)?;
+        module(cursor)?;
     }
     Some(())
+}
+
+/// Behind `module`.
+fn module(cursor: &mut Cursor) -> Option<()>
+    ensures { Goes cursor.old cursor.new }
+{
+    cursor.name()?;
+    parameters_in_head(cursor)?;
+    ports(cursor)?;
+    cursor.expect(Mark::SEMICOLON)?;
+    items(cursor)
 }
 
 fn items(cursor: &mut Cursor) -> Option<()>
