@@ -6,9 +6,9 @@ use Rattle.rr_syntax.specs.Expressions.{is_target}
 use Rattle.rr_expr.specs.declared.types.Entity.{Entity}
 use Rattle.rr_expr.specs.declared.types.Entity.TheVariants.{Constant, Signal as SignalEntity, Instance}
 use Rattle.rr_expr.specs.Scopes.{meant}
-use Rattle.rr_head.specs.declared.signal.Port.{Port}
-use Rattle.rr_head.specs.declared.signal.Port.TheVariants.{Inner, Input, Output}
-use Rattle.rr_head.specs.Plain.{Signal, signal_at}
+use Rattle.rr_flat.specs.declared.signal.Port.{Port}
+use Rattle.rr_flat.specs.declared.signal.Port.TheVariants.{Inner, Input, Output}
+use Rattle.rr_flat.specs.Signals.{Signal, signal_at}
 use Rattle.rr_flat.specs.Lawful.{MayDrive, MayAssign, DeclaredTarget, DriverTarget, BlockTargets, RightTargets}
 use Rattle.rr_flat.specs.Plain.{Side, Written, Whole, Block, Flat}
 use Rattle.rr_flat.specs.Reads.{assigned_by}

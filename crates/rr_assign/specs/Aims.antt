@@ -3,7 +3,7 @@
 use Rattle.std.specs.Prelude.{ℕ, List, [], ◌∷◌, ◌++◌, Bool, true, false, not, cond, ◌&&◌, Option, Some, None, nat_eq, flat_map}
 use Rattle.rr_syntax.specs.Expressions.{is_target}
 use Rattle.rr_syntax.specs.Tree.{Tree}
-use Rattle.rr_head.specs.Plain.{signal_at}
+use Rattle.rr_flat.specs.Signals.{signal_at}
 use Rattle.rr_flat.specs.declared.design.Part as design
 use Rattle.rr_flat.specs.Plain.{Side, Written, Whole, Driver, Block, Flat}
 use Rattle.rr_flat.specs.Reads.{Assigned, assigned_by}

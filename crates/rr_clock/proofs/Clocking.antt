@@ -6,7 +6,7 @@ use Rattle.std.specs.Str.{bytes_eq}
 use Rattle.std.proofs.lemmas.Bool.{cases_lt, eqb-true, eqb-false, eq-eqb, and_parts, and_from, and_cases, or_parts}
 use Rattle.rr_syntax.specs.Tree.{EdgeEvent, Statement}
 use Rattle.rr_expr.specs.Scopes.{Names, lookup, meant}
-use Rattle.rr_head.specs.Plain.{Text, signal_at}
+use Rattle.rr_flat.specs.Signals.{Text, signal_at}
 use Rattle.rr_flat.specs.Clocks.{IsScalarInput, IsInputNamed, Leads, itself, NameLeads, EdgeLeads, IsChosen, IsDecided, IsDirection, FirstEdge, RunsOn, AllRun, OneClock, no_edge, is_among, free_edge, or_first, deciding_edge}
 use Rattle.rr_flat.specs.Plain.{Block, Flat}
 use Rattle.rr_flat.specs.Reads.{names_of}

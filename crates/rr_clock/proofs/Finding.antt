@@ -11,8 +11,8 @@ use Rattle.rr_syntax.specs.View.{plain_edge, plain_identifier}
 use Rattle.rr_expr.specs.declared.types.Entity.TheVariants as entity
 use Rattle.rr_expr.specs.Scopes.{Names, lookup}
 use Rattle.rr_head.proofs.Steps.{rest}
-use Rattle.rr_head.specs.Parameters.{with_name}
-use Rattle.rr_head.specs.Plain.{Text}
+use Rattle.rr_flat.specs.Signals.{with_name}
+use Rattle.rr_flat.specs.Signals.{Text}
 use Rattle.rr_flat.specs.Clocks.{free_edge, is_among, or_first}
 use Rattle.rr_flat.specs.Plain.{Block, Flat}
 use Rattle.rr_flat.specs.Reads.{names_of}

@@ -6,9 +6,9 @@ use Rattle.rr_syntax.specs.Tree.{Tree, Name, Literal, Bit as BitSelect, Part, In
 use Rattle.rr_expr.specs.declared.types.Entity.{Entity}
 use Rattle.rr_expr.specs.declared.types.Entity.TheVariants.{Constant, Signal as SignalEntity, Instance}
 use Rattle.rr_expr.specs.Scopes.{meant}
-use Rattle.rr_head.specs.declared.signal.Port.{Port}
-use Rattle.rr_head.specs.declared.signal.Port.TheVariants.{Inner, Input, Output}
-use Rattle.rr_head.specs.Plain.{Text, Signal, signal_at, no_signal}
+use Rattle.rr_flat.specs.declared.signal.Port.{Port}
+use Rattle.rr_flat.specs.declared.signal.Port.TheVariants.{Inner, Input, Output}
+use Rattle.rr_flat.specs.Signals.{Text, Signal, signal_at, no_signal}
 use Rattle.rr_flat.specs.Clocks.{IsScalarInput, IsBareName, Connects, Leads, itself, through, NameLeads}
 use Rattle.rr_flat.specs.Plain.{Side, Written, Whole, Flat}
 use Rattle.rr_flat.specs.Writers.{scope_at, driver_at}

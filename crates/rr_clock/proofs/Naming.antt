@@ -9,8 +9,8 @@ use Rattle.std.proofs.lemmas.Slice.Eq.{bytes_eq-Decides}
 use Rattle.rr_expr.specs.declared.types.Entity.{Entity}
 use Rattle.rr_expr.specs.declared.types.Entity.TheVariants as entity
 use Rattle.rr_expr.specs.Scopes.{Names, lookup}
-use Rattle.rr_head.specs.Parameters.{with_name}
-use Rattle.rr_head.specs.Plain.{Text, Signal, signal_at}
+use Rattle.rr_flat.specs.Signals.{with_name}
+use Rattle.rr_flat.specs.Signals.{Text, Signal, signal_at}
 use Rattle.rr_head.proofs.Steps.{rest}
 use Rattle.rr_flat.specs.Clocks.{NameLeads}
 use Rattle.rr_flat.specs.Plain.{Flat}

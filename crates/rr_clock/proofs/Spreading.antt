@@ -8,7 +8,7 @@ use Rattle.rr_flat.specs.Plain.{Side, Written, Whole, Flat}
 use Rattle.rr_flat.specs.Writers.{driver_at, no_driver}
 use Rattle.rr_flat.specs.View.{plain_driver, plain_side}
 use Rattle.rr_flat.specs.declared.design.Driver.{Driver as DeclaredDriver}
-use Rattle.rr_head.specs.Plain.{signal_at}
+use Rattle.rr_flat.specs.Signals.{signal_at}
 use Rattle.rr_clock.specs.Clock.{AreSources, told}
 use Rattle.rr_parts.specs.Parts.{entry}
 use Rattle.rr_clock.specs.Spread.{AreFirstDrivers, AreSound, IsSpread, feeder, input_noted, next_source, missing, noted}

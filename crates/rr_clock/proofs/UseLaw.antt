@@ -4,7 +4,7 @@ use Rattle.std.specs.Prelude.{flat_map, All, IfNone, IfSome}
 use Rattle.std.proofs.lemmas.Bool.{and_parts}
 use Rattle.rr_syntax.specs.Tree.{Identifier, Null}
 use Rattle.rr_expr.specs.Scopes.{meant}
-use Rattle.rr_head.specs.Plain.{Text, signal_at}
+use Rattle.rr_flat.specs.Signals.{Text, signal_at}
 use Rattle.rr_flat.specs.declared.design.Part as design
 use Rattle.rr_flat.specs.declared.design.Part.TheVariants as part
 use Rattle.rr_flat.specs.Clocks.{NameLeads, IsBareName}

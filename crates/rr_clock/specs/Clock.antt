@@ -1,7 +1,7 @@
 -- The clock: which signals lead to it, the block at which there is no one clock, and the names that use it as data.
 use Rattle.std.specs.Prelude.{ℕ, zero, ◌<◌, ◌≤◌, ◌≡◌, List, [], ◌∷◌, ◌++◌, length, Bool, true, false, cond, ◌&&◌, Option, Some, None, is_none, is_some, get_or, nat_eq, flat_map}
 use Rattle.rr_syntax.specs.Tree.{Tree, Name, Literal, Bit as BitSelect, Part, Indexed, Unary, Binary, Cond, Concat, Repeat, Cast, Paren, Identifier}
-use Rattle.rr_head.specs.Plain.{Text, signal_at}
+use Rattle.rr_flat.specs.Signals.{Text, signal_at}
 use Rattle.rr_flat.specs.Clocks.{IsScalarInput, IsInputNamed, Leads, IsChosen, IsDirection, RunsOn, OneClock}
 use Rattle.rr_flat.specs.declared.design.Part as design
 use Rattle.rr_flat.specs.Plain.{Side, Written, Whole, Driver, Block, Flat}

@@ -2,7 +2,7 @@
 use Rattle.std.specs.Prelude.{ℕ, List, [], ◌∷◌, Bool, true, false, not, cond, ◌&&◌, ◌||◌, Option, Some, None, is_some, flat_map}
 use Rattle.rr_syntax.specs.Tree.{EdgeEvent}
 use Rattle.rr_expr.specs.Scopes.{Names, lookup}
-use Rattle.rr_head.specs.Plain.{Text}
+use Rattle.rr_flat.specs.Signals.{Text}
 use Rattle.rr_flat.specs.Clocks.{deciding_edge}
 use Rattle.rr_flat.specs.Plain.{Block, Flat}
 use Rattle.rr_clock.specs.Clock.{source_named}

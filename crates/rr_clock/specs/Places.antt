@@ -3,8 +3,8 @@ use Rattle.std.specs.Prelude.{ℕ, ◌<◌, ◌≡◌, List, [], ◌∷◌, leng
 use Rattle.std.specs.Str.{bytes_eq}
 use Rattle.rr_expr.specs.declared.types.Entity.TheVariants as entity
 use Rattle.rr_expr.specs.Scopes.{Names}
-use Rattle.rr_head.specs.Parameters.{with_name}
-use Rattle.rr_head.specs.Plain.{Text, Signal, signal_at}
+use Rattle.rr_flat.specs.Signals.{with_name}
+use Rattle.rr_flat.specs.Signals.{Text, Signal, signal_at}
 use Rattle.rr_flat.specs.Clocks.{NameLeads}
 use Rattle.rr_flat.specs.Plain.{Flat}
 use Rattle.rr_clock.specs.Clock.{has}

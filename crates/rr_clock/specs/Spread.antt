@@ -1,6 +1,6 @@
 -- How the table of the top inputs to which signals lead is made.
 use Rattle.std.specs.Prelude.{ℕ, suc, ◌+◌, ◌<◌, ◌≤◌, ◌≡◌, List, [], ◌∷◌, length, Bool, true, false, cond, ◌&&◌, Option, Some, None, is_none, nat_lt, set}
-use Rattle.rr_head.specs.Plain.{signal_at}
+use Rattle.rr_flat.specs.Signals.{signal_at}
 use Rattle.rr_flat.specs.Clocks.{IsScalarInput, Leads}
 use Rattle.rr_flat.specs.Plain.{Side, Written, Whole, Flat}
 use Rattle.rr_flat.specs.Writers.{driver_at}

@@ -3,7 +3,7 @@ ghost use Rattle.std.specs.Prelude.{◌≡◌, ◌&&◌, ℕ, List, is_none, IfO
 ghost use Rattle.std.specs.List.{list_any};
 ghost use Rattle.rr_syntax.specs.View.{plain_edge, plain_identifier, plain_statement};
 ghost use Rattle.rr_expr.specs.Scopes.{lookup};
-ghost use Rattle.rr_head.specs.Plain.{signal_at};
+ghost use Rattle.rr_flat.specs.Signals.{signal_at};
 ghost use Rattle.rr_flat.specs.Clocks.{IsInputNamed, deciding_edge as deciding_edge_of, is_among};
 ghost use Rattle.rr_flat.specs.Lawful.{ClockNamed};
 ghost use Rattle.rr_flat.specs.Reads.{names_of};

@@ -8,13 +8,13 @@ use Rattle.rr_expr.specs.declared.types.Entity.{Entity}
 use Rattle.rr_expr.specs.declared.types.Entity.TheVariants.{Signal}
 use Rattle.rr_expr.specs.Scopes.{meant}
 use Rattle.rr_expr.specs.Values.{nowhere}
-use Rattle.rr_head.specs.declared.signal.Port.TheVariants.{Input}
-use Rattle.rr_head.specs.Plain.{Text, signal_at}
+use Rattle.rr_flat.specs.declared.signal.Port.TheVariants.{Input}
+use Rattle.rr_flat.specs.Signals.{Text, signal_at}
 use Rattle.rr_flat.specs.Lawful.{RightTargets, MayDrive, MayAssign, DeclaredTarget, DriverTarget, BlockTargets}
 use Rattle.rr_flat.specs.Plain.{Side, Written, Whole, Block, Flat}
 use Rattle.rr_flat.specs.Reads.{assigned_by}
 use Rattle.rr_flat.specs.Targets.{is_fixed, part_name, target_parts}
-use Rattle.rr_flat.specs.Walk.{flat_of}
+use Rattle.rr_walk.specs.Walk.{flat_of}
 use Rattle.rr_flat.specs.Writers.{scope_at, driver_at, no_driver, block_at, driven_by, signal_bits, entity_of_signal, Writer, Driven, Clocked, Combinational, Writes, writes_now, writes_later, writes_at_all}
 use Rattle.rr_cycle.specs.Cycles.{IsInputBit}
 use Rattle.rr_cycle.specs.Designs.{IsElaborated, IsLawful}

@@ -7,15 +7,16 @@ use Rattle.rr_bits.specs.Words.{extend}
 use Rattle.rr_expr.specs.Scopes.{Names, lookup, range_width}
 use Rattle.rr_expr.specs.declared.types.Entity.{Entity}
 use Rattle.rr_expr.specs.declared.types.Entity.TheVariants as entity
-use Rattle.rr_head.specs.declared.fault.FlatFault.{FlatFault}
+use Rattle.rr_flat.specs.declared.fault.FlatFault.{FlatFault}
 use Rattle.rr_head.specs.Declarations.{Declared, Declarations, with_signal, counted, declare_new, declared_at, redeclared, declare_again, again_place, repeated_place, declare, declare_at, declare_identifier, declare_net, declare_ports, declare_nets, declare_variables, declare_item, declarations, known, brackets, plain_names, signal_of, no_declared, is_port, is_same_range, port_declaration, inner_declaration, integer_declaration}
-use Rattle.rr_head.specs.declared.fault.FlatFault.TheVariants.{NameTwice, UnknownName, BadRange, TooMany}
-use Rattle.rr_head.specs.declared.fault.Limit.TheVariants.{FlatBits}
-use Rattle.rr_head.specs.Faults.{among, fault_if, fault_or, first_of, settle, and_then, each}
+use Rattle.rr_flat.specs.declared.fault.FlatFault.TheVariants.{NameTwice, UnknownName, BadRange, TooMany}
+use Rattle.rr_flat.specs.declared.fault.Limit.TheVariants.{FlatBits}
+use Rattle.rr_flat.specs.Faults.{among, fault_if, fault_or, first_of, settle, and_then, each}
 use Rattle.rr_head.specs.Values.{constant, range_in}
 use Rattle.rr_head.specs.Heads.{Head, named_signal, with_port, with_ports, with_inner, signals_in_order, with_signals, numbered, declared, head}
-use Rattle.rr_head.specs.Parameters.{with_name, parameter, typed, add_parameter, add_parameters, add_item_parameters, parameters, given_or, override_of, width_faults}
-use Rattle.rr_head.specs.Plain.{Text, Signal}
+use Rattle.rr_flat.specs.Signals.{with_name}
+use Rattle.rr_head.specs.Parameters.{parameter, typed, add_parameter, add_parameters, add_item_parameters, parameters, given_or, override_of, width_faults}
+use Rattle.rr_flat.specs.Signals.{Text, Signal}
 
 -- Answers
 

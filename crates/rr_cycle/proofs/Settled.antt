@@ -10,11 +10,11 @@ use Rattle.rr_flat.specs.Ordered.{Ordered, IsStep}
 use Rattle.rr_flat.specs.Plain.{Flat}
 use Rattle.rr_expr.specs.Scopes.{lookup}
 use Rattle.rr_head.specs.Declarations.{brackets, declarations}
-use Rattle.rr_head.specs.Faults.{each}
+use Rattle.rr_flat.specs.Faults.{each}
 use Rattle.rr_head.specs.Heads.{declared, head, numbered, signals_in_order, with_signals}
 use Rattle.rr_head.specs.Parameters.{parameters}
-use Rattle.rr_flat.specs.Tables.{add_module, instantiated_by, last_free}
-use Rattle.rr_flat.specs.Walk.{begin, enter, enter_by, flat_of, reached_from, top_ports}
+use Rattle.rr_walk.specs.Tables.{add_module, instantiated_by, last_free}
+use Rattle.rr_walk.specs.Walk.{begin, enter, enter_by, flat_of, reached_from, top_ports}
 use Rattle.rr_flat.specs.Writers.{Writer, Driven, Clocked, Combinational, Writes, BitNames}
 use Rattle.rr_cycle.specs.Cycles.{Settled, IsNext, Runs, ended, cycle, Run, zeros, outputs_of}
 use Rattle.rr_cycle.specs.Designs.{IsElaborated, IsInOrder, IsLawful}

@@ -11,7 +11,7 @@ use Rattle.rr_expr.specs.Scopes.{Names, meant, entity_shape, entity_range}
 use Rattle.rr_expr.specs.Selects.{place, lowest_place, integer_with}
 use Rattle.rr_expr.specs.Values.{form, widths, value, nowhere}
 use Rattle.rr_expr.proofs.NamedBits.{value_by_named_bits}
-use Rattle.rr_head.specs.Plain.{signal_at}
+use Rattle.rr_flat.specs.Signals.{signal_at}
 use Rattle.rr_flat.specs.declared.design.Step.{Step}
 use Rattle.rr_flat.specs.declared.design.Step.TheVariants.{Driver, Wire, Block}
 use Rattle.rr_flat.specs.Lawful.{Lawful}

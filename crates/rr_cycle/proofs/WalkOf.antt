@@ -11,17 +11,17 @@ use Rattle.rr_expr.specs.Scopes.{Names, lookup}
 use Rattle.rr_expr.specs.Faults.{first}
 use Rattle.rr_expr.specs.declared.types.Entity.{Entity}
 use Rattle.rr_expr.specs.declared.types.Entity.TheVariants as entity
-use Rattle.rr_head.specs.declared.signal.Port.{Port}
-use Rattle.rr_head.specs.declared.signal.Port.TheVariants.{Inner, Input, Output}
-use Rattle.rr_head.specs.declared.fault.FlatFault.TheVariants.{TooMany}
-use Rattle.rr_head.specs.declared.fault.Limit.TheVariants.{Instances as InstanceCount}
-use Rattle.rr_head.specs.Faults.{and_then, each, fault_if, first_of, settle}
+use Rattle.rr_flat.specs.declared.signal.Port.{Port}
+use Rattle.rr_flat.specs.declared.signal.Port.TheVariants.{Inner, Input, Output}
+use Rattle.rr_flat.specs.declared.fault.FlatFault.TheVariants.{TooMany}
+use Rattle.rr_flat.specs.declared.fault.Limit.TheVariants.{Instances as InstanceCount}
+use Rattle.rr_flat.specs.Faults.{and_then, each, fault_if, first_of, settle}
 use Rattle.rr_head.specs.Heads.{Head, head}
-use Rattle.rr_head.specs.Parameters.{with_name}
-use Rattle.rr_head.specs.Plain.{Text, Signal, signal_at, no_signal}
+use Rattle.rr_flat.specs.Signals.{with_name}
+use Rattle.rr_flat.specs.Signals.{Text, Signal, signal_at, no_signal}
 use Rattle.rr_flat.specs.Plain.{Side, Written, Whole, Driver, Flat}
-use Rattle.rr_flat.specs.Tables.{place_of, add_module, port_names}
-use Rattle.rr_flat.specs.Walk.{Walked, scope_at, with_driver, assign, net_driver, net_value, net_with, net, with_block, always, join_port, join_at, join, join_value, join_named, join_positions, joined, Enter, module_at, checked, with_instance, instance_of, item, opened, begin, enter_by, enter, nothing, is_way, is_top_port, top_ports, finished, top_place, enter_top, flat_of}
+use Rattle.rr_walk.specs.Tables.{place_of, add_module, port_names}
+use Rattle.rr_walk.specs.Walk.{Walked, scope_at, with_driver, assign, net_driver, net_value, net_with, net, with_block, always, join_port, join_at, join, join_value, join_named, join_positions, joined, Enter, module_at, checked, with_instance, instance_of, item, opened, begin, enter_by, enter, nothing, is_way, is_top_port, top_ports, finished, top_place, enter_top, flat_of}
 use Rattle.rr_cycle.proofs.HeadOf.{ok_is, not_ok, settled_is, first_ok, each_keeps, fold_keeps, all_append, all_weaker, all_index, Entries, entries_with, Between, HeadOf, head_of}
 
 -- a signal of instance k

@@ -5,7 +5,7 @@ use Rattle.rr_bits.specs.Words.{number, word, extend}
 use Rattle.rr_expr.specs.declared.types.Bit.{Bit}
 use Rattle.rr_expr.specs.declared.types.Shape.{Shape}
 use Rattle.rr_expr.specs.Values.{form, value}
-use Rattle.rr_head.specs.Plain.{signal_at}
+use Rattle.rr_flat.specs.Signals.{signal_at}
 use Rattle.rr_flat.specs.Plain.{Side, Written, Whole, Block, Flat}
 use Rattle.rr_flat.specs.Writers.{scope_at, driver_at, block_at, signal_bits, Writer, Driven, Clocked, Writes, writes_now}
 use Rattle.rr_cycle.specs.Exec.{Environment, executed, Update, updates, applied}

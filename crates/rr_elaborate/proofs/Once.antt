@@ -5,10 +5,10 @@ use Rattle.rr_syntax.specs.Tree.{SourceText}
 use Rattle.rr_lex.specs.Tokens.{Lexeme, AreTokens}
 use Rattle.rr_lex.proofs.Unique.{one_list, one_fault, one_answer}
 use Rattle.rr_grammar.proofs.OneSource.{unique_source}
-use Rattle.rr_head.specs.Plain.{Text}
+use Rattle.rr_flat.specs.Signals.{Text}
 use Rattle.rr_flat.specs.Plain.{Flat}
-use Rattle.rr_flat.specs.Walk.{flat_of}
-use Rattle.rr_head.specs.declared.fault.FlatFault.{FlatFault}
+use Rattle.rr_walk.specs.Walk.{flat_of}
+use Rattle.rr_flat.specs.declared.fault.FlatFault.{FlatFault}
 use Rattle.rr_elaborate.specs.declared.design.DesignFault.{DesignFault}
 use Rattle.rr_elaborate.specs.declared.design.DesignFault.TheVariants as fault
 use Rattle.rr_elaborate.specs.Designs.{AllHaveRules, IsOutside, placed, Spells, IsText, IsDesign, IsUnsupported, IsUnparsed, IsFlawed, Refuses, IsSameRefusal, same, first_memory, second_memory, both_unparsed}

@@ -5,11 +5,11 @@ use Rattle.rr_syntax.specs.Items.{spell_source, depth_source, WellFormedSource, 
 use Rattle.rr_syntax.specs.Words.{Marked}
 use Rattle.rr_lex.specs.Tokens.{Lexeme, AreTokens, IsFirstFault, words_of}
 use Rattle.rr_profile.specs.Profile.{is_outside}
-use Rattle.rr_head.specs.Plain.{Text}
-use Rattle.rr_head.specs.declared.fault.FlatFault.{FlatFault}
-use Rattle.rr_head.specs.declared.fault.FlatFault.TheVariants as flat
+use Rattle.rr_flat.specs.Signals.{Text}
+use Rattle.rr_flat.specs.declared.fault.FlatFault.{FlatFault}
+use Rattle.rr_flat.specs.declared.fault.FlatFault.TheVariants as flat
 use Rattle.rr_flat.specs.Plain.{Flat}
-use Rattle.rr_flat.specs.Walk.{flat_of}
+use Rattle.rr_walk.specs.Walk.{flat_of}
 use Rattle.rr_elaborate.specs.declared.design.DesignFault.{DesignFault}
 use Rattle.rr_elaborate.specs.declared.design.DesignFault.TheVariants as fault
 

@@ -2,7 +2,7 @@
 
 ghost use Rattle.std.specs.Prelude.{◌≡◌, ℕ, List, Option};
 ghost use Rattle.rr_lex.specs.Tokens.{Lexeme};
-ghost use Rattle.rr_head.specs.Plain.{Text};
+ghost use Rattle.rr_flat.specs.Signals.{Text};
 ghost use Rattle.rr_flat.specs.Plain.{Flat};
 ghost use Rattle.rr_elaborate.specs.Designs.{IsDesign, IsSameRefusal, Refuses};
 ghost use Rattle.rr_elaborate.specs.declared.design.DesignFault.{DesignFault};

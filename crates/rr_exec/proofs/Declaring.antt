@@ -17,8 +17,8 @@ use Rattle.rr_expr.specs.declared.types.Entity.{Entity}
 use Rattle.rr_expr.specs.declared.types.Entity.TheVariants.{Signal}
 use Rattle.rr_expr.specs.Scopes.{Names, lookup, meant, or_instance, range_width}
 use Rattle.rr_expr.specs.Faults.{fault}
-use Rattle.rr_head.specs.declared.fault.FlatFault.{FlatFault}
-use Rattle.rr_flat.specs.Walk.{arms_faults, list_faults, shape, shape_faults, statement_faults, statements_faults}
+use Rattle.rr_flat.specs.declared.fault.FlatFault.{FlatFault}
+use Rattle.rr_flat.specs.Shapes.{arms_faults, list_faults, shape, shape_faults, statement_faults, statements_faults}
 use Rattle.rr_exec.specs.Work.{Holds}
 use denote.Ref.{Bor}
 

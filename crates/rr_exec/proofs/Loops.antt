@@ -11,7 +11,7 @@ use Rattle.rr_expr.specs.Operators.{joined}
 use Rattle.rr_expr.specs.Scopes.{Names}
 use Rattle.rr_expr.specs.Values.{form, value}
 use Rattle.rr_flat.specs.Latches.{has_labels}
-use Rattle.rr_flat.specs.Walk.{shape_faults, list_faults, statement_faults, statements_faults, arms_faults}
+use Rattle.rr_flat.specs.Shapes.{shape_faults, list_faults, statement_faults, statements_faults, arms_faults}
 use Rattle.rr_cycle.specs.Exec.{Environment, Update, applied, case_shape, executed, executed_all, executed_case, executed_default, is_equal, is_matched, joined_all, joined_labels, labels_of, updates, updates_of_all, updates_of_case, updates_of_default, wild}
 use Rattle.rr_exec.specs.Work.{AreNarrow, ArmsNarrow}
 

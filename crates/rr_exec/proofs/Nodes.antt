@@ -11,7 +11,7 @@ use Rattle.rr_syntax.specs.View.{plain, plain_statement, plain_statements, plain
 use Rattle.rr_syntax.proofs.Rows.{plain_block, plain_case}
 use Rattle.rr_expr.specs.Scopes.{Names}
 use Rattle.rr_flat.specs.Targets.{target_bits}
-use Rattle.rr_flat.specs.Walk.{shape_faults, statement_faults, statements_faults, arms_faults}
+use Rattle.rr_flat.specs.Shapes.{shape_faults, statement_faults, statements_faults, arms_faults}
 use Rattle.rr_cycle.specs.Exec.{Environment, applied, assigned, executed, executed_all, is_true, updates, updates_of_all, write}
 use denote.Ref.{Bor}
 

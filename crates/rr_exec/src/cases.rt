@@ -5,7 +5,7 @@ ghost use Rattle.rr_expr.specs.Faults.{fault};
 ghost use Rattle.rr_expr.specs.Operators.{joined as joined_shapes};
 ghost use Rattle.rr_expr.specs.Scopes.{Names, env_of};
 ghost use Rattle.rr_expr.specs.Values.{form, value as value_of};
-ghost use Rattle.rr_flat.specs.Walk.{list_faults, arms_faults, shape_faults};
+ghost use Rattle.rr_flat.specs.Shapes.{list_faults, arms_faults, shape_faults};
 ghost use Rattle.rr_exec.specs.Work.{AreNarrow, ArmsNarrow};
 ghost use Rattle.rr_cycle.specs.Exec.{is_true as holds, joined_all as joined_of_all, case_shape as shape_of_case, wild_digits as wild_places, wild as wild_of, is_equal as are_equal, is_matched as matches};
 

@@ -3,7 +3,7 @@ ghost use Rattle.std.specs.Prelude.{◌≡◌, ◌≤◌, ◌<◌, [], All, OnOk
 ghost use Rattle.rr_syntax.specs.View.{plain, plain_arms, plain_statement, plain_statements};
 ghost use Rattle.rr_expr.specs.Scopes.{env_of};
 ghost use Rattle.rr_flat.specs.Targets.{target_bits};
-ghost use Rattle.rr_flat.specs.Walk.{shape_faults, statement_faults, statements_faults, arms_faults};
+ghost use Rattle.rr_flat.specs.Shapes.{shape_faults, statement_faults, statements_faults, arms_faults};
 ghost use Rattle.rr_target.specs.Pieces.{all_bits};
 ghost use Rattle.rr_cycle.specs.Exec.{Environment, applied, assigned, executed, executed_all, executed_case, executed_default, updates, updates_of_all, updates_of_case, updates_of_default, write as write_of};
 ghost use Rattle.rr_exec.specs.Work.{ArmsNarrow, Fits, Holds, IsLater, updates_in};

@@ -2,7 +2,7 @@
 ghost use Rattle.std.specs.Prelude.{◌≡◌, ◌<◌, ◌≤◌, [], ℕ, IfOk, OnOk, true, length};
 ghost use Rattle.rr_syntax.specs.View.{plain, plain_arms, plain_list, plain_statement, plain_statements};
 ghost use Rattle.rr_expr.specs.Scopes.{range_width};
-ghost use Rattle.rr_flat.specs.Walk.{shape_faults, list_faults, statement_faults, statements_faults, arms_faults};
+ghost use Rattle.rr_flat.specs.Shapes.{shape_faults, list_faults, statement_faults, statements_faults, arms_faults};
 ghost use Rattle.rr_exec.specs.Work.{Holds};
 
 use crate::{Machine, apply, execute, merged, own_shape};

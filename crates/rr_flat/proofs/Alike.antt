@@ -12,10 +12,10 @@ use Rattle.rr_expr.specs.declared.types.Entity.TheVariants as entity
 use Rattle.rr_expr.specs.declared.types.ExprFault.{ExprFault}
 use Rattle.rr_expr.specs.declared.types.Shape.{Shape}
 use Rattle.rr_expr.proofs.NamesAlone.{fault_by_names}
-use Rattle.rr_head.specs.Faults.{answer_of, faults_in}
-use Rattle.rr_head.specs.Parameters.{with_name}
+use Rattle.rr_flat.specs.Faults.{answer_of, faults_in}
+use Rattle.rr_flat.specs.Signals.{with_name}
 use Rattle.rr_flat.specs.Sound.{IsExpression, IsStatement, AreExpressions, IsValue, IsConnection, AreConnected}
-use Rattle.rr_flat.specs.Walk.{shape, shape_faults, list_faults, statement_faults, statements_faults, arms_faults, arm_faults}
+use Rattle.rr_flat.specs.Shapes.{shape, shape_faults, list_faults, statement_faults, statements_faults, arms_faults, arm_faults}
 
 abbrev pub Alike : Names → Names → Type 0
 Alike a b = (n : List ℕ) → meant a n ≡ meant b n

@@ -10,13 +10,12 @@ use Rattle.rr_syntax.specs.View.{plain, plain_statement}
 use Rattle.rr_expr.specs.Scopes.{Names, lookup, meant}
 use Rattle.rr_expr.specs.declared.types.Entity.{Entity}
 use Rattle.rr_expr.specs.declared.types.Entity.TheVariants as entity
-use Rattle.rr_head.specs.declared.signal.Signal.{Signal}
-use Rattle.rr_head.specs.Parameters.{with_name}
-use Rattle.rr_head.specs.Plain as plain_signals
-use Rattle.rr_head.specs.Plain.{signal_at, no_signal}
-use Rattle.rr_head.specs.View.{plain_signal}
-use Rattle.rr_head.specs.Sound.{IsNamed, AreNamed, IsHead}
-use Rattle.rr_head.specs.Sound as head
+use Rattle.rr_flat.specs.declared.signal.Signal.{Signal}
+use Rattle.rr_flat.specs.Signals.{with_name}
+use Rattle.rr_flat.specs.Signals as plain_signals
+use Rattle.rr_flat.specs.Signals.{signal_at, no_signal}
+use Rattle.rr_flat.specs.View.{plain_signal}
+use Rattle.rr_flat.specs.Sound.{IsNamed, AreNamed, IsOwn, IsHead}
 use Rattle.rr_flat.specs.declared.design.Side as declared_side
 use Rattle.rr_flat.specs.declared.design.Side.TheVariants as side
 use Rattle.rr_flat.specs.declared.design.Driver.{Driver}
@@ -48,7 +47,7 @@ block_later before after b h i = record {
 signal_later : (j k : ℕ) (s : Signal) → j ≤ k → IsSignal j s → IsSignal k s
 signal_later j k s le h = record { instance = omega (arith, le, h.instance); width = h.width; low = h.low; high = h.high }
 
-signal_of : (i k : ℕ) (s : Signal) → i < k → head.IsSignal i s → IsSignal k s
+signal_of : (i k : ℕ) (s : Signal) → i < k → IsOwn i s → IsSignal k s
 signal_of i k s lt h = record { instance = rw h.instance lt; width = h.width; low = h.low; high = h.high }
 
 -- the first signals stay where they are, and those of a head come after them
@@ -94,7 +93,7 @@ flat_opened signals more scopes scope drivers clocked combinational walk inputs 
     record {
       signals_in = All-append (λ s. IsSignal (length (scopes ++ scope ∷ [])) s) signals more
           (All-weaker (λ s. IsSignal (length scopes) s) (λ s. IsSignal (length (scopes ++ scope ∷ [])) s) (λ s. signal_later _ _ s (omega (arith, n))) signals f.signals_in)
-          (All-weaker (λ s. head.IsSignal i s) (λ s. IsSignal (length (scopes ++ scope ∷ [])) s) (λ s. signal_of i _ s (omega (arith, n, here))) more h.signals_in);
+          (All-weaker (λ s. IsOwn i s) (λ s. IsSignal (length (scopes ++ scope ∷ [])) s) (λ s. signal_of i _ s (omega (arith, n, here))) more h.signals_in);
       scopes_in = All-push (λ s. IsScope (signals ++ more) s) scopes scope
           (All-weaker (λ s. IsScope signals s) (λ s. IsScope (signals ++ more) s) (λ s. scope_first signals more s) scopes f.scopes_in)
           (scope_of_head base signals more scope there h.scope_in);

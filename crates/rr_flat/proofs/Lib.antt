@@ -1,12 +1,5 @@
 pub mod Bits
-pub mod NotesOfNodes
-pub mod TableLemmas
 pub mod Orders
-pub mod WalkLemmas
-pub mod Positions
 pub mod Alike
 pub mod Flats
-pub mod Clears
-pub mod Grown
-pub mod Walks
-pub mod Ends
+pub mod WalkLemmas

@@ -5,7 +5,7 @@ use Rattle.std.proofs.lemmas.List.{map-id, append-nil}
 use Rattle.std.proofs.lemmas.List.FromFn.{map-range_with_len_more}
 use Rattle.std.proofs.lemmas.List.Elements.{All-push, All-weaker, All-nil}
 use Rattle.rr_expr.specs.Scopes.{Names}
-use Rattle.rr_head.specs.declared.signal.Signal.{Signal}
+use Rattle.rr_flat.specs.declared.signal.Signal.{Signal}
 use Rattle.rr_flat.specs.declared.design.Driver.{Driver}
 use Rattle.rr_flat.specs.declared.design.Block.{Block}
 use Rattle.rr_flat.specs.declared.design.Part as design

@@ -5,8 +5,8 @@ use Rattle.rr_syntax.specs.Tree.{Tree, Name, Literal, Bit as BitSelect, Part, In
 use Rattle.rr_expr.specs.declared.types.Entity.{Entity}
 use Rattle.rr_expr.specs.declared.types.Entity.TheVariants.{Constant, Signal as SignalEntity, Instance}
 use Rattle.rr_expr.specs.Scopes.{Names, meant}
-use Rattle.rr_head.specs.declared.signal.Port.TheVariants.{Input}
-use Rattle.rr_head.specs.Plain.{Text, Signal, signal_at}
+use Rattle.rr_flat.specs.declared.signal.Port.TheVariants.{Input}
+use Rattle.rr_flat.specs.Signals.{Text, Signal, signal_at}
 use Rattle.rr_flat.specs.Plain.{Side, Written, Whole, Driver, Block, Flat}
 use Rattle.rr_flat.specs.Reads.{names_of}
 use Rattle.rr_flat.specs.Writers.{scope_at, driver_at, block_at}

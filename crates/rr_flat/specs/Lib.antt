@@ -1,7 +1,8 @@
+pub mod Signals
+pub mod Faults
 pub mod Plain
-pub mod Tables
-pub mod Walk
 pub mod View
+pub mod Shapes
 pub mod Sound
 pub mod Targets
 pub mod Reads
@@ -10,4 +11,3 @@ pub mod Latches
 pub mod Clocks
 pub mod Lawful
 pub mod Ordered
-pub mod Kept

@@ -1,7 +1,7 @@
 -- The steps of a cycle, and an order in which each bit is written before it is read.
 use Rattle.std.specs.Prelude.{ℕ, ◌<◌, ◌≡◌, List, length, Bool, true, false, Option, get_or}
 use Rattle.rr_expr.specs.declared.types.Bit.{Bit}
-use Rattle.rr_head.specs.Plain.{Text}
+use Rattle.rr_flat.specs.Signals.{Text}
 use Rattle.rr_flat.specs.declared.design.Step.{Step}
 use Rattle.rr_flat.specs.declared.design.Step.TheVariants as step
 use Rattle.rr_flat.specs.Plain.{Flat}

@@ -1,8 +1,8 @@
 -- Flat designs as plain data: without addresses, the leaves of trees with the numbers of their tokens.
-use Rattle.std.specs.Prelude.{ℕ, List}
+use Rattle.std.specs.Prelude.{ℕ, List, []}
 use Rattle.rr_syntax.specs.Tree.{Tree, Statement, EdgeEvent}
 use Rattle.rr_expr.specs.Scopes.{Names}
-use Rattle.rr_head.specs.Plain.{Signal}
+use Rattle.rr_flat.specs.Signals.{Signal}
 use Rattle.rr_flat.specs.declared.design.Part as part
 
 -- one side of a driver: an expression with the number of its scope, or a whole signal
@@ -38,3 +38,7 @@ pub record Flat : Type 0 where
   pub outputs : List ℕ
   pub owners : List ℕ
   pub reached : List ℕ
+
+-- no instances, where the name of the top has this token
+abbrev pub no_design : ℕ → Flat
+no_design top = record { top = top; signals = []; scopes = []; drivers = []; clocked = []; combinational = []; walk = []; inputs = []; outputs = []; owners = []; reached = [] }

@@ -1,5 +1,5 @@
 -- What every flat design keeps.
-use Rattle.std.specs.Prelude.{◌≡◌, ℕ, ◌<◌, ◌≤◌, false, List, [], ◌∷◌, length, map, All, Option, Some, None, slice_index_or}
+use Rattle.std.specs.Prelude.{◌≡◌, ℕ, ◌+◌, ◌-◌, ◌<◌, ◌≤◌, false, List, [], ◌∷◌, length, map, All, Option, Some, None, slice_index_or}
 use Rattle.std.specs.List.{AllByRecursion, range_with_len}
 use Rattle.rr_syntax.specs.Tree.{Tree, Trees, End, More, Statement, NamedConnection, Connections, Positions}
 use Rattle.rr_syntax.specs.Tree.{Names as Named}
@@ -8,16 +8,43 @@ use Rattle.rr_syntax.specs.Statements.{WellFormedStatement, FitLiteralsStatement
 use Rattle.rr_syntax.specs.View.{plain, plain_statement}
 use Rattle.rr_expr.specs.Scopes.{Names, range_width}
 use Rattle.rr_expr.specs.Faults.{fault}
-use Rattle.rr_head.specs.declared.signal.Signal.{Signal}
-use Rattle.rr_head.specs.View.{plain_signal}
-use Rattle.rr_head.specs.Sound.{AreNamed}
+use Rattle.rr_flat.specs.declared.signal.Signal.{Signal}
+use Rattle.rr_flat.specs.View.{plain_signal}
+use Rattle.rr_expr.specs.declared.types.Entity.{Entity}
+use Rattle.rr_expr.specs.declared.types.Entity.TheVariants as entity
+use Rattle.rr_flat.specs.Signals as plain
+use Rattle.rr_flat.specs.Signals.{signal_at}
 use Rattle.rr_flat.specs.declared.design.Side as declared_side
 use Rattle.rr_flat.specs.declared.design.Side.TheVariants as side
 use Rattle.rr_flat.specs.declared.design.Driver.{Driver}
 use Rattle.rr_flat.specs.declared.design.Block.{Block}
 use Rattle.rr_flat.specs.declared.design.Part as design
 use Rattle.rr_flat.specs.declared.design.Part.TheVariants as part
-use Rattle.rr_flat.specs.Walk.{statement_faults}
+use Rattle.rr_flat.specs.Shapes.{statement_faults}
+
+-- of that instance, with the width of its range, which is 1 to 128
+pub record IsOwn (i : ℕ) (s : Signal) : Type 0 where
+  pub instance : s.instance ≡ i
+  pub width : s.width ≡ range_width s.range
+  pub low : 1 ≤ s.width
+  pub high : s.width ≤ 128
+
+-- a constant, or one of these signals, of which the first has number base, with its range and sign
+abbrev pub IsNamed : ℕ → List plain.Signal → Entity → Type 0
+IsNamed base signals (entity.Constant bits signed) = Unit {0}
+IsNamed base signals (entity.Signal id range signed) =
+    (base ≤ id) × (id < base + length signals) × ((signal_at signals (id - base)).range ≡ range) × ((signal_at signals (id - base)).signed ≡ signed)
+IsNamed base signals entity.Instance = Unit {0}
+
+abbrev pub AreNamed : ℕ → List plain.Signal → Names → Type 0
+AreNamed base signals names = All (λ e. IsNamed base signals e.1) names
+
+-- each signal is one of the instance, each signal among the names is one of these, and all are few
+pub record IsHead (i base bits : ℕ) (signals : List Signal) (scope : Names) : Type 0 where
+  pub signals_in : All (IsOwn i) signals
+  pub scope_in : AreNamed base (map plain_signal signals) scope
+  pub numbers : base + length signals ≤ 65536
+  pub few : bits ≤ 65536
 
 -- of an instance that there is, with the width of its range, which is 1 to 128
 pub record IsSignal (instances : ℕ) (s : Signal) : Type 0 where

@@ -2,29 +2,18 @@
 use Rattle.std.specs.Prelude.{ℕ, List, map}
 use Rattle.rr_syntax.specs.View.{plain, plain_statement, plain_edge}
 use Rattle.rr_expr.specs.Scopes.{Names}
-use Rattle.rr_head.specs.declared.signal.Signal.{Signal}
-use Rattle.rr_head.specs.View.{plain_signal}
+use Rattle.rr_flat.specs.declared.signal.Signal.{Signal}
+use Rattle.rr_flat.specs.Signals as signals
 use Rattle.rr_flat.specs.declared.design.Side as declared_side
 use Rattle.rr_flat.specs.declared.design.Side.TheVariants as side
 use Rattle.rr_flat.specs.declared.design.Driver.{Driver}
 use Rattle.rr_flat.specs.declared.design.Block.{Block}
 use Rattle.rr_flat.specs.declared.design.Part as part
-use Rattle.rr_flat.specs.declared.settings.Checked.{Checked as DeclaredChecked}
-use Rattle.rr_flat.specs.declared.settings.Connected.{Connected as DeclaredConnected}
-use Rattle.rr_flat.specs.Walk.{Checked, Connected}
 use Rattle.rr_flat.specs.Plain as plain_design
-use denote.Ref.{Bor}
 use Rattle.rr_flat.specs.Plain.{Written, Whole}
 
--- the texts of names
-abbrev pub texts : List (Bor (List ℕ)) → List (List ℕ)
-texts names = map (λ n. n.now) names
-
-abbrev pub plain_checked : DeclaredChecked → Checked
-plain_checked c = record { found = c.found; seen = c.seen; given = c.given }
-
-abbrev pub plain_connected : DeclaredConnected → Connected
-plain_connected c = record { found = c.found; seen = c.seen }
+abbrev pub plain_signal : Signal → signals.Signal
+plain_signal s = record { instance = s.instance; name = s.name.now; variable = s.variable; port = s.port; range = s.range; signed = s.signed; width = s.width; token = s.token }
 
 abbrev pub plain_side : declared_side.Side → plain_design.Side
 plain_side (side.Text e scope) = Written (plain e.now) scope

@@ -8,7 +8,7 @@ use Rattle.rr_expr.specs.declared.types.Entity.TheVariants.{Constant, Signal as 
 use Rattle.rr_expr.specs.Reading.{NamesBit}
 use Rattle.rr_expr.specs.Scopes.{Names, meant}
 use Rattle.rr_expr.specs.Values.{form, nowhere}
-use Rattle.rr_head.specs.Plain.{Signal, signal_at}
+use Rattle.rr_flat.specs.Signals.{Signal, signal_at}
 use Rattle.rr_flat.specs.Plain.{Side, Written, Whole, Driver, Block, Flat}
 use Rattle.rr_flat.specs.Reads.{StatementReads, writes}
 use Rattle.rr_flat.specs.Targets.{bits_there, target_bits, is_constant}

@@ -1,14 +1,14 @@
 //! The flat design.
-ghost use Rattle.std.specs.Prelude.{◌≡◌, ◌<◌, ◌++◌, ◌∷◌, [], length, slice_set, OnOk, OnErr, IfOk, All};
+ghost use Rattle.std.specs.Prelude.{ℕ, ◌≡◌, ◌<◌, ◌++◌, ◌∷◌, [], length, slice_set, OnOk, OnErr, IfOk, All};
 ghost use Rattle.rr_expr.specs.declared.types.Entity.TheVariants as entity;
-ghost use Rattle.rr_head.specs.Parameters.{with_name};
+ghost use Rattle.rr_flat.specs.Signals.{with_name};
 ghost use Rattle.rr_flat.specs.declared.design.Part.TheVariants as part;
-ghost use Rattle.rr_flat.specs.Sound.{IsDriver, IsBlock, names_at};
+ghost use Rattle.rr_flat.specs.Sound.{IsDriver, IsBlock, IsHead, names_at};
 ghost use Rattle.rr_flat.specs.View.{plain_flat};
-ghost use Rattle.rr_flat.specs.Walk.{nothing};
+ghost use Rattle.rr_flat.specs.Plain.{no_design};
 
+use crate::signal::Signal;
 use rr_expr::{Entity, Scope};
-use rr_head::{Head, Signal};
 use rr_syntax::{Event, Expr, Stmt};
 use std::alloc::{AllocError, Global};
 use std::marker::Model;
@@ -119,8 +119,8 @@ impl<'a> Model for Flat<'a> {
 
 impl<'a> Flat<'a> {
     /// No instances, where the name of the top has this token.
-    pub(crate) fn new(alloc: Global, top: u32) -> Flat<'a>
-        ensures { plain_flat result ≡ (nothing top).flat }
+    pub fn new(alloc: Global, top: u32) -> Flat<'a>
+        ensures { plain_flat result ≡ no_design top }
     {
         Flat {
             top,
@@ -138,7 +138,7 @@ impl<'a> Flat<'a> {
     }
 
     /// One more driver.
-    pub(crate) fn drive(&mut self, driver: Driver<'a>) -> Result<(), AllocError>
+    pub fn drive(&mut self, driver: Driver<'a>) -> Result<(), AllocError>
         requires { IsDriver self.old.signals self.old.scopes driver }
         ensures { OnOk result (self.new ≡ record self.old { drivers = self.old.drivers ++ driver.entry ∷ []; walk = self.old.walk ++ part.Driver (length self.old.drivers) ∷ [] }) }
     {
@@ -150,7 +150,7 @@ impl<'a> Flat<'a> {
     }
 
     /// One more clocked block.
-    pub(crate) fn clock(&mut self, block: Block<'a>) -> Result<(), AllocError>
+    pub fn clock(&mut self, block: Block<'a>) -> Result<(), AllocError>
         requires { IsBlock self.old.scopes block }
         ensures { OnOk result (self.new ≡ record self.old { clocked = self.old.clocked ++ block.entry ∷ []; walk = self.old.walk ++ part.Clocked (length self.old.clocked) ∷ [] }) }
     {
@@ -162,7 +162,7 @@ impl<'a> Flat<'a> {
     }
 
     /// One more combinational block.
-    pub(crate) fn combine(&mut self, block: Block<'a>) -> Result<(), AllocError>
+    pub fn combine(&mut self, block: Block<'a>) -> Result<(), AllocError>
         requires { IsBlock self.old.scopes block }
         ensures { OnOk result (self.new ≡ record self.old { combinational = self.old.combinational ++ block.entry ∷ []; walk = self.old.walk ++ part.Combinational (length self.old.combinational) ∷ [] }) }
     {
@@ -173,24 +173,27 @@ impl<'a> Flat<'a> {
         Ok(())
     }
 
-    /// One more instance of that module, with its head.
-    pub(crate) fn open(&mut self, owner: u32, head: Head<'a>) -> Result<(), AllocError>
-        requires instance { head.instance ≡ length self.old.scopes }
-        requires base { head.base ≡ length self.old.signals }
+    /// One more instance of that module, with its signals and its names.
+    pub fn open(
+        &mut self,
+        owner: u32,
+        signals: &[Signal<'a>],
+        scope: Scope<'a>,
+    ) -> Result<(), AllocError>
+        requires head { (bits : ℕ) × IsHead (length self.old.scopes) (length self.old.signals) bits signals.now scope }
         requires few { length self.old.scopes < 256 }
-        ensures { OnOk result (self.new ≡ record self.old { signals = self.old.signals ++ head.entry.signals; scopes = self.old.scopes ++ head.entry.scope ∷ []; owners = self.old.owners ++ owner ∷ [] }) }
+        ensures { OnOk result (self.new ≡ record self.old { signals = self.old.signals ++ signals.now; scopes = self.old.scopes ++ scope.entry ∷ []; owners = self.old.owners ++ owner ∷ [] }) }
     {
         self.scopes.reserve(1)?;
         self.owners.reserve(1)?;
-        let Head { signals, scope, .. } = head;
-        self.signals.extend_from_slice(signals.as_slice())?;
+        self.signals.extend_from_slice(signals)?;
         self.owners.push_reserved(owner);
         self.scopes.push_reserved(scope);
         Ok(())
     }
 
     /// A name of an instance, in the instance that has it.
-    pub(crate) fn name_instance(&mut self, number: u32, name: &'a str) -> Result<(), AllocError>
+    pub fn name_instance(&mut self, number: u32, name: &'a str) -> Result<(), AllocError>
         requires { number < length self.old.scopes }
         ensures { OnOk result (self.new ≡ record self.old { scopes = slice_set self.old.scopes number (with_name (names_at self.old.scopes number) name.now entity.Instance) }) }
     {
@@ -199,7 +202,7 @@ impl<'a> Flat<'a> {
     }
 
     /// The ports of the top, and the modules that have instances.
-    pub(crate) fn finish(&mut self, inputs: Vec<u32>, outputs: Vec<u32>, reached: Vec<u32>)
+    pub fn finish(&mut self, inputs: Vec<u32>, outputs: Vec<u32>, reached: Vec<u32>)
         requires inputs { All (λ id. id < length self.old.signals) inputs.items }
         requires outputs { All (λ id. id < length self.old.signals) outputs.items }
         ensures { self.new ≡ record self.old { inputs = inputs.items; outputs = outputs.items; reached = reached.items } }

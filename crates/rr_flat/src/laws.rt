@@ -1,7 +1,7 @@
 //! What an order of the steps of a design means.
 ghost use Rattle.std.specs.Prelude.{ℕ, ◌<◌, Bool, List, Option, length};
 ghost use Rattle.rr_expr.specs.declared.types.Bit.{Bit};
-ghost use Rattle.rr_head.specs.Plain.{Text};
+ghost use Rattle.rr_flat.specs.Signals.{Text};
 ghost use Rattle.rr_flat.specs.declared.design.Step.{Step};
 ghost use Rattle.rr_flat.specs.Lawful.{Lawful};
 ghost use Rattle.rr_flat.specs.Ordered.{Ordered, StepNames, StepWrites, step_at};

@@ -1,24 +1,18 @@
-//! Elaboration: the flat design of a source (IEEE 1364-2005 section 12). It is right where the design
-//! is the one of the definition of the walk, or the fault its first one. It stands on `rr_head`,
-//! which opens each module's instance, and says what later crates mean by lawful designs and ordered
-//! steps.
+//! Flat designs as data (IEEE 1364-2005 section 12): signals, drivers, blocks and scopes of all
+//! instances, the faults for want of one, and what is said of them: their reading and writing of
+//! bits, the laws, and the order of steps. It stands on `rr_expr` alone; `rr_walk` makes flat
+//! designs of sources, and the crates of laws and cycles read them.
 #![tactic(auto)]
 
 mod design;
-mod instances;
-mod items;
+mod fault;
+mod first;
 mod laws;
-mod notes;
-mod settings;
-mod source;
-mod tables;
-mod walk;
+mod signal;
 
 pub use design::{Block, Driver, Flat, Order, Part, Side, Step};
+pub use fault::{FlatFault, Limit};
+pub use first::{earlier, note, note_if, sooner_of};
 pub use laws::order_laws;
 pub use rr_expr::Bit;
-pub use rr_head::{FlatFault, Limit, Port, Signal};
-pub use source::flatten;
-
-#[cfg(test)]
-mod tests;
+pub use signal::{Port, Signal};

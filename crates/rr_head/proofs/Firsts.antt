@@ -4,10 +4,10 @@ use Rattle.std.proofs.lemmas.Bool.Decides.{nat_tests}
 use Rattle.std.proofs.lemmas.Int.{ints}
 use Rattle.rr_bits.specs.Words.{number, top, reading}
 use Rattle.rr_bits.proofs.Numbers.{number-lt}
-use Rattle.rr_head.specs.Faults.{sooner, fault_if, faults_in, either}
+use Rattle.rr_flat.specs.Faults.{sooner, fault_if, faults_in, either}
 use Rattle.rr_head.specs.Values.{bound_of}
-use Rattle.rr_head.specs.declared.fault.FlatFault.{FlatFault}
-use Rattle.rr_head.specs.declared.fault.FlatFault.TheVariants.{TooWide}
+use Rattle.rr_flat.specs.declared.fault.FlatFault.{FlatFault}
+use Rattle.rr_flat.specs.declared.fault.FlatFault.TheVariants.{TooWide}
 
 -- a width of more than 128 bits is the first fault where there is no other
 pub wide_first : (at w : ℕ) → 128 < w → fold sooner None (fault_if (nat_lt 128 w) (TooWide at w)) ≡ Some (TooWide at w)

@@ -7,18 +7,20 @@ use Rattle.rr_syntax.specs.Tree.{ModuleDeclaration}
 use Rattle.rr_expr.specs.Scopes.{Names, lookup}
 use Rattle.rr_expr.specs.declared.types.Entity.{Entity}
 use Rattle.rr_expr.specs.declared.types.Entity.TheVariants as entity
-use Rattle.rr_head.specs.Faults.{Refuses, and_then, each, sooner}
-use Rattle.rr_head.specs.Parameters.{with_name, parameters}
+use Rattle.rr_flat.specs.Faults.{Refuses, and_then, each, sooner}
+use Rattle.rr_flat.specs.Signals.{with_name}
+use Rattle.rr_head.specs.Parameters.{parameters}
 use Rattle.rr_head.specs.Declarations.{brackets, known, declarations, declare_ports, declare_item}
 use Rattle.rr_head.specs.Heads.{with_signals, declared, numbered}
-use Rattle.rr_head.specs.Plain as plain
-use Rattle.rr_head.specs.Plain.{no_signal}
-use Rattle.rr_head.specs.View.{plain_signal}
-use Rattle.rr_head.specs.Sound.{IsPlace, ArePlaces, IsNamed, AreNamed}
-use Rattle.rr_head.specs.declared.signal.Signal.{Signal}
-use Rattle.rr_head.specs.declared.fault.FlatFault.{FlatFault}
-use Rattle.rr_head.specs.declared.fault.FlatFault.TheVariants.{TooMany}
-use Rattle.rr_head.specs.declared.fault.Limit.TheVariants.{FlatBits}
+use Rattle.rr_flat.specs.Signals as plain
+use Rattle.rr_flat.specs.Signals.{no_signal}
+use Rattle.rr_flat.specs.View.{plain_signal}
+use Rattle.rr_head.specs.Sound.{IsPlace, ArePlaces}
+use Rattle.rr_flat.specs.Sound.{IsNamed, AreNamed}
+use Rattle.rr_flat.specs.declared.signal.Signal.{Signal}
+use Rattle.rr_flat.specs.declared.fault.FlatFault.{FlatFault}
+use Rattle.rr_flat.specs.declared.fault.FlatFault.TheVariants.{TooMany}
+use Rattle.rr_flat.specs.declared.fault.Limit.TheVariants.{FlatBits}
 use Rattle.rr_head.proofs.Steps.{rest}
 
 -- a step that refuses ends what follows

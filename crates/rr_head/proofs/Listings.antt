@@ -3,14 +3,14 @@ use Rattle.std.proofs.Common.{◌≡◌, ◌∙◌, sym, ap, ℕ, ◌+◌, ◌<�
 use Rattle.std.proofs.lemmas.Bool.Decides.{nat_tests}
 use Rattle.std.proofs.lemmas.List.{map-set, get_or-map}
 use Rattle.rr_expr.specs.Scopes.{range_width}
-use Rattle.rr_head.specs.Faults.{sooner}
-use Rattle.rr_head.specs.Plain.{Text}
+use Rattle.rr_flat.specs.Faults.{sooner}
+use Rattle.rr_flat.specs.Signals.{Text}
 use Rattle.rr_head.specs.View.{Listing, plain_declared, plain_list, plain_declarations}
 use Rattle.rr_head.specs.Declarations.{Declarations, counted, declare_again, is_same_range, declared_at, no_declared}
 use Rattle.rr_head.specs.declared.declare.Declaration.{Declaration}
 use Rattle.rr_head.specs.declared.declare.Declared.{Declared}
-use Rattle.rr_head.specs.declared.fault.FlatFault.TheVariants.{TooMany, BadRange}
-use Rattle.rr_head.specs.declared.fault.Limit.TheVariants.{FlatBits}
+use Rattle.rr_flat.specs.declared.fault.FlatFault.TheVariants.{TooMany, BadRange}
+use Rattle.rr_flat.specs.declared.fault.Limit.TheVariants.{FlatBits}
 
 -- a declaration that lifts the bits above the limit
 pub counted_full : (k : Declaration) (at : ℕ) (name : Text) (d : Declarations) (w : ℕ) → w ≡ range_width k.range → 65536 < d.bits + w → counted k at name d ≡ Err (TooMany FlatBits (d.bits + w))

@@ -4,8 +4,8 @@ use Rattle.std.specs.Result.{IsErrAnd}
 use Rattle.std.proofs.lemmas.Result.{err_from_is_err_and}
 use Rattle.std.proofs.lemmas.List.{drop_all, take_more, map-append}
 use Rattle.std.proofs.lemmas.List.Sums.{fold-append}
-use Rattle.rr_head.specs.Faults.{each, Refuses}
-use Rattle.rr_head.specs.declared.fault.FlatFault.{FlatFault}
+use Rattle.rr_flat.specs.Faults.{each, Refuses}
+use Rattle.rr_flat.specs.declared.fault.FlatFault.{FlatFault}
 
 pub rest : {Y : Type 0} (ys : List Y) (i : ℕ) (d : Y) → i < length ys → drop i ys ≡ get_or ys i d ∷ drop (i + 1) ys
 rest ys i d lt = rw add-one (drop-cons ys i d lt)

@@ -6,16 +6,17 @@ use Rattle.rr_syntax.specs.Tree.{Identifier, NetIdentifier, PortDeclaration, Ran
 use Rattle.rr_expr.specs.Scopes.{Names, lookup, range_width}
 use Rattle.rr_expr.specs.declared.types.Entity.{Entity}
 use Rattle.rr_expr.specs.declared.types.Entity.TheVariants as entity
-use Rattle.rr_head.specs.declared.signal.Port.{Port}
-use Rattle.rr_head.specs.declared.signal.Port.TheVariants.{Inner, Input, Output}
+use Rattle.rr_flat.specs.declared.signal.Port.{Port}
+use Rattle.rr_flat.specs.declared.signal.Port.TheVariants.{Inner, Input, Output}
 use Rattle.rr_head.specs.declared.declare.Declaration.{Declaration}
-use Rattle.rr_head.specs.declared.fault.Limit.TheVariants.{FlatBits}
-use Rattle.rr_head.specs.declared.fault.FlatFault.{FlatFault}
-use Rattle.rr_head.specs.declared.fault.FlatFault.TheVariants.{NameTwice, UnknownName, BadRange, TooMany}
-use Rattle.rr_head.specs.Faults.{fault_if, settle, and_then, each}
+use Rattle.rr_flat.specs.declared.fault.Limit.TheVariants.{FlatBits}
+use Rattle.rr_flat.specs.declared.fault.FlatFault.{FlatFault}
+use Rattle.rr_flat.specs.declared.fault.FlatFault.TheVariants.{NameTwice, UnknownName, BadRange, TooMany}
+use Rattle.rr_flat.specs.Faults.{fault_if, settle, and_then, each}
 use Rattle.rr_head.specs.Values.{range_in}
-use Rattle.rr_head.specs.Parameters.{with_name, width_faults}
-use Rattle.rr_head.specs.Plain.{Text, Signal, no_signal}
+use Rattle.rr_flat.specs.Signals.{with_name}
+use Rattle.rr_head.specs.Parameters.{width_faults}
+use Rattle.rr_flat.specs.Signals.{Text, Signal, no_signal}
 
 -- Names that are declared anywhere in the module
 

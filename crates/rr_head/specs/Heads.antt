@@ -4,13 +4,14 @@ use Rattle.rr_syntax.specs.Tree.{Identifier, PortDeclaration, ModuleDeclaration}
 use Rattle.rr_expr.specs.Scopes.{Names, lookup}
 use Rattle.rr_expr.specs.declared.types.Entity.{Entity}
 use Rattle.rr_expr.specs.declared.types.Entity.TheVariants as entity
-use Rattle.rr_head.specs.declared.fault.Limit.TheVariants.{FlatBits}
-use Rattle.rr_head.specs.declared.fault.FlatFault.{FlatFault}
-use Rattle.rr_head.specs.declared.fault.FlatFault.TheVariants.{TooMany}
-use Rattle.rr_head.specs.Faults.{fault_if, settle, and_then}
-use Rattle.rr_head.specs.Parameters.{with_name, parameters}
+use Rattle.rr_flat.specs.declared.fault.Limit.TheVariants.{FlatBits}
+use Rattle.rr_flat.specs.declared.fault.FlatFault.{FlatFault}
+use Rattle.rr_flat.specs.declared.fault.FlatFault.TheVariants.{TooMany}
+use Rattle.rr_flat.specs.Faults.{fault_if, settle, and_then}
+use Rattle.rr_flat.specs.Signals.{with_name}
+use Rattle.rr_head.specs.Parameters.{parameters}
 use Rattle.rr_head.specs.Declarations.{Declared, Declarations, is_port, known, brackets, declarations, plain_names}
-use Rattle.rr_head.specs.Plain.{Signal}
+use Rattle.rr_flat.specs.Signals.{Signal}
 
 -- the number of the instance, the number of its first signal, the bits of the design with its signals, its signals, and
 -- its names

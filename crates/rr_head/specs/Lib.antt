@@ -1,5 +1,3 @@
-pub mod Plain
-pub mod Faults
 pub mod Values
 pub mod Parameters
 pub mod Declarations

@@ -5,15 +5,11 @@ use Rattle.rr_syntax.specs.Tree.{ParamAssignment, ParameterDeclaration, ModuleIt
 use Rattle.rr_expr.specs.Scopes.{Names, lookup, range_width}
 use Rattle.rr_expr.specs.declared.types.Entity.{Entity}
 use Rattle.rr_expr.specs.declared.types.Entity.TheVariants.{Constant, Signal, Instance}
-use Rattle.rr_head.specs.declared.fault.FlatFault.{FlatFault}
-use Rattle.rr_head.specs.declared.fault.FlatFault.TheVariants.{NameTwice, TooWide}
-use Rattle.rr_head.specs.Faults.{fault_if, among, and_then, each}
+use Rattle.rr_flat.specs.declared.fault.FlatFault.{FlatFault}
+use Rattle.rr_flat.specs.declared.fault.FlatFault.TheVariants.{NameTwice, TooWide}
+use Rattle.rr_flat.specs.Faults.{fault_if, among, and_then, each}
 use Rattle.rr_head.specs.Values.{constant, range_in}
-use Rattle.rr_head.specs.Plain.{Text}
-
--- a name goes last, if it is new
-abbrev pub with_name : Names → Text → Entity → Names
-with_name names name entity = if is_some (lookup name names) then names else names ++ (name, entity) ∷ []
+use Rattle.rr_flat.specs.Signals.{Text, with_name}
 
 -- the value with which an instance overrides a parameter, else its own
 abbrev pub given_or : Option Entity → List Bool × Bool → List Bool × Bool

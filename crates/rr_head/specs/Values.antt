@@ -5,9 +5,9 @@ use Rattle.rr_syntax.specs.Tree.{Tree, Range}
 use Rattle.rr_expr.specs.Scopes.{Names}
 use Rattle.rr_expr.specs.Values.{form, own, nowhere}
 use Rattle.rr_expr.specs.Faults.{fault, first}
-use Rattle.rr_head.specs.declared.fault.FlatFault.{FlatFault}
-use Rattle.rr_head.specs.declared.fault.FlatFault.TheVariants.{BadRange}
-use Rattle.rr_head.specs.Faults.{answer_of, faults_in, fault_if, settle}
+use Rattle.rr_flat.specs.declared.fault.FlatFault.{FlatFault}
+use Rattle.rr_flat.specs.declared.fault.FlatFault.TheVariants.{BadRange}
+use Rattle.rr_flat.specs.Faults.{answer_of, faults_in, fault_if, settle}
 
 -- the word and the sign of a constant expression, or its first fault
 unfoldable pub constant : Names → Tree → Result (List Bool × Bool) FlatFault

@@ -1,14 +1,11 @@
--- What signals, declarations and heads stand for as plain data.
+-- What declarations and heads stand for as plain data.
 use Rattle.std.specs.Prelude.{ℕ, List, map}
 use Rattle.rr_expr.specs.Scopes.{Names}
-use Rattle.rr_head.specs.declared.signal.Signal.{Signal}
+use Rattle.rr_flat.specs.declared.signal.Signal.{Signal}
 use Rattle.rr_head.specs.declared.declare.Declared.{Declared}
-use Rattle.rr_head.specs.Plain as plain
+use Rattle.rr_flat.specs.View.{plain_signal}
 use Rattle.rr_head.specs.Declarations as declarations
 use Rattle.rr_head.specs.Heads.{Head}
-
-abbrev pub plain_signal : Signal → plain.Signal
-plain_signal s = record { instance = s.instance; name = s.name.now; variable = s.variable; port = s.port; range = s.range; signed = s.signed; width = s.width; token = s.token }
 
 abbrev pub plain_declared : Declared → declarations.Declared
 plain_declared x = record { signal = plain_signal x.signal; again = x.again }

@@ -1,13 +1,12 @@
 //! The port brackets of a module (IEEE 1364-2005 section 12.3.2).
 ghost use Rattle.std.specs.Prelude.{◌≡◌, MatchResult, map};
 ghost use Rattle.rr_syntax.specs.View.{plain_identifier, plain_header, plain_module};
-ghost use Rattle.rr_head.specs.Faults.{Refuses, each};
+ghost use Rattle.rr_flat.specs.Faults.{Refuses, each};
 ghost use Rattle.rr_head.specs.Declarations.{plain_names as names_of, add_plain_name as add_plain_name_to, brackets as brackets_of};
 
-use crate::fault::FlatFault;
-use crate::first::note_if;
 use crate::known::{know, know_groups, know_port_items};
 use rr_expr::Scope;
+use rr_flat::{FlatFault, note_if};
 use rr_syntax::{Module, Named};
 use std::alloc::Global;
 

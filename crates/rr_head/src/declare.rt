@@ -2,19 +2,19 @@
 ghost use Rattle.std.specs.Prelude.{◌≡◌, ◌≤◌, ◌<◌, ℕ, [], MatchResult, OnOk, All, option_map, slice_get, IfSome, map, Ok, Some, None, length, ◌||◌, if◌then◌else◌};
 ghost use Rattle.rr_expr.specs.Scopes.{lookup, range_width as width_of_range};
 ghost use Rattle.rr_syntax.specs.View.{plain_port, plain_identifier, plain_net, plain_range, plain_item};
-ghost use Rattle.rr_head.specs.Faults.{Refuses, each};
+ghost use Rattle.rr_flat.specs.Faults.{Refuses, each};
 ghost use Rattle.rr_head.specs.Declarations.{port_of as port_in, is_reg as is_reg_in, is_port as is_port_in, inner_declaration as inner_declared, is_same_range as is_same, counted, declare_new as declare_new_in, declare_again as declare_again_in, again_place as again_place_in, repeated_place, declared_at, declare as declare_in, declare_identifier as declare_identifier_in, declare_net as declare_net_in, declare_ports as declare_ports_in, declare_nets as declare_nets_in, declare_variables as declare_variables_in, declare_item as declare_item_in};
 ghost use Rattle.rr_head.specs.Heads.{named_signal};
-ghost use Rattle.rr_head.specs.View.{plain_signal, plain_declarations, plain_list};
-ghost use Rattle.rr_head.specs.Sound.{IsRange, ArePlaces, IsSignal, IsDeclared};
+ghost use Rattle.rr_flat.specs.View.{plain_signal};
+ghost use Rattle.rr_head.specs.View.{plain_declarations, plain_list};
+ghost use Rattle.rr_head.specs.Sound.{IsRange, ArePlaces, IsDeclared};
+ghost use Rattle.rr_flat.specs.Sound.{IsOwn};
 
 use crate::FLAT_BITS;
-use crate::fault::{FlatFault, Limit};
-use crate::first::note_if;
 use crate::parameters::{put, sized};
-use crate::signal::{Port, Signal};
 use crate::values::range_of;
 use rr_expr::{Entity, Scope};
+use rr_flat::{FlatFault, Limit, Port, Signal, note_if};
 use rr_syntax::{Bounds, Dir, Group, Item, Named, NetName};
 use std::alloc::Global;
 use std::marker::Model;
@@ -126,7 +126,7 @@ fn is_same_range(one: Option<(u32, u32)>, other: Option<(u32, u32)>) -> bool
 /// The signal at a place.
 fn signal_at<'a>(list: &[Declared<'a>], place: u32) -> Option<Signal<'a>>
     ensures value { option_map plain_signal result ≡ option_map (λ x. x.signal) (slice_get (plain_list list.now) place) }
-    ensures sound { (i : ℕ) → All (IsDeclared i) list.now → IfSome result (λ s. IsSignal i s) }
+    ensures sound { (i : ℕ) → All (IsDeclared i) list.now → IfSome result (λ s. IsOwn i s) }
 {
     match list.get(place as usize) {
         Some(declared) => Some(declared.signal),
@@ -268,7 +268,7 @@ impl<'a> Declarations<'a> {
     /// The signal that has this name.
     pub(crate) fn named(&self, name: &str) -> Option<Signal<'a>>
         ensures value { option_map plain_signal result ≡ named_signal (plain_list self.now.list) (lookup name.now self.now.names) }
-        ensures sound { IfSome result (λ s. IsSignal self.now.instance s) }
+        ensures sound { IfSome result (λ s. IsOwn self.now.instance s) }
     {
         match self.names.find(name) {
             Some(Entity::Signal { id, .. }) => signal_at(self.list.as_slice(), id),

@@ -1,20 +1,21 @@
 //! The head of an instance: its parameters and its signals (IEEE 1364-2005 section 12).
 ghost use Rattle.std.specs.Prelude.{◌≡◌, ◌≤◌, ◌+◌, ℕ, MatchResult, OnOk, IfOk, Ok, map, fold, length, All};
 ghost use Rattle.rr_syntax.specs.View.{plain_identifier, plain_port, plain_module};
-ghost use Rattle.rr_head.specs.Faults.{Refuses, and_then};
+ghost use Rattle.rr_flat.specs.Faults.{Refuses, and_then};
 ghost use Rattle.rr_head.specs.Parameters.{parameters as parameters_of};
 ghost use Rattle.rr_head.specs.Heads.{with_port as port_next, with_ports as ports_next, with_inner as inner_next, signals_in_order, declared as declared_of, with_signals as signals_named, numbered as numbered_in, head as head_of};
-ghost use Rattle.rr_head.specs.View.{plain_signal, plain_declared, plain_list, plain_declarations, plain_head};
-ghost use Rattle.rr_head.specs.Sound.{IsSignal, IsDeclared, ArePlaces, AreNamed};
+ghost use Rattle.rr_flat.specs.View.{plain_signal};
+ghost use Rattle.rr_head.specs.View.{plain_declared, plain_list, plain_declarations, plain_head};
+ghost use Rattle.rr_flat.specs.Sound.{IsOwn, AreNamed};
+ghost use Rattle.rr_head.specs.Sound.{IsDeclared, ArePlaces};
 
 use crate::FLAT_BITS;
 use crate::brackets::{brackets, plain_names};
 use crate::declare::{Declarations, Declared, is_port};
-use crate::fault::{FlatFault, Limit};
 use crate::known::know_module;
 use crate::parameters::{parameters, put};
-use crate::signal::Signal;
 use rr_expr::{Entity, Scope};
+use rr_flat::{FlatFault, Limit, Signal};
 use rr_syntax::{Group, Module, Named};
 use std::alloc::{AllocError, Global};
 use std::marker::Model;
@@ -33,7 +34,7 @@ pub struct Head<'a> {
 
 impl<'a> Model for Head<'a> {
     ghost use Rattle.rr_head.specs.View.{Opening};
-    ghost use Rattle.rr_head.specs.Sound.{IsHead};
+    ghost use Rattle.rr_flat.specs.Sound.{IsHead};
 
     ghost Value = { Opening };
 
@@ -50,7 +51,7 @@ fn add_port<'a>(
     named: &Named,
 ) -> Result<(), AllocError>
     ensures value { OnOk result (map plain_signal signals.new.items ≡ port_next (plain_declarations declared.now) (map plain_signal signals.old.items) (plain_identifier named.now)) }
-    ensures sound { OnOk result (All (IsSignal declared.now.instance) signals.old.items → All (IsSignal declared.now.instance) signals.new.items) }
+    ensures sound { OnOk result (All (IsOwn declared.now.instance) signals.old.items → All (IsOwn declared.now.instance) signals.new.items) }
 {
     match declared.named(named.name) {
         Some(signal) => {
@@ -67,7 +68,7 @@ fn add_ports<'a>(
     names: &[Named],
 ) -> Result<(), AllocError>
     ensures value { OnOk result (map plain_signal signals.new.items ≡ fold (port_next (plain_declarations declared.now)) (map plain_signal signals.old.items) (map plain_identifier names.now)) }
-    ensures sound { OnOk result (All (IsSignal declared.now.instance) signals.old.items → All (IsSignal declared.now.instance) signals.new.items) }
+    ensures sound { OnOk result (All (IsOwn declared.now.instance) signals.old.items → All (IsOwn declared.now.instance) signals.new.items) }
 {
     for named in names.iter() {
         add_port(signals, declared, named)?;
@@ -82,7 +83,7 @@ fn add_group<'a>(
     group: &Group,
 ) -> Result<(), AllocError>
     ensures value { OnOk result (map plain_signal signals.new.items ≡ ports_next (plain_declarations declared.now) (map plain_signal signals.old.items) (plain_port group.now)) }
-    ensures sound { OnOk result (All (IsSignal declared.now.instance) signals.old.items → All (IsSignal declared.now.instance) signals.new.items) }
+    ensures sound { OnOk result (All (IsOwn declared.now.instance) signals.old.items → All (IsOwn declared.now.instance) signals.new.items) }
 {
     add_ports(signals, declared, group.names)
 }
@@ -93,7 +94,7 @@ fn add_groups<'a>(
     groups: &[Group],
 ) -> Result<(), AllocError>
     ensures value { OnOk result (map plain_signal signals.new.items ≡ fold (ports_next (plain_declarations declared.now)) (map plain_signal signals.old.items) (map plain_port groups.now)) }
-    ensures sound { OnOk result (All (IsSignal declared.now.instance) signals.old.items → All (IsSignal declared.now.instance) signals.new.items) }
+    ensures sound { OnOk result (All (IsOwn declared.now.instance) signals.old.items → All (IsOwn declared.now.instance) signals.new.items) }
 {
     for group in groups.iter() {
         add_group(signals, declared, group)?;
@@ -105,7 +106,7 @@ fn add_groups<'a>(
 #[tactic(auto, unfolding(crate::specs::Heads::with_inner))]
 fn add_inner<'a>(signals: &mut Vec<Signal<'a>>, declared: &Declared<'a>) -> Result<(), AllocError>
     ensures value { OnOk result (map plain_signal signals.new.items ≡ inner_next (map plain_signal signals.old.items) (plain_declared declared.now)) }
-    ensures sound { OnOk result ((i : ℕ) → IsDeclared i declared.now → All (IsSignal i) signals.old.items → All (IsSignal i) signals.new.items) }
+    ensures sound { OnOk result ((i : ℕ) → IsDeclared i declared.now → All (IsOwn i) signals.old.items → All (IsOwn i) signals.new.items) }
 {
     if is_port(declared.signal.port) {
         return Ok(());
@@ -116,7 +117,7 @@ fn add_inner<'a>(signals: &mut Vec<Signal<'a>>, declared: &Declared<'a>) -> Resu
 
 fn add_inners<'a>(signals: &mut Vec<Signal<'a>>, list: &[Declared<'a>]) -> Result<(), AllocError>
     ensures value { OnOk result (map plain_signal signals.new.items ≡ fold inner_next (map plain_signal signals.old.items) (plain_list list.now)) }
-    ensures sound { OnOk result ((i : ℕ) → All (IsDeclared i) list.now → All (IsSignal i) signals.old.items → All (IsSignal i) signals.new.items) }
+    ensures sound { OnOk result ((i : ℕ) → All (IsDeclared i) list.now → All (IsOwn i) signals.old.items → All (IsOwn i) signals.new.items) }
 {
     for declared in list.iter() {
         add_inner(signals, declared)?;
@@ -132,7 +133,7 @@ fn in_order<'a>(
     declared: &Declarations<'a>,
 ) -> Result<Vec<Signal<'a>>, AllocError>
     ensures value { IfOk result (λ v. map plain_signal v.items ≡ signals_in_order (plain_module own.now) (plain_declarations declared.now)) }
-    ensures sound { IfOk result (λ v. All (IsSignal declared.now.instance) v.items) }
+    ensures sound { IfOk result (λ v. All (IsOwn declared.now.instance) v.items) }
 {
     let mut signals = Vec::new(alloc);
     add_ports(&mut signals, declared, plain_names(own))?;
@@ -200,7 +201,7 @@ fn numbered<'a>(
 ) -> Result<Head<'a>, FlatFault>
     requires first { base ≤ 65536 }
     requires few { bits ≤ 65536 }
-    requires sound { All (IsSignal instance) signals.items }
+    requires sound { All (IsOwn instance) signals.items }
     requires constants { ArePlaces 0 names }
     ensures value { MatchResult result
         (λ h. numbered_in instance base bits (map plain_signal signals.entry.items) names.entry ≡ Ok (plain_head h))

@@ -2,15 +2,15 @@
 ghost use Rattle.std.specs.Prelude.{◌≡◌, ◌≤◌, ◌<◌, MatchResult, OnOk, OnErr, IfOk, IfErr, map, fold, Some, None};
 ghost use Rattle.rr_syntax.specs.View.{plain_parameter, plain_assignment, plain_item, plain_module};
 ghost use Rattle.rr_expr.specs.Scopes.{range_width as width_of_range};
-ghost use Rattle.rr_head.specs.Faults.{Refuses, sooner, either, faults_in, each};
-ghost use Rattle.rr_head.specs.Parameters.{with_name, given_or as given_value, override_of, typed as typed_value, parameter as parameter_of, width_faults, add_parameter as add_parameter_to, add_parameters as add_parameters_to, add_item_parameters as add_item_parameters_to, parameters as parameters_of};
+ghost use Rattle.rr_flat.specs.Faults.{Refuses, sooner, either, faults_in, each};
+ghost use Rattle.rr_flat.specs.Signals.{with_name};
+ghost use Rattle.rr_head.specs.Parameters.{given_or as given_value, override_of, typed as typed_value, parameter as parameter_of, width_faults, add_parameter as add_parameter_to, add_parameters as add_parameters_to, add_item_parameters as add_item_parameters_to, parameters as parameters_of};
 ghost use Rattle.rr_head.specs.Sound.{IsRange, IsPlace, ArePlaces};
 
-use crate::fault::FlatFault;
-use crate::first::{earlier, note_if};
 use crate::values::{constant_of, range_of, range_width};
 use rr_bits::Bits;
 use rr_expr::{Entity, Scope};
+use rr_flat::{FlatFault, earlier, note_if};
 use rr_syntax::{Item, Module, Params, Setting};
 use std::alloc::{AllocError, Global};
 

@@ -3,14 +3,13 @@ ghost use Rattle.std.specs.Prelude.{◌≡◌, ◌+◌, ◌<◌, ◌≤◌, IfOk
 ghost use Rattle.rr_bits.specs.Words.{reading};
 ghost use Rattle.rr_syntax.specs.View.{plain, plain_range};
 ghost use Rattle.rr_expr.specs.Scopes.{range_width as width_of_range};
-ghost use Rattle.rr_head.specs.Faults.{sooner};
+ghost use Rattle.rr_flat.specs.Faults.{sooner};
 ghost use Rattle.rr_head.specs.Values.{constant as constant_in, bound_of, is_beyond as beyond, bound_or_zero as bound_value, bound_faults, between as between_bounds, range_in};
 ghost use Rattle.rr_head.specs.Sound.{IsRange};
 
-use crate::fault::FlatFault;
-use crate::first::{note, note_if};
 use rr_bits::Bits;
 use rr_expr::{Scope, constant, first_token};
+use rr_flat::{FlatFault, note, note_if};
 use rr_syntax::{Bounds, Expr};
 
 /// The word and the sign of a constant expression, or its first fault.

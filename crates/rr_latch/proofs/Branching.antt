@@ -18,7 +18,7 @@ use Rattle.rr_expr.specs.Scopes.{Names}
 use Rattle.rr_flat.specs.Latches.{has_default, has_labels, known, known_all, known_arms, ReadsKnown, AllReadKnown, ArmsReadKnown}
 use Rattle.rr_flat.specs.Reads.{TargetReads}
 use Rattle.rr_flat.specs.Targets.{assigns_target}
-use Rattle.rr_flat.specs.Walk.{list_faults, statement_faults, statements_faults, arms_faults}
+use Rattle.rr_flat.specs.Shapes.{list_faults, statement_faults, statements_faults, arms_faults}
 use Rattle.rr_target.specs.declared.writes.Write.{Write}
 use Rattle.rr_target.specs.Lists.{must}
 use Rattle.rr_target.proofs.Growing.{rest_is}

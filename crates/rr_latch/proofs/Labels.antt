@@ -7,7 +7,7 @@ use Rattle.rr_expr.specs.declared.types.Bit.{Bit}
 use Rattle.rr_expr.specs.Faults.{fault}
 use Rattle.rr_expr.specs.Reading.{NamesBit, NamesBits}
 use Rattle.rr_expr.specs.Scopes.{Names}
-use Rattle.rr_flat.specs.Walk.{list_faults}
+use Rattle.rr_flat.specs.Shapes.{list_faults}
 use Rattle.rr_target.proofs.Growing.{rest_is}
 use Rattle.rr_writers.proofs.Statements.{labels_shaped}
 

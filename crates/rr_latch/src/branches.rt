@@ -6,7 +6,7 @@ ghost use Rattle.rr_syntax.specs.View.{plain, plain_arms, plain_statement, plain
 ghost use Rattle.rr_expr.specs.Faults.{fault};
 ghost use Rattle.rr_expr.specs.declared.types.Bit.{Bit as BitOfSignal};
 ghost use Rattle.rr_flat.specs.Latches.{known, known_all, has_default as some_default, ReadsKnown, AllReadKnown, ArmsReadKnown};
-ghost use Rattle.rr_flat.specs.Walk.{arms_faults, statement_faults, statements_faults};
+ghost use Rattle.rr_flat.specs.Shapes.{arms_faults, statement_faults, statements_faults};
 ghost use Rattle.rr_latch.specs.Paths.{BranchTells, Logged, Ran, assigned, in_all, known_by_case, listed, listed_in, taken};
 ghost use Rattle.rr_latch.specs.Unassigned.{AnyReadEarly, ArmsReadEarly, ReadEarly};
 

@@ -5,7 +5,7 @@ ghost use Rattle.rr_expr.specs.declared.types.Bit.{Bit as BitOfSignal};
 ghost use Rattle.rr_flat.specs.Latches.{NoLatch};
 ghost use Rattle.rr_flat.specs.Lawful.{NoLatches};
 ghost use Rattle.rr_flat.specs.View.{plain_flat};
-ghost use Rattle.rr_flat.specs.Walk.{statement_faults};
+ghost use Rattle.rr_flat.specs.Shapes.{statement_faults};
 ghost use Rattle.rr_target.specs.Lists.{may};
 ghost use Rattle.rr_target.specs.Pieces.{covers};
 ghost use Rattle.rr_latch.specs.Paths.{assigned};

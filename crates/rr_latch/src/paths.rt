@@ -6,7 +6,7 @@ ghost use Rattle.rr_expr.specs.Reading.{NamesBit, NamesBits};
 ghost use Rattle.rr_expr.specs.declared.types.Bit.{Bit as BitOfSignal};
 ghost use Rattle.rr_flat.specs.Reads.{TargetReads};
 ghost use Rattle.rr_flat.specs.Targets.{same_bit};
-ghost use Rattle.rr_flat.specs.Walk.{list_faults};
+ghost use Rattle.rr_flat.specs.Shapes.{list_faults};
 ghost use Rattle.rr_target.specs.Lists.{covered, must};
 ghost use Rattle.rr_target.specs.Pieces.{covers};
 ghost use Rattle.rr_latch.specs.Paths.{Logged, assigned, listed};

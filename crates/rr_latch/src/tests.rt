@@ -7,7 +7,8 @@ ghost use Rattle.rr_syntax.specs.Items.{WellFormedSource, FitLiteralsSource};
 ghost use Rattle.rr_syntax.specs.View.{plain_source};
 
 use crate::{Latch, first_latch};
-use rr_flat::{Bit, flatten};
+use rr_flat::Bit;
+use rr_walk::flatten;
 use rr_syntax::{
     Arm, Bounds, Dir, Event, Events, Expr, Group, Item, Keyword, Module, Named, Number, Source,
     Stmt,

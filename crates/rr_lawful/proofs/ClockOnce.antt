@@ -1,6 +1,6 @@
 -- A design has one clock at most, one first block where it has none, and one first use of it as data.
 use Rattle.std.proofs.Common.{◌≡◌, ◌∙◌, sym, ap, subst, refl, ℕ, ◌<◌, List, [], ◌∷◌, get_or, Bool, true, false, Option, Some, None}
-use Rattle.rr_head.specs.Plain.{Text}
+use Rattle.rr_flat.specs.Signals.{Text}
 use Rattle.rr_flat.specs.Clocks.{IsChosen, IsDirection, FirstEdge, RunsOn, OneClock, no_edge}
 use Rattle.rr_flat.specs.Plain.{Block, Flat}
 use Rattle.rr_flat.specs.Writers.{block_at}

@@ -1,7 +1,7 @@
 -- What a lawful design keeps of its clock.
 use Rattle.std.proofs.Common.{◌≡◌, refl, sym, subst, ℕ, List, [], ◌∷◌, Bool, Option, Some, None, Result, Ok, Err}
 use Rattle.std.specs.Prelude.{IfErr}
-use Rattle.rr_head.specs.Plain.{Text}
+use Rattle.rr_flat.specs.Signals.{Text}
 use Rattle.rr_flat.specs.Clocks.{IsChosen, IsDecided, IsScalarInput, OneClock}
 use Rattle.rr_flat.specs.Lawful.{Lawful, NoClockRead}
 use Rattle.rr_flat.specs.Plain.{Block, Flat}

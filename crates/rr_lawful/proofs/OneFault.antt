@@ -1,7 +1,7 @@
 -- A design breaks one law first, at one token, and where it is lawful none.
 use Rattle.std.proofs.Common.{◌≡◌, ◌∙◌, sym, ap, subst, refl, ℕ, zero, suc, ◌<◌, ◌⊎◌, inl, inr, List, [], ◌∷◌, Bool, Option, Some, None, below_none, below_more}
 use Rattle.rr_expr.specs.declared.types.Bit.{Bit}
-use Rattle.rr_head.specs.Plain.{Text}
+use Rattle.rr_flat.specs.Signals.{Text}
 use Rattle.rr_flat.specs.Clocks.{OneClock}
 use Rattle.rr_flat.specs.Lawful.{ClockNamed, HasRanks, Lawful, NoClockRead, NoLatches, NoRace, OneWriter, RightKinds, RightLabels, RightTargets}
 use Rattle.rr_flat.specs.Plain.{Flat}

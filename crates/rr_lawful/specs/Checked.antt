@@ -1,6 +1,6 @@
 -- The first law that a flat design breaks, in the order in which they are checked.
 use Rattle.std.specs.Prelude.{ℕ, ◌≡◌, ◌⊎◌, Bool, Option, Some, None}
-use Rattle.rr_head.specs.Plain.{Text}
+use Rattle.rr_flat.specs.Signals.{Text}
 use Rattle.rr_flat.specs.Clocks.{OneClock}
 use Rattle.rr_flat.specs.Lawful.{ClockNamed, NoClockRead, NoLatches, NoRace, OneWriter, RightKinds, RightLabels, RightTargets}
 use Rattle.rr_flat.specs.Plain.{Flat}

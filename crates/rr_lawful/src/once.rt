@@ -1,6 +1,6 @@
 //! One law that is broken first, and one clock.
 ghost use Rattle.std.specs.Prelude.{◌≡◌, ℕ, Bool, Option};
-ghost use Rattle.rr_head.specs.Plain.{Text};
+ghost use Rattle.rr_flat.specs.Signals.{Text};
 ghost use Rattle.rr_flat.specs.Clocks.{OneClock};
 ghost use Rattle.rr_flat.specs.Lawful.{Lawful};
 ghost use Rattle.rr_flat.specs.Plain.{Flat};

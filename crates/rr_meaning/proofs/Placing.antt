@@ -11,8 +11,8 @@ use Rattle.rr_expr.specs.declared.types.Entity.TheVariants as entity
 use Rattle.rr_expr.specs.Scopes.{env_of, range_width}
 use Rattle.rr_expr.proofs.Widths.{signal_word}
 use Rattle.rr_flat.specs.Targets.{bits_there, has_bit}
-use Rattle.rr_head.specs.Plain.{signal_at}
-use Rattle.rr_head.specs.View.{plain_signal}
+use Rattle.rr_flat.specs.Signals.{signal_at}
+use Rattle.rr_flat.specs.View.{plain_signal}
 use Rattle.rr_flat.specs.View.{Design, plain_flat}
 use Rattle.rr_flat.specs.Plain.{Whole}
 use Rattle.rr_flat.specs.Writers.{driven_by, signal_bits}

@@ -10,7 +10,7 @@ use Rattle.rr_bits.proofs.Numbers.{number-lt, word_mod}
 use Rattle.rr_bits.proofs.Places.{has, has_above, has_and, has_zero, get_word, get_past}
 use Rattle.rr_expr.specs.declared.types.Bit.{Bit}
 use Rattle.rr_expr.specs.Scopes.{env_of}
-use Rattle.rr_head.specs.Plain.{Signal, signal_at}
+use Rattle.rr_flat.specs.Signals.{Signal, signal_at}
 use Rattle.rr_flat.specs.Plain.{Block, Flat}
 use Rattle.rr_flat.specs.Writers.{Clocked, Writer, Writes, block_at, writes_at_all}
 use Rattle.rr_cycle.specs.Cycles.{IsInputBit, given, head, is_clock, row_inputs, tail, zeros}

@@ -11,17 +11,17 @@ use Rattle.rr_expr.specs.declared.types.Entity.{Entity}
 use Rattle.rr_expr.specs.declared.types.Entity.TheVariants as entity
 use Rattle.rr_expr.specs.Faults.{fault}
 use Rattle.rr_expr.specs.Scopes.{Names, lookup, meant, or_instance, range_width}
-use Rattle.rr_head.specs.declared.signal.Signal.{Signal}
-use Rattle.rr_head.specs.Plain.{no_signal, signal_at}
-use Rattle.rr_head.specs.Plain as plain
-use Rattle.rr_head.specs.Sound.{IsNamed}
-use Rattle.rr_head.specs.View.{plain_signal}
+use Rattle.rr_flat.specs.declared.signal.Signal.{Signal}
+use Rattle.rr_flat.specs.Signals.{no_signal, signal_at}
+use Rattle.rr_flat.specs.Signals as plain
+use Rattle.rr_flat.specs.Sound.{IsNamed}
+use Rattle.rr_flat.specs.View.{plain_signal}
 use Rattle.rr_flat.specs.declared.design.Block.{Block}
 use Rattle.rr_flat.specs.Plain.{Whole}
 use Rattle.rr_flat.specs.Sound.{IsBlock, IsFlat, IsScope, IsSignal}
 use Rattle.rr_flat.specs.Targets.{is_bit_of}
 use Rattle.rr_flat.specs.View.{Design, plain_flat}
-use Rattle.rr_flat.specs.Walk.{shape, shape_faults}
+use Rattle.rr_flat.specs.Shapes.{shape, shape_faults}
 use Rattle.rr_flat.specs.Writers.{scope_at}
 use Rattle.rr_cycle.specs.Cycles.{side_shape}
 use Rattle.rr_exec.specs.Work.{Holds}

@@ -7,7 +7,7 @@ use Rattle.std.proofs.lemmas.List.{get_or-map, length-map}
 use Rattle.rr_flat.specs.Plain.{Flat}
 use Rattle.rr_trace.specs.declared.fault.TableFault.{TableFault}
 use Rattle.rr_trace.specs.declared.fault.TableFault.TheVariants.{NoHeader, NotUtf8, RowLength, TooMany}
-use Rattle.rr_head.specs.declared.fault.Limit.TheVariants as limit
+use Rattle.rr_flat.specs.declared.fault.Limit.TheVariants as limit
 use Rattle.rr_trace.specs.Columns.{Header, Port, Ports, and_then, columns, given, header, input_places, place, trimmed}
 use Rattle.rr_trace.specs.Names.{Text}
 use Rattle.rr_trace.specs.Rows.{Row, cells, row, row_of_cells, rows, value_in}

@@ -3,7 +3,7 @@ use Rattle.std.specs.Prelude.{ℕ, max, List, [], ◌∷◌, Bool, false, cond, 
 use Rattle.std.specs.declared.alloc.Global.{Global}
 use Rattle.rr_bits.specs.Words.{number, word}
 use Rattle.rr_expr.specs.Scopes.{env_of}
-use Rattle.rr_head.specs.Plain.{Signal, signal_at}
+use Rattle.rr_flat.specs.Signals.{Signal, signal_at}
 use Rattle.rr_flat.specs.Plain.{Driver, Flat}
 use Rattle.rr_cycle.specs.Cycles.{head, side_shape, side_value, tail}
 use Rattle.rr_cycle.specs.Exec.{Environment}

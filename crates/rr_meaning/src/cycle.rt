@@ -2,7 +2,7 @@
 ghost use Rattle.std.specs.Prelude.{◌≡◌, ◌<◌, ◌∷◌, ◌++◌, [], ℕ, All, IfOk, OnOk, cond, false, true, length, map, List};
 ghost use Rattle.rr_expr.specs.Scopes.{env_of};
 ghost use Rattle.rr_expr.specs.declared.types.Bit.{Bit as FlatBit};
-ghost use Rattle.rr_head.specs.Plain.{signal_at};
+ghost use Rattle.rr_flat.specs.Signals.{signal_at};
 ghost use Rattle.rr_flat.specs.Ordered.{IsStep};
 ghost use Rattle.rr_flat.specs.View.{plain_flat};
 ghost use Rattle.rr_cycle.specs.Cycles.{IsNext, Run, Settled, is_clock as is_clock_of, outputs_of, row_inputs as inputs_but, zeros as zeros_of};

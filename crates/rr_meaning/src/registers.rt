@@ -3,10 +3,10 @@ ghost use Rattle.std.specs.Prelude.{◌≡◌, ◌<◌, ◌||◌, [], IfOk, OnOk
 ghost use Rattle.rr_syntax.specs.View.{plain_arms, plain_statement, plain_statements};
 ghost use Rattle.rr_expr.specs.Scopes.{env_of};
 ghost use Rattle.rr_expr.specs.declared.types.Bit.{Bit as FlatBit};
-ghost use Rattle.rr_head.specs.Plain.{signal_at};
+ghost use Rattle.rr_flat.specs.Signals.{signal_at};
 ghost use Rattle.rr_flat.specs.Reads.{writes, write_any, arms_write};
 ghost use Rattle.rr_flat.specs.View.{plain_flat};
-ghost use Rattle.rr_flat.specs.Walk.{statement_faults, statements_faults, arms_faults};
+ghost use Rattle.rr_flat.specs.Shapes.{statement_faults, statements_faults, arms_faults};
 ghost use Rattle.rr_target.specs.Lists.{may};
 ghost use Rattle.rr_target.specs.Pieces.{covers};
 ghost use Rattle.rr_cycle.specs.Performing.{any_writes};

@@ -13,8 +13,8 @@ use Rattle.rr_expr.specs.Reading.{IsBitOf, NamesAt, NamesBit, NamesBits}
 use Rattle.rr_expr.specs.Scopes.{Names, meant, lookup, or_instance, range_width, entity_shape, entity_range}
 use Rattle.rr_expr.specs.Selects.{place, lowest_place, integer_with}
 use Rattle.rr_expr.specs.Values.{form, value, nowhere}
-use Rattle.rr_head.specs.Plain.{signal_at, no_signal}
-use Rattle.rr_head.specs.Sound.{IsNamed}
+use Rattle.rr_flat.specs.Signals.{signal_at, no_signal}
+use Rattle.rr_flat.specs.Sound.{IsNamed}
 use Rattle.rr_flat.specs.Plain.{Flat}
 use Rattle.rr_flat.specs.Reads.{TargetReads, TargetsRead, StatementReads, StatementsRead, ArmReads, ArmsRead, writes, write_any, arm_writes, arms_write}
 use Rattle.rr_flat.specs.Targets.{has_bit, is_bit_of, bits_there, target_bits, targets_bits, is_fixed, part_name, target_parts, may_write}

@@ -5,9 +5,9 @@ use Rattle.std.proofs.lemmas.List.{get_or-set_other, get_or-set_same, length-set
 use Rattle.std.specs.Prelude.{Vec}
 use Rattle.std.specs.declared.alloc.Global.{Global}
 use Rattle.rr_expr.specs.declared.types.Bit.{Bit}
-use Rattle.rr_head.specs.declared.signal.Signal.{Signal}
-use Rattle.rr_head.specs.Plain.{no_signal}
-use Rattle.rr_head.specs.View.{plain_signal}
+use Rattle.rr_flat.specs.declared.signal.Signal.{Signal}
+use Rattle.rr_flat.specs.Signals.{no_signal}
+use Rattle.rr_flat.specs.View.{plain_signal}
 use Rattle.rr_flat.specs.View.{Design, plain_flat}
 use Rattle.rr_sort.specs.Graphs.{Graph, Names, named, names_of}
 use Rattle.rr_sort.proofs.Sorting.{get_old, get_new}

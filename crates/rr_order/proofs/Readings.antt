@@ -14,7 +14,7 @@ use Rattle.rr_expr.specs.Faults.{fault}
 use Rattle.rr_expr.specs.Reading.{NamesBit, NamesBits}
 use Rattle.rr_expr.specs.Scopes.{Names}
 use Rattle.rr_flat.specs.Reads.{StatementReads, StatementsRead, ArmsRead, TargetReads}
-use Rattle.rr_flat.specs.Walk.{list_faults, statement_faults, statements_faults, arms_faults}
+use Rattle.rr_flat.specs.Shapes.{list_faults, statement_faults, statements_faults, arms_faults}
 use Rattle.rr_target.specs.declared.piece.Piece.{Piece}
 use Rattle.rr_target.specs.Lists.{Grown}
 use Rattle.rr_target.proofs.Growing.{grown_none, grown_both, grown_same, rest_is}

@@ -8,9 +8,9 @@ use Rattle.rr_expr.specs.declared.types.Bit.{Bit}
 use Rattle.rr_expr.specs.declared.types.Entity.TheVariants as entity
 use Rattle.rr_expr.specs.Reading.{NamesBit}
 use Rattle.rr_expr.specs.Scopes.{Names, env_of}
-use Rattle.rr_head.specs.declared.signal.Signal.{Signal}
-use Rattle.rr_head.specs.Plain as plain_head
-use Rattle.rr_head.specs.View.{plain_signal}
+use Rattle.rr_flat.specs.declared.signal.Signal.{Signal}
+use Rattle.rr_flat.specs.Signals as plain_head
+use Rattle.rr_flat.specs.View.{plain_signal}
 use Rattle.rr_flat.specs.declared.design.Side as declared_side
 use Rattle.rr_flat.specs.declared.design.Side.TheVariants as side
 use Rattle.rr_flat.specs.Sound.{IsSignal}

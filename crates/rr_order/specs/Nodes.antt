@@ -8,8 +8,8 @@ use Rattle.rr_flat.specs.Ordered.{IsStep, StepWrites, StepNames, step_at}
 use Rattle.rr_flat.specs.Plain.{Flat, Side, Written, Whole}
 use Rattle.rr_flat.specs.Writers.{scope_at, driver_at}
 use Rattle.rr_expr.specs.Scopes.{range_width}
-use Rattle.rr_head.specs.Plain.{signal_at}
-use Rattle.rr_head.specs.Sound.{AreNamed}
+use Rattle.rr_flat.specs.Signals.{signal_at}
+use Rattle.rr_flat.specs.Sound.{AreNamed}
 use Rattle.rr_sort.specs.Graphs.{Graph, Names, names_of}
 use Rattle.std.specs.declared.alloc.Global.{Global}
 

@@ -3,7 +3,7 @@ ghost use Rattle.std.specs.Prelude.{◌≡◌, [], OnOk};
 ghost use Rattle.rr_syntax.specs.View.{plain_arms, plain_list, plain_statement, plain_statements};
 ghost use Rattle.rr_expr.specs.Reading.{NamesBits};
 ghost use Rattle.rr_flat.specs.Reads.{ArmsRead, StatementReads, StatementsRead};
-ghost use Rattle.rr_flat.specs.Walk.{arms_faults, list_faults, statement_faults, statements_faults};
+ghost use Rattle.rr_flat.specs.Shapes.{arms_faults, list_faults, statement_faults, statements_faults};
 ghost use Rattle.rr_target.specs.Lists.{Grown};
 
 use rr_expr::Scope;

@@ -1,6 +1,6 @@
 //! The sides of drivers.
 ghost use Rattle.std.specs.Prelude.{◌≡◌, ◌<◌, [], length, pos, IfOk, OnOk};
-ghost use Rattle.rr_head.specs.Plain.{signal_at};
+ghost use Rattle.rr_flat.specs.Signals.{signal_at};
 ghost use Rattle.rr_flat.specs.Plain.{Whole};
 ghost use Rattle.rr_flat.specs.Sound.{IsSide};
 ghost use Rattle.rr_flat.specs.View.{plain_flat, plain_side};

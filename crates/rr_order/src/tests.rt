@@ -5,7 +5,8 @@ ghost use Rattle.rr_syntax.specs.View.{plain_source};
 
 use crate::{Ordering, order_steps};
 use rr_expr::Bit;
-use rr_flat::{Step, flatten};
+use rr_flat::Step;
+use rr_walk::flatten;
 use rr_syntax::{
     Bounds, Conns, Dir, Events, Expr, Group, Instance, Item, Mark, Module, Named, NetName, Number,
     Pair, Source, Stmt,

@@ -13,8 +13,8 @@ use Rattle.rr_syntax.proofs.Rows.{plain_concat, plain_repeat}
 use Rattle.rr_expr.specs.declared.types.Entity.{Entity}
 use Rattle.rr_expr.specs.declared.types.Entity.TheVariants.{Constant, Signal as SignalEntity, Instance}
 use Rattle.rr_expr.specs.Scopes.{Names, lookup, or_instance}
-use Rattle.rr_head.specs.Plain.{Text, Signal}
-use Rattle.rr_head.specs.Sound.{AreNamed, IsNamed}
+use Rattle.rr_flat.specs.Signals.{Text, Signal}
+use Rattle.rr_flat.specs.Sound.{AreNamed, IsNamed}
 use Rattle.rr_flat.specs.Targets.{is_constant, is_fixed}
 use Rattle.rr_flat.specs.Targets.{part_name}
 use Rattle.rr_parts.specs.Parts.{part_identifier, part_token, signal_of}

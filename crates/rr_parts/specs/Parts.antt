@@ -4,9 +4,9 @@ use Rattle.rr_syntax.specs.Tree.{Tree, Name, Literal, Bit as BitSelect, Part, In
 use Rattle.rr_expr.specs.declared.types.Entity.{Entity}
 use Rattle.rr_expr.specs.declared.types.Entity.TheVariants.{Constant, Signal as SignalEntity, Instance}
 use Rattle.rr_expr.specs.Scopes.{meant}
-use Rattle.rr_head.specs.declared.signal.Port.{Port}
-use Rattle.rr_head.specs.declared.signal.Port.TheVariants.{Inner, Input, Output}
-use Rattle.rr_head.specs.Plain.{Text}
+use Rattle.rr_flat.specs.declared.signal.Port.{Port}
+use Rattle.rr_flat.specs.declared.signal.Port.TheVariants.{Inner, Input, Output}
+use Rattle.rr_flat.specs.Signals.{Text}
 use Rattle.rr_flat.specs.declared.design.Part as design
 use Rattle.rr_flat.specs.declared.design.Part.TheVariants as part
 use Rattle.rr_flat.specs.Plain.{Driver, Block, Flat}

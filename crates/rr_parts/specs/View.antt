@@ -2,7 +2,7 @@
 use Rattle.std.specs.Prelude.{ℕ}
 use Rattle.rr_syntax.specs.Tree.{Identifier}
 use Rattle.rr_syntax.specs.View.{plain}
-use Rattle.rr_head.specs.Plain.{Text}
+use Rattle.rr_flat.specs.Signals.{Text}
 use Rattle.rr_flat.specs.Reads.{Assigned}
 use Rattle.rr_parts.specs.declared.lists.Target.{Target}
 

@@ -2,9 +2,9 @@
 ghost use Rattle.std.specs.Prelude.{◌≡◌, ◌<◌, [], length, map, is_none, All, IfSome, IfNone};
 ghost use Rattle.rr_syntax.specs.View.{plain, plain_identifier};
 ghost use Rattle.rr_expr.specs.Scopes.{meant, or_instance};
-ghost use Rattle.rr_head.specs.Plain.{signal_at};
-ghost use Rattle.rr_head.specs.Sound.{AreNamed};
-ghost use Rattle.rr_head.specs.View.{plain_signal};
+ghost use Rattle.rr_flat.specs.Signals.{signal_at};
+ghost use Rattle.rr_flat.specs.Sound.{AreNamed};
+ghost use Rattle.rr_flat.specs.View.{plain_signal};
 ghost use Rattle.rr_flat.specs.Sound.{IsWalk};
 ghost use Rattle.rr_flat.specs.Targets.{is_constant as is_constant_in, is_fixed as is_fixed_in};
 ghost use Rattle.rr_flat.specs.View.{plain_block, plain_driver, plain_flat};

@@ -9,7 +9,8 @@ use crate::{
     is_variable, reached_of, scalar_named, scope_of, signal_count, signal_named, signal_of,
     signals_of, walk_of,
 };
-use rr_flat::{Flat, Part, flatten};
+use rr_flat::{Flat, Part};
+use rr_walk::flatten;
 use rr_syntax::{
     Bounds, Dir, Event, Events, Expr, Group, Item, Module, Named, Number, Pair, Source, Stmt,
 };

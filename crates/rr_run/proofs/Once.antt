@@ -1,7 +1,7 @@
 -- Two texts have one outcome.
 use Rattle.std.proofs.Common.{◌≡◌, ℕ, List, Bool, Option, Some, None, Ok, Err, ap, sym, subst, ◌∙◌, inl, inr}
 use Rattle.rr_lex.specs.Tokens.{Lexeme}
-use Rattle.rr_head.specs.Plain.{Text}
+use Rattle.rr_flat.specs.Signals.{Text}
 use Rattle.rr_flat.specs.Lawful.{Lawful}
 use Rattle.rr_flat.specs.Plain.{Flat}
 use Rattle.rr_elaborate.specs.Designs.{IsSameRefusal as IsSameCause, same, first_memory, second_memory, both_unparsed, start_of}

@@ -1,6 +1,6 @@
 -- where a broken law is told
 use Rattle.std.proofs.Common.{◌≡◌, sym, subst, ℕ, List, Option, inr}
-use Rattle.rr_head.specs.Plain.{Text}
+use Rattle.rr_flat.specs.Signals.{Text}
 use Rattle.rr_lawful.specs.declared.laws.LawFault.{LawFault}
 use Rattle.rr_lawful.specs.declared.laws.LawFault.TheVariants as law
 use Rattle.rr_run.specs.declared.fault.Fault.{Fault}

@@ -1,6 +1,6 @@
 -- Why two texts have no run: a fault of the design at one byte, a limit that is passed, or a fault of the table.
 use Rattle.std.specs.Prelude.{ℕ, ⊤, List}
-use Rattle.rr_head.specs.declared.fault.Limit.{Limit}
+use Rattle.rr_flat.specs.declared.fault.Limit.{Limit}
 use Rattle.rr_run.specs.declared.fault.Fault.{Fault}
 use Rattle.rr_run.specs.declared.fault.Refusal.{Refusal as RustRefusal}
 use Rattle.rr_run.specs.declared.fault.Refusal.TheVariants as refusal

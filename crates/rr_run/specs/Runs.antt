@@ -2,8 +2,8 @@
 use Rattle.std.specs.Prelude.{ℕ, ◌≡◌, ◌⊎◌, Bool, List, Option, Ok, Err}
 use Rattle.rr_lex.specs.Tokens.{Lexeme, IsFirstFault}
 use Rattle.rr_lex.specs.declared.piece.Wrong.TheVariants as wrong
-use Rattle.rr_head.specs.Plain.{Text}
-use Rattle.rr_head.specs.declared.fault.FlatFault.TheVariants as flat
+use Rattle.rr_flat.specs.Signals.{Text}
+use Rattle.rr_flat.specs.declared.fault.FlatFault.TheVariants as flat
 use Rattle.rr_flat.specs.Lawful.{Lawful}
 use Rattle.rr_flat.specs.Clocks.{OneClock}
 use Rattle.rr_flat.specs.Plain.{Flat}

@@ -1,7 +1,7 @@
 -- The text of a refusal: its number, its name and its place.
 use Rattle.std.specs.Prelude.{ℕ, List, ◌++◌, codes, decimal}
-use Rattle.rr_head.specs.declared.fault.Limit.{Limit}
-use Rattle.rr_head.specs.declared.fault.Limit.TheVariants as limit
+use Rattle.rr_flat.specs.declared.fault.Limit.{Limit}
+use Rattle.rr_flat.specs.declared.fault.Limit.TheVariants as limit
 use Rattle.rr_run.specs.declared.fault.Fault.{Fault}
 use Rattle.rr_run.specs.declared.fault.Fault.TheVariants as fault
 use Rattle.rr_run.specs.Refusals.{Refusal, At, TooMany, NoHeader, UnknownColumn, ColumnTwice, MissingInput, RowLength, BadCell, CellTooLarge, NotUtf8}

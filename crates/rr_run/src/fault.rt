@@ -1,5 +1,5 @@
 //! Why there is no run, with the numbers that a refusal is told by.
-use rr_head::Limit;
+use rr_flat::Limit;
 use std::fmt;
 
 /// What is wrong with a design at one byte of its text: refusals 1 to 15 and 17 to 25.

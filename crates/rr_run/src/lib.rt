@@ -13,7 +13,7 @@ mod run;
 pub use design::{LawfulDesign, lawful_design};
 pub use fault::{Fault, Refusal, RunFault};
 pub use laws::one_outcome;
-pub use rr_head::Limit;
+pub use rr_flat::Limit;
 pub use run::{read_rows, run_files};
 
 #[cfg(test)]

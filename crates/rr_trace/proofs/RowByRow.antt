@@ -4,7 +4,7 @@ use Rattle.std.proofs.lemmas.Bool.{lt-ltb, le-ltb, eq-eqb}
 use Rattle.std.proofs.lemmas.List.{append_assoc, append-nil, map-append}
 use Rattle.rr_trace.specs.declared.cell.Cell.{Cell}
 use Rattle.rr_trace.specs.declared.fault.TableFault.{TableFault}
-use Rattle.rr_head.specs.declared.fault.Limit.TheVariants.{Rows}
+use Rattle.rr_flat.specs.declared.fault.Limit.TheVariants.{Rows}
 use Rattle.rr_trace.specs.declared.fault.TableFault.TheVariants.{RowLength, TooMany}
 use Rattle.rr_trace.specs.Coming.{ByteReader, IsComing, Follows}
 use Rattle.rr_trace.specs.Columns.{Header, and_then}

@@ -5,7 +5,7 @@ use Rattle.rr_trace.specs.declared.cell.CellFault.{CellFault}
 use Rattle.rr_trace.specs.declared.cell.CellFault.TheVariants.{Malformed, TooLarge}
 use Rattle.rr_trace.specs.declared.fault.TableFault.{TableFault}
 use Rattle.rr_trace.specs.declared.fault.TableFault.TheVariants.{RowLength, BadCell, CellTooLarge, TooMany}
-use Rattle.rr_head.specs.declared.fault.Limit.TheVariants.{Rows}
+use Rattle.rr_flat.specs.declared.fault.Limit.TheVariants.{Rows}
 use Rattle.rr_trace.specs.Cells.{cell_of, unknown_cell}
 use Rattle.rr_trace.specs.Columns.{Header, and_then, trimmed}
 use Rattle.rr_trace.specs.Names.{Text}

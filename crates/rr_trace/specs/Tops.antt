@@ -2,7 +2,7 @@
 -- but the clock, and its outputs.
 use Rattle.std.specs.Prelude.{ℕ, Bool, false, not, List, map, Option, Some, None, option_map, nat_eq}
 use Rattle.std.specs.List.{filter}
-use Rattle.rr_head.specs.Plain.{signal_at}
+use Rattle.rr_flat.specs.Signals.{signal_at}
 use Rattle.rr_flat.specs.Plain.{Flat}
 use Rattle.rr_trace.specs.Columns.{Port, Ports}
 use Rattle.rr_trace.specs.Names.{Text}

@@ -2,7 +2,8 @@
 ghost use Rattle.std.specs.Prelude.{◌≡◌, ◌<◌, ◌^◌, [], ℕ, true, length, map, get_or};
 
 use crate::{Cell, Limit, Miss, Table, TableFault, read_table, write_table};
-use rr_flat::{Flat, FlatFault, flatten};
+use rr_flat::{Flat, FlatFault};
+use rr_walk::flatten;
 use rr_syntax::{Bounds, Dir, Expr, Group, Module, Named, Number, Source};
 use std::alloc::Global;
 use std::test::Fail;

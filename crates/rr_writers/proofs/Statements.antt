@@ -15,10 +15,10 @@ use Rattle.rr_expr.specs.declared.types.ExprFault.{ExprFault}
 use Rattle.rr_expr.specs.Faults.{fault}
 use Rattle.rr_expr.specs.Scopes.{Names}
 use Rattle.rr_expr.specs.Values.{form}
-use Rattle.rr_head.specs.Faults.{answer_of, faults_in}
+use Rattle.rr_flat.specs.Faults.{answer_of, faults_in}
 use Rattle.rr_flat.specs.Reads.{writes, write_any, arms_write}
 use Rattle.rr_flat.specs.Targets.{writes_target}
-use Rattle.rr_flat.specs.Walk.{shape, shape_faults, list_faults, statement_faults, statements_faults, arms_faults}
+use Rattle.rr_flat.specs.Shapes.{shape, shape_faults, list_faults, statement_faults, statements_faults, arms_faults}
 use Rattle.rr_target.specs.declared.writes.Write.{Write}
 use Rattle.rr_target.specs.Lists.{may}
 use Rattle.rr_target.proofs.Growing.{rest_is}

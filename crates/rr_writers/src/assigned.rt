@@ -2,7 +2,7 @@
 ghost use Rattle.std.specs.Prelude.{◌≡◌, ◌||◌, [], OnOk};
 ghost use Rattle.rr_syntax.specs.View.{plain_arms, plain_statement, plain_statements};
 ghost use Rattle.rr_expr.specs.declared.types.Bit.{Bit};
-ghost use Rattle.rr_flat.specs.Walk.{arms_faults, statement_faults, statements_faults};
+ghost use Rattle.rr_flat.specs.Shapes.{arms_faults, statement_faults, statements_faults};
 ghost use Rattle.rr_writers.specs.Assigned.{assigns, assign_any, arms_assign};
 ghost use Rattle.rr_target.specs.Lists.{may};
 

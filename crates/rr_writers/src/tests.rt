@@ -5,7 +5,8 @@ ghost use Rattle.rr_syntax.specs.View.{plain_source};
 
 use crate::parts::{combinational_of, scope_of};
 use crate::{BitTable, TwoDrivers, add_assigned, first_two_drivers};
-use rr_flat::{Bit, Flat, flatten};
+use rr_flat::{Bit, Flat};
+use rr_walk::flatten;
 use rr_syntax::{
     Bounds, Connection, Conns, Dir, Event, Events, Expr, Group, Instance, Item, Module, Named,
     Number, Pair, Source, Stmt,

@@ -1,6 +1,6 @@
 use Rattle.std.proofs.Common.{◌≡◌, ◌++◌, map, drop}
 use Rattle.std.specs.Prelude.{flat_map}
-use Rattle.rr_head.specs.View.{plain_signal}
+use Rattle.rr_flat.specs.View.{plain_signal}
 use Rattle.rr_flat.specs.View.{plain_flat}
 use Rattle.rr_parts.specs.Parts.{entry, is_the}
 use Rattle.rr_clock.specs.Places.{clock_name}

@@ -1,6 +1,6 @@
 use Rattle.std.proofs.Common.{◌∙◌, sym, ap, map, length}
 use Rattle.std.proofs.lemmas.List.{length-map}
-use Rattle.rr_head.specs.View.{plain_signal}
+use Rattle.rr_flat.specs.View.{plain_signal}
 use Rattle.rr_flat.specs.View.{plain_driver, plain_flat}
 use Rattle.rr_clock.proofs.Spreading.{first_start, first_step, first_end}
 use Rattle.rr_clock.proofs.sources.first_drivers.Goals as goal

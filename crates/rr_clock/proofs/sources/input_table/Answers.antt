@@ -1,6 +1,6 @@
 use Rattle.std.proofs.Common.{◌∙◌, sym, length}
 use Rattle.std.proofs.lemmas.List.{length-map}
-use Rattle.rr_head.specs.View.{plain_signal}
+use Rattle.rr_flat.specs.View.{plain_signal}
 use Rattle.rr_flat.specs.View.{plain_flat}
 use Rattle.rr_clock.proofs.Spreading.{inputs_start, inputs_step, inputs_end}
 use Rattle.rr_clock.proofs.sources.input_table.Goals as goal

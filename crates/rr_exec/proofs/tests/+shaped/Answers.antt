@@ -1,6 +1,6 @@
 use Rattle.std.proofs.Common.{◌≡◌, refl, rules, true}
 use Rattle.rr_syntax.specs.View.{plain_arms, plain_statements}
-use Rattle.rr_flat.specs.Walk.{statement_faults}
+use Rattle.rr_flat.specs.Shapes.{statement_faults}
 use Rattle.rr_exec.proofs.Declaring.{arms_more, statements_more}
 use Rattle.rr_exec.proofs.tests.+shaped.Goals as goal
 

@@ -1,6 +1,6 @@
 use Rattle.std.proofs.Common.{◌≡◌, [], take}
 use Rattle.rr_syntax.specs.View.{plain_arms, plain_statements}
-use Rattle.rr_flat.specs.Walk.{arms_faults, statements_faults}
+use Rattle.rr_flat.specs.Shapes.{arms_faults, statements_faults}
 use Rattle.rr_exec.proofs.tests.+shaped.Given as goal
 
 abbrev pub invariant-are_shaped-loop-stmt : goal.invariant-are_shaped-loop-stmt

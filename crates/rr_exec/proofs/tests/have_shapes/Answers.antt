@@ -1,6 +1,6 @@
 use Rattle.std.proofs.Common.{◌≡◌, refl, rules, true}
 use Rattle.rr_syntax.specs.View.{plain_list}
-use Rattle.rr_flat.specs.Walk.{list_faults}
+use Rattle.rr_flat.specs.Shapes.{list_faults}
 use Rattle.rr_exec.proofs.Declaring.{labels_more}
 use Rattle.rr_exec.proofs.tests.have_shapes.Goals as goal
 

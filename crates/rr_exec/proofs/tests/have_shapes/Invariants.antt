@@ -1,6 +1,6 @@
 use Rattle.std.proofs.Common.{◌≡◌, [], take}
 use Rattle.rr_syntax.specs.View.{plain_list}
-use Rattle.rr_flat.specs.Walk.{list_faults}
+use Rattle.rr_flat.specs.Shapes.{list_faults}
 use Rattle.rr_exec.proofs.tests.have_shapes.Given as goal
 
 abbrev pub invariant-loop-expr : goal.invariant-loop-expr

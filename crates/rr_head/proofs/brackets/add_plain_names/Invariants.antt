@@ -1,5 +1,5 @@
 use Rattle.std.proofs.Common.{◌≡◌, map, drop}
-use Rattle.rr_head.specs.Faults.{each}
+use Rattle.rr_flat.specs.Faults.{each}
 use Rattle.rr_syntax.specs.View.{plain_identifier}
 use Rattle.rr_head.specs.Declarations.{add_plain_name}
 use Rattle.rr_head.proofs.brackets.add_plain_names.Given as goal

@@ -1,7 +1,8 @@
 use Rattle.std.proofs.Common.{◌∙◌, ap, map, drop, fold, ◌+◌}
 use Rattle.rr_syntax.specs.View.{plain_port}
 use Rattle.rr_head.specs.Heads.{with_ports}
-use Rattle.rr_head.specs.View.{plain_signal, plain_declarations}
+use Rattle.rr_flat.specs.View.{plain_signal}
+use Rattle.rr_head.specs.View.{plain_declarations}
 use Rattle.rr_head.proofs.Steps.{fold_more}
 use Rattle.rr_head.proofs.head.add_groups.Goals as goal
 

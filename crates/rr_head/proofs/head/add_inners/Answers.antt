@@ -1,6 +1,7 @@
 use Rattle.std.proofs.Common.{◌∙◌, ap, map, drop, fold, ◌+◌}
 use Rattle.rr_head.specs.Heads.{with_inner}
-use Rattle.rr_head.specs.View.{plain_signal, plain_declared}
+use Rattle.rr_flat.specs.View.{plain_signal}
+use Rattle.rr_head.specs.View.{plain_declared}
 use Rattle.rr_head.proofs.Steps.{fold_more}
 use Rattle.rr_head.proofs.head.add_inners.Goals as goal
 

@@ -1,6 +1,6 @@
 use Rattle.std.proofs.Common.{map}
 use Rattle.rr_syntax.specs.View.{plain_module, plain_port, plain_item}
-use Rattle.rr_head.specs.Faults.{each}
+use Rattle.rr_flat.specs.Faults.{each}
 use Rattle.rr_head.specs.Declarations.{declare_ports, declare_item}
 use Rattle.rr_head.specs.View.{plain_declarations}
 use Rattle.rr_head.proofs.Steps.{refused}

@@ -1,7 +1,7 @@
 use Rattle.std.proofs.Common.{◌≡◌, ◌+◌, map, drop}
 use Rattle.rr_head.specs.Heads.{with_signals}
-use Rattle.rr_head.specs.Sound.{AreNamed}
-use Rattle.rr_head.specs.View.{plain_signal}
+use Rattle.rr_flat.specs.Sound.{AreNamed}
+use Rattle.rr_flat.specs.View.{plain_signal}
 use Rattle.rr_head.proofs.head.name_signals.Given as goal
 
 abbrev pub invariant-loop-signal : goal.invariant-loop-signal

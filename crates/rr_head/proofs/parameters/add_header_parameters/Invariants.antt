@@ -1,5 +1,5 @@
 use Rattle.std.proofs.Common.{◌≡◌, map, drop}
-use Rattle.rr_head.specs.Faults.{each}
+use Rattle.rr_flat.specs.Faults.{each}
 use Rattle.rr_head.specs.Sound.{ArePlaces}
 use Rattle.rr_syntax.specs.View.{plain_parameter}
 use Rattle.rr_head.specs.Parameters.{add_parameters}

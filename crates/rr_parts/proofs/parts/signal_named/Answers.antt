@@ -1,7 +1,7 @@
 use Rattle.std.proofs.Common.{◌∙◌, ap, length, map}
 use Rattle.std.proofs.lemmas.List.{length-map}
 use Rattle.rr_expr.specs.Scopes.{or_instance}
-use Rattle.rr_head.specs.View.{plain_signal}
+use Rattle.rr_flat.specs.View.{plain_signal}
 use Rattle.rr_parts.specs.Parts.{signal_of}
 use Rattle.rr_parts.proofs.NamesOfParts.{named_below}
 use Rattle.rr_parts.proofs.parts.signal_named.Goals as goal

@@ -1,5 +1,5 @@
 use Rattle.std.proofs.Common.{◌≡◌, map, drop}
-use Rattle.rr_head.specs.Faults.{each}
+use Rattle.rr_flat.specs.Faults.{each}
 use Rattle.rr_syntax.specs.View.{plain_net}
 use Rattle.rr_head.specs.Declarations.{declare_net}
 use Rattle.rr_head.specs.View.{plain_declarations}

@@ -1,0 +1,4 @@
+pub mod Tables
+pub mod Walk
+pub mod View
+pub mod Kept
