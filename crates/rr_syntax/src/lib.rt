@@ -5,6 +5,7 @@
 
 mod laws;
 mod nesting;
+mod operators;
 mod places;
 mod site;
 mod spelling;
@@ -14,6 +15,7 @@ mod tree;
 
 pub use laws::{bare_laws, depth_laws, spelling_laws, table_laws};
 pub use nesting::{depth, expression_depth};
+pub use operators::{infix_level, is_prefix};
 pub use places::token_at;
 pub use site::{ModulePlace, Site, SiteKind};
 pub use spelling::{events_len, expression_len, spell_len};
