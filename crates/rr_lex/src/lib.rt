@@ -10,8 +10,6 @@ mod lexer;
 mod literal;
 mod number;
 mod piece;
-#[cfg(test)]
-mod tests;
 mod words;
 
 pub use laws::{

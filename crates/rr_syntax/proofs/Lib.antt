@@ -8,6 +8,7 @@ pub mod LawsOfTrees
 pub mod Lengths
 pub mod NestingOfNodes
 pub mod Nonempty
+pub mod PastTables
 pub mod Rows
 pub mod Sums
 pub mod TablesAgreeing

@@ -5,6 +5,7 @@
 
 mod laws;
 mod nesting;
+mod operators;
 mod places;
 mod site;
 mod spelling;
@@ -13,16 +14,14 @@ mod token;
 mod tree;
 
 pub use laws::{bare_laws, depth_laws, spelling_laws, table_laws};
-pub use nesting::depth;
+pub use nesting::{depth, expression_depth};
+pub use operators::{infix_level, is_prefix};
 pub use places::token_at;
 pub use site::{ModulePlace, Site, SiteKind};
-pub use spelling::spell_len;
+pub use spelling::{events_len, expression_len, spell_len};
 pub use targets::is_target;
 pub use token::{KEYWORDS, Keyword, Kind, MARKS, Mark, Number, Span, Token};
 pub use tree::{
     Arm, Bounds, Connection, Conns, Dir, Event, Events, Expr, Group, Instance, Item, Module, Named,
     NetName, Pair, Params, Setting, Source, Stmt,
 };
-
-#[cfg(test)]
-mod tests;

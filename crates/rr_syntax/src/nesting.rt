@@ -24,9 +24,10 @@ pub fn depth(source: &Source) -> u32
     deepest
 }
 
+/// The greatest nesting of nodes in an expression, its root counted as 0.
 #[tactic(auto, using(crate::proofs::Depths::depths))]
 #[cycle(expression_depths)]
-pub(crate) fn expression_depth(expr: &Expr) -> u32
+pub fn expression_depth(expr: &Expr) -> u32
     requires fits { depth_tree (plain expr.now) < 2 ^ 32 }
     ensures { result ≡ depth_tree (plain expr.now) }
 {

@@ -23,9 +23,10 @@ pub fn spell_len(source: &Source) -> u64
     total
 }
 
+/// The number of tokens that spell the expression, brackets included.
 #[tactic(auto, using(crate::proofs::Lengths::sizes))]
 #[cycle(expression_lengths)]
-pub(crate) fn expression_len(expr: &Expr) -> u64
+pub fn expression_len(expr: &Expr) -> u64
     requires fits { length (spell (plain expr.now)) < 2 ^ 64 }
     ensures { result ≡ length (spell (plain expr.now)) }
 {
@@ -237,8 +238,10 @@ fn pairs_len(pairs: &[Pair]) -> u64
     total.saturating_sub(1)
 }
 
+/// The number of tokens behind the `@` of an event control (IEEE 1364-2005 section 9.7), brackets
+/// included.
 #[tactic(auto, using(crate::proofs::ItemLengths::events_sizes))]
-fn events_len(events: &Events) -> u64
+pub fn events_len(events: &Events) -> u64
     requires fits { length (spell_events (plain_events events.now)) < 2 ^ 64 }
     ensures { result ≡ length (spell_events (plain_events events.now)) }
 {
