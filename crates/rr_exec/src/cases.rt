@@ -58,7 +58,7 @@ fn joined_all(first: Shape, labels: &[Expr], scope: &Scope) -> Shape
 
 /// The width and the sign in which a `case` compares: the greatest of the widths of the selector and
 /// of all labels, signed where all are.
-fn case_shape(on: &Expr, arms: &[Arm], scope: &Scope) -> Shape
+pub fn case_shape(on: &Expr, arms: &[Arm], scope: &Scope) -> Shape
     requires on { shape_faults scope.now (plain on.now) ≡ [] }
     requires arms { arms_faults scope.now (plain_arms arms.now) ≡ [] }
     ensures value { result ≡ shape_of_case scope.now (plain on.now) (plain_arms arms.now) }
@@ -91,7 +91,7 @@ fn wild_digits(kind: Keyword, number: &Number) -> Bits
 
 /// Those of a label, up to a width.
 #[tactic(auto, using(crate::proofs::Labels::wild_nodes))]
-fn wild(kind: Keyword, label: &Expr, width: u32) -> Bits
+pub fn wild(kind: Keyword, label: &Expr, width: u32) -> Bits
     requires shaped { (names : Names) × (fault names (plain label.now) false ≡ None) }
     requires low { 1 ≤ width }
     requires high { width ≤ 128 }

@@ -7,7 +7,7 @@ mod cases;
 mod exec;
 mod writes;
 
-pub use cases::own_shape;
+pub use cases::{case_shape, own_shape, wild};
 pub use exec::{Machine, execute};
 pub use writes::{Later, apply, merged, write_pieces};
 

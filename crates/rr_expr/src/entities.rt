@@ -57,7 +57,7 @@ pub(crate) fn is_signed(entity: &Entity) -> bool
 }
 
 /// The shape of a name whose width is from 1 to 128.
-pub(crate) fn entity_shape(entity: &Entity) -> Shape
+pub fn entity_shape(entity: &Entity) -> Shape
     requires fits { IsTrue (is_a_width (shape_of_entity entity.now).width) }
     ensures value { result ≡ shape_of_entity entity.now }
 {
@@ -68,7 +68,7 @@ pub(crate) fn entity_shape(entity: &Entity) -> Shape
 }
 
 /// The range by which a name is read, also where it has none.
-pub(crate) fn entity_range(entity: &Entity) -> (u32, u32)
+pub fn entity_range(entity: &Entity) -> (u32, u32)
     ensures { result ≡ range_of_entity entity.now }
 {
     match entity {

@@ -19,8 +19,12 @@ mod shapes;
 mod types;
 mod values;
 
+pub use entities::{entity_range, entity_shape};
 pub use laws::{context_laws, scope_laws, value_laws};
 use notes::Notes;
+pub use operators::{
+    Infix, Operation, Prefix, Reduction, Relation, Shift, infix_of, joined, prefix_of,
+};
 use rr_bits::Bits;
 use rr_syntax::Expr;
 pub use scope::Scope;
@@ -78,6 +82,3 @@ pub fn constant(expr: &Expr, scope: &Scope) -> Result<(Bits, bool), ExprFault>
     let mut notes = Notes::new();
     Ok((value_in(expr, scope, &[], shape, &mut notes), shape.signed))
 }
-
-#[cfg(test)]
-mod tests;

@@ -8,9 +8,9 @@ use crate::types::Shape;
 use rr_bits::Bits;
 use rr_syntax::Mark;
 
-/// An operator that takes both operands in the context of the whole.
+/// An operator that takes both operands in the context of the whole (IEEE 1364-2005 section 5.4.1).
 #[derive(Clone, Copy)]
-pub(crate) enum Operation {
+pub enum Operation {
     Add,
     Subtract,
     Multiply,
@@ -20,16 +20,17 @@ pub(crate) enum Operation {
     Xnor,
 }
 
+/// A shift by the number of its right operand (section 5.1.12).
 #[derive(Clone, Copy)]
-pub(crate) enum Shift {
+pub enum Shift {
     Left,
     Right,
     SignedRight,
 }
 
-/// A comparison; with two values of a bit `===` and `!==` are `==` and `!=`.
+/// A comparison (sections 5.1.7 and 5.1.8); with two values of a bit `===` and `!==` are `==` and `!=`.
 #[derive(Clone, Copy)]
-pub(crate) enum Relation {
+pub enum Relation {
     Less,
     Greater,
     LessOrEqual,
@@ -38,9 +39,9 @@ pub(crate) enum Relation {
     NotEqual,
 }
 
-/// A reduction; `!` is `~|`, since a word is true where some bit is one.
+/// A reduction (section 5.1.11); `!` is `~|`, since a word is true where some bit is one.
 #[derive(Clone, Copy)]
-pub(crate) enum Reduction {
+pub enum Reduction {
     And,
     Nand,
     Or,
@@ -51,7 +52,7 @@ pub(crate) enum Reduction {
 
 /// An operator between operands; `Both` and `Either` are `&&` and `||`.
 #[derive(Clone, Copy)]
-pub(crate) enum Infix {
+pub enum Infix {
     Arithmetic(Operation),
     Divide,
     Remainder,
@@ -64,7 +65,7 @@ pub(crate) enum Infix {
 
 /// An operator before an operand.
 #[derive(Clone, Copy)]
-pub(crate) enum Prefix {
+pub enum Prefix {
     Plus,
     Minus,
     Invert,
@@ -169,7 +170,7 @@ const PREFIXES: [Prefix; 45] = [
 
 /// The operator that a mark between operands is.
 #[tactic(auto, using(crate::proofs::Words::no_infix))]
-pub(crate) fn infix_of(op: Mark) -> Infix
+pub fn infix_of(op: Mark) -> Infix
     ensures { result ≡ get_or infixes op.0 Either }
 {
     if op.0 > 44 {
@@ -179,13 +180,14 @@ pub(crate) fn infix_of(op: Mark) -> Infix
 }
 
 /// The operator that a mark before an operand is.
-pub(crate) fn prefix_of(op: Mark) -> Prefix
+pub fn prefix_of(op: Mark) -> Prefix
     ensures { result ≡ get_or prefixes op.0 Plus }
 {
     PREFIXES.get(op.0 as usize).copied().unwrap_or(Prefix::Plus)
 }
 
-pub(crate) fn joined(left: Shape, right: Shape) -> Shape
+/// The shape of two operands in one context: the greater width, signed where both are (section 5.5.1).
+pub fn joined(left: Shape, right: Shape) -> Shape
     ensures { result ≡ joined_shape left right }
 {
     Shape {

@@ -57,7 +57,7 @@ impl<'a> Scope<'a> {
 
     /// What a name in an expression stands for; a name that is not there stands for nothing that an
     /// expression may use, as that of an instance.
-    pub(crate) fn meaning(&self, name: &str) -> Entity
+    pub fn meaning(&self, name: &str) -> Entity
         ensures { result ≡ meant self.now name.now }
     {
         self.find(name).unwrap_or(Entity::Instance)

@@ -1,5 +1,5 @@
 //! Vectors of IEEE 1364-2005 section 5.
-use crate::{Entity, Env, ExprFault, Scope, constant, first_token, shape, shape_of, value};
+use rr_expr::{Entity, Env, ExprFault, Scope, constant, first_token, shape, shape_of, value};
 use rr_syntax::{Expr, Mark, Number};
 use std::alloc::{AllocError, Global};
 use std::test::Fail;
