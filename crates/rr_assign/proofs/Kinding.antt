@@ -5,7 +5,7 @@ use Rattle.std.specs.List.{list_any}
 use Rattle.std.specs.Option.{option_or}
 use Rattle.std.proofs.lemmas.Bool.{cases_eq, eqb-true, eq-eqb, ne_eqb, or_right}
 use Rattle.std.proofs.lemmas.List.{drop_all, length-set, map-append, take-append-drop, take_all, take_more}
-use Rattle.rr_head.proofs.Steps.{rest}
+use Rattle.rr_flat.proofs.Lists.{rest}
 use Rattle.rr_flat.specs.declared.design.Part as design
 use Rattle.rr_flat.specs.Plain.{Block, Flat}
 use Rattle.rr_flat.specs.Reads.{Assigned, assigned_by}

@@ -7,7 +7,7 @@ use Rattle.std.proofs.lemmas.List.{drop_all, get_or_default, get_or-map, get_or-
 use Rattle.rr_syntax.specs.Tree.{Identifier}
 use Rattle.rr_syntax.specs.View.{plain_identifier}
 use Rattle.rr_syntax.specs.declared.tree.Named.{Named}
-use Rattle.rr_head.proofs.Steps.{rest}
+use Rattle.rr_flat.proofs.Lists.{rest}
 use Rattle.rr_flat.specs.Plain.{Block, Flat}
 use Rattle.rr_flat.specs.Reads.{names_read}
 use Rattle.rr_flat.specs.View.{plain_block}

@@ -10,7 +10,7 @@ use Rattle.rr_syntax.specs.Tree.{EdgeEvent}
 use Rattle.rr_syntax.specs.View.{plain_edge, plain_identifier}
 use Rattle.rr_expr.specs.declared.types.Entity.TheVariants as entity
 use Rattle.rr_expr.specs.Scopes.{Names, lookup}
-use Rattle.rr_head.proofs.Steps.{rest}
+use Rattle.rr_flat.proofs.Lists.{rest}
 use Rattle.rr_flat.specs.Signals.{with_name}
 use Rattle.rr_flat.specs.Signals.{Text}
 use Rattle.rr_flat.specs.Clocks.{free_edge, is_among, or_first}

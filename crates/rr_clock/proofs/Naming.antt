@@ -11,7 +11,7 @@ use Rattle.rr_expr.specs.declared.types.Entity.TheVariants as entity
 use Rattle.rr_expr.specs.Scopes.{Names, lookup}
 use Rattle.rr_flat.specs.Signals.{with_name}
 use Rattle.rr_flat.specs.Signals.{Text, Signal, signal_at}
-use Rattle.rr_head.proofs.Steps.{rest}
+use Rattle.rr_flat.proofs.Lists.{rest}
 use Rattle.rr_flat.specs.Clocks.{NameLeads}
 use Rattle.rr_flat.specs.Plain.{Flat}
 use Rattle.rr_parts.specs.Parts.{scalar_named}

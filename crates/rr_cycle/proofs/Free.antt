@@ -2,7 +2,7 @@
 use Rattle.std.proofs.Common.{◌≡◌, ℕ, get_or, Bool, true, false, Option, Some, None, Ok, sym, arith, inl, inr, pos, subst}
 use Rattle.std.proofs.lemmas.Bool.{or_cases, and_parts, eqb-true}
 use Rattle.std.proofs.lemmas.List.Elements.{All-get_or}
-use Rattle.rr_syntax.specs.Tree.{Tree, SourceText}
+use Rattle.rr_syntax.specs.Tree.{Tree}
 use Rattle.rr_expr.specs.declared.types.Bit.{Bit}
 use Rattle.rr_expr.specs.declared.types.Entity.{Entity}
 use Rattle.rr_expr.specs.declared.types.Entity.TheVariants.{Signal}
@@ -14,14 +14,13 @@ use Rattle.rr_flat.specs.Lawful.{RightTargets, MayDrive, MayAssign, DeclaredTarg
 use Rattle.rr_flat.specs.Plain.{Side, Written, Whole, Block, Flat}
 use Rattle.rr_flat.specs.Reads.{assigned_by}
 use Rattle.rr_flat.specs.Targets.{is_fixed, part_name, target_parts}
-use Rattle.rr_walk.specs.Walk.{flat_of}
+use Rattle.rr_flat.specs.Elaborated.{DrivesOwn, IsTopInput, IsSound}
 use Rattle.rr_flat.specs.Writers.{scope_at, driver_at, no_driver, block_at, driven_by, signal_bits, entity_of_signal, Writer, Driven, Clocked, Combinational, Writes, writes_now, writes_later, writes_at_all}
 use Rattle.rr_cycle.specs.Cycles.{IsInputBit}
-use Rattle.rr_cycle.specs.Designs.{IsElaborated, IsLawful}
-use Rattle.rr_cycle.proofs.HeadOf.{all_index}
+use Rattle.rr_cycle.specs.Designs.{IsLawful}
 use Rattle.rr_cycle.proofs.Sequence.{Among, OfKind, target_named, write_named}
 use Rattle.rr_cycle.proofs.TargetBits.{target_written}
-use Rattle.rr_cycle.proofs.WalkOf.{Aims, IsTop, Sourced, sourced}
+use Rattle.rr_flat.proofs.Lists.{all_index}
 use Rattle.rr_flat.proofs.Bits.{place_has, bits_of_name}
 
 -- a name that may be driven or assigned is no input
@@ -35,16 +34,16 @@ whole_signal : (flat : Flat) (id i : ℕ) (b : Bit) → get_or (signal_bits flat
 whole_signal flat id i b h =
     sym (eqb-true id b.signal (and_parts _ _ (bits_of_name (entity_of_signal flat id) (pos 0) (signal_at flat.signals id).width b (place_has (signal_bits flat id) b i h))).0)
 
-no_declared : (flat : Flat) (id i : ℕ) (t : Tree) → DeclaredTarget flat id (Written t i) → Aims flat.signals (Whole id) (Written t i) → IsTop (signal_at flat.signals id) → ⊥
+no_declared : (flat : Flat) (id i : ℕ) (t : Tree) → DeclaredTarget flat id (Written t i) → DrivesOwn flat.signals (Whole id) (Written t i) → IsTopInput (signal_at flat.signals id) → ⊥
 no_declared flat id i t r a h = elim a.1 [
   | inl q ↦ (r q).1 h.1
   | inr q ↦ absurd (omega (arith, q, h.0))
 ]
 
-no_driver_of : (flat : Flat) (target value : Side) (i : ℕ) (b : Bit) → DriverTarget flat target value → Aims flat.signals target value → get_or (driven_by flat target) i None ≡ Some b → IsTop (signal_at flat.signals b.signal) → ⊥
+no_driver_of : (flat : Flat) (target value : Side) (i : ℕ) (b : Bit) → DriverTarget flat target value → DrivesOwn flat.signals target value → get_or (driven_by flat target) i None ≡ Some b → IsTopInput (signal_at flat.signals b.signal) → ⊥
 unfolding driven_by
 no_driver_of flat (Whole id) (Whole x) i b r a w h = a
-no_driver_of flat (Whole id) (Written t j) i b r a w h = no_declared flat id j t r a (subst (λ n. IsTop (signal_at flat.signals n)) (whole_signal flat id i b w) h)
+no_driver_of flat (Whole id) (Written t j) i b r a w h = no_declared flat id j t r a (subst (λ n. IsTopInput (signal_at flat.signals n)) (whole_signal flat id i b w) h)
 no_driver_of flat (Written t j) value i b r a w h =
     let s = scope_at flat j in
     let p = target_named s t b (target_written s nowhere t b (place_has _ b i w)) in
@@ -52,7 +51,7 @@ no_driver_of flat (Written t j) value i b r a w h =
     let q = p.1.1.2 in
     no_drive flat (meant s (part_name p.1.0)) (is_fixed s p.1.0) b.signal q.0 q.1.0 (subst (λ x. MayDrive flat (meant s (part_name x)) (is_fixed s x)) p.1.1.1 may) q.1.1 h.1
 
-no_block_of : (flat : Flat) (block : Block) (b : Bit) → BlockTargets flat block → writes_at_all flat block b ≡ true → IsTop (signal_at flat.signals b.signal) → ⊥
+no_block_of : (flat : Flat) (block : Block) (b : Bit) → BlockTargets flat block → writes_at_all flat block b ≡ true → IsTopInput (signal_at flat.signals b.signal) → ⊥
 no_block_of flat block b r w h = elim (or_cases (writes_now flat block b) (writes_later flat block b) w) [
   | inl v ↦ by true (write_named true (scope_at flat block.scope) block.body b v)
   | inr v ↦ by false (write_named false (scope_at flat block.scope) block.body b v)
@@ -65,19 +64,18 @@ no_block_of flat block b r w h = elim (or_cases (writes_now flat block b) (write
         let q = a.1.1.2.1 in
         no_assign flat (meant s (part_name a.1.0.part)) b.signal q.0 q.1.0 (subst (λ x. MayAssign flat (meant s (part_name x.part))) a.1.1.1 may) q.1.1 h.1
 
-pub inputs_free : (source : SourceText) (top : Option Text) (flat : Flat) → flat_of source top ≡ Ok flat → RightTargets flat → (b : Bit) → IsInputBit flat b → (x : Writer) → Writes flat x b → ⊥
+pub inputs_free : (flat : Flat) → IsSound flat → RightTargets flat → (b : Bit) → IsInputBit flat b → (x : Writer) → Writes flat x b → ⊥
 unfolding Writes
-inputs_free source top flat e r b i x w =
-    let f = sourced source top flat e in
-    let h : IsTop (signal_at flat.signals b.signal) = subst (λ n. IsTop (signal_at flat.signals n)) i.0.1.1 (all_index (λ id. IsTop (signal_at flat.signals id)) flat.inputs i.0.0 0 f.inputs i.0.1.0) in
+inputs_free flat f r b i x w =
+    let h : IsTopInput (signal_at flat.signals b.signal) = subst (λ n. IsTopInput (signal_at flat.signals n)) i.0.1.1 (all_index (λ id. IsTopInput (signal_at flat.signals id)) flat.inputs i.0.0 0 f.inputs i.0.1.0) in
     by f h x w
   where
-    by : Sourced flat → IsTop (signal_at flat.signals b.signal) → (x : Writer) → Writes flat x b → ⊥
-    by f h (Driven k j) w = no_driver_of flat (driver_at flat k).target (driver_at flat k).value j b (r.drivers k w.0) (all_index (λ d. Aims flat.signals d.target d.value) flat.drivers k no_driver f.drivers w.0) w.1 h
+    by : IsSound flat → IsTopInput (signal_at flat.signals b.signal) → (x : Writer) → Writes flat x b → ⊥
+    by f h (Driven k j) w = no_driver_of flat (driver_at flat k).target (driver_at flat k).value j b (r.drivers k w.0) (all_index (λ d. DrivesOwn flat.signals d.target d.value) flat.drivers k no_driver f.drivers w.0) w.1 h
     by f h (Clocked k) w = no_block_of flat (block_at flat.clocked k) b (r.clocked k w.0) w.1 h
     by f h (Combinational k) w = no_block_of flat (block_at flat.combinational k) b (r.combinational k w.0) w.1 h
 
-pub free_inputs : (flat : Flat) → IsElaborated flat → IsLawful flat → (b : Bit) → IsInputBit flat b → (x : Writer) → Writes flat x b → ⊥
-free_inputs flat e l b i x w = inputs_free e.0 e.1.0 flat e.1.1 l.1.targets b i x w
+pub free_inputs : (flat : Flat) → IsSound flat → IsLawful flat → (b : Bit) → IsInputBit flat b → (x : Writer) → Writes flat x b → ⊥
+free_inputs flat f l b i x w = inputs_free flat f l.1.targets b i x w
 
 pub ruleset inputs_of_the_top = (free_inputs)

@@ -5,8 +5,7 @@ pub mod Wiring
 pub mod Orders
 pub mod Settling
 pub mod Sequence
-pub mod HeadOf
-pub mod WalkOf
 pub mod Free
 pub mod Settled
 pub mod Ranked
+pub mod Applied

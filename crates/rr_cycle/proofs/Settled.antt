@@ -1,6 +1,5 @@
 -- the laws of cycles
-use Rattle.std.proofs.Common.{◌≡◌, ℕ, List, [], ◌∷◌, Bool, true, Option, None, Ok, refl, arith, inl, inr}
-use Rattle.rr_syntax.specs.Tree.{ModuleDeclaration, SourceText}
+use Rattle.std.proofs.Common.{◌≡◌, ℕ, List, [], ◌∷◌, Bool, true, Option, None, refl, arith, inl, inr, ◌∙◌}
 use Rattle.rr_expr.specs.declared.types.Bit.{Bit}
 use Rattle.rr_flat.specs.declared.design.Step.{Step}
 use Rattle.rr_flat.specs.declared.design.Step.TheVariants.{Driver, Wire, Block}
@@ -8,16 +7,10 @@ use Rattle.rr_flat.specs.Clocks.{OneClock}
 use Rattle.rr_flat.specs.Lawful.{Lawful, AssignedSomewhere}
 use Rattle.rr_flat.specs.Ordered.{Ordered, IsStep}
 use Rattle.rr_flat.specs.Plain.{Flat}
-use Rattle.rr_expr.specs.Scopes.{lookup}
-use Rattle.rr_head.specs.Declarations.{brackets, declarations}
-use Rattle.rr_flat.specs.Faults.{each}
-use Rattle.rr_head.specs.Heads.{declared, head, numbered, signals_in_order, with_signals}
-use Rattle.rr_head.specs.Parameters.{parameters}
-use Rattle.rr_walk.specs.Tables.{add_module, instantiated_by, last_free}
-use Rattle.rr_walk.specs.Walk.{begin, enter, enter_by, flat_of, reached_from, top_ports}
 use Rattle.rr_flat.specs.Writers.{Writer, Driven, Clocked, Combinational, Writes, BitNames}
 use Rattle.rr_cycle.specs.Cycles.{Settled, IsNext, Runs, ended, cycle, Run, zeros, outputs_of}
-use Rattle.rr_cycle.specs.Designs.{IsElaborated, IsInOrder, IsLawful}
+use Rattle.rr_flat.specs.Elaborated.{IsSound}
+use Rattle.rr_cycle.specs.Designs.{IsInOrder, IsLawful}
 use Rattle.rr_cycle.specs.Exec.{Environment, applied}
 use Rattle.rr_cycle.specs.Performing.{base, performed, run_blocks, updates_of_blocks}
 use Rattle.rr_cycle.proofs.Free.{free_inputs}
@@ -25,30 +18,34 @@ use Rattle.rr_cycle.proofs.Sequence.{next_in_order, only_next}
 use Rattle.rr_cycle.proofs.Ranked.{one_settled, run_once}
 use Rattle.rr_cycle.proofs.Settling.{settled_by_steps}
 
-pub settles : (flat : Flat) (clock : Option ℕ) (rising : Bool) (steps : List Step) → IsElaborated flat → IsInOrder flat clock rising steps → (state : Environment) (row : List ℕ) →
+pub settles : (flat : Flat) (clock : Option ℕ) (rising : Bool) (steps : List Step) → IsSound flat → IsInOrder flat clock rising steps → (state : Environment) (row : List ℕ) →
     Settled flat clock state row (performed flat steps (base flat clock state row))
 settles flat clock rising steps e o state row = settled_by_steps flat o.0 clock rising steps o.1.0 o.1.1 (free_inputs flat e (o.0, o.1.0)) state row
 
-pub settled_exists : (flat : Flat) (clock : Option ℕ) (rising : Bool) (steps : List Step) → IsElaborated flat → IsInOrder flat clock rising steps → (state : Environment) (row : List ℕ) → (env : Environment) × Settled flat clock state row env
+pub settled_exists : (flat : Flat) (clock : Option ℕ) (rising : Bool) (steps : List Step) → IsSound flat → IsInOrder flat clock rising steps → (state : Environment) (row : List ℕ) → (env : Environment) × Settled flat clock state row env
 settled_exists flat clock rising steps e o state row = (performed flat steps (base flat clock state row), settles flat clock rising steps e o state row)
+
+-- of a state only the bits that clocked blocks write count
+pub settled_by_registers : (flat : Flat) (clock : Option ℕ) (state other : Environment) (row : List ℕ) (env : Environment) → Settled flat clock state row env →
+    ((k : ℕ) (b : Bit) → Writes flat (Clocked k) b → state b ≡ other b) → Settled flat clock other row env
+settled_by_registers flat clock state other row env s same = record {
+  registers = λ k b w. s.registers k b w ∙ same k b w;
+  inputs = s.inputs;
+  drivers = s.drivers;
+  blocks = s.blocks;
+  others = s.others;
+}
 
 pub settled_only : (flat : Flat) → IsLawful flat → (clock : Option ℕ) (state : Environment) (row : List ℕ) (e f : Environment) → Settled flat clock state row e → Settled flat clock state row f → e ≡ f
 settled_only flat l clock state row e f h k = one_settled flat l.0 l.1 clock state row e f h k
 
--- A design without a part: the source has one module, without ports and items
-
-abbrev empty_module : ModuleDeclaration
-empty_module = record { text = []; token = 0; params = []; header = None; groups = []; items = [] }
-
-abbrev empty_source : SourceText
-empty_source = record { modules = empty_module ∷ [] }
+-- A design without a part
 
 abbrev empty : Flat
 empty = record { top = 0; signals = []; scopes = [] ∷ []; drivers = []; clocked = []; combinational = []; walk = []; inputs = []; outputs = []; owners = 0 ∷ []; reached = 0 ∷ [] }
 
-elaborated : flat_of empty_source None ≡ Ok empty
-unfolding flat_of each add_module lookup last_free instantiated_by enter enter_by begin head parameters declared brackets declarations numbered signals_in_order with_signals top_ports reached_from
-elaborated = refl
+sound : IsSound empty
+sound = record { drivers = tt; inputs = tt }
 
 one_clock : OneClock empty None None true
 one_clock = record { chosen = refl; direction = refl; all = tt }
@@ -98,8 +95,8 @@ ordered = record {
   after = λ i j l m b w n. absurd (omega (arith, l));
 }
 
-pub settled_met : (flat : Flat) × ((clock : Option ℕ) × ((rising : Bool) × ((steps : List Step) × (IsElaborated flat × IsInOrder flat clock rising steps))))
-settled_met = (empty, (None, (true, ([], ((empty_source, (None, elaborated)), (None, (lawful, ordered)))))))
+pub settled_met : (flat : Flat) × ((clock : Option ℕ) × ((rising : Bool) × ((steps : List Step) × (IsSound flat × IsInOrder flat clock rising steps))))
+settled_met = (empty, (None, (true, ([], (sound, (None, (lawful, ordered)))))))
 
 -- Next states
 
@@ -112,11 +109,11 @@ next_exists flat l env = (applied (updates_of_blocks flat flat.clocked env) (run
 pub next_only : (flat : Flat) (env e f : Environment) → IsNext flat env e → IsNext flat env f → e ≡ f
 next_only flat env e f h k = only_next flat env e f h k
 
-pub ruleset nexts = (next_exists, next_only)
+pub ruleset nexts = (next_exists, next_is, next_only)
 
 -- Runs
 
-runs_exist : (flat : Flat) (clock : Option ℕ) (rising : Bool) (steps : List Step) → IsElaborated flat → IsInOrder flat clock rising steps → (rows : List (List ℕ)) (state : Environment) →
+runs_exist : (flat : Flat) (clock : Option ℕ) (rising : Bool) (steps : List Step) → IsSound flat → IsInOrder flat clock rising steps → (rows : List (List ℕ)) (state : Environment) →
     (outputs : List (List ℕ)) × ((last : Environment) × Runs flat clock state rows outputs last)
 runs_exist flat clock rising steps e o [] state = ([], (state, ended))
 runs_exist flat clock rising steps e o (row ∷ rows) state =
@@ -125,7 +122,7 @@ runs_exist flat clock rising steps e o (row ∷ rows) state =
     let r = runs_exist flat clock rising steps e o rows n.0 in
     (outputs_of flat s.0 ∷ r.0, (r.1.0, cycle s.0 n.0 s.1 n.1 r.1.1))
 
-pub run_exists : (flat : Flat) (clock : Option ℕ) (rising : Bool) (steps : List Step) → IsElaborated flat → IsInOrder flat clock rising steps → (rows : List (List ℕ)) → (outputs : List (List ℕ)) × Run flat clock rows outputs
+pub run_exists : (flat : Flat) (clock : Option ℕ) (rising : Bool) (steps : List Step) → IsSound flat → IsInOrder flat clock rising steps → (rows : List (List ℕ)) → (outputs : List (List ℕ)) × Run flat clock rows outputs
 run_exists flat clock rising steps e o rows = runs_exist flat clock rising steps e o rows zeros
 
 pub run_only : (flat : Flat) → IsLawful flat → (clock : Option ℕ) (rows a b : List (List ℕ)) → Run flat clock rows a → Run flat clock rows b → a ≡ b

@@ -1,9 +1,10 @@
 //! From bytes to tokens, to the tree, to the flat design.
-ghost use Rattle.std.specs.Prelude.{◌≡◌, ◌≤◌, ◌<◌, ◌^◌, ℕ, List, Option, MatchResult, length, option_map};
+ghost use Rattle.std.specs.Prelude.{◌≡◌, ◌≤◌, ◌<◌, ◌^◌, ℕ, List, Option, IfOk, MatchResult, length, option_map};
 ghost use Rattle.rr_syntax.specs.Tree.{SourceText};
 ghost use Rattle.rr_syntax.specs.Items.{WellFormedSource, FitLiteralsSource};
 ghost use Rattle.rr_syntax.specs.View.{plain_source};
 ghost use Rattle.rr_lex.specs.Tokens.{AreTokens, IsTextFault, lexemes};
+ghost use Rattle.rr_flat.specs.Elaborated.{IsSound};
 ghost use Rattle.rr_flat.specs.Faults.{Refuses as RefusesFlat};
 ghost use Rattle.rr_flat.specs.View.{plain_flat};
 ghost use Rattle.rr_walk.specs.Walk.{flat_of};
@@ -11,13 +12,12 @@ ghost use Rattle.rr_parse.specs.Exact.{IsRefusal};
 ghost use Rattle.rr_elaborate.specs.Designs.{IsDesign, IsText, Refuses, placed as placed_by, start_of as start_in};
 
 use bumpalo::Bump;
-use rr_flat::Flat;
-use rr_walk::flatten;
-use rr_flat::FlatFault;
+use rr_flat::{Flat, FlatFault};
 use rr_lex::{TextFault, Wrong, lex};
 use rr_parse::parse;
 use rr_parse_expr::ParseFault;
 use rr_syntax::{Source, Token};
+use rr_walk::flatten;
 use std::alloc::Global;
 
 /// A flat design with the tokens of its text, which its numbers of tokens name.
@@ -125,9 +125,10 @@ fn flattened<'a>(
     requires few { length source.now.modules.now < 2 ^ 32 }
     requires formed { WellFormedSource (plain_source source.now) }
     requires fit { FitLiteralsSource (plain_source source.now) }
-    ensures { (bytes : List ℕ) → IsText bytes (lexemes tokens.now) (plain_source source.now) → MatchResult result
+    ensures answer { (bytes : List ℕ) → IsText bytes (lexemes tokens.now) (plain_source source.now) → MatchResult result
         (λ design. IsDesign bytes (lexemes design.tokens.now) (option_map (λ n. n.now) top.entry) (plain_flat design.flat))
         (Refuses bytes (option_map (λ n. n.now) top.entry)) }
+    ensures sound { IfOk result (λ design. IsSound (plain_flat design.flat)) }
 {
     match flatten(alloc, source, top) {
         Ok(flat) => Ok(Design { tokens, flat }),
@@ -144,9 +145,10 @@ fn parsed<'a>(
 ) -> Result<Design<'a>, DesignFault>
     requires few { length tokens.now < 2 ^ 32 }
     requires lexed { (bytes : List ℕ) × AreTokens bytes (lexemes tokens.now) }
-    ensures { (bytes : List ℕ) → AreTokens bytes (lexemes tokens.now) → MatchResult result
+    ensures answer { (bytes : List ℕ) → AreTokens bytes (lexemes tokens.now) → MatchResult result
         (λ design. IsDesign bytes (lexemes design.tokens.now) (option_map (λ n. n.now) top.entry) (plain_flat design.flat))
         (Refuses bytes (option_map (λ n. n.now) top.entry)) }
+    ensures sound { IfOk result (λ design. IsSound (plain_flat design.flat)) }
 {
     match parse(tokens, arena) {
         Ok(source) => flattened(alloc, tokens, source, top),
@@ -164,9 +166,10 @@ pub fn elaborate<'a>(
     arena: &'a Bump,
 ) -> Result<Design<'a>, DesignFault>
     requires { length bytes.now ≤ 1048576 }
-    ensures { MatchResult result
+    ensures answer { MatchResult result
         (λ design. IsDesign bytes.now (lexemes design.tokens.now) (option_map (λ n. n.now) top.entry) (plain_flat design.flat))
         (Refuses bytes.now (option_map (λ n. n.now) top.entry)) }
+    ensures sound { IfOk result (λ design. IsSound (plain_flat design.flat)) }
 {
     match lex(bytes, arena) {
         Ok(tokens) => parsed(alloc, tokens, top, arena),

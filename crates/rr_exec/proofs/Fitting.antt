@@ -13,7 +13,7 @@ use Rattle.rr_expr.specs.Selects.{place, lowest_place, integer_with}
 use Rattle.rr_expr.specs.Values.{form, value, nowhere}
 use Rattle.rr_flat.specs.Targets.{has_bit, is_bit_of, target_bits, targets_bits}
 use Rattle.rr_flat.specs.Shapes.{shape_faults}
-use Rattle.rr_walk.proofs.Clears.{clear}
+use Rattle.rr_flat.proofs.Shaping.{clear}
 use Rattle.rr_target.specs.declared.piece.Piece.{Piece}
 use Rattle.rr_target.specs.Pieces.{all_bits, bits_of}
 use Rattle.rr_target.proofs.Nodes.{shaped_small}

@@ -12,6 +12,7 @@ use Rattle.rr_expr.specs.Scopes.{Names}
 use Rattle.rr_expr.specs.Values.{form, value}
 use Rattle.rr_flat.specs.Latches.{has_labels}
 use Rattle.rr_flat.specs.Shapes.{shape_faults, list_faults, statement_faults, statements_faults, arms_faults}
+use Rattle.rr_cycle.proofs.Applied.{applied_append}
 use Rattle.rr_cycle.specs.Exec.{Environment, Update, applied, case_shape, executed, executed_all, executed_case, executed_default, is_equal, is_matched, joined_all, joined_labels, labels_of, updates, updates_of_all, updates_of_case, updates_of_default, wild}
 use Rattle.rr_exec.specs.Work.{AreNarrow, ArmsNarrow}
 
@@ -33,11 +34,6 @@ left_none (x ∷ xs) ys h = cc
 right_none : {X : Type 0} (xs ys : List X) → xs ++ ys ≡ [] → ys ≡ []
 right_none [] ys h = h
 right_none (x ∷ xs) ys h = cc
-
-pub applied_append : (us vs : List Update) (e : Environment) → applied (us ++ vs) e ≡ applied vs (applied us e)
-unfolding applied
-applied_append [] vs e = refl
-applied_append (u ∷ us) vs e = applied_append us vs _
 
 -- Statements
 

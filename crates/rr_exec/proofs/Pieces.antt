@@ -17,6 +17,7 @@ use Rattle.rr_expr.specs.Scopes.{env_of}
 use Rattle.rr_target.specs.declared.piece.Piece.{Piece}
 use Rattle.rr_target.specs.Pieces.{bit_in, bits_in, bits_of, all_bits, covers}
 use Rattle.rr_target.proofs.Runs.{bit_is, covers_in, has_in, IsIn}
+use Rattle.rr_cycle.proofs.Applied.{applied_append}
 use Rattle.rr_cycle.specs.Exec.{Environment, put, write, Update, applied}
 use Rattle.rr_cycle.proofs.Writes.{write_outside, write_there}
 use Rattle.rr_flat.proofs.Bits.{bit_eq, place_inside}
@@ -251,11 +252,6 @@ count_none [] = refl
 count_none (p ∷ ps) = count_none ps
 
 -- updates
-
-pub applied_append : (us vs : List Update) (e : Environment) → applied (us ++ vs) e ≡ applied vs (applied us e)
-unfolding applied
-applied_append [] vs e = refl
-applied_append (u ∷ us) vs e = applied_append us vs _
 
 updates_append : (xs ys : List Later) → updates_in (xs ++ ys) ≡ updates_in xs ++ updates_in ys
 updates_append [] ys = refl

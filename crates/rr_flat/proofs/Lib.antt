@@ -3,3 +3,5 @@ pub mod Orders
 pub mod Alike
 pub mod Flats
 pub mod WalkLemmas
+pub mod Lists
+pub mod Shaping

@@ -11,3 +11,4 @@ pub mod Latches
 pub mod Clocks
 pub mod Lawful
 pub mod Ordered
+pub mod Elaborated

@@ -21,7 +21,7 @@ use Rattle.rr_flat.specs.declared.signal.Signal.{Signal}
 use Rattle.rr_flat.specs.declared.fault.FlatFault.{FlatFault}
 use Rattle.rr_flat.specs.declared.fault.FlatFault.TheVariants.{TooMany}
 use Rattle.rr_flat.specs.declared.fault.Limit.TheVariants.{FlatBits}
-use Rattle.rr_head.proofs.Steps.{rest}
+use Rattle.rr_flat.proofs.Lists.{rest}
 
 -- a step that refuses ends what follows
 pub ends : {A B : Type 0} (a : Result A FlatFault) (next : A → Result B FlatFault) (f : FlatFault) → Refuses a f → Refuses (and_then a next) f

@@ -1,14 +1,12 @@
 -- Walks over a list, one step at a time, and folds.
-use Rattle.std.proofs.Common.{◌≡◌, ℕ, ◌+◌, ◌<◌, ◌≤◌, List, [], ◌∷◌, length, map, get_or, drop, take, Result, Ok, MatchResult, refl, add-one, drop-cons, fold, inl, inr}
+use Rattle.std.proofs.Common.{◌≡◌, ℕ, ◌+◌, ◌<◌, ◌≤◌, List, [], ◌∷◌, length, map, get_or, drop, take, Result, Ok, MatchResult, refl, fold, inl, inr}
 use Rattle.std.specs.Result.{IsErrAnd}
 use Rattle.std.proofs.lemmas.Result.{err_from_is_err_and}
 use Rattle.std.proofs.lemmas.List.{drop_all, take_more, map-append}
 use Rattle.std.proofs.lemmas.List.Sums.{fold-append}
+use Rattle.rr_flat.proofs.Lists.{rest}
 use Rattle.rr_flat.specs.Faults.{each, Refuses}
 use Rattle.rr_flat.specs.declared.fault.FlatFault.{FlatFault}
-
-pub rest : {Y : Type 0} (ys : List Y) (i : ℕ) (d : Y) → i < length ys → drop i ys ≡ get_or ys i d ∷ drop (i + 1) ys
-rest ys i d lt = rw add-one (drop-cons ys i d lt)
 
 -- each
 

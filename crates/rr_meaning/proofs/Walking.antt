@@ -17,7 +17,7 @@ use Rattle.rr_flat.specs.Writers.{block_at, driven_by, no_block, no_driver, scop
 use Rattle.rr_cycle.specs.Cycles.{IsNext, Runs, Settled, after_block, cycle, ended, is_clock, outputs_of, row_inputs, updates_of_block}
 use Rattle.rr_cycle.specs.Exec.{Environment, applied, executed, updates, write}
 use Rattle.rr_cycle.specs.Performing.{act, performed, run_blocks, updates_of_blocks}
-use Rattle.rr_exec.proofs.Pieces.{applied_append}
+use Rattle.rr_cycle.proofs.Applied.{applied_append}
 use Rattle.rr_meaning.specs.Work.{sides_value}
 
 -- steps

@@ -8,7 +8,8 @@ ghost use Rattle.rr_flat.specs.View.{plain_flat};
 ghost use Rattle.rr_cycle.specs.Cycles.{IsNext, Run, Settled, is_clock as is_clock_of, outputs_of, row_inputs as inputs_but, zeros as zeros_of};
 ghost use Rattle.rr_cycle.specs.Exec.{Environment, applied};
 ghost use Rattle.rr_cycle.specs.Performing.{any_writes, performed, run_blocks, updates_of_blocks};
-ghost use Rattle.rr_cycle.specs.Designs.{IsElaborated, IsInOrder, IsLawful};
+ghost use Rattle.rr_flat.specs.Elaborated.{IsSound};
+ghost use Rattle.rr_cycle.specs.Designs.{IsInOrder, IsLawful};
 ghost use Rattle.rr_meaning.specs.Calls.{IsRow};
 ghost use Rattle.rr_exec.specs.Work.{IsLater, updates_in};
 ghost use Rattle.rr_meaning.specs.Work.{cut_to, given_over, masked, row_items};
@@ -190,7 +191,7 @@ fn settle_in(
     row: &[u128],
     machine: &mut Machine,
 ) -> Result<(), AllocError>
-    requires elaborated { IsElaborated (plain_flat flat.now) }
+    requires sound { IsSound (plain_flat flat.now) }
     requires ordered { IsInOrder (plain_flat flat.now) order.now.clock order.now.rising order.now.steps.items }
     requires row { IsRow (plain_flat flat.now) order.now.clock row.now }
     requires inputs { plan.now.inputs.items ≡ inputs_but order.now.clock flat.now.inputs }
@@ -237,7 +238,7 @@ pub fn settle(
     state: &Env,
     inputs: &[u128],
 ) -> Result<Env, AllocError>
-    requires elaborated { IsElaborated (plain_flat flat.now) }
+    requires sound { IsSound (plain_flat flat.now) }
     requires ordered { IsInOrder (plain_flat flat.now) order.now.clock order.now.rising order.now.steps.items }
     requires state { length state.now.values.items ≡ length flat.now.signals }
     requires row { IsRow (plain_flat flat.now) order.now.clock inputs.now }
@@ -301,7 +302,7 @@ pub fn run_table(
     order: &Order,
     inputs: &[Vec<u128>],
 ) -> Result<Vec<Vec<u128>>, AllocError>
-    requires elaborated { IsElaborated (plain_flat flat.now) }
+    requires sound { IsSound (plain_flat flat.now) }
     requires ordered { IsInOrder (plain_flat flat.now) order.now.clock order.now.rising order.now.steps.items }
     requires rows { All (λ row. IsRow (plain_flat flat.now) order.now.clock row.items) inputs.now }
     ensures run { IfOk result (λ r. Run (plain_flat flat.now) order.now.clock (map row_items inputs.now) (map row_items r.items)) }

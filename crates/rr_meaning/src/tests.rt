@@ -1,7 +1,7 @@
 //! Designs with rows of inputs, and the outputs that they give, by hand from IEEE 1364-2005 sections 4, 5, 6, 9 and
 //! 12; values are those of two states.
 ghost use Rattle.rr_flat.specs.View.{plain_flat};
-ghost use Rattle.rr_cycle.specs.Designs.{IsElaborated};
+ghost use Rattle.rr_flat.specs.Elaborated.{IsSound};
 
 use crate::cycle::row_inputs;
 use crate::{run_table, settle, step};
@@ -15,7 +15,7 @@ use std::test::Fail;
 
 /// The table of a lawful design with its outputs as they are.
 fn outputs(alloc: Global, flat: &Flat, table: &str) -> Result<Option<Vec<u8>>, AllocError>
-    requires { IsElaborated (plain_flat flat.now) }
+    requires { IsSound (plain_flat flat.now) }
 {
     let Ok(order) = check(alloc, flat, None) else {
         return Ok(None);
@@ -587,7 +587,7 @@ fn cycle_from(
     state: &Env,
     row: &[u128],
 ) -> Result<Option<(Env, Env)>, AllocError>
-    requires { IsElaborated (plain_flat flat.now) }
+    requires { IsSound (plain_flat flat.now) }
 {
     let Ok(order) = check(alloc, flat, None) else {
         return Ok(None);
@@ -621,7 +621,7 @@ fn next_of(both: Option<(Env, Env)>, alloc: Global) -> Env {
 
 /// A counter's cycles: two that count and one that does not.
 fn counts(alloc: Global, flat: &Flat) -> Result<bool, AllocError>
-    requires { IsElaborated (plain_flat flat.now) }
+    requires { IsSound (plain_flat flat.now) }
 {
     let values = vec![in alloc; 0u128; flat.signals.len()]?;
     let first = cycle_from(alloc, flat, &Env { values }, &[1])?;

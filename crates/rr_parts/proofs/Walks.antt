@@ -3,7 +3,7 @@ use Rattle.std.proofs.Common.{◌≡◌, sym, ap, ℕ, ◌+◌, ◌<◌, ◌≤�
 use Rattle.std.specs.Prelude.{flat_map, IfNone, IfSome}
 use Rattle.std.specs.Option.{option_or}
 use Rattle.std.proofs.lemmas.List.{drop_all}
-use Rattle.rr_head.proofs.Steps.{rest}
+use Rattle.rr_flat.proofs.Lists.{rest}
 use Rattle.rr_parts.specs.Firsts.{earliest}
 
 pub none_of : {X : Type 0} (o : Option X) → is_some o ≡ false → o ≡ None

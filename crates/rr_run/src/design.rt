@@ -1,6 +1,7 @@
 //! Lawful designs from their texts.
 ghost use Rattle.std.specs.Prelude.{◌≤◌, ℕ, List, Option, IfOk, MatchResult, length, option_map};
 ghost use Rattle.rr_lex.specs.Tokens.{lexemes};
+ghost use Rattle.rr_flat.specs.Elaborated.{IsSound};
 ghost use Rattle.rr_flat.specs.View.{plain_flat};
 ghost use Rattle.rr_elaborate.specs.Designs.{IsDesign};
 ghost use Rattle.rr_run.specs.Refusals.{StopsWhere};
@@ -33,6 +34,7 @@ fn checked<'a>(
         (λ d. IsLawfulDesign bytes top (option_map (λ w. w.now) clock.entry) (lexemes d.tokens.now) (plain_flat d.flat) d.order.clock d.order.rising)
         (StopsWhere (RefusesDesign bytes top (option_map (λ w. w.now) clock.entry))) }
     ensures ordered { IfOk result (λ d. InOrder d.flat d.order (option_map (λ w. w.now) clock.entry)) }
+    ensures sound { IsSound (plain_flat design.entry.flat) → IfOk result (λ d. IsSound (plain_flat d.flat)) }
 {
     let Design { tokens, flat } = design;
     match check(alloc, &flat, clock) {
@@ -59,6 +61,7 @@ pub fn lawful_design<'a>(
         (λ d. IsLawfulDesign bytes.now (option_map (λ n. n.now) top.entry) (option_map (λ w. w.now) clock.entry) (lexemes d.tokens.now) (plain_flat d.flat) d.order.clock d.order.rising)
         (StopsWhere (RefusesDesign bytes.now (option_map (λ n. n.now) top.entry) (option_map (λ w. w.now) clock.entry))) }
     ensures ordered { IfOk result (λ d. InOrder d.flat d.order (option_map (λ w. w.now) clock.entry)) }
+    ensures sound { IfOk result (λ d. IsSound (plain_flat d.flat)) }
 {
     match elaborate(alloc, bytes, top, arena) {
         Ok(design) => checked(alloc, design, clock),

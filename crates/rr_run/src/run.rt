@@ -2,7 +2,7 @@
 ghost use Rattle.std.specs.Prelude.{◌≡◌, ◌≤◌, ℕ, List, Ok, Option, IfOk, MatchResult, length, option_map};
 ghost use Rattle.rr_lex.specs.Tokens.{lexemes};
 ghost use Rattle.rr_flat.specs.View.{plain_flat};
-ghost use Rattle.rr_cycle.specs.Designs.{IsElaborated};
+ghost use Rattle.rr_flat.specs.Elaborated.{IsSound};
 ghost use Rattle.rr_trace.specs.Tables.{table_of};
 ghost use Rattle.rr_trace.specs.Tops.{ports_of};
 ghost use Rattle.rr_trace.specs.View.{plain_table};
@@ -35,7 +35,7 @@ pub fn read_rows<'a>(
 
 /// The text of a table with the outputs of the run on its rows.
 fn text_of(alloc: Global, design: &LawfulDesign<'_>, rows: &Table) -> Result<Vec<u8>, AllocError>
-    requires elaborated { IsElaborated (plain_flat design.now.flat) }
+    requires sound { IsSound (plain_flat design.now.flat) }
     requires ordered { (word : Option (List ℕ)) × InOrder design.now.flat design.now.order word }
     requires read { (bytes : List ℕ) × (table_of (ports_of (plain_flat design.now.flat) design.now.order.clock) bytes ≡ Ok (plain_table rows.now)) }
     ensures { IfOk result (λ text. GivesText (plain_flat design.now.flat) design.now.order.clock (plain_table rows.now) text.items) }
@@ -56,7 +56,7 @@ fn run_on<'a>(
     design: &LawfulDesign<'a>,
     table: &[u8],
 ) -> Result<Vec<u8>, RunFault<'a>>
-    requires elaborated { IsElaborated (plain_flat design.now.flat) }
+    requires sound { IsSound (plain_flat design.now.flat) }
     requires ordered { (word : Option (List ℕ)) × InOrder design.now.flat design.now.order word }
     ensures { (bytes : List ℕ) (top word : Option (List ℕ)) → IsLawfulDesign bytes top word (lexemes design.now.tokens.now) (plain_flat design.now.flat) design.now.order.clock design.now.order.rising
         → MatchResult result (λ text. IsRun bytes table.now top word text.items) (StopsWhere (Refuses bytes table.now top word)) }

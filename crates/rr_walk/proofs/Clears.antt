@@ -17,6 +17,7 @@ use Rattle.rr_flat.specs.Signals.{Text}
 use Rattle.rr_flat.specs.declared.fault.FlatFault.{FlatFault}
 use Rattle.rr_flat.specs.declared.fault.FlatFault.TheVariants.{PortMismatch}
 use Rattle.rr_flat.specs.Sound.{IsExpression, IsStatement, AreExpressions, IsValue, IsConnection, AreConnected}
+use Rattle.rr_flat.proofs.Shaping.{clear}
 use Rattle.rr_walk.specs.Tables.{port_names, name_set}
 use Rattle.rr_flat.specs.Shapes.{shape, shape_faults, statement_faults}
 use Rattle.rr_walk.specs.Walk.{value_faults, noted, twice_faults, fold_trees, Joining, place_port, check_port, Connected, check_connection, connections}
@@ -45,14 +46,6 @@ none_here None fs e = none_first fs e
 none_here (Some g) fs e = absurd (stays g fs e)
 
 -- an expression without faults has a shape
-
-shaped : (o : Option ExprFault) (s : Shape) → faults_in (answer_of o s) ≡ [] → o ≡ None
-shaped None s e = refl
-shaped (Some f) s e = cc
-
-pub clear : (names : Names) (t : Tree) → shape_faults names t ≡ [] → fault names t false ≡ None
-unfolding shape
-clear names t e = shaped (fault names t false) (form names t) e
 
 pub expression_clear : (names : Names) (t : Tree) → WellFormed t → FitLiterals t → shape_faults names t ≡ [] → IsExpression names t
 expression_clear names t w f e = record { formed = w; fit = f; shaped = clear names t e }

@@ -8,7 +8,7 @@ use Rattle.rr_syntax.specs.View.{plain_module}
 use Rattle.rr_syntax.specs.declared.tree.Module.{Module}
 use Rattle.rr_flat.specs.View.{plain_signal}
 use Rattle.rr_flat.specs.declared.signal.Signal.{Signal}
-use Rattle.rr_head.proofs.Steps.{rest}
+use Rattle.rr_flat.proofs.Lists.{rest}
 use Rattle.rr_walk.specs.Walk.{no_module, is_top_port, top_ports, reached_from}
 
 chosen : (b : Bool) (found more : List ℕ) (k : ℕ) → cond b (found ++ k ∷ []) found ++ more ≡ found ++ cond b (k ∷ more) more

@@ -19,7 +19,7 @@ use Rattle.rr_flat.specs.Sound.{IsNamed}
 use Rattle.rr_flat.specs.declared.signal.Signal.{Signal}
 use Rattle.rr_flat.specs.View.{plain_signal}
 use Rattle.rr_head.specs.View.{plain_head, Opening}
-use Rattle.rr_head.proofs.Steps.{rest}
+use Rattle.rr_flat.proofs.Lists.{rest}
 use Rattle.rr_flat.specs.declared.design.Part.TheVariants as part
 use Rattle.rr_flat.specs.declared.design.Driver.{Driver}
 use Rattle.rr_flat.specs.declared.design.Block.{Block}
@@ -28,7 +28,7 @@ use Rattle.rr_walk.specs.Kept.{plain_walked, IsSame, Keeps}
 use Rattle.rr_flat.specs.Sound.{IsExpression, AreExpressions, IsScope, names_at}
 use Rattle.rr_walk.specs.Tables.{place_of}
 use Rattle.rr_flat.specs.View.{Design, plain_flat, plain_driver, plain_block}
-use Rattle.rr_walk.specs.View.{texts}
+use Rattle.rr_flat.specs.View.{texts}
 use Rattle.rr_walk.specs.Walk.{Walked, no_module, module_at, join, join_positions}
 use Rattle.rr_walk.proofs.Positions.{texts_here, texts_past}
 use denote.Ref.{Bor}

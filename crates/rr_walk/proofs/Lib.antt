@@ -5,3 +5,5 @@ pub mod Clears
 pub mod Grown
 pub mod Walks
 pub mod Ends
+pub mod HeadOf
+pub mod WalkOf

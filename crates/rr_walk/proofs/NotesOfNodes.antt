@@ -14,7 +14,7 @@ use Rattle.rr_syntax.proofs.Rows.{plain_block, plain_case}
 use Rattle.rr_expr.specs.Scopes.{Names}
 use Rattle.rr_flat.specs.Faults.{sooner}
 use Rattle.rr_flat.specs.declared.fault.FlatFault.{FlatFault}
-use Rattle.rr_head.proofs.Steps.{rest}
+use Rattle.rr_flat.proofs.Lists.{rest}
 use Rattle.rr_flat.specs.Shapes.{shape_faults, list_faults, statement_faults, statements_faults, arms_faults, arm_faults}
 use Rattle.rr_walk.specs.Walk.{edge_faults, edges_faults}
 use denote.Ref.{Bor}

@@ -10,8 +10,8 @@ use Rattle.rr_flat.specs.Faults.{faults_in, fault_if}
 use Rattle.rr_head.specs.Values.{constant}
 use Rattle.rr_flat.specs.declared.fault.FlatFault.{FlatFault}
 use Rattle.rr_flat.specs.declared.fault.FlatFault.TheVariants.{PortMismatch}
-use Rattle.rr_head.proofs.Steps.{rest}
-use Rattle.rr_walk.specs.View.{texts}
+use Rattle.rr_flat.proofs.Lists.{rest}
+use Rattle.rr_flat.specs.View.{texts}
 use Rattle.rr_walk.specs.Walk.{fold_trees, noted, with_override, Checked, Placed, check_position, Joining, check_port}
 use Rattle.rr_flat.specs.Shapes.{shape_faults}
 use denote.Ref.{Bor}

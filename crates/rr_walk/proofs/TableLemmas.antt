@@ -8,7 +8,7 @@ use Rattle.rr_syntax.specs.declared.tree.Module.{Module}
 use Rattle.rr_expr.specs.Scopes.{Names, lookup}
 use Rattle.rr_expr.specs.declared.types.Entity.{Entity}
 use Rattle.rr_flat.specs.Signals.{with_name}
-use Rattle.rr_head.proofs.Steps.{rest}
+use Rattle.rr_flat.proofs.Lists.{rest}
 use Rattle.rr_walk.specs.Tables.{last_free}
 
 pub grown_by_one : (names : Names) (n : List ℕ) (e : Entity) → is_some (lookup n names) ≡ false → length (with_name names n e) ≡ length names + 1

@@ -5,12 +5,14 @@
 
 mod instances;
 mod items;
+mod laws;
 mod notes;
 mod settings;
 mod source;
 mod tables;
 mod walk;
 
+pub use laws::sound_designs;
 pub use source::flatten;
 
 #[cfg(test)]

@@ -2,6 +2,7 @@
 ghost use Rattle.std.specs.Prelude.{◌≡◌, ◌<◌, ◌≤◌, ◌^◌, ◌++◌, ◌∷◌, [], MatchResult, IfOk, OnOk, IfSome, Ok, Some, map, length, All, true, false, if◌then◌else◌, option_map};
 ghost use Rattle.rr_syntax.specs.Items.{WellFormedSource, FitLiteralsSource};
 ghost use Rattle.rr_syntax.specs.View.{plain_module, plain_source};
+ghost use Rattle.rr_flat.specs.Elaborated.{IsSound};
 ghost use Rattle.rr_flat.specs.Faults.{Refuses};
 ghost use Rattle.rr_flat.specs.View.{plain_signal};
 ghost use Rattle.rr_head.specs.Sound.{ArePlaces};
@@ -118,12 +119,9 @@ fn walk_from<'a>(walk: &Walk<'a>, owner: u32) -> Result<Walked<'a>, FlatFault>
     Ok(walked)
 }
 
-/// The flat design of a source (IEEE 1364-2005 section 12), or its first fault: two modules of one
-/// name, then no top, then the faults of the walk in its order, and of one item or declaration the
-/// fault at the earliest token, of two at one token the one with the lower number. The top is the
-/// module named `top`, or the last that no module instantiates. `Memory` says that memory ran out.
+/// The walk of a source from its top.
 #[tactic(auto, unfolding(crate::specs::Walk::flat_of, rr_syntax::specs::View::plain_source))]
-pub fn flatten<'a>(
+fn walked_from_top<'a>(
     alloc: Global,
     source: &Source<'a>,
     top: Option<&str>,
@@ -148,5 +146,28 @@ pub fn flatten<'a>(
             let flat = finish(alloc, source.modules, walked)?;
             Ok(flat)
         }
+    }
+}
+
+/// The flat design of a source (IEEE 1364-2005 section 12), or its first fault: two modules of one
+/// name, then no top, then the faults of the walk in its order, and of one item or declaration the
+/// fault at the earliest token, of two at one token the one with the lower number. The top is the
+/// module named `top`, or the last that no module instantiates. `Memory` says that memory ran out.
+pub fn flatten<'a>(
+    alloc: Global,
+    source: &Source<'a>,
+    top: Option<&str>,
+) -> Result<Flat<'a>, FlatFault>
+    requires few { length source.now.modules.now < 2 ^ 32 }
+    requires formed { WellFormedSource (plain_source source.now) }
+    requires fit { FitLiteralsSource (plain_source source.now) }
+    ensures answer { MatchResult result
+        (λ flat. flat_of (plain_source source.now) (option_map (λ n. n.now) top.entry) ≡ Ok (plain_flat flat))
+        (Refuses (flat_of (plain_source source.now) (option_map (λ n. n.now) top.entry))) }
+    ensures sound { IfOk result (λ flat. IsSound (plain_flat flat)) }
+{
+    match walked_from_top(alloc, source, top) {
+        Ok(flat) => Ok(flat),
+        Err(fault) => Err(fault),
     }
 }

@@ -8,8 +8,8 @@ flattened-requires-clause-few c = few_of c.args.tokens.now c.in-Ok.source.now c.
 pub flattened-requires-clause-fit : goal.flattened-requires-clause-fit
 flattened-requires-clause-fit c = fit_of c.requires.lexed.0 c.args.tokens.now c.in-Ok.source.now c.requires.lexed.1 c.in-Ok.ensures
 
-pub returns-in-Ok : goal.returns-in-Ok
-returns-in-Ok c = λ bytes lexed. c.flattened.ensures bytes (text_of bytes c.args.tokens.now c.in-Ok.source.now lexed c.in-Ok.ensures)
+pub returns-in-Ok-clause-answer : goal.returns-in-Ok-clause-answer
+returns-in-Ok-clause-answer c = λ bytes lexed. c.flattened.ensures.answer bytes (text_of bytes c.args.tokens.now c.in-Ok.source.now lexed c.in-Ok.ensures)
 
-pub returns-in-Err : goal.returns-in-Err
-returns-in-Err c = λ bytes lexed. c.of_tokens.ensures bytes (option_map (λ n. n.now) c.args.top) lexed
+pub returns-in-Err-clause-answer : goal.returns-in-Err-clause-answer
+returns-in-Err-clause-answer c = λ bytes lexed. c.of_tokens.ensures bytes (option_map (λ n. n.now) c.args.top) lexed

@@ -1,5 +1,5 @@
 use Rattle.rr_syntax.specs.View.{plain}
-use Rattle.rr_walk.proofs.Clears.{clear}
+use Rattle.rr_flat.proofs.Shaping.{clear}
 use Rattle.rr_exec.proofs.cases.own_shape.Goals as goal
 
 pub shape_of-requires : goal.shape_of-requires

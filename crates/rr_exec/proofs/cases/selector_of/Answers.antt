@@ -1,7 +1,7 @@
 use Rattle.std.proofs.Common.{◌∙◌, ap, length}
 use Rattle.rr_syntax.specs.View.{plain}
 use Rattle.rr_expr.specs.Scopes.{env_of}
-use Rattle.rr_walk.proofs.Clears.{clear}
+use Rattle.rr_flat.proofs.Shaping.{clear}
 use Rattle.rr_exec.proofs.Widths.{length_value}
 use Rattle.rr_exec.proofs.cases.selector_of.Goals as goal
 

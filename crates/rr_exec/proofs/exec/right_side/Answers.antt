@@ -1,5 +1,5 @@
 use Rattle.rr_syntax.specs.View.{plain}
-use Rattle.rr_walk.proofs.Clears.{clear}
+use Rattle.rr_flat.proofs.Shaping.{clear}
 use Rattle.rr_exec.proofs.exec.right_side.Goals as goal
 
 pub value-requires-clause-none : goal.value-requires-clause-none

@@ -22,10 +22,10 @@ returns-clause-settled c =
     ∙ ap (λ (f : Environment). given_over F.signals c.as_slice-2.result.now c.args.row.now f) (c.mask.ensures.env ∙ ap (λ (ms : List ℕ). masked ms e) c.as_slice.ensures.value)
     ∙ ap (λ (ids : List ℕ). given_over F.signals ids c.args.row.now (masked c.args.plan.now.registers.items e)) (c.as_slice-2.ensures.value ∙ c.requires.inputs)
     ∙ base_made F o.clock c.args.row.now c.args.plan.now.registers.items c.args.machine.now.env.values.items c.requires.registers
-    (inputs_unwritten F (λ b i x. free_inputs F c.requires.elaborated (c.requires.ordered.0, c.requires.ordered.1.0) b i x))
+    (inputs_unwritten F (λ b i x. free_inputs F c.requires.sound (c.requires.ordered.0, c.requires.ordered.1.0) b i x))
     (λ b h. c.requires.narrow b (c.requires.registers b ∙ h)) in
     on_ok_weaker c.perform_all.result
     (λ q. subst (Settled F o.clock e c.args.row.now)
     (sym (q ∙ ap (λ (ss : List Step). performed F ss (env_of c.give.new.values.items)) c.as_slice-3.ensures.value ∙ ap (performed F o.steps.items) b))
-    (settles F o.clock o.rising o.steps.items c.requires.elaborated c.requires.ordered e c.args.row.now))
+    (settles F o.clock o.rising o.steps.items c.requires.sound c.requires.ordered e c.args.row.now))
     c.perform_all.ensures.env

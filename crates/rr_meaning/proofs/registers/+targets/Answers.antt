@@ -1,7 +1,7 @@
 use Rattle.std.proofs.Common.{◌∙◌, sym, ap, rules, Bool, ◌||◌}
 use Rattle.std.proofs.lemmas.Result.{on_ok_weaker}
 use Rattle.rr_syntax.specs.declared.tree.Stmt.{the_lemmas}
-use Rattle.rr_walk.proofs.Clears.{clear}
+use Rattle.rr_flat.proofs.Shaping.{clear}
 use Rattle.rr_target.specs.Lists.{may}
 use Rattle.rr_exec.proofs.Loops.{arm_body_shaped, shaped_at}
 use Rattle.rr_exec.proofs.Nodes.{shaped-Assign-target, shaped-Block, shaped-Case-arms}

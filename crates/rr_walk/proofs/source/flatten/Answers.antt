@@ -1,7 +1,8 @@
-use Rattle.rr_syntax.specs.Items.{WellFormedSource, FitLiteralsSource}
+use Rattle.std.proofs.Common.{option_map}
 use Rattle.rr_syntax.specs.View.{plain_source}
+use Rattle.rr_flat.specs.View.{plain_flat}
+use Rattle.rr_walk.proofs.WalkOf.{sound}
 use Rattle.rr_walk.proofs.source.flatten.Goals as goal
 
-pub walk_from-requires-clause-ready : goal.walk_from-requires-clause-ready
-unfolding WellFormedSource FitLiteralsSource plain_source
-walk_from-requires-clause-ready c = record { places = c.in_ok-table.ensures.places; formed = c.requires.formed; fit = c.requires.fit }
+pub returns-in-Ok-clause-sound : goal.returns-in-Ok-clause-sound
+returns-in-Ok-clause-sound c = sound (plain_source c.args.source.now) (option_map (λ n. n.now) c.args.top) (plain_flat c.in-Ok.flat) c.in-Ok.ensures

@@ -22,7 +22,9 @@ use Rattle.rr_flat.specs.Signals.{Text, Signal, signal_at, no_signal}
 use Rattle.rr_flat.specs.Plain.{Side, Written, Whole, Driver, Flat}
 use Rattle.rr_walk.specs.Tables.{place_of, add_module, port_names}
 use Rattle.rr_walk.specs.Walk.{Walked, scope_at, with_driver, assign, net_driver, net_value, net_with, net, with_block, always, join_port, join_at, join, join_value, join_named, join_positions, joined, Enter, module_at, checked, with_instance, instance_of, item, opened, begin, enter_by, enter, nothing, is_way, is_top_port, top_ports, finished, top_place, enter_top, flat_of}
-use Rattle.rr_cycle.proofs.HeadOf.{ok_is, not_ok, settled_is, first_ok, each_keeps, fold_keeps, all_append, all_weaker, all_index, Entries, entries_with, Between, HeadOf, head_of}
+use Rattle.rr_flat.proofs.Lists.{all_index}
+use Rattle.rr_flat.specs.Elaborated.{DrivesOwn, IsTopInput, IsSound}
+use Rattle.rr_walk.proofs.HeadOf.{ok_is, not_ok, settled_is, first_ok, each_keeps, fold_keeps, all_append, all_weaker, Entries, entries_with, Between, HeadOf, head_of}
 
 -- a signal of instance k
 abbrev Local : List Signal → ℕ → Entity → Type 0
@@ -30,24 +32,18 @@ Local signals k (entity.Constant bits signed) = Unit {0}
 Local signals k (entity.Signal id range signed) = (id < length signals) × ((signal_at signals id).instance ≡ k)
 Local signals k entity.Instance = Unit {0}
 
--- a whole signal that is driven is one of the instance in which its value is written, or of an instance below the top
-abbrev pub Aims : List Signal → Side → Side → Type 0
-Aims signals (Whole id) (Whole x) = ⊥
-Aims signals (Whole id) (Written t i) = (id < length signals) × (((signal_at signals id).instance ≡ i) ⊎ (1 ≤ (signal_at signals id).instance))
-Aims signals (Written t i) value = Unit {0}
-
 abbrev Driven : List Signal → Driver → Type 0
-Driven signals d = Aims signals d.target d.value
+Driven signals d = DrivesOwn signals d.target d.value
 
 pub record Fine (flat : Flat) : Type 0 where
   pub scopes : (k : ℕ) → k < length flat.scopes → Entries (Local flat.signals k) (slice_index_or flat.scopes k [])
-  pub drivers : AllByRecursion (λ d. Aims flat.signals d.target d.value) flat.drivers
+  pub drivers : AllByRecursion (λ d. DrivesOwn flat.signals d.target d.value) flat.drivers
 
 -- fine, with more instances than this one's number
 abbrev Good : ℕ → Walked → Type 0
 Good i w = Fine w.flat × (i < length w.flat.scopes)
 
-driven : (i : ℕ) (target value : Side) (at : ℕ) (w : Walked) → Aims w.flat.signals target value → Good i w → Good i (with_driver target value at w)
+driven : (i : ℕ) (target value : Side) (at : ℕ) (w : Walked) → DrivesOwn w.flat.signals target value → Good i w → Good i (with_driver target value at w)
 driven i target value at w a g = (record { scopes = g.0.scopes; drivers = all_append (Driven w.flat.signals) w.flat.drivers (record { target = target; value = value; token = at } ∷ []) g.0.drivers (a, tt) }, g.1)
 
 after_assign : (i : ℕ) (p : NetAssignment) (w t : Walked) → Good i w → assign i p w ≡ Ok t → Good i t
@@ -199,7 +195,7 @@ local_before ss more k (entity.Constant bits signed) h = tt
 local_before ss more k (entity.Signal id range signed) h = (omega (arith, h.0, length-append ss more), ap (λ (s : Signal). s.instance) (signal_before ss more id h.0) ∙ h.1)
 local_before ss more k entity.Instance h = tt
 
-aims_before : (ss more : List Signal) (target value : Side) → Aims ss target value → Aims (ss ++ more) target value
+aims_before : (ss more : List Signal) (target value : Side) → DrivesOwn ss target value → DrivesOwn (ss ++ more) target value
 aims_before ss more (Whole id) (Whole x) h = h
 aims_before ss more (Whole id) (Written t i) h =
     let same : (signal_at (ss ++ more) id).instance ≡ (signal_at ss id).instance = ap (λ (s : Signal). s.instance) (signal_before ss more id h.0) in
@@ -272,10 +268,6 @@ after_top source table (Some k) w e = (after_enter source table 16 [] k [] (noth
 
 -- The inputs of the top
 
--- an input port of the first instance
-abbrev pub IsTop : Signal → Type 0
-IsTop s = (s.instance ≡ 0) × (s.port ≡ Input)
-
 is_input : (p : Port) → is_way true p ≡ true → p ≡ Input
 is_input Inner h = absurd (both_ways false refl h)
 is_input Input h = refl
@@ -291,13 +283,13 @@ next_there more s ss k h =
     get_or-append_right more (s ∷ ss) k k no_signal h (omega arith) ∙ ap (λ (i : ℕ). slice_index_or (s ∷ ss) i no_signal) z
 
 abbrev Tops : List Signal → List ℕ → Type 0
-Tops all ids = AllByRecursion (λ id. IsTop (signal_at all id)) ids
+Tops all ids = AllByRecursion (λ id. IsTopInput (signal_at all id)) ids
 
 top_one : (more : List Signal) (s : Signal) (ss : List Signal) (k : ℕ) (b : Bool) → length more ≡ k → is_top_port true s ≡ b → Tops (more ++ s ∷ ss) (top_ports true (k + 1) ss) →
     Tops (more ++ s ∷ ss) (if b then k ∷ top_ports true (k + 1) ss else top_ports true (k + 1) ss)
 top_one more s ss k true h q rest =
     let p = and_parts (nat_eq s.instance 0) (is_way true s.port) q in
-    (subst IsTop (sym (next_there more s ss k h)) (eqb-true s.instance 0 p.0, is_input s.port p.1), rest)
+    (subst IsTopInput (sym (next_there more s ss k h)) (eqb-true s.instance 0 p.0, is_input s.port p.1), rest)
 top_one more s ss k false h q rest = rest
 
 top_at : (ss more : List Signal) (k : ℕ) → length more ≡ k → Tops (more ++ ss) (top_ports true k ss)
@@ -307,14 +299,12 @@ top_at (s ∷ ss) more k h =
     top_one more s ss k (is_top_port true s) h refl
     (subst (λ all. Tops all (top_ports true (k + 1) ss)) (sym (append_one more s ss)) (top_at ss (more ++ s ∷ []) (k + 1) (length-append more (s ∷ []) ∙ omega (arith, h))))
 
-pub record Sourced (flat : Flat) : Type 0 where
-  pub drivers : AllByRecursion (λ d. Aims flat.signals d.target d.value) flat.drivers
-  pub inputs : AllByRecursion (λ id. IsTop (signal_at flat.signals id)) flat.inputs
-
-pub sourced : (source : SourceText) (top : Option Text) (flat : Flat) → flat_of source top ≡ Ok flat → Sourced flat
+pub sound : (source : SourceText) (top : Option Text) (flat : Flat) → flat_of source top ≡ Ok flat → IsSound flat
 unfolding flat_of
-sourced source top flat e =
+sound source top flat e =
     let r = first_ok (each add_module source.modules []) (λ table. and_then (enter_top source.modules table (top_place source.modules table top)) (λ w. Ok (finished source.modules w.flat))) flat e in
     let s = first_ok (enter_top source.modules r.0 (top_place source.modules r.0 top)) (λ w. Ok (finished source.modules w.flat)) flat r.1.1 in
     let f = after_top source.modules r.0 (top_place source.modules r.0 top) s.0 s.1.0 in
-    subst Sourced (ok_is (finished source.modules s.0.flat) flat s.1.1) (record { drivers = f.drivers; inputs = top_at s.0.flat.signals [] 0 refl })
+    subst IsSound (ok_is (finished source.modules s.0.flat) flat s.1.1) (record { drivers = f.drivers; inputs = top_at s.0.flat.signals [] 0 refl })
+
+pub ruleset flat_designs = (sound)

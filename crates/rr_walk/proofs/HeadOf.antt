@@ -2,6 +2,7 @@
 use Rattle.std.proofs.Common.{◌≡◌, ℕ, zero, suc, ◌+◌, ◌<◌, ◌≤◌, List, [], ◌∷◌, ◌++◌, length, fold, Bool, true, false, not, ◌&&◌, Option, Some, None, Result, Ok, Err, refl, arith, subst, if◌then◌else◌}
 use Rattle.std.specs.Prelude.{slice_index_or, slice_get, slice_set, option_to_list, option_map, is_some, is_none, nat_lt}
 use Rattle.std.specs.List.{AllByRecursion}
+use Rattle.rr_flat.proofs.Lists.{all_index}
 use Rattle.rr_syntax.specs.Tree.{Identifier, PortDeclaration, ParamAssignment, ParameterDeclaration, ModuleItem, Ports, Nets, Variables, Integers, Parameters, Assigns, Always, Instances, ModuleDeclaration}
 use Rattle.rr_bits.specs.Words.{extend}
 use Rattle.rr_expr.specs.Scopes.{Names, lookup, range_width}
@@ -69,11 +70,6 @@ all_got P (y ∷ ys) zero x p h = subst P (some_is y x h) p.0
     some_is : {X : Type 0} (a b : X) → Some a ≡ Some b → a ≡ b
     some_is a b e = cc
 all_got P (y ∷ ys) (suc i) x p h = all_got P ys i x p.1 h
-
-pub all_index : {X : Type 0} (P : X → Type 0) (xs : List X) (i : ℕ) (d : X) → AllByRecursion P xs → i < length xs → P (slice_index_or xs i d)
-all_index P [] i d p l = absurd (omega arith)
-all_index P (x ∷ xs) zero d p l = p.0
-all_index P (x ∷ xs) (suc i) d p l = all_index P xs i d p.1 (omega arith)
 
 pub all_set : {X : Type 0} (P : X → Type 0) (xs : List X) (i : ℕ) (x : X) → AllByRecursion P xs → (i < length xs → P x) → AllByRecursion P (slice_set xs i x)
 all_set P [] i x p h = tt
