@@ -20,33 +20,37 @@ fn shared<T: Send + Sync>(_value: &T) -> bool {
     true
 }
 
+/// Formulas by their variables and clauses, with their texts.
+const TEXTS: [(u64, &[&[i32]], &str); 3] = [
+    (0, &[&[]], "p cnf 0 1\n0\n"),
+    (
+        3,
+        &[&[-3, 2], &[-3, 1], &[3, -2, -1], &[3]],
+        "p cnf 3 4\n-3 2 0\n-3 1 0\n3 -2 -1 0\n3 0\n",
+    ),
+    (7, &[], "p cnf 7 0\n"),
+];
+
+/// Whether the formula of these clauses has this text.
+fn has_text(alloc: Global, vars: u64, clauses: &[&[i32]], text: &str) -> Result<bool, Fail> {
+    let mut formula = Formula::new(alloc, vars);
+    formula.reserve(clauses.len())?;
+    for numbers in clauses {
+        let mut lits = Vec::new(alloc);
+        for number in *numbers {
+            lits.push(lit(*number))?;
+        }
+        push(alloc, &mut formula, lits.as_slice())?;
+    }
+    Ok(write_dimacs(alloc, &formula)?.as_slice() == text.as_bytes())
+}
+
 #[test]
 fn writes_the_texts(rt: HostRuntime) -> Result<(), Fail> {
     let alloc = rt.alloc();
-    let mut empty = Formula::new(alloc, 0);
-    push(alloc, &mut empty, &[])?;
-    assert_eq!(rt;
-        write_dimacs(alloc, &empty)?.as_slice(),
-        b"p cnf 0 1\n0\n".as_slice()
-    );
-
-    let mut gate = Formula::new(alloc, 3);
-    gate.reserve(4)?;
-    push(alloc, &mut gate, &[lit(-3), lit(2)])?;
-    push(alloc, &mut gate, &[lit(-3), lit(1)])?;
-    push(alloc, &mut gate, &[lit(3), lit(-2), lit(-1)])?;
-    push(alloc, &mut gate, &[lit(3)])?;
-    let text = write_dimacs(alloc, &gate)?;
-    assert_eq!(rt;
-        text.as_slice(),
-        b"p cnf 3 4\n-3 2 0\n-3 1 0\n3 -2 -1 0\n3 0\n".as_slice()
-    );
-
-    let none = Formula::new(alloc, 7);
-    assert_eq!(rt;
-        write_dimacs(alloc, &none)?.as_slice(),
-        b"p cnf 7 0\n".as_slice()
-    );
+    for (vars, clauses, text) in TEXTS.iter() {
+        assert!(rt; has_text(alloc, *vars, clauses, text)?, "{text}");
+    }
     Ok(())
 }
 
@@ -55,11 +59,8 @@ fn writes_the_greatest_variable(rt: HostRuntime) -> Result<(), Fail> {
     let alloc = rt.alloc();
     let most = 1u64 << 62;
     let mut formula = Formula::new(alloc, most);
-    push(
-        alloc,
-        &mut formula,
-        &[Lit::new(most, true), Lit::new(1, false), Lit::new(1, false)],
-    )?;
+    let lits = [Lit::new(most, true), Lit::new(1, false), Lit::new(1, false)];
+    push(alloc, &mut formula, &lits)?;
     let text = write_dimacs(alloc, &formula)?;
     let wanted = b"p cnf 4611686018427387904 1\n-4611686018427387904 1 1 0\n";
     assert_eq!(rt; text.as_slice(), wanted.as_slice());

@@ -58,50 +58,57 @@ fn sorted(
     }
 }
 
-#[test]
-fn an_order(rt: HostRuntime) -> Result<(), Fail> {
-    let (ordered, nodes) = sorted(rt.alloc(), 4, &[(0, 1), (0, 2), (1, 3), (2, 3), (0, 1)])?;
-    assert!(rt; ordered && nodes.as_slice() == [3, 1, 2, 0].as_slice());
-    Ok(())
+/// Graphs by the number of their nodes and their edges; whether they have an order, and their order or
+/// their lowest cycle: with two ways to a node, with a cycle, with a node that names itself, and with
+/// two cycles.
+const GRAPHS: [(usize, &[(usize, usize)], bool, &[usize]); 4] = [
+    (
+        4,
+        &[(0, 1), (0, 2), (1, 3), (2, 3), (0, 1)],
+        true,
+        &[3, 1, 2, 0],
+    ),
+    (5, &[(0, 3), (3, 2), (2, 1), (1, 3)], false, &[1, 3, 2]),
+    (3, &[(0, 1), (0, 2), (2, 2)], false, &[2]),
+    (
+        8,
+        &[(0, 5), (5, 6), (6, 5), (6, 2), (2, 4), (4, 2), (4, 7)],
+        false,
+        &[2, 4],
+    ),
+];
+
+fn gives(
+    alloc: Global,
+    count: usize,
+    edges: &[(usize, usize)],
+    expected: (bool, &[usize]),
+) -> Result<bool, AllocError> {
+    let (ordered, nodes) = sorted(alloc, count, edges)?;
+    Ok(ordered == expected.0 && nodes.as_slice() == expected.1)
 }
 
 #[test]
-fn a_cycle(rt: HostRuntime) -> Result<(), Fail> {
-    let (ordered, nodes) = sorted(rt.alloc(), 5, &[(0, 3), (3, 2), (2, 1), (1, 3)])?;
-    assert!(rt; !ordered && nodes.as_slice() == [1, 3, 2].as_slice());
+fn orders_and_cycles(rt: HostRuntime) -> Result<(), Fail> {
+    let alloc = rt.alloc();
+    for (count, edges, ordered, nodes) in GRAPHS.iter() {
+        assert!(rt;
+            gives(alloc, *count, edges, (*ordered, nodes))?,
+            "a graph of {count}"
+        );
+    }
     Ok(())
 }
 
+/// A chain of 1000 nodes, and one whose last two nodes name each other.
 #[test]
-fn a_node_that_names_itself(rt: HostRuntime) -> Result<(), Fail> {
-    let (ordered, nodes) = sorted(rt.alloc(), 3, &[(0, 1), (0, 2), (2, 2)])?;
-    assert!(rt; !ordered && nodes.as_slice() == [2].as_slice());
-    Ok(())
-}
-
-#[test]
-fn the_lowest_cycle(rt: HostRuntime) -> Result<(), Fail> {
-    let edges = [(0, 5), (5, 6), (6, 5), (6, 2), (2, 4), (4, 2), (4, 7)];
-    let (ordered, nodes) = sorted(rt.alloc(), 8, &edges)?;
-    assert!(rt; !ordered && nodes.as_slice() == [2, 4].as_slice());
-    Ok(())
-}
-
-#[test]
-fn a_long_chain(rt: HostRuntime) -> Result<(), Fail> {
+fn long_ways(rt: HostRuntime) -> Result<(), Fail> {
     let alloc = rt.alloc();
     let chain = ring(alloc, 1000, 1000)?;
     let (ordered, nodes) = sorted(alloc, 1000, chain.as_slice())?;
     assert!(rt; ordered && nodes.len() == 1000);
     assert!(rt; nodes[0] == 999 && nodes[999] == 0);
-    Ok(())
-}
-
-#[test]
-fn a_long_way_to_a_cycle(rt: HostRuntime) -> Result<(), Fail> {
-    let alloc = rt.alloc();
     let chain = ring(alloc, 1000, 998)?;
-    let (ordered, nodes) = sorted(alloc, 1000, chain.as_slice())?;
-    assert!(rt; !ordered && nodes.as_slice() == [998, 999].as_slice());
+    assert!(rt; gives(alloc, 1000, chain.as_slice(), (false, &[998, 999]))?);
     Ok(())
 }

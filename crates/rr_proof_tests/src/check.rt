@@ -29,31 +29,25 @@ fn verdict<R: Threads + Sync>(
     Ok(first_bad(rt, alloc, &formula, &journal, workers.clamp(1, 64))?)
 }
 
+/// Proofs from the contradiction: none, one, without the empty clause, with a hint that names nothing,
+/// with one that names the line itself, with a line that fails, and with a clause deleted.
+const SMALL: [(&str, Verdict); 7] = [
+    ("", Verdict::NoEmptyClause),
+    ("3 0 1 2 0\n", Verdict::Accepted),
+    ("3 1 0 1 0\n", Verdict::NoEmptyClause),
+    ("3 0 9 0\n", Verdict::Line(1)),
+    ("3 0 3 0\n", Verdict::Line(1)),
+    ("3 1 0 1 0\n4 0 1 0\n5 0 2 0\n", Verdict::Line(2)),
+    ("3 d 1 0\n4 0 1 2 0\n", Verdict::Accepted),
+];
+
 #[test]
 fn judges_small_proofs(rt: HostRuntime) -> Result<(), Fail> {
     let alloc = rt.alloc();
     for workers in [1, 2, 4, 64] {
-        assert_eq!(rt; verdict(&rt, alloc, "", workers)?, Verdict::NoEmptyClause);
-        assert_eq!(rt;
-            verdict(&rt, alloc, "3 0 1 2 0\n", workers)?,
-            Verdict::Accepted
-        );
-        assert_eq!(rt;
-            verdict(&rt, alloc, "3 1 0 1 0\n", workers)?,
-            Verdict::NoEmptyClause
-        );
-        assert_eq!(rt;
-            verdict(&rt, alloc, "3 0 9 0\n", workers)?,
-            Verdict::Line(1)
-        );
-        assert_eq!(rt;
-            verdict(&rt, alloc, "3 0 3 0\n", workers)?,
-            Verdict::Line(1)
-        );
-        let late = "3 1 0 1 0\n4 0 1 0\n5 0 2 0\n";
-        assert_eq!(rt; verdict(&rt, alloc, late, workers)?, Verdict::Line(2));
-        let deleted = "3 d 1 0\n4 0 1 2 0\n";
-        assert_eq!(rt; verdict(&rt, alloc, deleted, workers)?, Verdict::Accepted);
+        for (text, expected) in SMALL.iter() {
+            assert_eq!(rt; verdict(&rt, alloc, text, workers)?, *expected);
+        }
     }
     Ok(())
 }

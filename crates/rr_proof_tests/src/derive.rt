@@ -131,21 +131,28 @@ fn first_failing(alloc: Global, text: &[u8]) -> Result<u64, Fail> {
     Ok(0)
 }
 
+/// Proofs from the contradiction, with the number of the first line that fails, or 0.
+const LINES: [(&[u8], u64); 12] = [
+    (b"", 0),
+    (b"3 0 1 2 0\n", 0),
+    (b"3 0 2 1 0\n", 0),
+    (b"3 1 0 1 0\n4 0 1 0\n5 0 2 0\n", 2),
+    (b"3 1 0 1 0\n4 0 3 2 0\n", 0),
+    (b"3 0 9 0\n", 1),
+    (b"3 0 3 0\n", 1),
+    (b"3 0 0\n", 1),
+    (b"3 d 1 0\n4 0 1 2 0\n", 0),
+    (b"3 0 1 2 9 0\n", 0),
+    (b"3 2 3 0 1 1 2 0\n", 1),
+    (b"3 2 2 -3 0 1 2 0\n4 2 0 3 0\n", 2),
+];
+
 #[test]
 fn checks_lines(rt: HostRuntime) -> Result<(), Fail> {
     let alloc = rt.alloc();
-    assert_eq!(rt; first_failing(alloc, b"")?, 0);
-    assert_eq!(rt; first_failing(alloc, b"3 0 1 2 0\n")?, 0);
-    assert_eq!(rt; first_failing(alloc, b"3 0 2 1 0\n")?, 0);
-    assert_eq!(rt; first_failing(alloc, b"3 1 0 1 0\n4 0 1 0\n5 0 2 0\n")?, 2);
-    assert_eq!(rt; first_failing(alloc, b"3 1 0 1 0\n4 0 3 2 0\n")?, 0);
-    assert_eq!(rt; first_failing(alloc, b"3 0 9 0\n")?, 1);
-    assert_eq!(rt; first_failing(alloc, b"3 0 3 0\n")?, 1);
-    assert_eq!(rt; first_failing(alloc, b"3 0 0\n")?, 1);
-    assert_eq!(rt; first_failing(alloc, b"3 d 1 0\n4 0 1 2 0\n")?, 0);
-    assert_eq!(rt; first_failing(alloc, b"3 0 1 2 9 0\n")?, 0);
-    assert_eq!(rt; first_failing(alloc, b"3 2 3 0 1 1 2 0\n")?, 1);
-    assert_eq!(rt; first_failing(alloc, b"3 2 2 -3 0 1 2 0\n4 2 0 3 0\n")?, 2);
+    for (text, failing) in LINES.iter() {
+        assert_eq!(rt; first_failing(alloc, text)?, *failing);
+    }
     Ok(())
 }
 

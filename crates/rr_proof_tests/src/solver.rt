@@ -93,8 +93,36 @@ fn end(alloc: Global, formula: &Formula, budget: u32) -> Result<Ending, Fail> {
     Ok(Ending::Wrong)
 }
 
+/// Formulas by their variables and clauses, with a budget and how the search ends.
+const SMALL: [(u64, &[&[i32]], u32, Ending); 8] = [
+    (3, &EIGHT, 1, Ending::Spent(1)),
+    (3, &EIGHT, 1_000, Ending::Refuted(4)),
+    (
+        42,
+        &[&[21, 22], &[21, -22], &[-21, 22], &[-21, -22]],
+        100,
+        Ending::Refuted(2),
+    ),
+    (2, &[], 1, Ending::Model),
+    (2, &[&[1, 2], &[]], 1, Ending::Refuted(1)),
+    (2, &[&[1], &[-1, 2], &[-2, -2]], 1, Ending::Refuted(1)),
+    (3, &[&[1, -1], &[2, 2], &[-2, 3, 3]], 1, Ending::Model),
+    (0, &[], 1, Ending::Model),
+];
+
 #[test]
-fn refutes_eight_clauses(rt: HostRuntime) -> Result<(), Fail> {
+fn ends_on_small_formulas(rt: HostRuntime) -> Result<(), Fail> {
+    let alloc = rt.alloc();
+    for (vars, clauses, budget, expected) in SMALL.iter() {
+        let made = formula(alloc, *vars, clauses)?;
+        assert_eq!(rt; end(alloc, &made, *budget)?, *expected);
+    }
+    Ok(())
+}
+
+/// The first clause that is learned has two literals.
+#[test]
+fn learns_from_eight_clauses(rt: HostRuntime) -> Result<(), Fail> {
     let alloc = rt.alloc();
     let eight = formula(alloc, 3, &EIGHT)?;
     match search(alloc, &eight, 1)? {
@@ -105,27 +133,6 @@ fn refutes_eight_clauses(rt: HostRuntime) -> Result<(), Fail> {
         }
         _ => assert!(rt; false, "spent"),
     }
-    assert_eq!(rt; end(alloc, &eight, 1)?, Ending::Spent(1));
-    assert_eq!(rt; end(alloc, &eight, 1_000)?, Ending::Refuted(4));
-    Ok(())
-}
-
-#[test]
-fn ends_on_small_formulas(rt: HostRuntime) -> Result<(), Fail> {
-    let alloc = rt.alloc();
-    let four: [&[i32]; 4] = [&[21, 22], &[21, -22], &[-21, 22], &[-21, -22]];
-    let four = formula(alloc, 42, &four)?;
-    assert_eq!(rt; end(alloc, &four, 100)?, Ending::Refuted(2));
-    let none = Formula::new(alloc, 2);
-    assert_eq!(rt; end(alloc, &none, 1)?, Ending::Model);
-    let empty = formula(alloc, 2, &[&[1, 2], &[]])?;
-    assert_eq!(rt; end(alloc, &empty, 1)?, Ending::Refuted(1));
-    let units = formula(alloc, 2, &[&[1], &[-1, 2], &[-2, -2]])?;
-    assert_eq!(rt; end(alloc, &units, 1)?, Ending::Refuted(1));
-    let odd = formula(alloc, 3, &[&[1, -1], &[2, 2], &[-2, 3, 3]])?;
-    assert_eq!(rt; end(alloc, &odd, 1)?, Ending::Model);
-    let zero = Formula::new(alloc, 0);
-    assert_eq!(rt; end(alloc, &zero, 1)?, Ending::Model);
     Ok(())
 }
 
