@@ -11,9 +11,6 @@ ghost use Rattle.rr_bits.specs.Words.{bit, number, less as less_than, add as sum
 ghost use Rattle.rr_arith.specs.Shifts.{shift_filled};
 ghost use Rattle.rr_arith.specs.Orders.{less_next};
 
-#[cfg(test)]
-mod tests;
-
 use rr_circuit::{Builder, Wire};
 use std::alloc::{AllocError, Global};
 

@@ -8,9 +8,6 @@ ghost use Rattle.rr_bits.specs.Words.{number, word, extend as extended, add as s
 
 use std::marker::Model;
 
-#[cfg(test)]
-mod tests;
-
 /// A word of 1 to 128 bits, seen as the list of its truth values, lowest first.
 #[derive(Clone, Copy, Debug, PartialEq, Eq)]
 pub struct Bits {

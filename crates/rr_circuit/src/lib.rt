@@ -8,8 +8,6 @@ ghost use Rattle.std.specs.Prelude.{◌≡◌, ℕ, ◌+◌, ◌*◌, ◌^◌, �
 ghost use Rattle.rr_circuit.specs.Values.{xor, Netlist, OutputNetlist, AreWires, output_values, wire_values, variable_values, literal_value, given, IsWire, wire_value, Extends, IsNetlist, AreOrdered, SolvesItsEquations, DependsOnInputs};
 
 mod aag;
-#[cfg(test)]
-mod tests;
 
 pub use aag::{AagFault, read_aag, write_aag};
 use indexmap::IndexMap;

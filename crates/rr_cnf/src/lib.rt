@@ -13,6 +13,3 @@ pub use clause::Clause;
 pub use dimacs::{same_text_same_formula, write_dimacs};
 pub use formula::Formula;
 pub use lit::Lit;
-
-#[cfg(test)]
-mod tests;

@@ -6,9 +6,6 @@ ghost use Rattle.std.specs.Prelude.{◌≡◌, ℕ, ◌<◌, ◌≤◌, Bool, tr
 ghost use Rattle.rr_circuit.specs.Values.{IsWire, AreWires, wire_value, wire_values, Extends};
 ghost use Rattle.rr_count.specs.Counts.{is_at_most};
 
-#[cfg(test)]
-mod tests;
-
 use rr_circuit::{Builder, Wire};
 use std::alloc::{AllocError, Global};
 

@@ -10,9 +10,6 @@ ghost use Rattle.std.specs.Option.{SomeIff};
 use itoa::Buffer;
 use std::alloc::AllocError;
 
-#[cfg(test)]
-mod tests;
-
 /// Writes the number in decimal digits, without leading zeros, at the end of the text, and the byte
 /// `stop` behind it.
 pub fn push_number(text: &mut Vec<u8>, number: u64, stop: u8) -> Result<(), AllocError>

@@ -16,6 +16,3 @@ pub use laws::refuted_means_unsatisfiable;
 pub use line::{Journal, Line};
 pub use read::{ProofFault, one_fault, one_proof, proof_or_fault, read_lrat};
 pub use write::write_lrat;
-
-#[cfg(test)]
-mod tests;

@@ -13,6 +13,3 @@ mod solver;
 pub use engine::{Status, Stepped};
 pub use outcome::{Outcome, solve};
 pub use solver::Solver;
-
-#[cfg(test)]
-mod tests;

@@ -10,8 +10,6 @@ ghost use Rattle.rr_sort.specs.Walks.{IsBetween, Grown};
 
 mod rows;
 mod search;
-#[cfg(test)]
-mod tests;
 mod walk;
 
 pub use rows::{bare, join};

@@ -15,9 +15,6 @@ use rr_circuit::{Circuit, Gate, Wire};
 use rr_cnf::{Clause, Formula, Lit};
 use std::alloc::{AllocError, Global};
 
-#[cfg(test)]
-mod tests;
-
 /// The literal of a wire that is no constant: AIGER's numbers are those of the literals.
 fn lit_of(wire: Wire) -> Lit
     requires low { 2 ≤ wire.0 }

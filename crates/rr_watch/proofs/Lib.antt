@@ -7,4 +7,3 @@ pub mod Choices
 pub mod AdvanceLaws
 pub mod PlaceLaws
 pub mod NumberLaws
-pub mod TestLaws

@@ -1,0 +1,106 @@
+//! Texts and calls with ample memory.
+use rr_cnf::{Clause, Formula, Lit, write_dimacs};
+use std::alloc::Global;
+use std::test::Fail;
+
+/// The literal that a signed number of DIMACS names.
+fn lit(number: i32) -> Lit {
+    Lit::new(u64::from(number.unsigned_abs()).max(1), number < 0)
+}
+
+fn push(alloc: Global, formula: &mut Formula, lits: &[Lit]) -> Result<(), Fail> {
+    let vars = formula.vars();
+    if lits.iter().all(|lit| lit.var() <= vars) {
+        formula.push(Clause::from_lits(alloc, lits)?)?;
+    }
+    Ok(())
+}
+
+fn shared<T: Send + Sync>(_value: &T) -> bool {
+    true
+}
+
+/// Formulas by their variables and clauses, with their texts.
+const TEXTS: [(u64, &[&[i32]], &str); 3] = [
+    (0, &[&[]], "p cnf 0 1\n0\n"),
+    (
+        3,
+        &[&[-3, 2], &[-3, 1], &[3, -2, -1], &[3]],
+        "p cnf 3 4\n-3 2 0\n-3 1 0\n3 -2 -1 0\n3 0\n",
+    ),
+    (7, &[], "p cnf 7 0\n"),
+];
+
+/// Whether the formula of these clauses has this text.
+fn has_text(alloc: Global, vars: u64, clauses: &[&[i32]], text: &str) -> Result<bool, Fail> {
+    let mut formula = Formula::new(alloc, vars);
+    formula.reserve(clauses.len())?;
+    for numbers in clauses {
+        let mut lits = Vec::new(alloc);
+        for number in *numbers {
+            lits.push(lit(*number))?;
+        }
+        push(alloc, &mut formula, lits.as_slice())?;
+    }
+    Ok(write_dimacs(alloc, &formula)?.as_slice() == text.as_bytes())
+}
+
+#[test]
+fn writes_the_texts(rt: HostRuntime) -> Result<(), Fail> {
+    let alloc = rt.alloc();
+    for (vars, clauses, text) in TEXTS.iter() {
+        assert!(rt; has_text(alloc, *vars, clauses, text)?, "{text}");
+    }
+    Ok(())
+}
+
+#[test]
+fn writes_the_greatest_variable(rt: HostRuntime) -> Result<(), Fail> {
+    let alloc = rt.alloc();
+    let most = 1u64 << 62;
+    let mut formula = Formula::new(alloc, most);
+    let lits = [Lit::new(most, true), Lit::new(1, false), Lit::new(1, false)];
+    push(alloc, &mut formula, &lits)?;
+    let text = write_dimacs(alloc, &formula)?;
+    let wanted = b"p cnf 4611686018427387904 1\n-4611686018427387904 1 1 0\n";
+    assert_eq!(rt; text.as_slice(), wanted.as_slice());
+    Ok(())
+}
+
+#[test]
+fn keeps_clauses(rt: HostRuntime) -> Result<(), Fail> {
+    let alloc = rt.alloc();
+    let five = [lit(1), lit(-2), lit(3), lit(-4), lit(5)];
+    let clause = Clause::from_lits(alloc, &five)?;
+    assert_eq!(rt; clause.lits(), five.as_slice());
+    let mut formula = Formula::new(alloc, 5);
+    push(alloc, &mut formula, &five)?;
+    push(alloc, &mut formula, &[])?;
+    assert_eq!(rt; formula.len(), 2);
+    assert_eq!(rt; formula.vars(), 5);
+    assert_eq!(rt;
+        formula.clause(1).map(|clause| clause.lits()),
+        Some(five.as_slice())
+    );
+    assert_eq!(rt;
+        formula.clause(2).map(|clause| clause.lits().len()),
+        Some(0)
+    );
+    assert!(rt;
+        formula.clause(0).is_none() && formula.clause(3).is_none(),
+        "out of range"
+    );
+    assert!(rt; shared(&formula) && shared(&clause), "shared");
+    Ok(())
+}
+
+#[test]
+fn literals(rt: HostRuntime) {
+    let one = lit(1);
+    assert_eq!(rt; one.negated(), lit(-1));
+    assert_eq!(rt; one.negated().negated(), one);
+    assert!(rt; one.negated().is_negative() && !one.is_negative(), "signs");
+    assert_eq!(rt; Lit::new(1 << 62, true).var(), 1u64 << 62);
+    assert!(rt; one < one.negated() && one.negated() < lit(2), "order");
+    assert_eq!(rt; Lit::default(), one);
+}

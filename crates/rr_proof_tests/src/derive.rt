@@ -1,0 +1,166 @@
+//! Texts of proofs, and the check of their lines.
+use crate::helpers::shared;
+use rr_cnf::{Clause, Formula, Lit};
+use rr_derive::{Journal, ProofFault, Workspace, check_line, read_lrat, write_lrat};
+use std::alloc::Global;
+use std::test::Fail;
+
+/// Texts over a formula of two clauses and three variables, with the number of additions that they
+/// have, or the first bad line.
+const TEXTS: [(&[u8], Result<usize, ProofFault>); 61] = [
+    (b"", Ok(0)),
+    (b"3 0 1 2 0\n", Ok(1)),
+    (b"3 1 0 1 0\n4 0 1 0\n5 0 2 0\n", Ok(3)),
+    (b"3 1 0 1 0\n", Ok(1)),
+    (b"3 0 9 0\n", Ok(1)),
+    (b"3 0 3 0\n", Ok(1)),
+    (b"3 d 1 0\n4 0 1 2 0\n", Ok(1)),
+    (b"7 d 0\n", Ok(0)),
+    (b"1 d 2 1 7 0\n3 0 0\n", Ok(1)),
+    (b"9 -1 2 3 0 1 2 8 0\n12 0 0\n", Ok(2)),
+    (b"4611686018427387903 1 0 4611686018427387903 0\n", Ok(1)),
+    (b"3 1 1 0 1 0\n", Ok(1)),
+    (b"3 -3 0 0\n", Ok(1)),
+    (b"3 0 1 2", Err(ProofFault::BadProof(1))),
+    (b"3 0 1 2 0", Err(ProofFault::BadProof(1))),
+    (b"3 0 1 2\n", Err(ProofFault::BadProof(1))),
+    (b"3", Err(ProofFault::BadProof(1))),
+    (b"3 ", Err(ProofFault::BadProof(1))),
+    (b"\n", Err(ProofFault::BadProof(1))),
+    (b"3 0 1 0\n\n", Err(ProofFault::BadProof(2))),
+    (b"2 0 1 0\n", Err(ProofFault::BadProof(1))),
+    (b"3 2 0 1 0\n4 4 0 1 0\n", Err(ProofFault::BadProof(2))),
+    (b"3 1 -1 0 1 0\n", Err(ProofFault::BadProof(1))),
+    (b"3 -1 2 1 0 1 0\n", Err(ProofFault::BadProof(1))),
+    (b"3  0 1 0\n", Err(ProofFault::BadProof(1))),
+    (b"3 0  1 0\n", Err(ProofFault::BadProof(1))),
+    (b" 3 0 1 0\n", Err(ProofFault::BadProof(1))),
+    (b"3 0 1 0 \n", Err(ProofFault::BadProof(1))),
+    (b"3 0 1 0\r\n", Err(ProofFault::BadProof(1))),
+    (b"3\t0 1 0\n", Err(ProofFault::BadProof(1))),
+    (b"4 0 1 0\n3 0 1 0\n", Err(ProofFault::BadProof(2))),
+    (b"3 0 1 0\n3 0 1 0\n", Err(ProofFault::BadProof(2))),
+    (b"4611686018427387904 0 1 0\n", Err(ProofFault::BadProof(1))),
+    (b"3 0 4611686018427387904 0\n", Err(ProofFault::BadProof(1))),
+    (b"03 0 1 0\n", Err(ProofFault::BadProof(1))),
+    (b"3 01 0 1 0\n", Err(ProofFault::BadProof(1))),
+    (b"3 0 01 0\n", Err(ProofFault::BadProof(1))),
+    (b"+3 0 1 0\n", Err(ProofFault::BadProof(1))),
+    (b"-3 0 1 0\n", Err(ProofFault::BadProof(1))),
+    (b"0 0 1 0\n", Err(ProofFault::BadProof(1))),
+    (b"3 0 1\n0\n", Err(ProofFault::BadProof(1))),
+    (b"3 00 1 0\n", Err(ProofFault::BadProof(1))),
+    (b"3 0 1 00\n", Err(ProofFault::BadProof(1))),
+    (b"3 --1 0 1 0\n", Err(ProofFault::BadProof(1))),
+    (b"3 - 1 0 1 0\n", Err(ProofFault::BadProof(1))),
+    (b"3 d 1\n", Err(ProofFault::BadProof(1))),
+    (b"3 d -1 0\n", Err(ProofFault::BadProof(1))),
+    (b"3 d 1 0 0\n", Err(ProofFault::BadProof(1))),
+    (b"3 D 1 0\n", Err(ProofFault::BadProof(1))),
+    (b"3 d1 0\n", Err(ProofFault::BadProof(1))),
+    (b"d 1 0\n", Err(ProofFault::BadProof(1))),
+    (b"3 0 1 0 4 0\n", Err(ProofFault::BadProof(1))),
+    (b"3 1 2 0\n", Err(ProofFault::BadProof(1))),
+    (b"c 3 0 1 0\n", Err(ProofFault::BadProof(1))),
+    (b"3 0 -1 2 0\n", Err(ProofFault::RatLine(1))),
+    (b"3 0 1 0\n4 1 0 1 -2 0\n", Err(ProofFault::RatLine(2))),
+    (b"2 0 -1 0\n", Err(ProofFault::RatLine(1))),
+    (b"3 9 0 -1 0\n", Err(ProofFault::RatLine(1))),
+    (b"3 1 -1 0 -1 0\n", Err(ProofFault::RatLine(1))),
+    (b"3 0 -1 2 0", Err(ProofFault::BadProof(1))),
+    (
+        b"3 0 1 0\n2 0 1 0\n4 0 -1 0\n",
+        Err(ProofFault::BadProof(2)),
+    ),
+];
+
+fn reads(alloc: Global, text: &[u8], expected: Result<usize, ProofFault>) -> bool {
+    read_lrat(alloc, text, 2, 3).map(|journal| journal.lines().len()) == expected
+}
+
+fn first_misread(alloc: Global, texts: &[(&[u8], Result<usize, ProofFault>)]) -> Option<usize> {
+    texts
+        .iter()
+        .position(|(text, expected)| !reads(alloc, text, *expected))
+}
+
+#[test]
+fn reads_texts(rt: HostRuntime) {
+    assert_eq!(rt; first_misread(rt.alloc(), &TEXTS), None);
+}
+
+#[test]
+fn writes_what_it_reads(rt: HostRuntime) -> Result<(), Fail> {
+    let alloc = rt.alloc();
+    let text = b"3 -1 2 0 1 2 0\n7 0 0\n4611686018427387903 3 0 9 7 0\n";
+    let journal = read_lrat(alloc, text, 2, 3)?;
+    assert_eq!(rt; write_lrat(alloc, &journal)?.as_slice(), text.as_slice());
+    let mut journal = Journal::new(alloc, 3);
+    assert_eq!(rt;
+        journal.push(Clause::from_lits(alloc, &[])?, Vec::new(alloc))?,
+        3
+    );
+    assert_eq!(rt;
+        write_lrat(alloc, &journal)?.as_slice(),
+        b"3 0 0\n".as_slice()
+    );
+    Ok(())
+}
+
+/// The formula whose two clauses are a variable and its negation.
+fn contradiction(alloc: Global) -> Result<Formula, Fail> {
+    let mut formula = Formula::new(alloc, 3);
+    formula.push(Clause::from_lits(alloc, &[Lit::new(1, false)])?)?;
+    formula.push(Clause::from_lits(alloc, &[Lit::new(1, true)])?)?;
+    Ok(formula)
+}
+
+/// The number of the first line that fails, from 1, or 0 where all pass.
+fn first_failing(alloc: Global, text: &[u8]) -> Result<u64, Fail> {
+    let formula = contradiction(alloc)?;
+    if formula.len() != 2 || formula.vars() != 3 {
+        return Err(Fail::from("the formula"));
+    }
+    let journal = read_lrat(alloc, text, formula.len(), formula.vars())?;
+    let mut work = Workspace::for_vars(alloc, formula.vars())?;
+    for index in 0..journal.lines().len() as u64 {
+        if !check_line(&mut work, &formula, &journal, index) {
+            return Ok(index + 1);
+        }
+    }
+    Ok(0)
+}
+
+/// Proofs from the contradiction, with the number of the first line that fails, or 0.
+const LINES: [(&[u8], u64); 12] = [
+    (b"", 0),
+    (b"3 0 1 2 0\n", 0),
+    (b"3 0 2 1 0\n", 0),
+    (b"3 1 0 1 0\n4 0 1 0\n5 0 2 0\n", 2),
+    (b"3 1 0 1 0\n4 0 3 2 0\n", 0),
+    (b"3 0 9 0\n", 1),
+    (b"3 0 3 0\n", 1),
+    (b"3 0 0\n", 1),
+    (b"3 d 1 0\n4 0 1 2 0\n", 0),
+    (b"3 0 1 2 9 0\n", 0),
+    (b"3 2 3 0 1 1 2 0\n", 1),
+    (b"3 2 2 -3 0 1 2 0\n4 2 0 3 0\n", 2),
+];
+
+#[test]
+fn checks_lines(rt: HostRuntime) -> Result<(), Fail> {
+    let alloc = rt.alloc();
+    for (text, failing) in LINES.iter() {
+        assert_eq!(rt; first_failing(alloc, text)?, *failing);
+    }
+    Ok(())
+}
+
+#[test]
+fn crosses_threads(rt: HostRuntime) -> Result<(), Fail> {
+    let alloc = rt.alloc();
+    let journal = Journal::new(alloc, 1);
+    let work = Workspace::for_vars(alloc, 1)?;
+    assert!(rt; shared(&journal) && shared(&work), "shared");
+    Ok(())
+}

@@ -1,0 +1,80 @@
+//! What several of the tests use: small formulas, and numbers that look random.
+use rr_cnf::{Clause, Formula, Lit};
+use std::alloc::Global;
+use std::test::Fail;
+
+/// The literal that a signed number of DIMACS names.
+pub(crate) fn lit(number: i32) -> Lit {
+    Lit::new(u64::from(number.unsigned_abs()).max(1), number < 0)
+}
+
+pub(crate) fn clause(alloc: Global, numbers: &[i32]) -> Result<Clause, Fail> {
+    let mut lits = Vec::new(alloc);
+    for number in numbers {
+        lits.push(lit(*number))?;
+    }
+    Ok(Clause::from_lits(alloc, lits.as_slice())?)
+}
+
+pub(crate) fn push(formula: &mut Formula, clause: Clause) -> Result<(), Fail> {
+    let vars = formula.vars();
+    if clause.lits().iter().all(|lit| lit.var() <= vars) {
+        formula.push(clause)?;
+    }
+    Ok(())
+}
+
+pub(crate) fn formula(alloc: Global, vars: u64, clauses: &[&[i32]]) -> Result<Formula, Fail> {
+    let mut formula = Formula::new(alloc, vars);
+    for numbers in clauses {
+        push(&mut formula, clause(alloc, numbers)?)?;
+    }
+    Ok(formula)
+}
+
+/// The clauses over three variables, which nothing satisfies.
+pub(crate) const EIGHT: [&[i32]; 8] = [
+    &[1, 2, 3],
+    &[1, 2, -3],
+    &[1, -2, 3],
+    &[1, -2, -3],
+    &[-1, 2, 3],
+    &[-1, 2, -3],
+    &[-1, -2, 3],
+    &[-1, -2, -3],
+];
+
+/// Whether the value may be used by several threads.
+pub(crate) fn shared<T: Send + Sync>(_value: &T) -> bool {
+    true
+}
+
+/// Numbers that look random.
+#[derive(Drop)]
+pub(crate) struct Numbers {
+    state: u64,
+}
+
+impl Numbers {
+    pub(crate) fn from_state(state: u64) -> Numbers {
+        Numbers { state }
+    }
+
+    /// A number below the end, or 0.
+    pub(crate) fn below(&mut self, end: u64) -> u64 {
+        self.state = self
+            .state
+            .wrapping_mul(6_364_136_223_846_793_005)
+            .wrapping_add(1_442_695_040_888_963_407);
+        if end == 0 {
+            return 0;
+        }
+        (self.state >> 33) % end
+    }
+
+    /// A literal of one of so many variables, or of the first 1000.
+    pub(crate) fn lit(&mut self, vars: u64) -> Lit {
+        let var = self.below(vars).min(999) + 1;
+        Lit::new(var, self.below(2) == 0)
+    }
+}

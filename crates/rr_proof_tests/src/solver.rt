@@ -1,0 +1,410 @@
+//! Small formulas to their ends, each answer checked: values against the clauses, lines one by one.
+ghost use Rattle.std.specs.Prelude.{◌≡◌, ◌+◌, ◌<◌, All, IfOk, length};
+ghost use Rattle.rr_cnf.specs.Partial.{Determined};
+ghost use Rattle.rr_solver.specs.Outcomes.{AreLines};
+
+use crate::helpers::{EIGHT, Numbers, formula, lit, push, shared};
+use rr_cnf::{Clause, Formula, Lit};
+use rr_derive::{Journal, Workspace, check_line};
+use rr_solver::{Outcome, Solver, Stepped, solve};
+use std::alloc::Global;
+use std::test::Fail;
+
+/// All variables, which determine themselves.
+fn all_inputs(formula: &Formula) -> u64
+    ensures inputs { result ≡ formula.now.vars }
+    ensures determined { Determined formula.now result }
+{
+    formula.vars()
+}
+
+fn search(alloc: Global, formula: &Formula, budget: u32) -> Result<Outcome, Fail> {
+    let inputs = all_inputs(formula);
+    Ok(solve(alloc, formula, inputs, budget)?)
+}
+
+/// Whether every line passes the hint check.
+fn all_pass(alloc: Global, formula: &Formula, journal: &Journal) -> Result<bool, Fail>
+    requires { AreLines formula.now journal.now.lines }
+{
+    if formula.vars() >= 1 << 40 {
+        return Ok(false);
+    }
+    let mut work = Workspace::for_vars(alloc, formula.vars())?;
+    for index in 0..journal.lines().len() {
+        if !check_line(&mut work, formula, journal, index as u64) {
+            return Ok(false);
+        }
+    }
+    Ok(true)
+}
+
+fn has_empty(journal: &Journal) -> bool {
+    journal
+        .lines()
+        .iter()
+        .any(|line| line.clause.lits().is_empty())
+}
+
+/// Whether each clause has a true literal.
+fn satisfies(formula: &Formula, bits: &[bool]) -> bool {
+    for index in 0..formula.len() {
+        if let Some(clause) = formula.clause(index + 1) {
+            let is_true = clause.lits().iter().any(|lit| {
+                let value = bits.get(lit.var() as usize).copied().unwrap_or(false);
+                value != lit.is_negative()
+            });
+            if !is_true {
+                return false;
+            }
+        }
+    }
+    true
+}
+
+/// How the search ends, with the number of lines; the answer is checked.
+#[derive(Debug, Clone, Copy, PartialEq, Eq)]
+enum Ending {
+    Model,
+    Refuted(usize),
+    Spent(usize),
+    Wrong,
+}
+
+fn end(alloc: Global, formula: &Formula, budget: u32) -> Result<Ending, Fail> {
+    let inputs = all_inputs(formula);
+    match solve(alloc, formula, inputs, budget)? {
+        Outcome::Model(bits) => {
+            if satisfies(formula, bits.as_slice()) {
+                return Ok(Ending::Model);
+            }
+        }
+        Outcome::Refuted(journal) => {
+            if all_pass(alloc, formula, &journal)? && has_empty(&journal) {
+                return Ok(Ending::Refuted(journal.lines().len()));
+            }
+        }
+        Outcome::Spent(journal) => {
+            if all_pass(alloc, formula, &journal)? && !has_empty(&journal) {
+                return Ok(Ending::Spent(journal.lines().len()));
+            }
+        }
+    }
+    Ok(Ending::Wrong)
+}
+
+/// Formulas by their variables and clauses, with a budget and how the search ends.
+const SMALL: [(u64, &[&[i32]], u32, Ending); 8] = [
+    (3, &EIGHT, 1, Ending::Spent(1)),
+    (3, &EIGHT, 1_000, Ending::Refuted(4)),
+    (
+        42,
+        &[&[21, 22], &[21, -22], &[-21, 22], &[-21, -22]],
+        100,
+        Ending::Refuted(2),
+    ),
+    (2, &[], 1, Ending::Model),
+    (2, &[&[1, 2], &[]], 1, Ending::Refuted(1)),
+    (2, &[&[1], &[-1, 2], &[-2, -2]], 1, Ending::Refuted(1)),
+    (3, &[&[1, -1], &[2, 2], &[-2, 3, 3]], 1, Ending::Model),
+    (0, &[], 1, Ending::Model),
+];
+
+#[test]
+fn ends_on_small_formulas(rt: HostRuntime) -> Result<(), Fail> {
+    let alloc = rt.alloc();
+    for (vars, clauses, budget, expected) in SMALL.iter() {
+        let made = formula(alloc, *vars, clauses)?;
+        assert_eq!(rt; end(alloc, &made, *budget)?, *expected);
+    }
+    Ok(())
+}
+
+/// The first clause that is learned has two literals.
+#[test]
+fn learns_from_eight_clauses(rt: HostRuntime) -> Result<(), Fail> {
+    let alloc = rt.alloc();
+    let eight = formula(alloc, 3, &EIGHT)?;
+    match search(alloc, &eight, 1)? {
+        Outcome::Spent(journal) => {
+            let lines = journal.lines();
+            assert_eq!(rt; lines.len(), 1);
+            assert_eq!(rt; lines.first().map(|line| line.clause.lits().len()), Some(2));
+        }
+        _ => assert!(rt; false, "spent"),
+    }
+    Ok(())
+}
+
+/// One pigeon more than holes: each pigeon has a hole, and no two have the same.
+fn pigeons(alloc: Global, holes: u64) -> Result<Formula, Fail> {
+    let holes = holes.min(20);
+    let mut formula = Formula::new(alloc, (holes + 1) * holes);
+    for pigeon in 0..holes + 1 {
+        let mut lits = Vec::new(alloc);
+        for hole in 0..holes {
+            lits.push(Lit::new(pigeon * holes + hole + 1, false))?;
+        }
+        push(&mut formula, Clause::from_lits(alloc, lits.as_slice())?)?;
+    }
+    for hole in 0..holes {
+        for pigeon in 0..holes + 1 {
+            for other in 0..pigeon {
+                let one = Lit::new(pigeon * holes + hole + 1, true);
+                let two = Lit::new(other * holes + hole + 1, true);
+                push(&mut formula, Clause::from_lits(alloc, &[one, two])?)?;
+            }
+        }
+    }
+    Ok(formula)
+}
+
+#[test]
+fn refutes_pigeons(rt: HostRuntime) -> Result<(), Fail> {
+    let alloc = rt.alloc();
+    for holes in 4..7 {
+        let end = end(alloc, &pigeons(alloc, holes)?, 100_000)?;
+        assert!(rt; matches!(end, Ending::Refuted(_)), "refuted");
+    }
+    Ok(())
+}
+
+/// Clauses of three literals.
+fn random_formula(
+    alloc: Global,
+    numbers: &mut Numbers,
+    vars: u64,
+    clauses: u64,
+) -> Result<Formula, Fail> {
+    let mut formula = Formula::new(alloc, vars);
+    for _ in 0..clauses {
+        let lits = [numbers.lit(vars), numbers.lit(vars), numbers.lit(vars)];
+        push(&mut formula, Clause::from_lits(alloc, &lits)?)?;
+    }
+    Ok(formula)
+}
+
+/// Each formula is satisfied by the values, or refuted by lines of which each passes.
+#[test]
+fn decides_random_formulas(rt: HostRuntime) -> Result<(), Fail> {
+    let alloc = rt.alloc();
+    let mut numbers = Numbers::from_state(19);
+    let mut models = 0u32;
+    for _ in 0..200 {
+        let formula = random_formula(alloc, &mut numbers, 30, 128)?;
+        match end(alloc, &formula, 100_000)? {
+            Ending::Model => models = models.saturating_add(1),
+            Ending::Refuted(_) => {}
+            _ => assert!(rt; false, "decided"),
+        }
+    }
+    assert!(rt; 20 < models && models < 180, "of both kinds");
+    Ok(())
+}
+
+/// A solver that decides all variables.
+fn begin(alloc: Global, formula: &Formula, member: u32) -> Result<Solver, Fail>
+    ensures { IfOk result (λ s. s.formula ≡ formula.now) }
+{
+    let inputs = all_inputs(formula);
+    Ok(Solver::new(alloc, formula, inputs, member)?)
+}
+
+fn step(solver: &mut Solver) -> Result<Stepped, Fail>
+    ensures { solver.new.formula ≡ solver.old.formula }
+{
+    Ok(solver.conflict_step()?)
+}
+
+/// Hands over a clause under the next id, after a restart.
+fn hand_over(alloc: Global, solver: &mut Solver, vars: u64, lits: &[Lit]) -> Result<bool, Fail>
+    requires { solver.old.formula.vars ≡ vars }
+    ensures { solver.new.formula ≡ solver.old.formula }
+{
+    solver.restart();
+    let id = solver.last_id();
+    let clause = Clause::from_lits(alloc, lits)?;
+    if id < 1 << 40 && clause.lits().iter().all(|lit| lit.var() <= vars) {
+        solver.import(id + 1, &clause)?;
+        return Ok(true);
+    }
+    Ok(false)
+}
+
+#[test]
+fn takes_what_is_handed_over(rt: HostRuntime) -> Result<(), Fail> {
+    let alloc = rt.alloc();
+    let eight = formula(alloc, 3, &EIGHT)?;
+    let mut solver = begin(alloc, &eight, 1)?;
+    assert!(rt; shared(&solver), "shared");
+    assert_eq!(rt; step(&mut solver)?, Stepped::Learned);
+    assert_eq!(rt; solver.last_id(), 9);
+    let vars = eight.vars();
+    assert!(rt;
+        hand_over(alloc, &mut solver, vars, &[lit(1)])?,
+        "handed over"
+    );
+    assert_eq!(rt; solver.last_id(), 10);
+    assert_eq!(rt; step(&mut solver)?, Stepped::Learned);
+    assert_eq!(rt; step(&mut solver)?, Stepped::Refuted);
+    assert_eq!(rt; step(&mut solver)?, Stepped::Refuted);
+    let lines = solver.journal().lines();
+    assert_eq!(rt; lines.len(), 3);
+    assert_eq!(rt; lines.first().map(|line| line.id), Some(9));
+    assert_eq!(rt; lines.last().map(|line| line.id), Some(12));
+    Ok(())
+}
+
+#[test]
+fn ends_with_a_false_clause_handed_over(rt: HostRuntime) -> Result<(), Fail> {
+    let alloc = rt.alloc();
+    let free = formula(alloc, 3, &[&[1, 2, 3]])?;
+    let mut solver = begin(alloc, &free, 2)?;
+    let vars = free.vars();
+    assert!(rt; hand_over(alloc, &mut solver, vars, &[])?, "handed over");
+    assert_eq!(rt; step(&mut solver)?, Stepped::Refuted);
+    let hints = solver
+        .journal()
+        .lines()
+        .first()
+        .map(|line| line.hints.as_slice() == [2u64].as_slice());
+    assert_eq!(rt; hints, Some(true));
+    Ok(())
+}
+
+#[test]
+fn goes_on_after_restarts(rt: HostRuntime) -> Result<(), Fail> {
+    let alloc = rt.alloc();
+    for member in 1..9 {
+        let five = pigeons(alloc, 5)?;
+        let mut solver = begin(alloc, &five, member)?;
+        let mut last = Stepped::Learned;
+        for _ in 0..5_000 {
+            solver.restart();
+            last = step(&mut solver)?;
+            if last != Stepped::Learned {
+                break;
+            }
+        }
+        assert_eq!(rt; last, Stepped::Refuted);
+    }
+    Ok(())
+}
+
+const GATES: u64 = 800;
+
+/// A circuit as clauses, with a variable for each gate. The last variable is false.
+#[derive(Drop)]
+struct Gates {
+    formula: Formula,
+    used: u64,
+}
+
+impl Gates {
+    fn new(alloc: Global) -> Result<Gates, Fail> {
+        let mut formula = Formula::new(alloc, GATES);
+        push(
+            &mut formula,
+            Clause::from_lits(alloc, &[Lit::new(GATES, true)])?,
+        )?;
+        Ok(Gates { formula, used: 0 })
+    }
+
+    /// A variable that no gate has, if there is one.
+    fn fresh(&mut self) -> Lit {
+        self.used = (self.used % GATES) + 1;
+        Lit::new(self.used, false)
+    }
+
+    fn and(&mut self, alloc: Global, a: Lit, b: Lit) -> Result<Lit, Fail> {
+        let out = self.fresh();
+        let no = out.negated();
+        push(&mut self.formula, Clause::from_lits(alloc, &[no, a])?)?;
+        push(&mut self.formula, Clause::from_lits(alloc, &[no, b])?)?;
+        let both = [out, a.negated(), b.negated()];
+        push(&mut self.formula, Clause::from_lits(alloc, &both)?)?;
+        Ok(out)
+    }
+
+    fn or(&mut self, alloc: Global, a: Lit, b: Lit) -> Result<Lit, Fail> {
+        Ok(self.and(alloc, a.negated(), b.negated())?.negated())
+    }
+
+    fn xor(&mut self, alloc: Global, a: Lit, b: Lit) -> Result<Lit, Fail> {
+        let both = self.and(alloc, a, b)?;
+        let none = self.and(alloc, a.negated(), b.negated())?;
+        self.and(alloc, both.negated(), none.negated())
+    }
+
+    /// The sum of two numbers, lowest bit first, without the last carry.
+    fn add(&mut self, alloc: Global, x: &[Lit], y: &[Lit]) -> Result<Vec<Lit>, Fail> {
+        let mut sum = Vec::new(alloc);
+        let mut carry = Lit::new(GATES, false);
+        for (a, b) in x.iter().zip(y) {
+            let odd = self.xor(alloc, *a, *b)?;
+            let both = self.and(alloc, *a, *b)?;
+            let through = self.and(alloc, odd, carry)?;
+            sum.push(self.xor(alloc, odd, carry)?)?;
+            carry = self.or(alloc, both, through)?;
+        }
+        Ok(sum)
+    }
+
+    /// A number of so many bits.
+    fn number(&mut self, alloc: Global, bits: usize) -> Result<Vec<Lit>, Fail> {
+        let mut lits = Vec::new(alloc);
+        for _ in 0..bits {
+            lits.push(self.fresh())?;
+        }
+        Ok(lits)
+    }
+
+    /// One number, moved up by so many bits, where the bit is true, and else 0; in twelve bits.
+    fn row(&mut self, alloc: Global, x: &[Lit], bit: Lit, up: usize) -> Result<Vec<Lit>, Fail> {
+        let zero = Lit::new(GATES, false);
+        let mut row = Vec::new(alloc);
+        for _ in 0..up {
+            row.push(zero)?;
+        }
+        for lit in x {
+            row.push(self.and(alloc, *lit, bit)?)?;
+        }
+        for _ in row.len()..12 {
+            row.push(zero)?;
+        }
+        Ok(row)
+    }
+}
+
+/// Two numbers of six bits whose product is this number.
+fn product(alloc: Global, product: u32) -> Result<Formula, Fail> {
+    let mut gates = Gates::new(alloc)?;
+    let x = gates.number(alloc, 6)?;
+    let y = gates.number(alloc, 6)?;
+    let mut sum = gates.row(alloc, x.as_slice(), Lit::new(GATES, false), 0)?;
+    for (up, bit) in y.iter().enumerate() {
+        let row = gates.row(alloc, x.as_slice(), *bit, up)?;
+        sum = gates.add(alloc, sum.as_slice(), row.as_slice())?;
+    }
+    let mut rest = product;
+    for lit in &sum {
+        let is = if rest % 2 == 1 { *lit } else { lit.negated() };
+        push(&mut gates.formula, Clause::from_lits(alloc, &[is])?)?;
+        rest /= 2;
+    }
+    let Gates { formula, .. } = gates;
+    Ok(formula)
+}
+
+/// 43 * 47 is 2021, and 2017 is a prime.
+#[test]
+fn finds_factors(rt: HostRuntime) -> Result<(), Fail> {
+    let alloc = rt.alloc();
+    assert_eq!(rt;
+        end(alloc, &product(alloc, 2_021)?, 100_000)?,
+        Ending::Model
+    );
+    let end = end(alloc, &product(alloc, 2_017)?, 100_000)?;
+    assert!(rt; matches!(end, Ending::Refuted(_)), "refuted");
+    Ok(())
+}
