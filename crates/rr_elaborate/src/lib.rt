@@ -8,8 +8,7 @@ mod laws;
 
 pub use design::{Design, DesignFault, elaborate};
 pub use laws::one_design;
-pub use rr_flat::Flat;
-pub use rr_flat::{FlatFault, Limit};
+pub use rr_flat::{Flat, FlatFault, Limit};
 pub use rr_lex::Wrong;
 
 #[cfg(test)]

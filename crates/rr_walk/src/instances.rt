@@ -15,8 +15,7 @@ ghost use Rattle.rr_walk.specs.Walk.{checked as checked_of, join_port as join_po
 use crate::items::{Walked, drive, names_of};
 use crate::settings::{Checked, connections, overrides};
 use crate::tables::{place_of, port_names};
-use rr_expr::Scope;
-use rr_expr::first_token;
+use rr_expr::{Scope, first_token};
 use rr_flat::{FlatFault, Port, Side, note_if};
 use rr_syntax::{Connection, Conns, Expr, Instance, Module};
 use std::alloc::{AllocError, Global};

@@ -13,8 +13,7 @@ ghost use Rattle.rr_walk.specs.Walk.{with_driver, assign as assign_in, net as ne
 
 use crate::notes::{note_events, note_shape, note_statement};
 use crate::tables::place_of;
-use rr_expr::Scope;
-use rr_expr::first_token;
+use rr_expr::{Scope, first_token};
 use rr_flat::{Block, Driver, Flat, FlatFault, Side};
 use rr_syntax::{Event, Events, Expr, NetName, Pair, Stmt};
 use std::alloc::AllocError;

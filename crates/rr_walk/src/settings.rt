@@ -8,8 +8,7 @@ ghost use Rattle.rr_walk.specs.Walk.{noted, with_value as with_value_in, paramet
 use crate::notes::{note_optional, note_shape};
 use crate::tables::{name_set, open_names, parameter_table, port_names, put, put_place};
 use rr_bits::Bits;
-use rr_expr::{Entity, Scope};
-use rr_expr::first_token;
+use rr_expr::{Entity, Scope, first_token};
 use rr_flat::{FlatFault, note, note_if, sooner_of};
 use rr_head::constant_of;
 use rr_syntax::{Connection, Conns, Expr, Module};
