@@ -1,5 +1,5 @@
 -- what an order of steps means
-use Rattle.std.proofs.Common.{◌≡◌, ℕ, ◌<◌, ◌⊎◌, inl, inr, List, [], length, Bool, true, false, Option, Some, None, refl, arith}
+use Rattle.std.proofs.Common.{ℕ, ◌<◌, inl, inr, List, [], length, Bool, true, Option, None, refl, arith}
 use Rattle.rr_expr.specs.declared.types.Bit.{Bit}
 use Rattle.rr_flat.specs.Signals.{Text}
 use Rattle.rr_flat.specs.declared.design.Step.{Step}

@@ -1,13 +1,12 @@
 -- The clock of a flat design: the one top input on an edge of which every clocked block runs.
 use Rattle.std.specs.Prelude.{ℕ, ◌<◌, ◌≡◌, List, [], ◌∷◌, length, Bool, true, false, ◌||◌, Option, Some, None, cond, get_or}
 use Rattle.std.specs.Str.{bytes_eq}
-use Rattle.rr_syntax.specs.Tree.{Tree, Name, Literal, Bit as BitSelect, Part, Indexed, Unary, Binary, Cond, Concat, Repeat, Cast, Paren, Identifier, Statement, EdgeEvent}
-use Rattle.rr_expr.specs.declared.types.Entity.{Entity}
-use Rattle.rr_expr.specs.declared.types.Entity.TheVariants.{Constant, Signal as SignalEntity, Instance}
-use Rattle.rr_expr.specs.Scopes.{Names, meant}
+use Rattle.rr_syntax.specs.Tree.{Name, Literal, Bit as BitSelect, Part, Indexed, Unary, Binary, Cond, Concat, Repeat, Cast, Paren, Identifier, Statement, EdgeEvent}
+use Rattle.rr_expr.specs.declared.types.Entity.TheVariants.{Signal as SignalEntity}
+use Rattle.rr_expr.specs.Scopes.{meant}
 use Rattle.rr_flat.specs.declared.signal.Port.TheVariants.{Input}
-use Rattle.rr_flat.specs.Signals.{Text, Signal, signal_at}
-use Rattle.rr_flat.specs.Plain.{Side, Written, Whole, Driver, Block, Flat}
+use Rattle.rr_flat.specs.Signals.{Text, signal_at}
+use Rattle.rr_flat.specs.Plain.{Side, Written, Whole, Block, Flat}
 use Rattle.rr_flat.specs.Reads.{names_of}
 use Rattle.rr_flat.specs.Writers.{scope_at, driver_at, block_at}
 

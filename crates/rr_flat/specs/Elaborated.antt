@@ -1,5 +1,5 @@
 -- What the flat design of a source keeps, beside the laws: which signals ports and whole signals are.
-use Rattle.std.specs.Prelude.{◌≡◌, ◌⊎◌, ℕ, ◌<◌, ◌≤◌, List, length}
+use Rattle.std.specs.Prelude.{◌≡◌, ◌⊎◌, ◌<◌, ◌≤◌, List, length}
 use Rattle.std.specs.List.{AllByRecursion}
 use Rattle.rr_flat.specs.declared.signal.Port.TheVariants.{Input}
 use Rattle.rr_flat.specs.Signals.{Signal, signal_at}

@@ -1,5 +1,5 @@
 -- Which bits a statement has assigned on every path (IEEE 1364-2005 sections 9.2.1, 9.4 and 9.5).
-use Rattle.std.specs.Prelude.{◌≡◌, List, Bool, true, false, not, ◌&&◌, ◌||◌}
+use Rattle.std.specs.Prelude.{◌≡◌, Bool, true, false, not, ◌&&◌, ◌||◌}
 use Rattle.rr_syntax.specs.Tree.{Trees, End, More, Statement, Statements, Arm, Arms, Null, Block as Sequence, If, IfElse, Case, Assign, Done, Then, CaseItem, NoArms, MoreArms}
 use Rattle.rr_expr.specs.declared.types.Bit.{Bit}
 use Rattle.rr_expr.specs.Reading.{NamesBit, NamesBits}

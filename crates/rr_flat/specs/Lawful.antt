@@ -9,9 +9,9 @@ use Rattle.rr_syntax.specs.Words.{keyword_case, keyword_casez}
 use Rattle.rr_expr.specs.declared.types.Bit.{Bit}
 use Rattle.rr_expr.specs.declared.types.Entity.{Entity}
 use Rattle.rr_expr.specs.declared.types.Entity.TheVariants.{Constant, Signal as SignalEntity, Instance}
-use Rattle.rr_expr.specs.Scopes.{Names, meant}
+use Rattle.rr_expr.specs.Scopes.{meant}
 use Rattle.rr_flat.specs.declared.signal.Port.TheVariants.{Input}
-use Rattle.rr_flat.specs.Signals.{Text, Signal, signal_at}
+use Rattle.rr_flat.specs.Signals.{Text, signal_at}
 use Rattle.rr_flat.specs.Plain.{Side, Written, Whole, Driver, Block, Flat}
 use Rattle.rr_flat.specs.Clocks.{IsInputNamed, IsBareName, NameLeads, OneClock}
 use Rattle.rr_flat.specs.Latches.{NoLatch}

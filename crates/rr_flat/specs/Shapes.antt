@@ -1,5 +1,5 @@
 -- The shapes of the expressions of a statement, or their faults (IEEE 1364-2005 section 5.4).
-use Rattle.std.specs.Prelude.{Bool, false, List, [], ◌++◌, Result}
+use Rattle.std.specs.Prelude.{false, List, [], ◌++◌, Result}
 use Rattle.rr_syntax.specs.Tree.{Tree, Trees, End, More, Statement, Statements, Arm, Arms, Null, Block, If, IfElse, Case, Assign, Done, Then, CaseItem, NoArms, MoreArms}
 use Rattle.rr_expr.specs.Scopes.{Names}
 use Rattle.rr_expr.specs.Values.{form}

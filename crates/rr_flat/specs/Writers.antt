@@ -1,14 +1,14 @@
 -- What gives each bit of a flat design its value, and which bits that value stands on (IEEE 1364-2005 sections
 -- 6.1, 9.9 and 12.3.9.2).
-use Rattle.std.specs.Prelude.{ℕ, ◌+◌, ◌-◌, ◌<◌, ◌≡◌, ◌⊎◌, List, [], ◌∷◌, ◌++◌, length, map, Bool, true, false, not, cond, ◌&&◌, ◌||◌, Option, Some, None, get_or, nat_eq, nat_lt, pos}
+use Rattle.std.specs.Prelude.{ℕ, ◌-◌, ◌<◌, ◌≡◌, ◌⊎◌, List, [], ◌++◌, length, map, Bool, true, false, cond, ◌&&◌, ◌||◌, Option, Some, None, get_or, nat_lt, pos}
 use Rattle.rr_syntax.specs.Tree.{Tree, Trees, Name, Literal, Bit as BitSelect, Part, Indexed, Unary, Binary, Cond, Concat, Repeat, Cast, Paren, End, More, Null}
 use Rattle.rr_expr.specs.declared.types.Bit.{Bit}
 use Rattle.rr_expr.specs.declared.types.Entity.{Entity}
-use Rattle.rr_expr.specs.declared.types.Entity.TheVariants.{Constant, Signal as SignalEntity, Instance}
+use Rattle.rr_expr.specs.declared.types.Entity.TheVariants.{Signal as SignalEntity, Instance}
 use Rattle.rr_expr.specs.Reading.{NamesBit}
-use Rattle.rr_expr.specs.Scopes.{Names, meant}
+use Rattle.rr_expr.specs.Scopes.{Names}
 use Rattle.rr_expr.specs.Values.{form, nowhere}
-use Rattle.rr_flat.specs.Signals.{Signal, signal_at}
+use Rattle.rr_flat.specs.Signals.{signal_at}
 use Rattle.rr_flat.specs.Plain.{Side, Written, Whole, Driver, Block, Flat}
 use Rattle.rr_flat.specs.Reads.{StatementReads, writes}
 use Rattle.rr_flat.specs.Targets.{bits_there, target_bits, is_constant}

@@ -1,4 +1,4 @@
-use Rattle.std.proofs.Common.{◌≡◌, ◌<◌, length, refl}
+use Rattle.std.proofs.Common.{◌<◌, length, refl}
 use Rattle.rr_flat.proofs.Flats.{flat_opened}
 use Rattle.rr_flat.proofs.design.Flat.open.Goals as goal
 
