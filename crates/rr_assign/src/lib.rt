@@ -14,6 +14,3 @@ pub use aims::first_bad_target;
 pub use kinds::first_wrong_kind;
 pub use labels::first_wild_label;
 pub use races::first_race;
-
-#[cfg(test)]
-mod tests;

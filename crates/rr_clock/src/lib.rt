@@ -12,6 +12,3 @@ mod uses;
 pub use clock::{Found, find_clock, unknown_clock};
 pub use places::clock_places;
 pub use uses::first_clock_use;
-
-#[cfg(test)]
-mod tests;

@@ -3,5 +3,27 @@
 //! left. It has tests alone.
 #![tactic(auto)]
 
+/// A name with the number of its token.
+#[cfg(test)]
+macro_rules! name {
+    ($token:literal, $name:literal) => {
+        Expr::Name { token: $token, name: $name }
+    };
+}
+
+#[cfg(test)]
+mod designs;
 #[cfg(test)]
 mod expressions;
+#[cfg(test)]
+mod heads;
+#[cfg(test)]
+mod parts;
+#[cfg(test)]
+mod tables;
+#[cfg(test)]
+mod targets;
+#[cfg(test)]
+mod texts;
+#[cfg(test)]
+mod walks;

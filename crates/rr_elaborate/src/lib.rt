@@ -10,6 +10,3 @@ pub use design::{Design, DesignFault, elaborate};
 pub use laws::one_design;
 pub use rr_flat::{Flat, FlatFault, Limit};
 pub use rr_lex::Wrong;
-
-#[cfg(test)]
-mod tests;

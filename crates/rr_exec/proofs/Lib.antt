@@ -3,5 +3,4 @@ pub mod Nodes
 pub mod Widths
 pub mod Labels
 pub mod Fitting
-pub mod Declaring
 pub mod Loops

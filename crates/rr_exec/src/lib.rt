@@ -10,6 +10,3 @@ mod writes;
 pub use cases::{case_shape, own_shape, wild};
 pub use exec::{Machine, execute};
 pub use writes::{Later, apply, merged, write_pieces};
-
-#[cfg(test)]
-mod tests;

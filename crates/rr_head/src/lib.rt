@@ -15,6 +15,3 @@ pub const FLAT_BITS: u64 = 65536;
 
 pub use head::{Head, open_head};
 pub use values::constant_of;
-
-#[cfg(test)]
-mod tests;

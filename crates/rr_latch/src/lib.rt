@@ -10,6 +10,3 @@ mod latches;
 mod paths;
 
 pub use latches::{Latch, first_latch};
-
-#[cfg(test)]
-mod tests;

@@ -12,6 +12,3 @@ pub use clocks::places;
 pub use laws::{LawFault, check};
 pub use once::one_fault;
 pub use rr_flat::Bit;
-
-#[cfg(test)]
-mod tests;

@@ -65,8 +65,8 @@ fn add_input(list: &mut Vec<u32>, clock: Option<u32>, id: u32) -> Result<(), All
     }
 }
 
-/// The top inputs but the clock, in port order.
-pub(crate) fn row_inputs(
+/// The top inputs but the clock, by their numbers in port order: a row has a value for each.
+pub fn row_inputs(
     alloc: Global,
     flat: &Flat,
     clock: Option<u32>,

@@ -19,8 +19,6 @@ mod reading;
 mod rows;
 mod sides;
 mod steps;
-#[cfg(test)]
-mod tests;
 mod wiring;
 
 pub use order::{Loop, Ordering, order_steps};

@@ -12,6 +12,3 @@ pub use parts::{
     is_constant, is_fixed, is_input, is_scalar, is_variable, reached_of, scalar_named, scope_of,
     signal_count, signal_named, signal_of, signals_of, walk_of,
 };
-
-#[cfg(test)]
-mod tests;

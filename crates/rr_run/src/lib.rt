@@ -15,6 +15,3 @@ pub use fault::{Fault, Refusal, RunFault};
 pub use laws::one_outcome;
 pub use rr_flat::Limit;
 pub use run::{read_rows, run_files};
-
-#[cfg(test)]
-mod tests;

@@ -13,6 +13,3 @@ pub use piece::Piece;
 pub use reads::{add_named, add_target_reads};
 pub use targets::add_pieces;
 pub use writes::{Write, add_writes};
-
-#[cfg(test)]
-mod tests;

@@ -20,6 +20,3 @@ pub use miss::Miss;
 pub use rr_flat::Limit;
 pub use table::{Table, read_table};
 pub use write::write_table;
-
-#[cfg(test)]
-mod tests;

@@ -14,6 +14,3 @@ mod walk;
 
 pub use laws::sound_designs;
 pub use source::flatten;
-
-#[cfg(test)]
-mod tests;

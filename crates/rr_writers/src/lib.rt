@@ -12,6 +12,3 @@ mod table;
 pub use assigned::add_assigned;
 pub use doubles::{TwoDrivers, first_two_drivers};
 pub use table::BitTable;
-
-#[cfg(test)]
-mod tests;

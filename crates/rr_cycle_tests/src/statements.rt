@@ -1,0 +1,466 @@
+//! Statements run by hand, by IEEE 1364-2005 section 9.
+ghost use Rattle.std.specs.Prelude.{◌≡◌, ◌<◌, ◌≤◌, [], ℕ, IfOk, OnOk, true, length};
+ghost use Rattle.rr_syntax.specs.View.{plain, plain_arms, plain_list, plain_statement, plain_statements};
+ghost use Rattle.rr_expr.specs.Scopes.{range_width};
+ghost use Rattle.rr_flat.specs.Shapes.{shape_faults, list_faults, statement_faults, statements_faults, arms_faults};
+ghost use Rattle.rr_exec.specs.Work.{Holds};
+
+use rr_bits::Bits;
+use rr_exec::{Machine, apply, execute, merged, own_shape};
+use rr_expr::{Entity, Env, Scope, shape};
+use rr_syntax::{Arm, Expr, Keyword, Mark, Number, Stmt};
+use std::alloc::{AllocError, Global};
+use std::test::Fail;
+
+macro_rules! name {
+    ($name:literal) => {
+        Expr::Name { token: 0, name: $name }
+    };
+}
+
+macro_rules! number {
+    ($width:literal, $signed:literal, $value:literal, $any:literal) => {
+        Expr::Literal { token: 0, number: Number { width: $width, signed: $signed, value: $value, any: $any, unknown: 0 } }
+    };
+}
+
+macro_rules! binary {
+    ($left:expr, $op:literal, $right:expr) => {
+        Expr::Binary { op: Mark($op), left: &$left, right: &$right }
+    };
+}
+
+macro_rules! assign {
+    ($target:expr, $now:literal, $value:expr) => {
+        Stmt::Assign { target: &$target, now: $now, value: &$value }
+    };
+}
+
+/// A name of a signal.
+fn declare<'a>(
+    scope: &mut Scope<'a>,
+    name: &'a str,
+    id: u32,
+    range: Option<(u32, u32)>,
+    signed: bool,
+) -> Result<(), AllocError>
+    requires { range_width range ≤ 128 }
+    ensures { OnOk result ((n : ℕ) → id < n → Holds scope.old n → Holds scope.new n) }
+{
+    let _ = scope.add(name, Entity::Signal { id, range, signed })?;
+    Ok(())
+}
+
+/// `reg [3:0] a; reg [7:0] b; reg c; reg signed [3:0] i;`, numbered in this order.
+fn names<'a>(alloc: Global) -> Result<Scope<'a>, AllocError>
+    ensures { IfOk result (λ s. Holds s 4) }
+{
+    let mut scope = Scope::new(alloc);
+    declare(&mut scope, "a", 0, Some((3, 0)), false)?;
+    declare(&mut scope, "b", 1, Some((7, 0)), false)?;
+    declare(&mut scope, "c", 2, None, false)?;
+    declare(&mut scope, "i", 3, Some((3, 0)), true)?;
+    Ok(scope)
+}
+
+/// Whether an expression has a shape.
+fn has_shape(expr: &Expr, scope: &Scope) -> bool
+    ensures { result ≡ true → shape_faults scope.now (plain expr.now) ≡ [] }
+{
+    match shape(expr, scope) {
+        Ok(_) => true,
+        Err(_) => false,
+    }
+}
+
+/// The sum of four and eight bits has eight.
+#[test]
+fn shapes(rt: HostRuntime) -> Result<(), Fail> {
+    let scope = names(rt.alloc())?;
+    let sum = binary!(name!("a"), 14, name!("b"));
+    let found = has_shape(&sum, &scope);
+    assert!(rt; found);
+    if found {
+        assert_eq!(rt; own_shape(&sum, &scope).width, 8);
+    }
+    Ok(())
+}
+
+fn have_shapes(list: &[Expr], scope: &Scope) -> bool
+    ensures { result ≡ true → list_faults scope.now (plain_list list.now) ≡ [] }
+{
+    for expr in list.iter() {
+        if !has_shape(expr, scope) {
+            return false;
+        }
+    }
+    true
+}
+
+/// Whether each expression of a statement has one.
+#[cycle(shaped)]
+#[tactic(auto, using(crate::proofs::Declaring::whole_nodes))]
+fn is_shaped(stmt: &Stmt, scope: &Scope) -> bool
+    ensures { result ≡ true → statement_faults scope.now (plain_statement stmt.now) ≡ [] }
+{
+    match stmt {
+        Stmt::Null => true,
+        Stmt::Block { body, .. } => are_shaped(body, scope),
+        Stmt::If {
+            test,
+            yes,
+            no: None,
+        } => has_shape(test, scope) && is_shaped(yes, scope),
+        Stmt::If {
+            test,
+            yes,
+            no: Some(other),
+        } => has_shape(test, scope) && is_shaped(yes, scope) && is_shaped(other, scope),
+        Stmt::Case { on, arms, .. } => has_shape(on, scope) && arms_are_shaped(arms, scope),
+        Stmt::Assign { target, value, .. } => has_shape(target, scope) && has_shape(value, scope),
+    }
+}
+
+#[cycle(shaped)]
+fn are_shaped(body: &[Stmt], scope: &Scope) -> bool
+    ensures { result ≡ true → statements_faults scope.now (plain_statements body.now) ≡ [] }
+{
+    for stmt in body.iter() {
+        if !is_shaped(stmt, scope) {
+            return false;
+        }
+    }
+    true
+}
+
+#[cycle(shaped)]
+fn arms_are_shaped(arms: &[Arm], scope: &Scope) -> bool
+    ensures { result ≡ true → arms_faults scope.now (plain_arms arms.now) ≡ [] }
+{
+    for arm in arms.iter() {
+        if !have_shapes(arm.labels, scope) {
+            return false;
+        }
+        if !is_shaped(arm.body, scope) {
+            return false;
+        }
+    }
+    true
+}
+
+fn values_of(alloc: Global, values: [u128; 4]) -> Result<Vec<u128>, AllocError>
+    ensures { IfOk result (λ v. length v.items ≡ 4) }
+{
+    Vec::from_array(alloc, values).map_err(AllocError::from)
+}
+
+/// The values of `a`, `b`, `c` and `i` after the `=` of a statement, and after its `<=`.
+fn run(
+    alloc: Global,
+    stmt: &Stmt,
+    values: [u128; 4],
+) -> Result<(Vec<u128>, Vec<u128>), AllocError> {
+    let scope = names(alloc)?;
+    let mut machine = Machine {
+        env: Env {
+            values: values_of(alloc, values)?,
+        },
+        later: Vec::new(alloc),
+        pieces: Vec::new(alloc),
+        none: Env {
+            values: Vec::new(alloc),
+        },
+    };
+    if is_shaped(stmt, &scope) {
+        execute(stmt, &scope, &mut machine)?;
+    }
+    let now = machine.env.values.clone()?;
+    apply(&mut machine.env.values, machine.later.as_slice());
+    let Machine { env, .. } = machine;
+    Ok((now, env.values))
+}
+
+fn gives(
+    alloc: Global,
+    stmt: &Stmt,
+    values: [u128; 4],
+    now: [u128; 4],
+    then: [u128; 4],
+) -> Result<bool, AllocError> {
+    let (first, second) = run(alloc, stmt, values)?;
+    Ok(first.as_slice() == now.as_slice() && second.as_slice() == then.as_slice())
+}
+
+/// `begin a = b; b = a + 8'd16; end`
+const IN_ORDER: Stmt<'static> = Stmt::Block {
+    label: None,
+    body: &[
+        assign!(name!("a"), true, name!("b")),
+        assign!(
+            name!("b"),
+            true,
+            binary!(name!("a"), 14, number!(8, false, 16, 0))
+        ),
+    ],
+};
+
+#[test]
+fn in_order(rt: HostRuntime) -> Result<(), Fail> {
+    assert!(rt;
+        gives(
+            rt.alloc(),
+            &IN_ORDER,
+            [1, 37, 0, 0],
+            [5, 21, 0, 0],
+            [5, 21, 0, 0]
+        )?
+    );
+    Ok(())
+}
+
+/// `begin a <= b; b <= a; a <= 4'd9; end`
+const LATE: Stmt<'static> = Stmt::Block {
+    label: None,
+    body: &[
+        assign!(name!("a"), false, name!("b")),
+        assign!(name!("b"), false, name!("a")),
+        assign!(name!("a"), false, number!(4, false, 9, 0)),
+    ],
+};
+
+#[test]
+fn late(rt: HostRuntime) -> Result<(), Fail> {
+    assert!(rt;
+        gives(
+            rt.alloc(),
+            &LATE,
+            [1, 37, 0, 0],
+            [1, 37, 0, 0],
+            [9, 1, 0, 0]
+        )?
+    );
+    Ok(())
+}
+
+/// `{c, a} = a + b;`
+const CARRY: Stmt<'static> = assign!(
+    Expr::Concat {
+        parts: &[name!("c"), name!("a")]
+    },
+    true,
+    binary!(name!("a"), 14, name!("b"))
+);
+
+#[test]
+fn concatenation(rt: HostRuntime) -> Result<(), Fail> {
+    assert!(rt; gives(rt.alloc(), &CARRY, [9, 9, 0, 0], [2, 9, 1, 0], [2, 9, 1, 0])?);
+    Ok(())
+}
+
+/// `b[5:2] <= 4'd9;`, `b[i +: 3] = 3'd7;` and `b[i] <= 1'b1;`
+const PART: Stmt<'static> = assign!(
+    Expr::Part {
+        token: 0,
+        name: "b",
+        left: &number!(32, true, 5, 0),
+        right: &number!(32, true, 2, 0)
+    },
+    false,
+    number!(4, false, 9, 0)
+);
+
+const INDEXED: Stmt<'static> = assign!(
+    Expr::Indexed {
+        token: 0,
+        name: "b",
+        from: &name!("i"),
+        width: &number!(32, true, 3, 0),
+        up: true
+    },
+    true,
+    number!(3, false, 5, 0)
+);
+
+const BIT: Stmt<'static> = assign!(
+    Expr::Bit {
+        token: 0,
+        name: "b",
+        index: &name!("i")
+    },
+    false,
+    number!(1, false, 1, 0)
+);
+
+#[test]
+fn parts(rt: HostRuntime) -> Result<(), Fail> {
+    let alloc = rt.alloc();
+    assert!(rt; gives(alloc, &PART, [0, 255, 0, 0], [0, 255, 0, 0], [0, 231, 0, 0])?);
+    assert!(rt; gives(alloc, &INDEXED, [0, 0, 0, 4], [0, 80, 0, 4], [0, 80, 0, 4])?);
+    assert!(rt; gives(alloc, &BIT, [0, 0, 0, 6], [0, 0, 0, 6], [0, 64, 0, 6])?);
+    Ok(())
+}
+
+/// Where `i` is 7 or less than 0, some of the bits are not there.
+#[test]
+fn past_the_ends(rt: HostRuntime) -> Result<(), Fail> {
+    let alloc = rt.alloc();
+    assert!(rt;
+        gives(
+            alloc,
+            &INDEXED,
+            [0, 0, 0, 7],
+            [0, 128, 0, 7],
+            [0, 128, 0, 7]
+        )?
+    );
+    assert!(rt; gives(alloc, &INDEXED, [0, 0, 0, 15], [0, 2, 0, 15], [0, 2, 0, 15])?);
+    assert!(rt; gives(alloc, &BIT, [0, 9, 0, 15], [0, 9, 0, 15], [0, 9, 0, 15])?);
+    Ok(())
+}
+
+/// `case (a) default: c = 1'b0; 4'd3: c = 1'b1; 4'd3, 4'd5: b = 8'd1; endcase`
+const FIRST_ARM: Stmt<'static> = Stmt::Case {
+    kind: Keyword::CASE,
+    on: &name!("a"),
+    arms: &[
+        Arm {
+            labels: &[],
+            colon: false,
+            body: &assign!(name!("c"), true, number!(1, false, 0, 0)),
+        },
+        Arm {
+            labels: &[number!(4, false, 3, 0)],
+            colon: true,
+            body: &assign!(name!("c"), true, number!(1, false, 1, 0)),
+        },
+        Arm {
+            labels: &[number!(4, false, 3, 0), number!(4, false, 5, 0)],
+            colon: true,
+            body: &assign!(name!("b"), true, number!(8, false, 1, 0)),
+        },
+    ],
+};
+
+#[test]
+fn first_arm(rt: HostRuntime) -> Result<(), Fail> {
+    let alloc = rt.alloc();
+    assert!(rt; gives(alloc, &FIRST_ARM, [3, 0, 0, 0], [3, 0, 1, 0], [3, 0, 1, 0])?);
+    assert!(rt; gives(alloc, &FIRST_ARM, [5, 0, 1, 0], [5, 1, 1, 0], [5, 1, 1, 0])?);
+    assert!(rt; gives(alloc, &FIRST_ARM, [6, 0, 1, 0], [6, 0, 0, 0], [6, 0, 0, 0])?);
+    Ok(())
+}
+
+/// `casez (a) 4'b1???: b <= 8'd3; 4'b01??: b <= 8'd2; endcase`
+const WILD: Stmt<'static> = Stmt::Case {
+    kind: Keyword::CASEZ,
+    on: &name!("a"),
+    arms: &[
+        Arm {
+            labels: &[number!(4, false, 8, 7)],
+            colon: true,
+            body: &assign!(name!("b"), false, number!(8, false, 3, 0)),
+        },
+        Arm {
+            labels: &[number!(4, false, 4, 3)],
+            colon: true,
+            body: &assign!(name!("b"), false, number!(8, false, 2, 0)),
+        },
+    ],
+};
+
+#[test]
+fn wild_digits(rt: HostRuntime) -> Result<(), Fail> {
+    let alloc = rt.alloc();
+    assert!(rt; gives(alloc, &WILD, [13, 0, 0, 0], [13, 0, 0, 0], [13, 3, 0, 0])?);
+    assert!(rt; gives(alloc, &WILD, [6, 0, 0, 0], [6, 0, 0, 0], [6, 2, 0, 0])?);
+    assert!(rt; gives(alloc, &WILD, [3, 9, 0, 0], [3, 9, 0, 0], [3, 9, 0, 0])?);
+    Ok(())
+}
+
+/// `if (i < 4'sd2) c = 1'b1; else c = 1'b0;` and the same with `4'd2`
+const SIGNED: Stmt<'static> = Stmt::If {
+    test: &binary!(name!("i"), 24, number!(4, true, 2, 0)),
+    yes: &assign!(name!("c"), true, number!(1, false, 1, 0)),
+    no: Some(&assign!(name!("c"), true, number!(1, false, 0, 0))),
+};
+
+const UNSIGNED: Stmt<'static> = Stmt::If {
+    test: &binary!(name!("i"), 24, number!(4, false, 2, 0)),
+    yes: &assign!(name!("c"), true, number!(1, false, 1, 0)),
+    no: Some(&assign!(name!("c"), true, number!(1, false, 0, 0))),
+};
+
+#[test]
+fn signs(rt: HostRuntime) -> Result<(), Fail> {
+    let alloc = rt.alloc();
+    assert!(rt; gives(alloc, &SIGNED, [0, 0, 0, 15], [0, 0, 1, 15], [0, 0, 1, 15])?);
+    assert!(rt;
+        gives(
+            alloc,
+            &UNSIGNED,
+            [0, 0, 1, 15],
+            [0, 0, 0, 15],
+            [0, 0, 0, 15]
+        )?
+    );
+    Ok(())
+}
+
+/// `b = i;`, `b = i + 4'd0;` and `b = a * a;`
+const EXTENDED: Stmt<'static> = assign!(name!("b"), true, name!("i"));
+
+const MIXED: Stmt<'static> = assign!(
+    name!("b"),
+    true,
+    binary!(name!("i"), 14, number!(4, false, 0, 0))
+);
+
+const SQUARE: Stmt<'static> = assign!(name!("b"), true, binary!(name!("a"), 16, name!("a")));
+
+#[test]
+fn contexts(rt: HostRuntime) -> Result<(), Fail> {
+    let alloc = rt.alloc();
+    assert!(rt;
+        gives(
+            alloc,
+            &EXTENDED,
+            [0, 0, 0, 8],
+            [0, 248, 0, 8],
+            [0, 248, 0, 8]
+        )?
+    );
+    assert!(rt; gives(alloc, &MIXED, [0, 0, 0, 8], [0, 8, 0, 8], [0, 8, 0, 8])?);
+    assert!(rt;
+        gives(
+            alloc,
+            &SQUARE,
+            [15, 0, 0, 0],
+            [15, 225, 0, 0],
+            [15, 225, 0, 0]
+        )?
+    );
+    Ok(())
+}
+
+/// Without an arm for it and without a `default`, and with a false condition, nothing is done.
+const NOTHING: Stmt<'static> = Stmt::If {
+    test: &name!("c"),
+    yes: &assign!(name!("a"), true, number!(4, false, 7, 0)),
+    no: None,
+};
+
+#[test]
+fn nothing(rt: HostRuntime) -> Result<(), Fail> {
+    let alloc = rt.alloc();
+    assert!(rt; gives(alloc, &NOTHING, [1, 2, 0, 4], [1, 2, 0, 4], [1, 2, 0, 4])?);
+    assert!(rt; gives(alloc, &NOTHING, [1, 2, 1, 4], [7, 2, 1, 4], [7, 2, 1, 4])?);
+    assert!(rt; gives(alloc, &Stmt::Null, [1, 2, 3, 4], [1, 2, 3, 4], [1, 2, 3, 4])?);
+    Ok(())
+}
+
+#[test]
+fn numbers(rt: HostRuntime) -> Result<(), Fail> {
+    assert!(rt; merged(0b1111_0000, 2, Bits::from_u128(4, 0b1010)) == 0b1110_1000);
+    assert!(rt; merged(u128::MAX, 127, Bits::from_u128(1, 0)) == u128::MAX >> 1);
+    Ok(())
+}

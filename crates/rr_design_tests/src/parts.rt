@@ -1,0 +1,163 @@
+//! The parts of a flat design, and the targets and names of a statement in the order of its text.
+use crate::texts::flat_of;
+use bumpalo::Bump;
+use rr_flat::{Flat, Part};
+use rr_parts::{
+    add_assigned, add_named, add_names, add_parts, add_read, block_of, clocked_of, driver_of,
+    drivers_of, identifier_of, inputs_of, instance_of, is_constant, is_fixed, is_input, is_scalar,
+    is_variable, reached_of, scalar_named, scope_of, signal_count, signal_named, signal_of,
+    signals_of, walk_of,
+};
+use rr_syntax::{Expr, Number, Stmt};
+use std::alloc::Global;
+use std::test::Fail;
+
+/// `{b, c[d]}`
+const TARGET: Expr<'static> = Expr::Concat {
+    parts: &[
+        name!(5, "b"),
+        Expr::Bit {
+            token: 7,
+            name: "c",
+            index: &name!(9, "d"),
+        },
+    ],
+};
+
+/// `if (a) {b, c[d]} = e; else b <= c;`
+const CHOICE: Stmt<'static> = Stmt::If {
+    test: &name!(2, "a"),
+    yes: &Stmt::Assign {
+        target: &TARGET,
+        now: true,
+        value: &name!(13, "e"),
+    },
+    no: Some(&Stmt::Assign {
+        target: &name!(16, "b"),
+        now: false,
+        value: &name!(18, "c"),
+    }),
+};
+
+#[test]
+fn targets(rt: HostRuntime) -> Result<(), Fail> {
+    let alloc = rt.alloc();
+    let mut parts = Vec::new(alloc);
+    add_parts(&mut parts, &TARGET, false)?;
+    assert!(rt; parts.len() == 2);
+    assert!(rt; !parts[1].blocking);
+    let mut targets = Vec::new(alloc);
+    add_assigned(&mut targets, &CHOICE)?;
+    assert!(rt; targets.len() == 3);
+    assert!(rt; targets[0].blocking);
+    assert!(rt; targets[1].blocking);
+    assert!(rt; !targets[2].blocking);
+    Ok(())
+}
+
+#[test]
+fn names(rt: HostRuntime) -> Result<(), Fail> {
+    let alloc = rt.alloc();
+    let mut within = Vec::new(alloc);
+    add_names(&mut within, &TARGET)?;
+    assert!(rt; within.len() == 3);
+    assert!(rt; within[2].token == 9);
+    let mut named = Vec::new(alloc);
+    add_named(&mut named, &CHOICE)?;
+    assert!(rt; named.len() == 7);
+    assert!(rt; named[0].token == 2);
+    assert!(rt; named[6].token == 18);
+    let mut read = Vec::new(alloc);
+    add_read(&mut read, &CHOICE)?;
+    assert!(rt; read.len() == 4);
+    assert!(rt; read[1].token == 9);
+    assert!(rt; read[3].token == 18);
+    Ok(())
+}
+
+const ONE: Expr<'static> = Expr::Literal {
+    token: 0,
+    number: Number {
+        width: 32,
+        signed: true,
+        value: 1,
+        any: 0,
+        unknown: 0,
+    },
+};
+
+const DESIGN: &str =
+    "module m(input c, input d, output y); reg [1:0] q; assign y = d; always @(posedge c) q <= d; endmodule";
+
+/// Its flat form.
+fn design<'a>(alloc: Global, arena: &'a Bump) -> Option<Flat<'a>> {
+    match flat_of(alloc, DESIGN, None, arena) {
+        Some(Ok(flat)) => Some(flat),
+        _ => None,
+    }
+}
+
+#[test]
+fn parts_of_a_design(rt: HostRuntime) {
+    let arena = Bump::new(rt.alloc());
+    let found = design(rt.alloc(), &arena);
+    assert!(rt; found.is_some());
+    if let Some(flat) = found {
+        assert_eq!(rt; walk_of(&flat).len(), 2);
+        assert_eq!(rt; drivers_of(&flat).len(), 1);
+        assert_eq!(rt; clocked_of(&flat).len(), 1);
+        assert_eq!(rt; inputs_of(&flat).len(), 2);
+        assert_eq!(rt; reached_of(&flat).len(), 1);
+        assert!(rt; driver_of(&flat, Part::Driver(0)).is_some());
+        assert!(rt; driver_of(&flat, Part::Clocked(0)).is_none());
+        assert!(rt; block_of(&flat, Part::Clocked(0)).is_some());
+        assert!(rt; block_of(&flat, Part::Combinational(0)).is_none());
+    }
+}
+
+#[test]
+fn signals_of_a_design(rt: HostRuntime) {
+    let arena = Bump::new(rt.alloc());
+    let found = design(rt.alloc(), &arena);
+    assert!(rt; found.is_some());
+    if let Some(flat) = found {
+        assert_eq!(rt; signal_count(&flat), 4);
+        assert_eq!(rt; signals_of(&flat).len(), 4);
+        assert_eq!(rt; signal_named(&flat, 0, "q"), Some(3));
+        assert_eq!(rt; signal_named(&flat, 0, "t"), None);
+        assert_eq!(rt; signal_named(&flat, 1, "q"), None);
+        assert_eq!(rt; scalar_named(&flat, 0, "d"), Some(1));
+        assert_eq!(rt; scalar_named(&flat, 0, "q"), None);
+        assert!(rt; is_variable(&flat, 3));
+        assert!(rt; !is_variable(&flat, 2));
+        assert!(rt; is_input(&flat, 1));
+        assert!(rt; !is_input(&flat, 2));
+        assert!(rt; is_scalar(&flat, 2));
+        assert!(rt; !is_scalar(&flat, 3));
+        assert_eq!(rt; instance_of(&flat, 3), 0);
+    }
+}
+
+/// Names, and indices that are constant or not.
+#[test]
+fn names_in_a_scope(rt: HostRuntime) {
+    let arena = Bump::new(rt.alloc());
+    let found = design(rt.alloc(), &arena);
+    assert!(rt; found.is_some());
+    if let Some(flat) = found {
+        assert!(rt; scope_of(&flat, 1).is_none());
+        if let Some(scope) = scope_of(&flat, 0) {
+            assert_eq!(rt; signal_of(scope.find("y")), Some(2));
+            assert!(rt; is_constant(&ONE, scope));
+            assert!(rt; !is_constant(&name!(0, "d"), scope));
+            let bit = Expr::Bit {
+                token: 5,
+                name: "q",
+                index: &name!(7, "d"),
+            };
+            assert!(rt; !is_fixed(&bit, scope));
+            assert!(rt; is_fixed(&name!(0, "q"), scope));
+            assert_eq!(rt; identifier_of(&bit).token, 5);
+        }
+    }
+}

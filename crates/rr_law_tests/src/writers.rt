@@ -1,0 +1,122 @@
+//! Writers of bits in small flat designs, by the rules of IEEE 1364-2005 sections 6.1, 9 and 12.3.
+use crate::texts::design_of;
+use bumpalo::Bump;
+use rr_flat::{Bit, Flat};
+use rr_target::Write;
+use rr_writers::{BitTable, TwoDrivers, add_assigned, first_two_drivers};
+use std::alloc::{AllocError, Global};
+use std::test::Fail;
+
+/// A text, and the bit that is written twice with the tokens of both writers, if there is one.
+type Case = (&'static str, Option<TwoDrivers>);
+
+const fn clash(signal: u32, place: u32, first: u32, second: u32) -> Option<TwoDrivers> {
+    Some(TwoDrivers {
+        bit: Bit { signal, place },
+        first,
+        second,
+    })
+}
+
+const BRANCHES: &str =
+    "module m(input a, output reg y); always @* if (a) y = a; else y = a; endmodule";
+
+const CASES: [Case; 8] = [
+    (
+        "module m(input a, output [1:0] y); assign y[0] = a; assign y[1] = a; endmodule",
+        None,
+    ),
+    (
+        "module m(input a, output [1:0] y); assign y[1] = a; assign y[1] = a; endmodule",
+        clash(1, 1, 16, 24),
+    ),
+    (
+        "module m(input a, output [1:0] y); assign {y[1], y[1]} = a; endmodule",
+        clash(1, 1, 16, 16),
+    ),
+    (
+        "module m(input a, output [1:0] y); assign y[0] = a; always @* y = a; endmodule",
+        clash(1, 0, 16, 23),
+    ),
+    (
+        "module m(input a, output [1:0] y); assign y[1] = a; always @* y[a] = a; endmodule",
+        clash(1, 1, 16, 23),
+    ),
+    (
+        "module m(input a, output reg y); always @(posedge a) y <= a; always @* y = a; endmodule",
+        clash(1, 0, 11, 21),
+    ),
+    (BRANCHES, None),
+    (
+        "module n(output q); endmodule module m(output y); n u(.q(y)); n v(.q(y)); endmodule",
+        clash(0, 0, 21, 31),
+    ),
+];
+
+/// What the law says of a text, if it has a flat design.
+fn told(alloc: Global, text: &str) -> Result<Option<Option<TwoDrivers>>, AllocError> {
+    let arena = Bump::new(alloc);
+    match design_of(alloc, text, &arena) {
+        Err(_) => Ok(None),
+        Ok(design) => Ok(Some(first_two_drivers(alloc, &design.flat)?)),
+    }
+}
+
+#[test]
+fn two_drivers(rt: HostRuntime) -> Result<(), Fail> {
+    for (text, expected) in CASES.iter() {
+        assert!(rt; told(rt.alloc(), text)? == Some(*expected), "{text}");
+    }
+    Ok(())
+}
+
+/// What the first combinational block of a design assigns.
+fn assigned(alloc: Global, flat: &Flat) -> Result<Vec<Write>, AllocError> {
+    let mut writes = Vec::new(alloc);
+    if let Some(block) = flat.combinational.get(0) {
+        if let Some(scope) = flat.scopes.get(block.scope as usize) {
+            add_assigned(alloc, &mut writes, block.body, scope, false)?;
+        }
+    }
+    Ok(writes)
+}
+
+#[test]
+fn assigned_bits(rt: HostRuntime) -> Result<(), Fail> {
+    let alloc = rt.alloc();
+    let arena = Bump::new(alloc);
+    match design_of(alloc, BRANCHES, &arena) {
+        Err(_) => assert!(rt; false),
+        Ok(design) => {
+            let writes = assigned(alloc, &design.flat)?;
+            assert!(rt; writes.len() == 2);
+            assert!(rt; writes[1].piece.signal == 1);
+        }
+    }
+    Ok(())
+}
+
+#[test]
+fn numbers_of_bits(rt: HostRuntime) -> Result<(), Fail> {
+    let mut table = BitTable::new(rt.alloc());
+    let bit = Bit {
+        signal: 2,
+        place: 5,
+    };
+    assert!(rt; table.get(bit) == 0);
+    table.put(bit, 7)?;
+    assert!(rt; table.get(bit) == 7);
+    assert!(rt;
+        table.get(Bit {
+            signal: 2,
+            place: 4
+        }) == 0
+    );
+    assert!(rt;
+        table.get(Bit {
+            signal: 5,
+            place: 5
+        }) == 0
+    );
+    Ok(())
+}
