@@ -1,25 +1,21 @@
 -- Where no fault was found, none is there.
-use Rattle.std.proofs.Common.{◌≡◌, ◌∙◌, sym, ap, ℕ, Bool, true, false, cond, List, [], ◌∷◌, ◌++◌, Option, Some, None, refl, fold, subst, is_none, is_some, not}
+use Rattle.std.proofs.Common.{◌≡◌, ◌∙◌, sym, Bool, true, false, List, [], ◌∷◌, Option, Some, None, refl, fold, subst, is_none, not}
 use Rattle.std.specs.List.{AllByRecursion}
-use Rattle.std.proofs.lemmas.List.Sums.{fold-append}
 use Rattle.rr_syntax.specs.Expressions.{WellFormed, WellFormedMore, FitLiterals, FitLiteralsParts}
 use Rattle.rr_syntax.specs.Statements.{WellFormedStatement, FitLiteralsStatement}
 use Rattle.rr_syntax.specs.Items.{WellFormedValue, FitLiteralsValue, WellFormedConnection, FitLiteralsConnection, WellFormedConnections, FitLiteralsConnections}
 use Rattle.rr_syntax.specs.Tree.{Tree, Trees, End, More, Statement, NamedConnection, Connections, Positions, ModuleDeclaration}
 use Rattle.rr_syntax.specs.Tree.{Names as Named}
 use Rattle.rr_expr.specs.Scopes.{Names, lookup}
-use Rattle.rr_expr.specs.Faults.{fault, first}
-use Rattle.rr_expr.specs.Values.{form}
-use Rattle.rr_expr.specs.declared.types.ExprFault.{ExprFault}
-use Rattle.rr_expr.specs.declared.types.Shape.{Shape}
-use Rattle.rr_flat.specs.Faults.{sooner, before, answer_of, faults_in, fault_if}
+use Rattle.rr_expr.specs.Faults.{first}
+use Rattle.rr_flat.specs.Faults.{sooner, before, fault_if}
 use Rattle.rr_flat.specs.Signals.{Text}
 use Rattle.rr_flat.specs.declared.fault.FlatFault.{FlatFault}
 use Rattle.rr_flat.specs.declared.fault.FlatFault.TheVariants.{PortMismatch}
 use Rattle.rr_flat.specs.Sound.{IsExpression, IsStatement, AreExpressions, IsValue, IsConnection, AreConnected}
 use Rattle.rr_flat.proofs.Shaping.{clear}
 use Rattle.rr_walk.specs.Tables.{port_names, name_set}
-use Rattle.rr_flat.specs.Shapes.{shape, shape_faults, statement_faults}
+use Rattle.rr_flat.specs.Shapes.{shape_faults, statement_faults}
 use Rattle.rr_walk.specs.Walk.{value_faults, noted, twice_faults, fold_trees, Joining, place_port, check_port, Connected, check_connection, connections}
 
 -- a fault that was found stays found

@@ -1,11 +1,11 @@
 -- A design in its walk, one part more.
-use Rattle.std.proofs.Common.{◌≡◌, ◌∙◌, sym, ap, ℕ, zero, suc, ◌+◌, ◌-◌, ◌<◌, ◌≤◌, Bool, true, false, cond, List, [], ◌∷◌, ◌++◌, length, map, get_or, drop, Option, Some, None, refl, subst, arith}
+use Rattle.std.proofs.Common.{◌≡◌, ◌∙◌, sym, ap, ℕ, zero, suc, ◌+◌, ◌<◌, ◌≤◌, Bool, true, false, cond, List, [], ◌∷◌, ◌++◌, length, map, get_or, drop, Option, Some, None, refl, subst, arith}
 use Rattle.std.specs.Prelude.{IfSome, All}
 use Rattle.std.specs.List.{AllByRecursion}
 use Rattle.std.specs.Str.{bytes_eq}
 use Rattle.std.proofs.Math.ListN.{set}
-use Rattle.std.proofs.lemmas.List.{drop_all, length-map, map-append, get_or-map, length-set, get_or-set_other}
-use Rattle.std.proofs.lemmas.List.Elements.{All-get_or, All-from_get_or}
+use Rattle.std.proofs.lemmas.List.{drop_all, length-map, map-append, length-set, get_or-set_other}
+use Rattle.std.proofs.lemmas.List.Elements.{All-get_or}
 use Rattle.rr_syntax.specs.Tree.{Tree, Trees, End, More, ModuleDeclaration}
 use Rattle.rr_syntax.specs.View.{plain, plain_list, plain_module}
 use Rattle.rr_syntax.specs.declared.tree.Module.{Module}
@@ -18,13 +18,12 @@ use Rattle.rr_head.specs.Sound.{IsPlace, ArePlaces}
 use Rattle.rr_flat.specs.Sound.{IsNamed}
 use Rattle.rr_flat.specs.declared.signal.Signal.{Signal}
 use Rattle.rr_flat.specs.View.{plain_signal}
-use Rattle.rr_head.specs.View.{plain_head, Opening}
 use Rattle.rr_flat.proofs.Lists.{rest}
 use Rattle.rr_flat.specs.declared.design.Part.TheVariants as part
 use Rattle.rr_flat.specs.declared.design.Driver.{Driver}
 use Rattle.rr_flat.specs.declared.design.Block.{Block}
 use Rattle.rr_walk.specs.declared.items.Walked.{Walked as DeclaredWalked}
-use Rattle.rr_walk.specs.Kept.{plain_walked, IsSame, Keeps}
+use Rattle.rr_walk.specs.Kept.{IsSame, Keeps}
 use Rattle.rr_flat.specs.Sound.{IsExpression, AreExpressions, IsScope, names_at}
 use Rattle.rr_walk.specs.Tables.{place_of}
 use Rattle.rr_flat.specs.View.{Design, plain_flat, plain_driver, plain_block}

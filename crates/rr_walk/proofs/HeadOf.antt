@@ -1,6 +1,6 @@
 -- the signals of a head are those of its instance, and its names stand for these alone
 use Rattle.std.proofs.Common.{◌≡◌, ℕ, zero, suc, ◌+◌, ◌<◌, ◌≤◌, List, [], ◌∷◌, ◌++◌, length, fold, Bool, true, false, not, ◌&&◌, Option, Some, None, Result, Ok, Err, refl, arith, subst, if◌then◌else◌}
-use Rattle.std.specs.Prelude.{slice_index_or, slice_get, slice_set, option_to_list, option_map, is_some, is_none, nat_lt}
+use Rattle.std.specs.Prelude.{slice_get, slice_set, option_to_list, option_map, is_some, is_none, nat_lt}
 use Rattle.std.specs.List.{AllByRecursion}
 use Rattle.rr_flat.proofs.Lists.{all_index}
 use Rattle.rr_syntax.specs.Tree.{Identifier, PortDeclaration, ParamAssignment, ParameterDeclaration, ModuleItem, Ports, Nets, Variables, Integers, Parameters, Assigns, Always, Instances, ModuleDeclaration}

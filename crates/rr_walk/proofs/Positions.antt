@@ -1,5 +1,5 @@
 -- Overrides and connections by position.
-use Rattle.std.proofs.Common.{◌≡◌, ◌∙◌, ap, ℕ, ◌+◌, ◌<◌, ◌≤◌, Bool, true, not, List, [], ◌∷◌, length, map, drop, get_or, Option, Some, refl, arith}
+use Rattle.std.proofs.Common.{◌≡◌, ◌∙◌, ap, ℕ, ◌+◌, ◌<◌, ◌≤◌, Bool, true, not, List, [], ◌∷◌, length, drop, get_or, Option, Some, refl, arith}
 use Rattle.std.proofs.lemmas.List.{drop_all, get_or-map, length-map}
 use Rattle.rr_syntax.specs.Tree.{Tree}
 use Rattle.rr_syntax.specs.View.{plain, plain_list}
@@ -12,7 +12,7 @@ use Rattle.rr_flat.specs.declared.fault.FlatFault.{FlatFault}
 use Rattle.rr_flat.specs.declared.fault.FlatFault.TheVariants.{PortMismatch}
 use Rattle.rr_flat.proofs.Lists.{rest}
 use Rattle.rr_flat.specs.View.{texts}
-use Rattle.rr_walk.specs.Walk.{fold_trees, noted, with_override, Checked, Placed, check_position, Joining, check_port}
+use Rattle.rr_walk.specs.Walk.{fold_trees, noted, with_override, Checked, check_position, check_port}
 use Rattle.rr_flat.specs.Shapes.{shape_faults}
 use denote.Ref.{Bor}
 

@@ -1,8 +1,7 @@
 -- Tables of names.
-use Rattle.std.proofs.Common.{◌≡◌, ℕ, ◌+◌, ◌<◌, ◌≤◌, Bool, true, false, cond, List, [], ◌∷◌, ◌++◌, length, map, drop, get_or, Option, Some, None, refl, arith, is_some, ap, length-append}
+use Rattle.std.proofs.Common.{◌≡◌, ℕ, ◌+◌, ◌<◌, ◌≤◌, Bool, true, false, cond, List, [], ◌∷◌, length, map, drop, get_or, Option, Some, None, refl, arith, is_some, length-append}
 use Rattle.std.specs.Prelude.{IfSome}
 use Rattle.std.proofs.lemmas.List.{drop_all}
-use Rattle.rr_syntax.specs.Tree.{ModuleDeclaration}
 use Rattle.rr_syntax.specs.View.{plain_module}
 use Rattle.rr_syntax.specs.declared.tree.Module.{Module}
 use Rattle.rr_expr.specs.Scopes.{Names, lookup}

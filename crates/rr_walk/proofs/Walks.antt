@@ -1,9 +1,9 @@
 -- The walk, one step at a time.
-use Rattle.std.proofs.Common.{◌≡◌, ◌∙◌, sym, ap, ℕ, zero, suc, ◌+◌, ◌-◌, ◌<◌, ◌≤◌, Bool, true, not, nat_lt, List, [], ◌∷◌, ◌++◌, length, map, get_or, Option, Some, None, Ok, Err, refl, arith, inl, inr}
+use Rattle.std.proofs.Common.{◌≡◌, ℕ, zero, suc, ◌-◌, ◌≤◌, Bool, true, not, nat_lt, List, [], ◌∷◌, ◌++◌, length, Option, Some, None, Ok, Err, refl, arith, inl, inr}
 use Rattle.std.proofs.lemmas.Bool.Decides.{nat_tests}
 use Rattle.std.proofs.lemmas.List.{map-append}
 use Rattle.std.specs.List.{AllByRecursion}
-use Rattle.rr_syntax.specs.Tree.{Tree, Statement, Identifier, EventControl, NetIdentifier, NetAssignment, ParameterDeclaration, PortDeclaration, Range, Connections, ModuleInstance, ModuleItem, Ports, Nets, Variables, Integers, Parameters, Assigns, Always, Instances, ModuleDeclaration}
+use Rattle.rr_syntax.specs.Tree.{Statement, Identifier, EventControl, NetIdentifier, NetAssignment, ParameterDeclaration, PortDeclaration, Range, Connections, ModuleInstance, Ports, Nets, Variables, Integers, Parameters, Assigns, Always, Instances, ModuleDeclaration}
 use Rattle.rr_syntax.specs.Items.{WellFormedItem, WellFormedModule, FitLiteralsItem, FitLiteralsModule}
 use Rattle.rr_expr.specs.Scopes.{Names, lookup}
 use Rattle.rr_flat.specs.Faults.{sooner, Refuses, each}

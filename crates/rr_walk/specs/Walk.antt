@@ -1,20 +1,18 @@
 -- The flat design of a source, or its first fault (IEEE 1364-2005 section 12).
 use Rattle.std.specs.Prelude.{ℕ, zero, suc, ◌+◌, Bool, true, false, not, List, [], ◌∷◌, ◌++◌, length, fold, Option, Some, None, Result, Ok, Err, is_some, is_none, nat_eq, nat_lt, ◌&&◌, if◌then◌else◌, slice_index_or, slice_set}
 use Rattle.std.specs.List.{list_any}
-use Rattle.rr_syntax.specs.Tree.{Tree, Trees, End, More, Statement, Statements, Arm, Arms, Null, Block, If, IfElse, Case, Assign, Done, Then, CaseItem, NoArms, MoreArms, NetIdentifier, NetAssignment, EdgeEvent, EventControl, Star, Edges, Levels, NamedConnection, Connections, Positions, ModuleInstance, ModuleItem, Ports, Nets, Variables, Integers, Parameters, Assigns, Always, Instances, ModuleDeclaration, SourceText}
+use Rattle.rr_syntax.specs.Tree.{Tree, Trees, End, More, Statement, NetIdentifier, NetAssignment, EdgeEvent, EventControl, Star, Edges, Levels, NamedConnection, Connections, Positions, ModuleInstance, ModuleItem, Ports, Nets, Variables, Integers, Parameters, Assigns, Always, Instances, ModuleDeclaration, SourceText}
 use Rattle.rr_syntax.specs.Tree.{Names as Named}
 use Rattle.rr_expr.specs.Scopes.{Names, lookup, meant}
-use Rattle.rr_expr.specs.Values.{form}
-use Rattle.rr_expr.specs.Faults.{fault, first}
+use Rattle.rr_expr.specs.Faults.{first}
 use Rattle.rr_expr.specs.declared.types.Entity.{Entity}
 use Rattle.rr_expr.specs.declared.types.Entity.TheVariants as entity
-use Rattle.rr_expr.specs.declared.types.Shape.{Shape}
 use Rattle.rr_flat.specs.declared.signal.Port.{Port}
 use Rattle.rr_flat.specs.declared.signal.Port.TheVariants.{Inner, Input, Output}
 use Rattle.rr_flat.specs.declared.fault.Limit.TheVariants.{Instances as InstanceCount, Depth}
 use Rattle.rr_flat.specs.declared.fault.FlatFault.{FlatFault}
 use Rattle.rr_flat.specs.declared.fault.FlatFault.TheVariants.{NoTop, UnknownModule, SelfInstance, NameTwice, UnknownName, PortMismatch, TooMany}
-use Rattle.rr_flat.specs.Faults.{sooner, answer_of, faults_in, fault_if, fault_or, settle, and_then, each}
+use Rattle.rr_flat.specs.Faults.{sooner, faults_in, fault_if, fault_or, settle, and_then, each}
 use Rattle.rr_head.specs.Values.{constant}
 use Rattle.rr_flat.specs.Signals.{with_name}
 use Rattle.rr_flat.specs.Shapes.{shape_faults, list_faults, statement_faults}

@@ -220,7 +220,7 @@ fn join_positions<'a>(
 }
 
 /// The drivers of the ports of instance `inner`, whose instantiation stands in instance `number`.
-#[tactic(auto, unfolding(crate::specs::Walk::joined, crate::specs::Sound::AreConnected, rr_syntax::specs::View::plain_connections))]
+#[tactic(auto, unfolding(crate::specs::Walk::joined, rr_flat::specs::Sound::AreConnected, rr_syntax::specs::View::plain_connections))]
 pub(crate) fn joined<'a>(
     alloc: Global,
     walked: &mut Walked<'a>,

@@ -11,7 +11,7 @@ use rr_flat::{FlatFault, note, note_if};
 use rr_syntax::{Arm, Event, Events, Expr, Stmt};
 
 /// The shape of an expression, or its first fault.
-#[tactic(auto, unfolding(crate::specs::Walk::shape))]
+#[tactic(auto, unfolding(rr_flat::specs::Shapes::shape))]
 pub(crate) fn shape_of(expr: &Expr, names: &Scope) -> Result<Shape, FlatFault>
     ensures { result ≡ shape_in names.now (plain expr.now) }
 {

@@ -1,10 +1,6 @@
-use Rattle.std.proofs.Common.{◌∙◌, sym, ap, map, drop, fold, ◌+◌}
 use Rattle.rr_syntax.specs.View.{plain_connection}
-use Rattle.rr_head.proofs.Steps.{fold_more, fold_done}
-use Rattle.rr_walk.specs.Kept.{plain_walked}
 use Rattle.rr_flat.specs.Sound.{IsConnection, names_at}
-use Rattle.rr_walk.specs.Walk.{join_named}
-use Rattle.rr_walk.proofs.Grown.{each_at, same_twice}
+use Rattle.rr_walk.proofs.Grown.{each_at}
 use Rattle.rr_walk.proofs.instances.join_named.Goals as goal
 
 pub join_one-requires-clause-there : goal.join_one-requires-clause-there

@@ -1,4 +1,3 @@
-use Rattle.std.proofs.Common.{◌∙◌, sym}
 use Rattle.rr_walk.proofs.Clears.{one_clear}
 use Rattle.rr_walk.proofs.Grown.{place_if}
 use Rattle.rr_walk.proofs.items.net_value.Goals as goal

@@ -1,7 +1,7 @@
-use Rattle.std.proofs.Common.{◌≡◌, ◌<◌, map, drop, fold, [], None, length}
+use Rattle.std.proofs.Common.{◌≡◌, ◌<◌, map, drop, None}
 use Rattle.std.specs.Prelude.{IfSome}
 use Rattle.rr_syntax.specs.View.{plain_module}
-use Rattle.rr_walk.specs.Tables.{instantiated_by, last_free}
+use Rattle.rr_walk.specs.Tables.{last_free}
 use Rattle.rr_walk.proofs.tables.last_free.Given as goal
 
 abbrev pub invariant-loop-own : goal.invariant-loop-own

@@ -1,4 +1,4 @@
-use Rattle.std.proofs.Common.{◌∙◌, sym, ap, ◌+◌, arith, subst, ℕ}
+use Rattle.std.proofs.Common.{◌∙◌, sym, ap, ◌+◌, subst, ℕ}
 use Rattle.rr_syntax.specs.View.{plain_module}
 use Rattle.rr_head.specs.Sound.{ArePlaces}
 use Rattle.rr_head.proofs.Steps.{each_more, each_stops, each_done, refused}

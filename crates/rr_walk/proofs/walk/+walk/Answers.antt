@@ -1,4 +1,4 @@
-use Rattle.std.proofs.Common.{◌∙◌, sym, map, length, inl, inr, arith, rules, refl, ◌<◌}
+use Rattle.std.proofs.Common.{◌∙◌, sym, inr, arith, rules, refl}
 use Rattle.std.proofs.lemmas.Result.{on_ok_weaker}
 use Rattle.rr_syntax.specs.Items.{WellFormedModule, FitLiteralsModule, WellFormedItem, FitLiteralsItem, WellFormedInstance, FitLiteralsInstance}
 use Rattle.rr_syntax.specs.View.{plain_item, plain_instance, plain_module, plain_overrides}

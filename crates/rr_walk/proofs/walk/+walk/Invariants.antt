@@ -1,4 +1,4 @@
-use Rattle.std.proofs.Common.{◌≡◌, ◌≤◌, ◌+◌, ◌*◌, length, map, drop}
+use Rattle.std.proofs.Common.{◌≡◌, ◌+◌, ◌*◌, map, drop}
 use Rattle.rr_syntax.specs.View.{plain_item, plain_instance, plain_overrides}
 use Rattle.rr_flat.specs.Faults.{each}
 use Rattle.rr_walk.specs.Kept.{plain_walked, modules_of, Keeps}
