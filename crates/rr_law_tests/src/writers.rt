@@ -10,12 +10,10 @@ use std::test::Fail;
 /// A text, and the bit that is written twice with the tokens of both writers, if there is one.
 type Case = (&'static str, Option<TwoDrivers>);
 
-const fn clash(signal: u32, place: u32, first: u32, second: u32) -> Option<TwoDrivers> {
-    Some(TwoDrivers {
-        bit: Bit { signal, place },
-        first,
-        second,
-    })
+macro_rules! clash {
+    ($signal:literal, $place:literal, $first:literal, $second:literal) => {
+        Some(TwoDrivers { bit: Bit { signal: $signal, place: $place }, first: $first, second: $second })
+    };
 }
 
 const BRANCHES: &str =
@@ -28,28 +26,28 @@ const CASES: [Case; 8] = [
     ),
     (
         "module m(input a, output [1:0] y); assign y[1] = a; assign y[1] = a; endmodule",
-        clash(1, 1, 16, 24),
+        clash!(1, 1, 16, 24),
     ),
     (
         "module m(input a, output [1:0] y); assign {y[1], y[1]} = a; endmodule",
-        clash(1, 1, 16, 16),
+        clash!(1, 1, 16, 16),
     ),
     (
         "module m(input a, output [1:0] y); assign y[0] = a; always @* y = a; endmodule",
-        clash(1, 0, 16, 23),
+        clash!(1, 0, 16, 23),
     ),
     (
         "module m(input a, output [1:0] y); assign y[1] = a; always @* y[a] = a; endmodule",
-        clash(1, 1, 16, 23),
+        clash!(1, 1, 16, 23),
     ),
     (
         "module m(input a, output reg y); always @(posedge a) y <= a; always @* y = a; endmodule",
-        clash(1, 0, 11, 21),
+        clash!(1, 0, 11, 21),
     ),
     (BRANCHES, None),
     (
         "module n(output q); endmodule module m(output y); n u(.q(y)); n v(.q(y)); endmodule",
-        clash(0, 0, 21, 31),
+        clash!(0, 0, 21, 31),
     ),
 ];
 
