@@ -1,5 +1,5 @@
 -- Parameters of a module (IEEE 1364-2005 sections 4.10 and 12.2).
-use Rattle.std.specs.Prelude.{ℕ, Bool, true, List, [], ◌∷◌, ◌++◌, Option, Some, None, Result, Ok, is_some, nat_lt, ◌||◌, if◌then◌else◌}
+use Rattle.std.specs.Prelude.{ℕ, Bool, true, List, [], ◌++◌, Option, Some, None, Result, Ok, is_some, nat_lt, ◌||◌, if◌then◌else◌}
 use Rattle.rr_bits.specs.Words.{extend}
 use Rattle.rr_syntax.specs.Tree.{ParamAssignment, ParameterDeclaration, ModuleItem, Ports, Nets, Variables, Integers, Parameters, Assigns, Always, Instances, ModuleDeclaration}
 use Rattle.rr_expr.specs.Scopes.{Names, lookup, range_width}
@@ -9,7 +9,7 @@ use Rattle.rr_flat.specs.declared.fault.FlatFault.{FlatFault}
 use Rattle.rr_flat.specs.declared.fault.FlatFault.TheVariants.{NameTwice, TooWide}
 use Rattle.rr_flat.specs.Faults.{fault_if, among, and_then, each}
 use Rattle.rr_head.specs.Values.{constant, range_in}
-use Rattle.rr_flat.specs.Signals.{Text, with_name}
+use Rattle.rr_flat.specs.Signals.{with_name}
 
 -- the value with which an instance overrides a parameter, else its own
 abbrev pub given_or : Option Entity → List Bool × Bool → List Bool × Bool

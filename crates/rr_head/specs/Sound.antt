@@ -3,7 +3,6 @@ use Rattle.std.specs.Prelude.{ℕ, ◌<◌, ◌≤◌, List, length, All, Option
 use Rattle.rr_expr.specs.Scopes.{Names}
 use Rattle.rr_expr.specs.declared.types.Entity.{Entity}
 use Rattle.rr_expr.specs.declared.types.Entity.TheVariants as entity
-use Rattle.rr_flat.specs.declared.signal.Signal.{Signal}
 use Rattle.rr_head.specs.declared.declare.Declared.{Declared}
 use Rattle.rr_flat.specs.Sound.{IsOwn}
 

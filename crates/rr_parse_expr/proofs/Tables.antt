@@ -38,12 +38,3 @@ less v w e = grind (arith, nat_tests)
 pub infix_below : (m : ℕ) → infix_level m < unary_level
 unfolding infix_level
 infix_below m = less (get_or levels m 0) unary_level (check_at (λ i v. nat_lt v unary_level) (λ i. refl) 0 levels refl m)
-
--- past the end of the tables
-pub infix_past : (m : ℕ) → 45 ≤ m → infix_level m ≡ 0
-unfolding infix_level
-infix_past m h = get_or_past levels m 0 h
-
-pub prefix_past : (m : ℕ) → 45 ≤ m → is_prefix m ≡ false
-unfolding is_prefix
-prefix_past m h = ap (λ (k : ℕ). nat_eq k 1) (get_or_past prefixes m 0 h)

@@ -9,7 +9,7 @@ use Rattle.rr_syntax.specs.View.{plain}
 use Rattle.rr_parse_expr.specs.declared.expression.ParseFault.{ParseFault}
 use Rattle.rr_parse_expr.specs.declared.expression.ParseFault.TheVariants.{Unsupported, Syntax, Memory}
 
--- the greatest depth of an expression, its root counted as 0
+-- the greatest depth of a tree that is read, an expression or a whole text, its root counted as 0
 abbrev pub max_depth : ℕ
 max_depth = 500
 

@@ -1,75 +1,21 @@
 //! The marks of expressions by their levels (IEEE 1364-2005 section 5.1.2).
 
 ghost use Rattle.std.specs.Prelude.{◌≡◌, drop};
-ghost use Rattle.rr_syntax.specs.Expressions.{infix_level as infix_of, is_prefix as prefix_of, level as level_of, depth as depth_of};
+ghost use Rattle.rr_syntax.specs.Expressions.{level as level_of, depth as depth_of};
 ghost use Rattle.rr_syntax.specs.View.{plain};
 ghost use Rattle.rr_syntax.specs.Words.{words};
 ghost use Rattle.rr_parse_expr.specs.Reading.{cast_sign as sign_of, goes_on as goes_on_of, is_between as between_of, mark};
 
 use crate::nodes::Read;
-use rr_syntax::{Expr, Kind, Token};
+use rr_syntax::{Expr, Kind, Mark, Token, infix_level};
 
 /// What stands for the mark where no mark stands.
 pub(crate) const NO_MARK: u8 = 255;
-
-pub(crate) const OPEN_PARENTHESIS: u8 = 0;
-
-pub(crate) const CLOSE_PARENTHESIS: u8 = 1;
-
-pub(crate) const OPEN_BRACKET: u8 = 2;
-
-pub(crate) const CLOSE_BRACKET: u8 = 3;
-
-pub(crate) const OPEN_BRACE: u8 = 4;
-
-pub(crate) const CLOSE_BRACE: u8 = 5;
-
-pub(crate) const COMMA: u8 = 6;
-
-pub(crate) const COLON: u8 = 8;
-
-pub(crate) const QUESTION: u8 = 12;
-
-pub(crate) const PART_UP: u8 = 43;
-
-pub(crate) const PART_DOWN: u8 = 44;
 
 /// The level of an operator before one operand, above those between two.
 pub(crate) const UNARY_LEVEL: u8 = 13;
 
 const PRIMARY_LEVEL: u8 = 14;
-
-const LEVELS: [u8; 45] = [
-    0, 0, 0, 0, 0, 0, 0, 0, 0, 0, 0, 0, 1, 0, 10, 10, 11, 11, 11, 0, 0, 6, 4, 5, 8, 8, 12, 7, 7, 7,
-    7, 8, 8, 9, 9, 9, 9, 3, 2, 0, 0, 5, 5, 0, 0,
-];
-
-const PREFIXES: [u8; 45] = [
-    0, 0, 0, 0, 0, 0, 0, 0, 0, 0, 0, 0, 0, 0, 1, 1, 0, 0, 0, 1, 1, 1, 1, 1, 0, 0, 0, 0, 0, 0, 0, 0,
-    0, 0, 0, 0, 0, 0, 0, 1, 1, 1, 1, 0, 0,
-];
-
-/// The level of a mark between operands, 0 where it is no operator.
-#[tactic(auto, unfolding(rr_syntax::specs::Expressions::infix_level))]
-pub(crate) fn infix_level(mark: u8) -> u8
-    ensures { result ≡ infix_of mark }
-{
-    let at = mark as usize;
-    if at < LEVELS.len() { LEVELS[at] } else { 0 }
-}
-
-/// Whether a mark may stand before an operand.
-#[tactic(auto, unfolding(rr_syntax::specs::Expressions::is_prefix))]
-pub(crate) fn is_prefix(mark: u8) -> bool
-    ensures { result ≡ prefix_of mark }
-{
-    let at = mark as usize;
-    if at < PREFIXES.len() {
-        PREFIXES[at] == 1
-    } else {
-        false
-    }
-}
 
 /// How tightly the outermost node binds.
 #[tactic(auto, unfolding(rr_syntax::specs::Expressions::level, rr_syntax::specs::View::plain))]
@@ -78,7 +24,7 @@ fn level(expr: &Expr) -> u8
 {
     match expr {
         Expr::Unary { .. } => UNARY_LEVEL,
-        Expr::Binary { op, .. } => infix_level(op.0),
+        Expr::Binary { op, .. } => infix_level(*op),
         Expr::Cond { .. } => 1,
         Expr::Name { .. }
         | Expr::Literal { .. }
@@ -112,12 +58,12 @@ pub(crate) fn goes_on(left: &Read, mark: u8, low: u8, limit: u32) -> bool
     requires { left.now.depth ≡ depth_of (plain left.now.expr) }
     ensures { result ≡ goes_on_of limit low (plain left.now.expr) mark }
 {
-    let needed = if mark == QUESTION {
+    let needed = if mark == Mark::QUESTION.0 {
         2
     } else {
-        infix_level(mark)
+        infix_level(Mark(mark))
     };
-    low <= infix_level(mark) && needed <= level(&left.expr) && left.depth < limit
+    low <= infix_level(Mark(mark)) && needed <= level(&left.expr) && left.depth < limit
 }
 
 /// Whether a mark stands between the two expressions of a select.
@@ -125,7 +71,7 @@ pub(crate) fn goes_on(left: &Read, mark: u8, low: u8, limit: u32) -> bool
 pub(crate) fn is_between(mark: u8) -> bool
     ensures { result ≡ between_of mark }
 {
-    mark == COLON || mark == PART_UP || mark == PART_DOWN
+    mark == Mark::COLON.0 || mark == Mark::PART_UP.0 || mark == Mark::PART_DOWN.0
 }
 
 /// Whether a system name casts to signed or to unsigned (section 5.5).

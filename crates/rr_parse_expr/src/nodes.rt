@@ -6,7 +6,6 @@ ghost use Rattle.rr_syntax.specs.View.{plain, plain_list};
 ghost use Rattle.rr_parse_expr.specs.Answer.{IsNode};
 ghost use Rattle.rr_parse_expr.specs.Made.{select_of};
 
-use crate::marks::{COLON, PART_UP};
 use bumpalo::Bump;
 use rr_syntax::{Expr, Mark};
 use std::alloc::AllocError;
@@ -105,7 +104,7 @@ pub(crate) fn part<'a>(
     let right = arena.try_alloc(second.expr)?;
     let depth = first.depth.max(second.depth) + 1;
     let next = second.next;
-    if mark == COLON {
+    if mark == Mark::COLON.0 {
         let expr = Expr::Part {
             token,
             name,
@@ -114,7 +113,7 @@ pub(crate) fn part<'a>(
         };
         Ok(Read { expr, next, depth })
     } else {
-        let up = mark == PART_UP;
+        let up = mark == Mark::PART_UP.0;
         let expr = Expr::Indexed {
             token,
             name,

@@ -6,17 +6,13 @@ ghost use Rattle.rr_syntax.specs.Expressions.{infix_level as infix_of};
 ghost use Rattle.rr_parse_expr.specs.Reading.{mark as mark_of, after_index as after_index_of, after_mark as after_mark_of, below, braces as braces_of, closed as closed_of, named as named_of, no_mark, operand as operand_of, parts_from as parts_from_of, repeated as repeated_of, select as select_of, system as system_of, turn as turn_of};
 ghost use Rattle.rr_parse_expr.specs.Answer.{form, Answers, AnswersBelow, AnswersClosed, Gathers, IsBelow, ReadAs, Steps};
 
-use crate::marks::{
-    CLOSE_BRACE, CLOSE_BRACKET, CLOSE_PARENTHESIS, COLON, COMMA, OPEN_BRACE, OPEN_BRACKET,
-    OPEN_PARENTHESIS, QUESTION, UNARY_LEVEL, cast_sign, goes_on, infix_level, is_between,
-    is_prefix, mark_at,
-};
+use crate::marks::{UNARY_LEVEL, cast_sign, goes_on, is_between, mark_at};
 use crate::nodes::{
     End, Read, add_part, binary, bit, cast, concat, cond, paren, part, repeat, unary,
 };
 use bumpalo::Bump;
 use bumpalo::collections::into_bump_slice;
-use rr_syntax::{Expr, Kind, Mark, Token};
+use rr_syntax::{Expr, Kind, Mark, Token, infix_level, is_prefix};
 use std::alloc::AllocError;
 
 /// Reads the longest expression of at least a level and of less than a depth.
@@ -125,17 +121,17 @@ fn after_mark<'a>(
     requires shallow { limit ≤ 500 }
     ensures { IfOk result (λ r. Answers tokens.now from limit (after_mark_of (below limit) mark.0 (drop (from + 1) (words tokens.now))) r) }
 {
-    if is_prefix(mark.0) {
+    if is_prefix(mark) {
         match read_at(tokens, from + 1, UNARY_LEVEL, limit, arena)? {
             None => Ok(None),
             Some(inner) => Ok(Some(unary(mark, inner, arena)?)),
         }
-    } else if mark.0 == OPEN_PARENTHESIS {
-        match closed(tokens, from + 1, CLOSE_PARENTHESIS, limit, arena)? {
+    } else if mark.0 == Mark::OPEN_PARENTHESIS.0 {
+        match closed(tokens, from + 1, Mark::CLOSE_PARENTHESIS.0, limit, arena)? {
             None => Ok(None),
             Some(inner) => Ok(Some(paren(inner, arena)?)),
         }
-    } else if mark.0 == OPEN_BRACE {
+    } else if mark.0 == Mark::OPEN_BRACE.0 {
         braces(tokens, from, limit, arena)
     } else {
         Ok(None)
@@ -183,7 +179,7 @@ fn select<'a>(
     requires shallow { limit ≤ 500 }
     ensures { IfOk result (λ r. Answers tokens.now from limit (select_of (below limit) name.now (drop (from + 1) (words tokens.now))) r) }
 {
-    if mark_at(tokens, from + 1) != OPEN_BRACKET {
+    if mark_at(tokens, from + 1) != Mark::OPEN_BRACKET.0 {
         return Ok(None);
     }
     match read_at(tokens, from + 2, 1, limit, arena)? {
@@ -208,13 +204,13 @@ fn after_index<'a>(
     ensures { IfOk result (λ r. Answers tokens.now from limit (after_index_of (below limit) name.now (form first.entry.expr) (mark_of (drop first.entry.next (words tokens.now))) (drop (first.entry.next + 1) (words tokens.now))) r) }
 {
     let between = mark_at(tokens, first.next);
-    if between == CLOSE_BRACKET {
+    if between == Mark::CLOSE_BRACKET.0 {
         return Ok(Some(bit(from, name, first, arena)?));
     }
     if !is_between(between) {
         return Ok(None);
     }
-    match closed(tokens, first.next + 1, CLOSE_BRACKET, limit, arena)? {
+    match closed(tokens, first.next + 1, Mark::CLOSE_BRACKET.0, limit, arena)? {
         None => Ok(None),
         Some(second) => Ok(Some(part(from, name, between, first, second, arena)?)),
     }
@@ -237,10 +233,10 @@ fn system<'a>(
     match cast_sign(name) {
         None => Ok(None),
         Some(signed) => {
-            if mark_at(tokens, from + 1) != OPEN_PARENTHESIS {
+            if mark_at(tokens, from + 1) != Mark::OPEN_PARENTHESIS.0 {
                 return Ok(None);
             }
-            match closed(tokens, from + 2, CLOSE_PARENTHESIS, limit, arena)? {
+            match closed(tokens, from + 2, Mark::CLOSE_PARENTHESIS.0, limit, arena)? {
                 None => Ok(None),
                 Some(inner) => Ok(Some(cast(signed, inner, arena)?)),
             }
@@ -264,7 +260,7 @@ fn braces<'a>(
     match read_at(tokens, from + 1, 1, limit, arena)? {
         None => Ok(None),
         Some(first) => {
-            if mark_at(tokens, first.next) == OPEN_BRACE {
+            if mark_at(tokens, first.next) == Mark::OPEN_BRACE.0 {
                 return repeated(tokens, from, first, limit, arena);
             }
             let mut parts = Vec::new(arena);
@@ -298,7 +294,7 @@ fn repeated<'a>(
             match parts_from(tokens, count.next, first, &mut parts, limit, arena)? {
                 None => Ok(None),
                 Some(end) => {
-                    if mark_at(tokens, end.next) != CLOSE_BRACE {
+                    if mark_at(tokens, end.next) != Mark::CLOSE_BRACE.0 {
                         return Ok(None);
                     }
                     Ok(Some(repeat(count, into_bump_slice(parts), end, arena)?))
@@ -328,7 +324,7 @@ fn parts_from<'a>(
     add_part(parts, first.expr)?;
     let mut next = first.next;
     let mut depth = first.depth + 1;
-    while mark_at(tokens, next) == COMMA {
+    while mark_at(tokens, next) == Mark::COMMA.0 {
         match read_at(tokens, next + 1, 1, limit, arena)? {
             None => return Ok(None),
             Some(part) => {
@@ -338,7 +334,7 @@ fn parts_from<'a>(
             }
         }
     }
-    if mark_at(tokens, next) == CLOSE_BRACE {
+    if mark_at(tokens, next) == Mark::CLOSE_BRACE.0 {
         Ok(Some(End {
             next: next + 1,
             depth,
@@ -368,7 +364,7 @@ fn step<'a>(
     if !goes_on(&left, op, low, limit) {
         return Ok(None);
     }
-    if op == QUESTION {
+    if op == Mark::QUESTION.0 {
         conditional(tokens, from, left, limit, arena)
     } else {
         operation(tokens, from, left, op, limit, arena)
@@ -393,7 +389,13 @@ fn operation<'a>(
     requires is_operator { (1 ≤ infix_of op) × (op ≢ mark_question) }
     ensures { IfOk result (λ r. Answers tokens.now from limit (turn_of (below limit) (form left.entry.expr) op (drop (left.entry.next + 1) (words tokens.now))) r) }
 {
-    match read_at(tokens, left.next + 1, infix_level(op) + 1, limit, arena)? {
+    match read_at(
+        tokens,
+        left.next + 1,
+        infix_level(Mark(op)) + 1,
+        limit,
+        arena,
+    )? {
         None => Ok(None),
         Some(right) => Ok(Some(binary(op, left, right, arena)?)),
     }
@@ -415,7 +417,7 @@ fn conditional<'a>(
     requires there { left.next < length tokens.now }
     ensures { IfOk result (λ r. Answers tokens.now from limit (turn_of (below limit) (form left.entry.expr) mark_question (drop (left.entry.next + 1) (words tokens.now))) r) }
 {
-    match closed(tokens, left.next + 1, COLON, limit, arena)? {
+    match closed(tokens, left.next + 1, Mark::COLON.0, limit, arena)? {
         None => Ok(None),
         Some(middle) => match read_at(tokens, middle.next, 1, limit, arena)? {
             None => Ok(None),

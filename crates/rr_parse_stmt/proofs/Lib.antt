@@ -7,4 +7,3 @@ pub mod FromExpressions
 pub mod Names
 pub mod Sound
 pub mod Steps
-pub mod WholeSources

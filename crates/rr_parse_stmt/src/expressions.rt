@@ -7,11 +7,11 @@ ghost use Rattle.rr_parse_expr.specs.Reading.{below, closed as closed_of, no_mar
 ghost use Rattle.rr_parse_stmt.specs.Reading.{labels as labels_of, target as target_of, tested as tested_of};
 ghost use Rattle.rr_parse_stmt.specs.Answer.{AnswersLabelling, AnswersLabels, AnswersTarget, AnswersTree, FindsTree};
 
-use crate::parts::{CLOSE_PARENTHESIS, COLON, COMMA, OPEN_PARENTHESIS, add_label};
+use crate::parts::add_label;
 use bumpalo::Bump;
 use bumpalo::collections::into_bump_slice;
 use rr_parse_expr::{ParseFault, expr_within, mark_at, operand_within};
-use rr_syntax::{Expr, Token, is_target};
+use rr_syntax::{Expr, Mark, Token, is_target};
 use std::alloc::AllocError;
 
 /// An expression and the token after what was read.
@@ -111,10 +111,10 @@ pub(crate) fn tested<'a>(
     requires shallow { room ≤ 501 }
     ensures { IfOk result (λ r. AnswersTree tokens.now (from + 1) 1 (tested_of (below room) (drop from (words tokens.now))) r) }
 {
-    if mark_at(tokens, from) != OPEN_PARENTHESIS {
+    if mark_at(tokens, from) != Mark::OPEN_PARENTHESIS.0 {
         return Ok(None);
     }
-    closed(tokens, from + 1, CLOSE_PARENTHESIS, room, arena)
+    closed(tokens, from + 1, Mark::CLOSE_PARENTHESIS.0, room, arena)
 }
 
 /// A target: an operand that may be assigned. It is read as an operand, since `<=` behind it is an
@@ -184,7 +184,7 @@ fn labels_from<'a>(
 {
     add_label(labels, *first.expr)?;
     let mut next = first.next;
-    while mark_at(tokens, next) == COMMA {
+    while mark_at(tokens, next) == Mark::COMMA.0 {
         match expression(tokens, next + 1, room, arena)? {
             None => return Ok(None),
             Some(label) => {
@@ -193,7 +193,7 @@ fn labels_from<'a>(
             }
         }
     }
-    if mark_at(tokens, next) == COLON {
+    if mark_at(tokens, next) == Mark::COLON.0 {
         Ok(Some(next + 1))
     } else {
         Ok(None)

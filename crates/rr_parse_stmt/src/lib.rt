@@ -9,8 +9,6 @@ mod nodes;
 mod parts;
 mod reader;
 mod statement;
-#[cfg(test)]
-mod tests;
 
 pub use laws::one_statement;
 pub use parts::keyword_at;

@@ -12,43 +12,11 @@ ghost use Rattle.rr_parse_stmt.specs.Loops.{at_most_one};
 
 use bumpalo::Bump;
 use rr_parse_expr::mark_at;
-use rr_syntax::{Arm, Expr, Kind, Named, Stmt, Token};
+use rr_syntax::{Arm, Expr, Kind, Mark, Named, Stmt, Token};
 use std::alloc::AllocError;
 
 /// What stands for the mark or the reserved word where none stands.
 pub(crate) const NONE: u8 = 255;
-
-pub(crate) const OPEN_PARENTHESIS: u8 = 0;
-
-pub(crate) const CLOSE_PARENTHESIS: u8 = 1;
-
-pub(crate) const COMMA: u8 = 6;
-
-pub(crate) const SEMICOLON: u8 = 7;
-
-pub(crate) const COLON: u8 = 8;
-
-pub(crate) const EQUALS: u8 = 13;
-
-pub(crate) const LESS_OR_EQUAL: u8 = 31;
-
-pub(crate) const BEGIN: u8 = 4;
-
-pub(crate) const CASE: u8 = 8;
-
-pub(crate) const CASEX: u8 = 9;
-
-pub(crate) const CASEZ: u8 = 10;
-
-pub(crate) const DEFAULT: u8 = 15;
-
-pub(crate) const ELSE: u8 = 20;
-
-pub(crate) const END: u8 = 21;
-
-pub(crate) const ENDCASE: u8 = 22;
-
-pub(crate) const IF: u8 = 41;
 
 /// The reserved word that stands at a place, by its number in the table of words; 255 where none does.
 #[tactic(auto, using(rr_parse_expr::proofs::TokenWords::words_at, rr_parse_expr::proofs::TokenWords::words_past), unfolding(crate::specs::Reading::keyword))]
@@ -70,9 +38,9 @@ pub(crate) fn sign_at(tokens: &[Token], at: u32) -> Option<bool>
     ensures { result ≡ sign (drop at (words tokens.now)) }
 {
     let mark = mark_at(tokens, at);
-    if mark == EQUALS {
+    if mark == Mark::EQUALS.0 {
         Some(true)
-    } else if mark == LESS_OR_EQUAL {
+    } else if mark == Mark::LESS_OR_EQUAL.0 {
         Some(false)
     } else {
         None

@@ -10,14 +10,11 @@ ghost use Rattle.rr_parse_stmt.specs.Answer.{AnswersArm, AnswersArms, AnswersBod
 
 use crate::expressions::{LabelList, Placed, closed, labels, target, tested};
 use crate::nodes::{ArmPiece, LabelPiece, Piece, case_item, if_alone, if_else, no_labels};
-use crate::parts::{
-    BEGIN, CASE, CASEX, CASEZ, COLON, DEFAULT, ELSE, END, ENDCASE, IF, SEMICOLON, add_arm,
-    add_statement, counted, keyword_at, name_at, sign_at,
-};
+use crate::parts::{add_arm, add_statement, counted, keyword_at, name_at, sign_at};
 use bumpalo::Bump;
 use bumpalo::collections::into_bump_slice;
 use rr_parse_expr::mark_at;
-use rr_syntax::{Arm, Keyword, Stmt, Token};
+use rr_syntax::{Arm, Keyword, Mark, Stmt, Token};
 use std::alloc::AllocError;
 
 /// Whether a reserved word begins a `case`.
@@ -25,7 +22,7 @@ use std::alloc::AllocError;
 fn is_case(word: u8) -> bool
     ensures { result ≡ case_of word }
 {
-    word == CASE || word == CASEZ || word == CASEX
+    word == Keyword::CASE.0 || word == Keyword::CASEZ.0 || word == Keyword::CASEX.0
 }
 
 /// The token after `default`, which stands at `from`, and after its colon, if that stands behind it.
@@ -52,15 +49,15 @@ pub(crate) fn statement<'a>(
         return Ok(None);
     }
     let word = keyword_at(tokens, from);
-    if mark_at(tokens, from) == SEMICOLON {
+    if mark_at(tokens, from) == Mark::SEMICOLON.0 {
         let next = from + 1;
         Ok(Some(Piece {
             stmt: Stmt::Null,
             next,
         }))
-    } else if word == BEGIN {
+    } else if word == Keyword::BEGIN.0 {
         block(tokens, from, room - 1, arena)
-    } else if word == IF {
+    } else if word == Keyword::IF.0 {
         conditional(tokens, from, room - 1, arena)
     } else if is_case(word) {
         cases(tokens, from, word, room - 1, arena)
@@ -75,7 +72,7 @@ fn label<'a>(tokens: &'a [Token<'a>], from: u32) -> Option<LabelPiece<'a>>
     requires inside { from ≤ length tokens.now }
     ensures { AnswersLabel tokens.now from (label_of (drop from (words tokens.now))) result }
 {
-    if mark_at(tokens, from) != COLON {
+    if mark_at(tokens, from) != Mark::COLON.0 {
         return Some(LabelPiece {
             label: None,
             next: from,
@@ -137,7 +134,7 @@ fn statements<'a>(
     ensures { IfOk result (λ r. AnswersBody tokens.now from (body_of (below_statement limit) (suc (length (drop from (words tokens.now)))) Done (drop from (words tokens.now))) body.new.items r) }
 {
     let mut next = from;
-    while keyword_at(tokens, next) != END {
+    while keyword_at(tokens, next) != Keyword::END.0 {
         match statement(tokens, next, limit, arena)? {
             None => return Ok(None),
             Some(piece) => {
@@ -185,7 +182,7 @@ fn branches<'a>(
     match statement(tokens, test.next, limit, arena)? {
         None => Ok(None),
         Some(first) => {
-            if keyword_at(tokens, first.next) == ELSE {
+            if keyword_at(tokens, first.next) == Keyword::ELSE.0 {
                 otherwise(tokens, from, test, first, limit, arena)
             } else {
                 Ok(Some(if_alone(test, first, arena)?))
@@ -274,7 +271,7 @@ fn arms_from<'a>(
         }
         add_arm(arms, piece.arm)?;
         next = piece.next;
-        if keyword_at(tokens, next) == ENDCASE {
+        if keyword_at(tokens, next) == Keyword::ENDCASE.0 {
             return Ok(Some(next + 1));
         }
     }
@@ -296,7 +293,7 @@ fn arm<'a>(
     if room == 0 {
         return Ok(None);
     }
-    if keyword_at(tokens, from) == DEFAULT {
+    if keyword_at(tokens, from) == Keyword::DEFAULT.0 {
         default_arm(tokens, from, room - 1, arena)
     } else {
         labelled_arm(tokens, from, room - 1, arena)
@@ -316,7 +313,7 @@ fn default_arm<'a>(
     requires shallow { limit ≤ 500 }
     ensures { IfOk result (λ r. AnswersArm tokens.now from (default_of (below_statement limit) (drop (from + 1) (words tokens.now))) r) }
 {
-    let colon = mark_at(tokens, from + 1) == COLON;
+    let colon = mark_at(tokens, from + 1) == Mark::COLON.0;
     default_body(tokens, from, colon, limit, arena)
 }
 
@@ -414,7 +411,7 @@ fn assigned<'a>(
     requires mark_read { sign (drop left.next (words tokens.now)) ≡ Some now }
     ensures { IfOk result (λ r. AnswersStatement tokens.now from (assignment_of (below limit) (drop from (words tokens.now))) r) }
 {
-    match closed(tokens, left.next + 1, SEMICOLON, limit, arena)? {
+    match closed(tokens, left.next + 1, Mark::SEMICOLON.0, limit, arena)? {
         None => Ok(None),
         Some(value) => {
             let stmt = Stmt::Assign {

@@ -16,22 +16,22 @@ as_indexed : (n : ℕ) (s : List ℕ) (m : ℕ) (t u : Tree) → (m ≡ 8 → �
 unfolding select_of
 as_indexed n s m t u e = let h : nat_eq m 8 ≡ false = grind (arith, nat_tests) in rw h refl
 
-pub returns-then-mark-eq-COLON : goal.returns-then-mark-eq-COLON
-returns-then-mark-eq-COLON c = record {
+pub returns-then-mark : goal.returns-then-mark
+returns-then-mark c = record {
   tree = plain_part c.args.token c.args.name (as_bor c.in_ok-left.left) (as_bor c.in_ok-right.right) ∙
       ap (λ (x : Expr). Part c.args.token c.args.name.now (plain x) (plain c.in_ok-right.right.now)) c.in_ok-left.ensures ∙
       ap (λ (x : Expr). Part c.args.token c.args.name.now (plain c.args.first.expr) (plain x)) c.in_ok-right.ensures ∙
-      as_part c.args.token c.args.name.now c.args.mark (plain c.args.first.expr) (plain c.args.second.expr) c.if-mark-eq-COLON.true;
+      as_part c.args.token c.args.name.now c.args.mark (plain c.args.first.expr) (plain c.args.second.expr) c.if-mark.true;
   next_is = refl;
   depth_is = ap (λ (x : ℕ). x + 1) c.max-depth.ensures;
 }
 
-pub returns-else-mark-eq-COLON : goal.returns-else-mark-eq-COLON
-returns-else-mark-eq-COLON c = record {
+pub returns-else-mark : goal.returns-else-mark
+returns-else-mark c = record {
   tree = plain_indexed c.args.token c.args.name (as_bor c.in_ok-left.left) (as_bor c.in_ok-right.right) (nat_eq c.args.mark 43) ∙
       ap (λ (x : Expr). Indexed c.args.token c.args.name.now (plain x) (plain c.in_ok-right.right.now) (nat_eq c.args.mark 43)) c.in_ok-left.ensures ∙
       ap (λ (x : Expr). Indexed c.args.token c.args.name.now (plain c.args.first.expr) (plain x) (nat_eq c.args.mark 43)) c.in_ok-right.ensures ∙
-      as_indexed c.args.token c.args.name.now c.args.mark (plain c.args.first.expr) (plain c.args.second.expr) c.if-mark-eq-COLON.false;
+      as_indexed c.args.token c.args.name.now c.args.mark (plain c.args.first.expr) (plain c.args.second.expr) c.if-mark.false;
   next_is = refl;
   depth_is = ap (λ (x : ℕ). x + 1) c.max-depth.ensures;
 }

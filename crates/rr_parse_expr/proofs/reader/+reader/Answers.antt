@@ -12,13 +12,13 @@ use Rattle.rr_parse_expr.proofs.Answered.{picks, none_of, picks_below, none_belo
 use Rattle.rr_parse_expr.proofs.reader.+reader.Goals as goal
 
 pub after_index-bit-requires-clause-inside : goal.after_index-bit-requires-clause-inside
-after_index-bit-requires-clause-inside t c = let h = mark_inside c.args.tokens.now c.args.first.next mark_close_bracket (sym c.mark_at-between.ensures ∙ c.if-between-eq-CLOSE_BRACKET.true) (omega arith) in omega arith
+after_index-bit-requires-clause-inside t c = let h = mark_inside c.args.tokens.now c.args.first.next mark_close_bracket (sym c.mark_at-between.ensures ∙ c.if-between.true) (omega arith) in omega arith
 
-pub after_index-returns-then-between-eq-CLOSE_BRACKET : goal.after_index-returns-then-between-eq-CLOSE_BRACKET
-after_index-returns-then-between-eq-CLOSE_BRACKET t c = made_bit c.args.tokens.now c.args.from c.args.limit c.args.name.now c.args.first c.in_ok-bit.field-0 c.requires.1.1.1.1 (sym c.mark_at-between.ensures ∙ c.if-between-eq-CLOSE_BRACKET.true) c.in_ok-bit.ensures
+pub after_index-returns-then-between : goal.after_index-returns-then-between
+after_index-returns-then-between t c = made_bit c.args.tokens.now c.args.from c.args.limit c.args.name.now c.args.first c.in_ok-bit.field-0 c.requires.1.1.1.1 (sym c.mark_at-between.ensures ∙ c.if-between.true) c.in_ok-bit.ensures
 
 pub after_index-returns-then-not-is_between : goal.after_index-returns-then-not-is_between
-after_index-returns-then-not-is_between t c = index_other c.args.tokens.now c.args.limit c.args.name.now (form c.args.first.expr) (mark (drop c.args.first.next (words c.args.tokens.now))) (c.args.first.next + 1) (λ e. c.if-between-eq-CLOSE_BRACKET.false (c.mark_at-between.ensures ∙ e)) (ap is_between (sym c.mark_at-between.ensures) ∙ sym c.is_between.ensures ∙ c.if-not-is_between.true)
+after_index-returns-then-not-is_between t c = index_other c.args.tokens.now c.args.limit c.args.name.now (form c.args.first.expr) (mark (drop c.args.first.next (words c.args.tokens.now))) (c.args.first.next + 1) (λ e. c.if-between.false (c.mark_at-between.ensures ∙ e)) (ap is_between (sym c.mark_at-between.ensures) ∙ sym c.is_between.ensures ∙ c.if-not-is_between.true)
 
 pub after_index-overflow_add-first : goal.after_index-overflow_add-first
 after_index-overflow_add-first t c = let h = between_inside c.args.tokens.now c.args.first.next (mark (drop c.args.first.next (words c.args.tokens.now))) refl (ap is_between (sym c.mark_at-between.ensures) ∙ sym c.is_between.ensures ∙ c.if-not-is_between.false) in omega arith
@@ -38,16 +38,16 @@ pub after_mark-returns-in_ok-unary-in-Some : goal.after_mark-returns-in_ok-unary
 after_mark-returns-in_ok-unary-in-Some t c = made_unary c.args.tokens.now c.args.from c.args.limit c.args.mark.0 c.in-Some.inner c.in_ok-unary-in-Some.field-0 (sym c.is_prefix.ensures ∙ c.if-is_prefix.true) (picks_below c.args.tokens.now (c.args.from + 1) c.args.limit unary_level c.in_ok-read_at.field-0 c.in-Some.inner c.in-Some.is c.in_ok-read_at.ensures) c.in_ok-unary-in-Some.ensures
 
 pub after_mark-returns-in-None-2 : goal.after_mark-returns-in-None-2
-after_mark-returns-in-None-2 t c = paren_none (below c.args.limit) c.args.mark.0 (drop (c.args.from + 1) (words c.args.tokens.now)) (sym c.is_prefix.ensures ∙ c.if-is_prefix.false) c.if-mark-eq-OPEN_PARENTHESIS.true (none_closed c.args.tokens.now (c.args.from + 1) c.args.limit mark_close_parenthesis c.in_ok-closed.field-0 c.in-None-2.is c.in_ok-closed.ensures)
+after_mark-returns-in-None-2 t c = paren_none (below c.args.limit) c.args.mark.0 (drop (c.args.from + 1) (words c.args.tokens.now)) (sym c.is_prefix.ensures ∙ c.if-is_prefix.false) c.if-mark.true (none_closed c.args.tokens.now (c.args.from + 1) c.args.limit mark_close_parenthesis c.in_ok-closed.field-0 c.in-None-2.is c.in_ok-closed.ensures)
 
 pub after_mark-returns-in_ok-paren-in-Some-2 : goal.after_mark-returns-in_ok-paren-in-Some-2
-after_mark-returns-in_ok-paren-in-Some-2 t c = made_paren c.args.tokens.now c.args.from c.args.limit c.args.mark.0 c.in-Some-2.inner c.in_ok-paren-in-Some-2.field-0 (sym c.is_prefix.ensures ∙ c.if-is_prefix.false) c.if-mark-eq-OPEN_PARENTHESIS.true (picks_closed c.args.tokens.now (c.args.from + 1) c.args.limit mark_close_parenthesis c.in_ok-closed.field-0 c.in-Some-2.inner c.in-Some-2.is c.in_ok-closed.ensures) c.in_ok-paren-in-Some-2.ensures
+after_mark-returns-in_ok-paren-in-Some-2 t c = made_paren c.args.tokens.now c.args.from c.args.limit c.args.mark.0 c.in-Some-2.inner c.in_ok-paren-in-Some-2.field-0 (sym c.is_prefix.ensures ∙ c.if-is_prefix.false) c.if-mark.true (picks_closed c.args.tokens.now (c.args.from + 1) c.args.limit mark_close_parenthesis c.in_ok-closed.field-0 c.in-Some-2.inner c.in-Some-2.is c.in_ok-closed.ensures) c.in_ok-paren-in-Some-2.ensures
 
-pub after_mark-returns-then-mark-eq-OPEN_BRACE : goal.after_mark-returns-then-mark-eq-OPEN_BRACE
-after_mark-returns-then-mark-eq-OPEN_BRACE t c = rw (mark_braces (below c.args.limit) c.args.mark.0 (drop (c.args.from + 1) (words c.args.tokens.now)) (sym c.is_prefix.ensures ∙ c.if-is_prefix.false) c.if-mark-eq-OPEN_BRACE.true) c.braces.ensures
+pub after_mark-returns-then-mark-2 : goal.after_mark-returns-then-mark-2
+after_mark-returns-then-mark-2 t c = rw (mark_braces (below c.args.limit) c.args.mark.0 (drop (c.args.from + 1) (words c.args.tokens.now)) (sym c.is_prefix.ensures ∙ c.if-is_prefix.false) c.if-mark-2.true) c.braces.ensures
 
-pub after_mark-returns-else-mark-eq-OPEN_BRACE : goal.after_mark-returns-else-mark-eq-OPEN_BRACE
-after_mark-returns-else-mark-eq-OPEN_BRACE t c = mark_other (below c.args.limit) c.args.mark.0 (drop (c.args.from + 1) (words c.args.tokens.now)) (sym c.is_prefix.ensures ∙ c.if-is_prefix.false) c.if-mark-eq-OPEN_PARENTHESIS.false c.if-mark-eq-OPEN_BRACE.false
+pub after_mark-returns-else-mark-2 : goal.after_mark-returns-else-mark-2
+after_mark-returns-else-mark-2 t c = mark_other (below c.args.limit) c.args.mark.0 (drop (c.args.from + 1) (words c.args.tokens.now)) (sym c.is_prefix.ensures ∙ c.if-is_prefix.false) c.if-mark.false c.if-mark-2.false
 
 pub braces-returns-in-None : goal.braces-returns-in-None
 braces-returns-in-None t c = braces-none (below c.args.limit) (drop (c.args.from + 1) (words c.args.tokens.now)) (none_below c.args.tokens.now (c.args.from + 1) c.args.limit 1 c.in_ok-read_at.field-0 c.in-None.is c.in_ok-read_at.ensures)
@@ -55,17 +55,17 @@ braces-returns-in-None t c = braces-none (below c.args.limit) (drop (c.args.from
 pub braces-repeated-requires : goal.braces-repeated-requires
 braces-repeated-requires t c =
     let f = (picks_below c.args.tokens.now (c.args.from + 1) c.args.limit 1 c.in_ok-read_at.field-0 c.in-Some.first c.in-Some.is c.in_ok-read_at.ensures) in
-    let h = mark_inside c.args.tokens.now c.in-Some.first.next mark_open_brace (sym c.mark_at.ensures ∙ c.if-mark_at-eq-OPEN_BRACE.true) (omega arith) in
+    let h = mark_inside c.args.tokens.now c.in-Some.first.next mark_open_brace (sym c.mark_at.ensures ∙ c.if-mark_at.true) (omega arith) in
     grind (arith, f.read, h)
 
-pub braces-returns-then-mark_at-eq-OPEN_BRACE : goal.braces-returns-then-mark_at-eq-OPEN_BRACE
-braces-returns-then-mark_at-eq-OPEN_BRACE t c = rw (braces_repeat c.args.tokens.now c.args.from c.args.limit c.in-Some.first (picks_below c.args.tokens.now (c.args.from + 1) c.args.limit 1 c.in_ok-read_at.field-0 c.in-Some.first c.in-Some.is c.in_ok-read_at.ensures) (sym c.mark_at.ensures ∙ c.if-mark_at-eq-OPEN_BRACE.true)) c.repeated.ensures
+pub braces-returns-then-mark_at : goal.braces-returns-then-mark_at
+braces-returns-then-mark_at t c = rw (braces_repeat c.args.tokens.now c.args.from c.args.limit c.in-Some.first (picks_below c.args.tokens.now (c.args.from + 1) c.args.limit 1 c.in_ok-read_at.field-0 c.in-Some.first c.in-Some.is c.in_ok-read_at.ensures) (sym c.mark_at.ensures ∙ c.if-mark_at.true)) c.repeated.ensures
 
 pub braces-returns-in-None-2 : goal.braces-returns-in-None-2
-braces-returns-in-None-2 t c = braces_open c.args.tokens.now c.args.from c.args.limit c.in-Some.first (picks_below c.args.tokens.now (c.args.from + 1) c.args.limit 1 c.in_ok-read_at.field-0 c.in-Some.first c.in-Some.is c.in_ok-read_at.ensures) (λ e. c.if-mark_at-eq-OPEN_BRACE.false (c.mark_at.ensures ∙ e)) (gathers_none c.args.tokens.now c.args.from c.args.limit (parts_from (below c.args.limit) (form c.in-Some.first.expr) (drop c.in-Some.first.next (words c.args.tokens.now))) c.parts_from.new.parts.items c.in_ok-parts_from-in-Some.field-0 c.in-None-2.is c.in_ok-parts_from-in-Some.ensures)
+braces-returns-in-None-2 t c = braces_open c.args.tokens.now c.args.from c.args.limit c.in-Some.first (picks_below c.args.tokens.now (c.args.from + 1) c.args.limit 1 c.in_ok-read_at.field-0 c.in-Some.first c.in-Some.is c.in_ok-read_at.ensures) (λ e. c.if-mark_at.false (c.mark_at.ensures ∙ e)) (gathers_none c.args.tokens.now c.args.from c.args.limit (parts_from (below c.args.limit) (form c.in-Some.first.expr) (drop c.in-Some.first.next (words c.args.tokens.now))) c.parts_from.new.parts.items c.in_ok-parts_from-in-Some.field-0 c.in-None-2.is c.in_ok-parts_from-in-Some.ensures)
 
 pub braces-returns : goal.braces-returns
-braces-returns t c = made_concat c.args.tokens.now c.args.from c.args.limit c.in-Some.first c.into_bump_slice.result.now c.parts_from.new.parts.items c.in-Some-2.end c.concat.result (picks_below c.args.tokens.now (c.args.from + 1) c.args.limit 1 c.in_ok-read_at.field-0 c.in-Some.first c.in-Some.is c.in_ok-read_at.ensures) (λ e. c.if-mark_at-eq-OPEN_BRACE.false (c.mark_at.ensures ∙ e)) c.into_bump_slice.ensures (gathers_some c.args.tokens.now c.args.from c.args.limit (parts_from (below c.args.limit) (form c.in-Some.first.expr) (drop c.in-Some.first.next (words c.args.tokens.now))) c.parts_from.new.parts.items c.in_ok-parts_from-in-Some.field-0 c.in-Some-2.end c.in-Some-2.is c.in_ok-parts_from-in-Some.ensures) c.concat.ensures
+braces-returns t c = made_concat c.args.tokens.now c.args.from c.args.limit c.in-Some.first c.into_bump_slice.result.now c.parts_from.new.parts.items c.in-Some-2.end c.concat.result (picks_below c.args.tokens.now (c.args.from + 1) c.args.limit 1 c.in_ok-read_at.field-0 c.in-Some.first c.in-Some.is c.in_ok-read_at.ensures) (λ e. c.if-mark_at.false (c.mark_at.ensures ∙ e)) c.into_bump_slice.ensures (gathers_some c.args.tokens.now c.args.from c.args.limit (parts_from (below c.args.limit) (form c.in-Some.first.expr) (drop c.in-Some.first.next (words c.args.tokens.now))) c.parts_from.new.parts.items c.in_ok-parts_from-in-Some.field-0 c.in-Some-2.end c.in-Some-2.is c.in_ok-parts_from-in-Some.ensures) c.concat.ensures
 
 pub closed-returns-then-mark_at-mark : goal.closed-returns-then-mark_at-mark
 closed-returns-then-mark_at-mark t c = closed_other c.args.tokens.now c.args.from c.args.limit c.args.mark c.in-Some.inner (λ e. c.if-mark_at-mark.true (c.mark_at.ensures ∙ e)) (picks_below c.args.tokens.now c.args.from c.args.limit 1 c.in_ok-read_at.field-0 c.in-Some.inner c.in-Some.is c.in_ok-read_at.ensures)
@@ -143,13 +143,13 @@ pub parts_from-loop-from-preserved : goal.parts_from-loop-from-preserved
 parts_from-loop-from-preserved t c = collect_more c.args.tokens.now c.args.from c.args.limit (parts_from (below c.args.limit) (form c.args.first.expr) (drop c.args.first.next (words c.args.tokens.now))) c.loop-from.parts.items c.add_part-in-Some.new.parts.items c.loop-from.next c.loop-from.depth c.max-depth.result c.in-Some.part c.loop-from.invariant (sym c.mark_at.ensures ∙ c.loop-from-test.true) (picks_below c.args.tokens.now (c.loop-from.next + 1) c.args.limit 1 c.in_ok-read_at.field-0 c.in-Some.part c.in-Some.is c.in_ok-read_at.ensures) c.in_ok-add_part-in-Some.ensures c.max-depth.ensures
 
 pub parts_from-overflow_add-result : goal.parts_from-overflow_add-result
-parts_from-overflow_add-result t c = let h = mark_inside c.args.tokens.now c.loop-from.next mark_close_brace (sym c.mark_at-2.ensures ∙ c.if-mark_at-eq-CLOSE_BRACE.true) (omega arith) in omega arith
+parts_from-overflow_add-result t c = let h = mark_inside c.args.tokens.now c.loop-from.next mark_close_brace (sym c.mark_at-2.ensures ∙ c.if-mark_at.true) (omega arith) in omega arith
 
-pub parts_from-returns-then-mark_at-eq-CLOSE_BRACE : goal.parts_from-returns-then-mark_at-eq-CLOSE_BRACE
-parts_from-returns-then-mark_at-eq-CLOSE_BRACE t c = collect_end c.args.tokens.now c.args.from c.args.limit (parts_from (below c.args.limit) (form c.args.first.expr) (drop c.args.first.next (words c.args.tokens.now))) c.loop-from.parts.items c.loop-from.next c.loop-from.depth c.loop-from.invariant (sym c.mark_at-2.ensures ∙ c.if-mark_at-eq-CLOSE_BRACE.true)
+pub parts_from-returns-then-mark_at : goal.parts_from-returns-then-mark_at
+parts_from-returns-then-mark_at t c = collect_end c.args.tokens.now c.args.from c.args.limit (parts_from (below c.args.limit) (form c.args.first.expr) (drop c.args.first.next (words c.args.tokens.now))) c.loop-from.parts.items c.loop-from.next c.loop-from.depth c.loop-from.invariant (sym c.mark_at-2.ensures ∙ c.if-mark_at.true)
 
-pub parts_from-returns-else-mark_at-eq-CLOSE_BRACE : goal.parts_from-returns-else-mark_at-eq-CLOSE_BRACE
-parts_from-returns-else-mark_at-eq-CLOSE_BRACE t c = collect_other c.args.tokens.now c.args.from c.args.limit (parts_from (below c.args.limit) (form c.args.first.expr) (drop c.args.first.next (words c.args.tokens.now))) c.loop-from.parts.items c.loop-from.next c.loop-from.depth c.loop-from.invariant (λ e. c.loop-from-test.false (c.mark_at.ensures ∙ e)) (λ e. c.if-mark_at-eq-CLOSE_BRACE.false (c.mark_at-2.ensures ∙ e))
+pub parts_from-returns-else-mark_at : goal.parts_from-returns-else-mark_at
+parts_from-returns-else-mark_at t c = collect_other c.args.tokens.now c.args.from c.args.limit (parts_from (below c.args.limit) (form c.args.first.expr) (drop c.args.first.next (words c.args.tokens.now))) c.loop-from.parts.items c.loop-from.next c.loop-from.depth c.loop-from.invariant (λ e. c.loop-from-test.false (c.mark_at.ensures ∙ e)) (λ e. c.if-mark_at.false (c.mark_at-2.ensures ∙ e))
 
 pub read_at-returns-then-room-eq0 : goal.read_at-returns-then-room-eq0
 read_at-returns-then-room-eq0 t c = below_zero c.args.room c.args.low (drop c.args.from (words c.args.tokens.now)) c.if-room-eq0.true
@@ -172,28 +172,28 @@ repeated-returns-in-None t c = repeated_none c.args.tokens.now c.args.limit (for
 pub repeated-returns-in-None-2 : goal.repeated-returns-in-None-2
 repeated-returns-in-None-2 t c = repeated_open c.args.tokens.now c.args.limit (form c.args.count.expr) (c.args.count.next + 1) c.in-Some.first (picks_below c.args.tokens.now (c.args.count.next + 1) c.args.limit 1 c.in_ok-read_at.field-0 c.in-Some.first c.in-Some.is c.in_ok-read_at.ensures) (gathers_none c.args.tokens.now c.args.count.next c.args.limit (parts_from (below c.args.limit) (form c.in-Some.first.expr) (drop c.in-Some.first.next (words c.args.tokens.now))) c.parts_from.new.parts.items c.in_ok-parts_from-in-Some.field-0 c.in-None-2.is c.in_ok-parts_from-in-Some.ensures)
 
-pub repeated-returns-then-mark_at-ne-CLOSE_BRACE : goal.repeated-returns-then-mark_at-ne-CLOSE_BRACE
-repeated-returns-then-mark_at-ne-CLOSE_BRACE t c =
+pub repeated-returns-then-mark_at : goal.repeated-returns-then-mark_at
+repeated-returns-then-mark_at t c =
     let k = (gathers_some c.args.tokens.now c.args.count.next c.args.limit (parts_from (below c.args.limit) (form c.in-Some.first.expr) (drop c.in-Some.first.next (words c.args.tokens.now))) c.parts_from.new.parts.items c.in_ok-parts_from-in-Some.field-0 c.in-Some-2.end c.in-Some-2.is c.in_ok-parts_from-in-Some.ensures) in
-    repeated_other c.args.tokens.now c.args.limit (form c.args.count.expr) (c.args.count.next + 1) c.in-Some.first c.parts_from.new.parts.items c.in-Some-2.end (picks_below c.args.tokens.now (c.args.count.next + 1) c.args.limit 1 c.in_ok-read_at.field-0 c.in-Some.first c.in-Some.is c.in_ok-read_at.ensures) k.found_is (λ e. c.if-mark_at-ne-CLOSE_BRACE.true (c.mark_at.ensures ∙ e))
+    repeated_other c.args.tokens.now c.args.limit (form c.args.count.expr) (c.args.count.next + 1) c.in-Some.first c.parts_from.new.parts.items c.in-Some-2.end (picks_below c.args.tokens.now (c.args.count.next + 1) c.args.limit 1 c.in_ok-read_at.field-0 c.in-Some.first c.in-Some.is c.in_ok-read_at.ensures) k.found_is (λ e. c.if-mark_at.true (c.mark_at.ensures ∙ e))
 
 pub repeated-repeat-requires-clause-inside : goal.repeated-repeat-requires-clause-inside
-repeated-repeat-requires-clause-inside t c = let h = mark_inside c.args.tokens.now c.in-Some-2.end.next mark_close_brace (sym c.mark_at.ensures ∙ c.if-mark_at-ne-CLOSE_BRACE.false) (omega arith) in omega arith
+repeated-repeat-requires-clause-inside t c = let h = mark_inside c.args.tokens.now c.in-Some-2.end.next mark_close_brace (sym c.mark_at.ensures ∙ c.if-mark_at.false) (omega arith) in omega arith
 
 pub repeated-returns : goal.repeated-returns
-repeated-returns t c = made_repeat c.args.tokens.now c.args.from c.args.limit c.args.count c.in-Some.first c.into_bump_slice.result.now c.parts_from.new.parts.items c.in-Some-2.end c.in_ok-repeat-in-Some-2.field-0 c.requires.count_read (picks_below c.args.tokens.now (c.args.count.next + 1) c.args.limit 1 c.in_ok-read_at.field-0 c.in-Some.first c.in-Some.is c.in_ok-read_at.ensures) c.into_bump_slice.ensures (gathers_some c.args.tokens.now c.args.count.next c.args.limit (parts_from (below c.args.limit) (form c.in-Some.first.expr) (drop c.in-Some.first.next (words c.args.tokens.now))) c.parts_from.new.parts.items c.in_ok-parts_from-in-Some.field-0 c.in-Some-2.end c.in-Some-2.is c.in_ok-parts_from-in-Some.ensures) (sym c.mark_at.ensures ∙ c.if-mark_at-ne-CLOSE_BRACE.false) c.in_ok-repeat-in-Some-2.ensures
+repeated-returns t c = made_repeat c.args.tokens.now c.args.from c.args.limit c.args.count c.in-Some.first c.into_bump_slice.result.now c.parts_from.new.parts.items c.in-Some-2.end c.in_ok-repeat-in-Some-2.field-0 c.requires.count_read (picks_below c.args.tokens.now (c.args.count.next + 1) c.args.limit 1 c.in_ok-read_at.field-0 c.in-Some.first c.in-Some.is c.in_ok-read_at.ensures) c.into_bump_slice.ensures (gathers_some c.args.tokens.now c.args.count.next c.args.limit (parts_from (below c.args.limit) (form c.in-Some.first.expr) (drop c.in-Some.first.next (words c.args.tokens.now))) c.parts_from.new.parts.items c.in_ok-parts_from-in-Some.field-0 c.in-Some-2.end c.in-Some-2.is c.in_ok-parts_from-in-Some.ensures) (sym c.mark_at.ensures ∙ c.if-mark_at.false) c.in_ok-repeat-in-Some-2.ensures
 
-pub select-returns-then-mark_at-ne-OPEN_BRACKET : goal.select-returns-then-mark_at-ne-OPEN_BRACKET
-select-returns-then-mark_at-ne-OPEN_BRACKET t c = select_other c.args.tokens.now c.args.from c.args.limit c.args.name.now (λ e. c.if-mark_at-ne-OPEN_BRACKET.true (c.mark_at.ensures ∙ e))
+pub select-returns-then-mark_at : goal.select-returns-then-mark_at
+select-returns-then-mark_at t c = select_other c.args.tokens.now c.args.from c.args.limit c.args.name.now (λ e. c.if-mark_at.true (c.mark_at.ensures ∙ e))
 
 pub select-overflow_add-from-2 : goal.select-overflow_add-from-2
-select-overflow_add-from-2 t c = let h = mark_inside c.args.tokens.now (c.args.from + 1) mark_open_bracket (sym c.mark_at.ensures ∙ c.if-mark_at-ne-OPEN_BRACKET.false) (omega arith) in omega arith
+select-overflow_add-from-2 t c = let h = mark_inside c.args.tokens.now (c.args.from + 1) mark_open_bracket (sym c.mark_at.ensures ∙ c.if-mark_at.false) (omega arith) in omega arith
 
 pub select-returns-in-None : goal.select-returns-in-None
-select-returns-in-None t c = select_none c.args.tokens.now c.args.from c.args.limit c.args.name.now (sym c.mark_at.ensures ∙ c.if-mark_at-ne-OPEN_BRACKET.false) (none_below c.args.tokens.now (c.args.from + 2) c.args.limit 1 c.in_ok-read_at.field-0 c.in-None.is c.in_ok-read_at.ensures)
+select-returns-in-None t c = select_none c.args.tokens.now c.args.from c.args.limit c.args.name.now (sym c.mark_at.ensures ∙ c.if-mark_at.false) (none_below c.args.tokens.now (c.args.from + 2) c.args.limit 1 c.in_ok-read_at.field-0 c.in-None.is c.in_ok-read_at.ensures)
 
 pub select-returns-in-Some : goal.select-returns-in-Some
-select-returns-in-Some t c = rw (select_first c.args.tokens.now c.args.from c.args.limit c.args.name.now c.in-Some.first (sym c.mark_at.ensures ∙ c.if-mark_at-ne-OPEN_BRACKET.false) (picks_below c.args.tokens.now (c.args.from + 2) c.args.limit 1 c.in_ok-read_at.field-0 c.in-Some.first c.in-Some.is c.in_ok-read_at.ensures)) c.after_index.ensures
+select-returns-in-Some t c = rw (select_first c.args.tokens.now c.args.from c.args.limit c.args.name.now c.in-Some.first (sym c.mark_at.ensures ∙ c.if-mark_at.false) (picks_below c.args.tokens.now (c.args.from + 2) c.args.limit 1 c.in_ok-read_at.field-0 c.in-Some.first c.in-Some.is c.in_ok-read_at.ensures)) c.after_index.ensures
 
 pub step-returns-then-not-goes_on : goal.step-returns-then-not-goes_on
 step-returns-then-not-goes_on t c = step_none c.args.tokens.now c.args.from c.args.limit c.args.low c.args.left (ap (goes_on c.args.limit c.args.low (plain c.args.left.expr)) (sym c.mark_at-op.ensures) ∙ sym c.goes_on.ensures ∙ c.if-not-goes_on.true)
@@ -208,27 +208,27 @@ step-operation-requires t c =
     let h = goes_inside c.args.tokens.now c.args.limit c.args.low c.args.left c.mark_at-op.result c.requires.low_level.0 c.requires.left_read.deep c.mark_at-op.ensures (sym c.goes_on.ensures ∙ c.if-not-goes_on.false) in
     grind (arith, c.requires.left_read)
 
-pub step-returns-then-op-eq-QUESTION : goal.step-returns-then-op-eq-QUESTION
-step-returns-then-op-eq-QUESTION t c =
+pub step-returns-then-op : goal.step-returns-then-op
+step-returns-then-op t c =
     if_ok_map (λ (o : Option Read). Answers c.args.tokens.now c.args.from c.args.limit (turn (below c.args.limit) (form c.args.left.expr) c.mark_at-op.result (drop (c.args.left.next + 1) (words c.args.tokens.now))) o) (λ (o : Option Read). Steps c.args.tokens.now c.args.from (below c.args.limit) c.args.limit c.args.low c.args.left o) c.conditional.result
-    (λ o h. step_of c.args.tokens.now c.args.from c.args.limit c.args.low c.args.left c.mark_at-op.result o c.requires.left_read c.mark_at-op.ensures (sym c.goes_on.ensures ∙ c.if-not-goes_on.false) h) (rw (← c.if-op-eq-QUESTION.true) at c.conditional.ensures)
+    (λ o h. step_of c.args.tokens.now c.args.from c.args.limit c.args.low c.args.left c.mark_at-op.result o c.requires.left_read c.mark_at-op.ensures (sym c.goes_on.ensures ∙ c.if-not-goes_on.false) h) (rw (← c.if-op.true) at c.conditional.ensures)
 
-pub step-returns-else-op-eq-QUESTION : goal.step-returns-else-op-eq-QUESTION
-step-returns-else-op-eq-QUESTION t c =
+pub step-returns-else-op : goal.step-returns-else-op
+step-returns-else-op t c =
     if_ok_map (λ (o : Option Read). Answers c.args.tokens.now c.args.from c.args.limit (turn (below c.args.limit) (form c.args.left.expr) c.mark_at-op.result (drop (c.args.left.next + 1) (words c.args.tokens.now))) o) (λ (o : Option Read). Steps c.args.tokens.now c.args.from (below c.args.limit) c.args.limit c.args.low c.args.left o) c.operation.result
     (λ o h. step_of c.args.tokens.now c.args.from c.args.limit c.args.low c.args.left c.mark_at-op.result o c.requires.left_read c.mark_at-op.ensures (sym c.goes_on.ensures ∙ c.if-not-goes_on.false) h) c.operation.ensures
 
-pub system-returns-then-mark_at-ne-OPEN_PARENTHESIS : goal.system-returns-then-mark_at-ne-OPEN_PARENTHESIS
-system-returns-then-mark_at-ne-OPEN_PARENTHESIS t c = cast_other c.args.tokens.now c.args.from c.args.limit c.args.name.now c.in-Some.signed (sym c.cast_sign.ensures ∙ c.in-Some.is) (λ e. c.if-mark_at-ne-OPEN_PARENTHESIS.true (c.mark_at.ensures ∙ e))
+pub system-returns-then-mark_at : goal.system-returns-then-mark_at
+system-returns-then-mark_at t c = cast_other c.args.tokens.now c.args.from c.args.limit c.args.name.now c.in-Some.signed (sym c.cast_sign.ensures ∙ c.in-Some.is) (λ e. c.if-mark_at.true (c.mark_at.ensures ∙ e))
 
 pub system-overflow_add-from-in-Some : goal.system-overflow_add-from-in-Some
-system-overflow_add-from-in-Some t c = let h = mark_inside c.args.tokens.now (c.args.from + 1) mark_open_parenthesis (sym c.mark_at.ensures ∙ c.if-mark_at-ne-OPEN_PARENTHESIS.false) (omega arith) in omega arith
+system-overflow_add-from-in-Some t c = let h = mark_inside c.args.tokens.now (c.args.from + 1) mark_open_parenthesis (sym c.mark_at.ensures ∙ c.if-mark_at.false) (omega arith) in omega arith
 
 pub system-returns-in-None : goal.system-returns-in-None
 system-returns-in-None t c = cast-none (below c.args.limit) c.args.name.now (drop (c.args.from + 1) (words c.args.tokens.now)) (sym c.cast_sign.ensures ∙ c.in-None.is)
 
 pub system-returns-in-None-2 : goal.system-returns-in-None-2
-system-returns-in-None-2 t c = cast_open c.args.tokens.now c.args.from c.args.limit c.args.name.now c.in-Some.signed (sym c.cast_sign.ensures ∙ c.in-Some.is) (sym c.mark_at.ensures ∙ c.if-mark_at-ne-OPEN_PARENTHESIS.false) (none_closed c.args.tokens.now (c.args.from + 2) c.args.limit mark_close_parenthesis c.in_ok-closed-in-Some.field-0 c.in-None-2.is c.in_ok-closed-in-Some.ensures)
+system-returns-in-None-2 t c = cast_open c.args.tokens.now c.args.from c.args.limit c.args.name.now c.in-Some.signed (sym c.cast_sign.ensures ∙ c.in-Some.is) (sym c.mark_at.ensures ∙ c.if-mark_at.false) (none_closed c.args.tokens.now (c.args.from + 2) c.args.limit mark_close_parenthesis c.in_ok-closed-in-Some.field-0 c.in-None-2.is c.in_ok-closed-in-Some.ensures)
 
 pub system-returns-in_ok-cast-in-Some-2 : goal.system-returns-in_ok-cast-in-Some-2
-system-returns-in_ok-cast-in-Some-2 t c = made_cast c.args.tokens.now c.args.from c.args.limit c.args.name.now c.in-Some.signed c.in-Some-2.inner c.in_ok-cast-in-Some-2.field-0 (sym c.cast_sign.ensures ∙ c.in-Some.is) (sym c.mark_at.ensures ∙ c.if-mark_at-ne-OPEN_PARENTHESIS.false) (picks_closed c.args.tokens.now (c.args.from + 2) c.args.limit mark_close_parenthesis c.in_ok-closed-in-Some.field-0 c.in-Some-2.inner c.in-Some-2.is c.in_ok-closed-in-Some.ensures) c.in_ok-cast-in-Some-2.ensures
+system-returns-in_ok-cast-in-Some-2 t c = made_cast c.args.tokens.now c.args.from c.args.limit c.args.name.now c.in-Some.signed c.in-Some-2.inner c.in_ok-cast-in-Some-2.field-0 (sym c.cast_sign.ensures ∙ c.in-Some.is) (sym c.mark_at.ensures ∙ c.if-mark_at.false) (picks_closed c.args.tokens.now (c.args.from + 2) c.args.limit mark_close_parenthesis c.in_ok-closed-in-Some.field-0 c.in-Some-2.inner c.in-Some-2.is c.in_ok-closed-in-Some.ensures) c.in_ok-cast-in-Some-2.ensures

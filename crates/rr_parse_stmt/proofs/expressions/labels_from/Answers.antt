@@ -22,10 +22,10 @@ pub loop-from-smaller : goal.loop-from-smaller
 loop-from-smaller c = let f = (tree_some c.args.tokens.now (c.loop-from.next + 1) 0 (below c.args.room 1 (drop (c.loop-from.next + 1) (words c.args.tokens.now))) c.in_ok-expression.field-0 c.in-Some.label c.in-Some.is c.in_ok-expression.ensures) in omega (arith, f.taken, f.within)
 
 pub overflow_add-result : goal.overflow_add-result
-overflow_add-result c = let h = mark_inside c.args.tokens.now c.loop-from.next mark_colon (sym c.mark_at-2.ensures ∙ c.if-mark_at-eq-COLON.true) (omega arith) in omega arith
+overflow_add-result c = let h = mark_inside c.args.tokens.now c.loop-from.next mark_colon (sym c.mark_at-2.ensures ∙ c.if-mark_at.true) (omega arith) in omega arith
 
-pub returns-then-mark_at-eq-COLON : goal.returns-then-mark_at-eq-COLON
-returns-then-mark_at-eq-COLON c = labelling_end c.args.tokens.now c.args.from c.args.room (labels (below c.args.room) (drop c.args.from (words c.args.tokens.now))) c.loop-from.labels.items c.loop-from.next c.loop-from.invariant (sym c.mark_at-2.ensures ∙ c.if-mark_at-eq-COLON.true)
+pub returns-then-mark_at : goal.returns-then-mark_at
+returns-then-mark_at c = labelling_end c.args.tokens.now c.args.from c.args.room (labels (below c.args.room) (drop c.args.from (words c.args.tokens.now))) c.loop-from.labels.items c.loop-from.next c.loop-from.invariant (sym c.mark_at-2.ensures ∙ c.if-mark_at.true)
 
-pub returns-else-mark_at-eq-COLON : goal.returns-else-mark_at-eq-COLON
-returns-else-mark_at-eq-COLON c = labelling_other c.args.tokens.now c.args.from c.args.room (labels (below c.args.room) (drop c.args.from (words c.args.tokens.now))) c.loop-from.labels.items c.loop-from.next c.loop-from.invariant (λ e. c.loop-from-test.false (c.mark_at.ensures ∙ e)) (λ e. c.if-mark_at-eq-COLON.false (c.mark_at-2.ensures ∙ e))
+pub returns-else-mark_at : goal.returns-else-mark_at
+returns-else-mark_at c = labelling_other c.args.tokens.now c.args.from c.args.room (labels (below c.args.room) (drop c.args.from (words c.args.tokens.now))) c.loop-from.labels.items c.loop-from.next c.loop-from.invariant (λ e. c.loop-from-test.false (c.mark_at.ensures ∙ e)) (λ e. c.if-mark_at.false (c.mark_at-2.ensures ∙ e))

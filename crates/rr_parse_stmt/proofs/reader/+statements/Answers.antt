@@ -16,14 +16,14 @@ use Rattle.rr_parse_stmt.proofs.reader.+statements.Goals as goal
 pub arm-returns-then-room-eq0 : goal.arm-returns-then-room-eq0
 arm-returns-then-room-eq0 t c = no_arm_room c.args.room (drop c.args.from (words c.args.tokens.now)) c.if-room-eq0.true
 
-pub arm-returns-then-keyword_at-eq-DEFAULT : goal.arm-returns-then-keyword_at-eq-DEFAULT
-arm-returns-then-keyword_at-eq-DEFAULT t c = rw (is_default c.args.room c.args.from c.args.tokens.now (let p : 0 < c.args.room = omega arith in p) (sym c.keyword_at.ensures ∙ c.if-keyword_at-eq-DEFAULT.true)) c.default_arm.ensures
+pub arm-returns-then-keyword_at : goal.arm-returns-then-keyword_at
+arm-returns-then-keyword_at t c = rw (is_default c.args.room c.args.from c.args.tokens.now (let p : 0 < c.args.room = omega arith in p) (sym c.keyword_at.ensures ∙ c.if-keyword_at.true)) c.default_arm.ensures
 
-pub arm-returns-else-keyword_at-eq-DEFAULT : goal.arm-returns-else-keyword_at-eq-DEFAULT
-arm-returns-else-keyword_at-eq-DEFAULT t c = rw (is_labelled c.args.room c.args.from c.args.tokens.now (let p : 0 < c.args.room = omega arith in p) (λ e. c.if-keyword_at-eq-DEFAULT.false (c.keyword_at.ensures ∙ e))) c.labelled_arm.ensures
+pub arm-returns-else-keyword_at : goal.arm-returns-else-keyword_at
+arm-returns-else-keyword_at t c = rw (is_labelled c.args.room c.args.from c.args.tokens.now (let p : 0 < c.args.room = omega arith in p) (λ e. c.if-keyword_at.false (c.keyword_at.ensures ∙ e))) c.labelled_arm.ensures
 
 pub arm-default_arm-requires : goal.arm-default_arm-requires
-arm-default_arm-requires t c = let h = keyword_inside c.args.tokens.now c.args.from keyword_default (sym c.keyword_at.ensures ∙ c.if-keyword_at-eq-DEFAULT.true) (omega arith) in grind arith
+arm-default_arm-requires t c = let h = keyword_inside c.args.tokens.now c.args.from keyword_default (sym c.keyword_at.ensures ∙ c.if-keyword_at.true) (omega arith) in grind arith
 
 pub arms_from-loop-piece-init : goal.arms_from-loop-piece-init
 arms_from-loop-piece-init t c = armed_start c.args.tokens.now c.args.from c.args.limit c.args.arms.now.items c.requires.inside c.requires.empty
@@ -35,12 +35,12 @@ pub arms_from-counted-requires : goal.arms_from-counted-requires
 arms_from-counted-requires t c = record { once = c.loop-piece.invariant.once }
 
 pub arms_from-overflow_add-result : goal.arms_from-overflow_add-result
-arms_from-overflow_add-result t c = let h = keyword_inside c.args.tokens.now c.in-Some.piece.next keyword_endcase (sym c.keyword_at.ensures ∙ c.if-keyword_at-eq-ENDCASE.true) (omega arith) in omega arith
+arms_from-overflow_add-result t c = let h = keyword_inside c.args.tokens.now c.in-Some.piece.next keyword_endcase (sym c.keyword_at.ensures ∙ c.if-keyword_at.true) (omega arith) in omega arith
 
-pub arms_from-returns-then-keyword_at-eq-ENDCASE : goal.arms_from-returns-then-keyword_at-eq-ENDCASE
-arms_from-returns-then-keyword_at-eq-ENDCASE t c =
+pub arms_from-returns-then-keyword_at : goal.arms_from-returns-then-keyword_at
+arms_from-returns-then-keyword_at t c =
     let k = at_most_is (c.loop-piece.defaults + defaults (MoreArms (plain_arm c.in-Some.piece.arm) NoArms)) c.in-Some-counted.more (sym c.counted.ensures ∙ c.in-Some-counted.is) in
-    armed_end c.args.tokens.now c.args.from c.args.limit (arms (below_arm c.args.limit) (suc (length (drop c.args.from (words c.args.tokens.now)))) NoArms (drop c.args.from (words c.args.tokens.now))) c.add_arm.new.arms.items c.in-Some.piece.next c.in-Some-counted.more (arm_added c.args.tokens.now c.args.from c.args.limit (arms (below_arm c.args.limit) (suc (length (drop c.args.from (words c.args.tokens.now)))) NoArms (drop c.args.from (words c.args.tokens.now))) c.loop-piece.arms.items c.add_arm.new.arms.items c.loop-piece.next c.loop-piece.defaults c.in-Some-counted.more c.in-Some.piece c.loop-piece.invariant (arm_some c.args.tokens.now c.loop-piece.next (below_arm c.args.limit (drop c.loop-piece.next (words c.args.tokens.now))) c.in_ok-piece.field-0 c.in-Some.piece c.in-Some.is c.in_ok-piece.ensures) c.in_ok-add_arm.ensures k.0 (omega (arith, k.0, k.1))) (sym c.keyword_at.ensures ∙ c.if-keyword_at-eq-ENDCASE.true)
+    armed_end c.args.tokens.now c.args.from c.args.limit (arms (below_arm c.args.limit) (suc (length (drop c.args.from (words c.args.tokens.now)))) NoArms (drop c.args.from (words c.args.tokens.now))) c.add_arm.new.arms.items c.in-Some.piece.next c.in-Some-counted.more (arm_added c.args.tokens.now c.args.from c.args.limit (arms (below_arm c.args.limit) (suc (length (drop c.args.from (words c.args.tokens.now)))) NoArms (drop c.args.from (words c.args.tokens.now))) c.loop-piece.arms.items c.add_arm.new.arms.items c.loop-piece.next c.loop-piece.defaults c.in-Some-counted.more c.in-Some.piece c.loop-piece.invariant (arm_some c.args.tokens.now c.loop-piece.next (below_arm c.args.limit (drop c.loop-piece.next (words c.args.tokens.now))) c.in_ok-piece.field-0 c.in-Some.piece c.in-Some.is c.in_ok-piece.ensures) c.in_ok-add_arm.ensures k.0 (omega (arith, k.0, k.1))) (sym c.keyword_at.ensures ∙ c.if-keyword_at.true)
 
 pub arms_from-loop-piece-smaller : goal.arms_from-loop-piece-smaller
 arms_from-loop-piece-smaller t c = let f = (arm_some c.args.tokens.now c.loop-piece.next (below_arm c.args.limit (drop c.loop-piece.next (words c.args.tokens.now))) c.in_ok-piece.field-0 c.in-Some.piece c.in-Some.is c.in_ok-piece.ensures) in omega (arith, f.taken, f.within, spell_arm-some (plain_arm c.in-Some.piece.arm))
@@ -48,7 +48,7 @@ arms_from-loop-piece-smaller t c = let f = (arm_some c.args.tokens.now c.loop-pi
 pub arms_from-loop-piece-preserved : goal.arms_from-loop-piece-preserved
 arms_from-loop-piece-preserved t c =
     let k = at_most_is (c.loop-piece.defaults + defaults (MoreArms (plain_arm c.in-Some.piece.arm) NoArms)) c.in-Some-counted.more (sym c.counted.ensures ∙ c.in-Some-counted.is) in
-    armed_next c.args.tokens.now c.args.from c.args.limit (arms (below_arm c.args.limit) (suc (length (drop c.args.from (words c.args.tokens.now)))) NoArms (drop c.args.from (words c.args.tokens.now))) c.add_arm.new.arms.items c.in-Some.piece.next c.in-Some-counted.more (arm_added c.args.tokens.now c.args.from c.args.limit (arms (below_arm c.args.limit) (suc (length (drop c.args.from (words c.args.tokens.now)))) NoArms (drop c.args.from (words c.args.tokens.now))) c.loop-piece.arms.items c.add_arm.new.arms.items c.loop-piece.next c.loop-piece.defaults c.in-Some-counted.more c.in-Some.piece c.loop-piece.invariant (arm_some c.args.tokens.now c.loop-piece.next (below_arm c.args.limit (drop c.loop-piece.next (words c.args.tokens.now))) c.in_ok-piece.field-0 c.in-Some.piece c.in-Some.is c.in_ok-piece.ensures) c.in_ok-add_arm.ensures k.0 (omega (arith, k.0, k.1))) (λ e. c.if-keyword_at-eq-ENDCASE.false (c.keyword_at.ensures ∙ e))
+    armed_next c.args.tokens.now c.args.from c.args.limit (arms (below_arm c.args.limit) (suc (length (drop c.args.from (words c.args.tokens.now)))) NoArms (drop c.args.from (words c.args.tokens.now))) c.add_arm.new.arms.items c.in-Some.piece.next c.in-Some-counted.more (arm_added c.args.tokens.now c.args.from c.args.limit (arms (below_arm c.args.limit) (suc (length (drop c.args.from (words c.args.tokens.now)))) NoArms (drop c.args.from (words c.args.tokens.now))) c.loop-piece.arms.items c.add_arm.new.arms.items c.loop-piece.next c.loop-piece.defaults c.in-Some-counted.more c.in-Some.piece c.loop-piece.invariant (arm_some c.args.tokens.now c.loop-piece.next (below_arm c.args.limit (drop c.loop-piece.next (words c.args.tokens.now))) c.in_ok-piece.field-0 c.in-Some.piece c.in-Some.is c.in_ok-piece.ensures) c.in_ok-add_arm.ensures k.0 (omega (arith, k.0, k.1))) (λ e. c.if-keyword_at.false (c.keyword_at.ensures ∙ e))
 
 pub arms_from-returns : goal.arms_from-returns
 arms_from-returns t c = armed_fail c.args.tokens.now c.args.from c.args.limit (arms (below_arm c.args.limit) (suc (length (drop c.args.from (words c.args.tokens.now)))) NoArms (drop c.args.from (words c.args.tokens.now))) c.loop-piece.arms.items c.loop-piece.next c.loop-piece.defaults c.loop-piece.invariant (arm_none c.args.tokens.now c.loop-piece.next (below_arm c.args.limit (drop c.loop-piece.next (words c.args.tokens.now))) c.in_ok-piece.field-0 c.in_default.is c.in_ok-piece.ensures)
@@ -87,10 +87,10 @@ pub branches-returns-in-None : goal.branches-returns-in-None
 branches-returns-in-None t c = then_fails c.args.tokens.now c.args.from c.args.limit c.args.test c.requires.test_read (stmt_none c.args.tokens.now c.args.test.next (below_statement c.args.limit (drop c.args.test.next (words c.args.tokens.now))) c.in_ok-statement.field-0 c.in-None.is c.in_ok-statement.ensures)
 
 pub branches-otherwise-requires : goal.branches-otherwise-requires
-branches-otherwise-requires t c = let f = (stmt_some c.args.tokens.now c.args.test.next (below_statement c.args.limit (drop c.args.test.next (words c.args.tokens.now))) c.in_ok-statement.field-0 c.in-Some.first c.in-Some.is c.in_ok-statement.ensures) in let k = (sym c.keyword_at.ensures ∙ c.if-keyword_at-eq-ELSE.true) in grind (arith, f, k, c.requires.test_read)
+branches-otherwise-requires t c = let f = (stmt_some c.args.tokens.now c.args.test.next (below_statement c.args.limit (drop c.args.test.next (words c.args.tokens.now))) c.in_ok-statement.field-0 c.in-Some.first c.in-Some.is c.in_ok-statement.ensures) in let k = (sym c.keyword_at.ensures ∙ c.if-keyword_at.true) in grind (arith, f, k, c.requires.test_read)
 
 pub branches-returns-in_ok-if_alone-in-Some : goal.branches-returns-in_ok-if_alone-in-Some
-branches-returns-in_ok-if_alone-in-Some t c = made_if c.args.tokens.now c.args.from c.args.limit c.args.test c.in-Some.first c.in_ok-if_alone-in-Some.field-0 c.in_ok-if_alone-in-Some.ensures c.requires.test_read (stmt_some c.args.tokens.now c.args.test.next (below_statement c.args.limit (drop c.args.test.next (words c.args.tokens.now))) c.in_ok-statement.field-0 c.in-Some.first c.in-Some.is c.in_ok-statement.ensures) (λ e. c.if-keyword_at-eq-ELSE.false (c.keyword_at.ensures ∙ e))
+branches-returns-in_ok-if_alone-in-Some t c = made_if c.args.tokens.now c.args.from c.args.limit c.args.test c.in-Some.first c.in_ok-if_alone-in-Some.field-0 c.in_ok-if_alone-in-Some.ensures c.requires.test_read (stmt_some c.args.tokens.now c.args.test.next (below_statement c.args.limit (drop c.args.test.next (words c.args.tokens.now))) c.in_ok-statement.field-0 c.in-Some.first c.in-Some.is c.in_ok-statement.ensures) (λ e. c.if-keyword_at.false (c.keyword_at.ensures ∙ e))
 
 pub otherwise-overflow_add-first : goal.otherwise-overflow_add-first
 otherwise-overflow_add-first t c = let h = keyword_inside c.args.tokens.now c.args.first.next keyword_else c.requires.there (omega arith) in omega arith
@@ -126,31 +126,31 @@ pub statement-returns-then-room-eq0 : goal.statement-returns-then-room-eq0
 statement-returns-then-room-eq0 t c = no_room c.args.room (drop c.args.from (words c.args.tokens.now)) c.if-room-eq0.true
 
 pub statement-overflow_add-next : goal.statement-overflow_add-next
-statement-overflow_add-next t c = let h = mark_inside c.args.tokens.now c.args.from mark_semicolon (sym c.mark_at.ensures ∙ c.if-mark_at-eq-SEMICOLON.true) (omega arith) in omega arith
+statement-overflow_add-next t c = let h = mark_inside c.args.tokens.now c.args.from mark_semicolon (sym c.mark_at.ensures ∙ c.if-mark_at.true) (omega arith) in omega arith
 
-pub statement-returns-then-mark_at-eq-SEMICOLON : goal.statement-returns-then-mark_at-eq-SEMICOLON
-statement-returns-then-mark_at-eq-SEMICOLON t c = is_null c.args.room c.args.from c.args.tokens.now (let p : 0 < c.args.room = omega arith in p) (sym c.mark_at.ensures ∙ c.if-mark_at-eq-SEMICOLON.true)
+pub statement-returns-then-mark_at : goal.statement-returns-then-mark_at
+statement-returns-then-mark_at t c = is_null c.args.room c.args.from c.args.tokens.now (let p : 0 < c.args.room = omega arith in p) (sym c.mark_at.ensures ∙ c.if-mark_at.true)
 
 pub statement-block-requires : goal.statement-block-requires
-statement-block-requires t c = let h = keyword_inside c.args.tokens.now c.args.from keyword_begin (sym c.keyword_at-word.ensures ∙ c.if-word-eq-BEGIN.true) (omega arith) in grind arith
+statement-block-requires t c = let h = keyword_inside c.args.tokens.now c.args.from keyword_begin (sym c.keyword_at-word.ensures ∙ c.if-word.true) (omega arith) in grind arith
 
-pub statement-returns-then-word-eq-BEGIN : goal.statement-returns-then-word-eq-BEGIN
-statement-returns-then-word-eq-BEGIN t c = rw (is_block c.args.room c.args.from c.args.tokens.now (let p : 0 < c.args.room = omega arith in p) (λ e. c.if-mark_at-eq-SEMICOLON.false (c.mark_at.ensures ∙ e)) (sym c.keyword_at-word.ensures ∙ c.if-word-eq-BEGIN.true)) c.block.ensures
+pub statement-returns-then-word : goal.statement-returns-then-word
+statement-returns-then-word t c = rw (is_block c.args.room c.args.from c.args.tokens.now (let p : 0 < c.args.room = omega arith in p) (λ e. c.if-mark_at.false (c.mark_at.ensures ∙ e)) (sym c.keyword_at-word.ensures ∙ c.if-word.true)) c.block.ensures
 
 pub statement-conditional-requires : goal.statement-conditional-requires
-statement-conditional-requires t c = let h = keyword_inside c.args.tokens.now c.args.from keyword_if (sym c.keyword_at-word.ensures ∙ c.if-word-eq-IF.true) (omega arith) in grind arith
+statement-conditional-requires t c = let h = keyword_inside c.args.tokens.now c.args.from keyword_if (sym c.keyword_at-word.ensures ∙ c.if-word-2.true) (omega arith) in grind arith
 
-pub statement-returns-then-word-eq-IF : goal.statement-returns-then-word-eq-IF
-statement-returns-then-word-eq-IF t c = rw (is_if c.args.room c.args.from c.args.tokens.now (let p : 0 < c.args.room = omega arith in p) (λ e. c.if-mark_at-eq-SEMICOLON.false (c.mark_at.ensures ∙ e)) (sym c.keyword_at-word.ensures ∙ c.if-word-eq-IF.true)) c.conditional.ensures
+pub statement-returns-then-word-2 : goal.statement-returns-then-word-2
+statement-returns-then-word-2 t c = rw (is_if c.args.room c.args.from c.args.tokens.now (let p : 0 < c.args.room = omega arith in p) (λ e. c.if-mark_at.false (c.mark_at.ensures ∙ e)) (sym c.keyword_at-word.ensures ∙ c.if-word-2.true)) c.conditional.ensures
 
 pub statement-cases-requires : goal.statement-cases-requires
 statement-cases-requires t c = let h = keyword_inside c.args.tokens.now c.args.from (keyword (drop c.args.from (words c.args.tokens.now))) refl (case_less (keyword (drop c.args.from (words c.args.tokens.now))) (ap is_case (sym c.keyword_at-word.ensures) ∙ sym c.is_case.ensures ∙ c.if-is_case.true)) in grind arith
 
 pub statement-returns-then-is_case : goal.statement-returns-then-is_case
-statement-returns-then-is_case t c = rw (is_case_at c.args.room c.args.from c.args.tokens.now (let p : 0 < c.args.room = omega arith in p) (λ e. c.if-mark_at-eq-SEMICOLON.false (c.mark_at.ensures ∙ e)) (ap is_case (sym c.keyword_at-word.ensures) ∙ sym c.is_case.ensures ∙ c.if-is_case.true)) (rw c.keyword_at-word.ensures at c.cases.ensures)
+statement-returns-then-is_case t c = rw (is_case_at c.args.room c.args.from c.args.tokens.now (let p : 0 < c.args.room = omega arith in p) (λ e. c.if-mark_at.false (c.mark_at.ensures ∙ e)) (ap is_case (sym c.keyword_at-word.ensures) ∙ sym c.is_case.ensures ∙ c.if-is_case.true)) (rw c.keyword_at-word.ensures at c.cases.ensures)
 
 pub statement-returns-else-is_case : goal.statement-returns-else-is_case
-statement-returns-else-is_case t c = rw (is_assignment c.args.room c.args.from c.args.tokens.now (let p : 0 < c.args.room = omega arith in p) (λ e. c.if-mark_at-eq-SEMICOLON.false (c.mark_at.ensures ∙ e)) (λ e. c.if-word-eq-BEGIN.false (c.keyword_at-word.ensures ∙ e)) (λ e. c.if-word-eq-IF.false (c.keyword_at-word.ensures ∙ e)) (ap is_case (sym c.keyword_at-word.ensures) ∙ sym c.is_case.ensures ∙ c.if-is_case.false)) c.assignment.ensures
+statement-returns-else-is_case t c = rw (is_assignment c.args.room c.args.from c.args.tokens.now (let p : 0 < c.args.room = omega arith in p) (λ e. c.if-mark_at.false (c.mark_at.ensures ∙ e)) (λ e. c.if-word.false (c.keyword_at-word.ensures ∙ e)) (λ e. c.if-word-2.false (c.keyword_at-word.ensures ∙ e)) (ap is_case (sym c.keyword_at-word.ensures) ∙ sym c.is_case.ensures ∙ c.if-is_case.false)) c.assignment.ensures
 
 pub statements-loop-from-init : goal.statements-loop-from-init
 statements-loop-from-init t c = bodied_start c.args.tokens.now c.args.from c.args.limit c.args.body.now.items c.requires.inside c.requires.empty

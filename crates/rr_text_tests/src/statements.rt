@@ -5,62 +5,14 @@ ghost use Rattle.rr_syntax.specs.Items.{depth_source, spell_source};
 ghost use Rattle.rr_syntax.specs.Statements.{depth_statement, spell_statement};
 ghost use Rattle.rr_syntax.specs.View.{plain_source, plain_statement};
 
-use crate::{keyword_at, stmt};
+use crate::texts::{push_times, tokens_of};
 use bumpalo::Bump;
 use bumpalo::collections::into_bump_slice;
 use rr_parse_expr::ParseFault;
-use rr_syntax::{
-    Arm, Events, Expr, Item, KEYWORDS, Keyword, Kind, MARKS, Mark, Module, Number, Source, Span,
-    Stmt, Token, depth, spell_len,
-};
+use rr_parse_stmt::{keyword_at, stmt};
+use rr_syntax::{Arm, Events, Expr, Item, Keyword, Module, Source, Stmt, depth, spell_len};
 use std::alloc::{AllocError, Global};
 use std::test::Fail;
-
-/// The place of a text in a table.
-fn place_in(table: &[&str], text: &str) -> Option<u8> {
-    for (at, entry) in table.iter().enumerate() {
-        if *entry == text {
-            return u8::try_from(at).ok();
-        }
-    }
-    None
-}
-
-fn kind_of(text: &str) -> Kind<'_> {
-    if let Some(at) = place_in(&MARKS, text) {
-        return Kind::Mark(Mark(at));
-    }
-    if let Some(at) = place_in(&KEYWORDS, text) {
-        return Kind::Keyword(Keyword(at));
-    }
-    match text.parse::<u128>() {
-        Ok(value) => Kind::Number(Number {
-            width: 32,
-            signed: true,
-            value,
-            any: 0,
-            unknown: 0,
-        }),
-        Err(_) => Kind::Name(text),
-    }
-}
-
-fn add<'a>(tokens: &mut Vec<Token<'a>, Global>, text: &'a str) -> Result<(), AllocError> {
-    let span = Span { start: 0, end: 0 };
-    tokens.push(Token {
-        kind: kind_of(text),
-        span,
-    })?;
-    Ok(())
-}
-
-/// Puts the pieces of a text, between which blanks stand, behind the tokens.
-fn add_all<'a>(tokens: &mut Vec<Token<'a>, Global>, text: &'a str) -> Result<(), AllocError> {
-    for piece in text.split_ascii_whitespace() {
-        add(tokens, piece)?;
-    }
-    Ok(())
-}
 
 fn show_expr(expr: &Expr, out: &mut String<Global>) -> Result<(), AllocError> {
     match expr {
@@ -84,6 +36,8 @@ fn show_assignment(
 fn case_word(kind: Keyword) -> &'static str {
     if kind == Keyword::CASE {
         "case "
+    } else if kind == Keyword::CASEX {
+        "casex "
     } else {
         "casez "
     }
@@ -146,13 +100,9 @@ fn show_arm(arm: &Arm, out: &mut String<Global>) -> Result<(), AllocError> {
 /// The statement at the front of a text and the number of its tokens, written as one text.
 fn shown(alloc: Global, text: &str) -> Result<String<Global>, Fail> {
     let arena = Bump::new(alloc);
-    let mut tokens = Vec::new(alloc);
-    add_all(&mut tokens, text)?;
+    let tokens = tokens_of(text, &arena)?;
     let mut out = String::new(alloc);
-    if tokens.len() >= 1_000_000 {
-        return Ok(out);
-    }
-    match stmt(&tokens, 0, 500, &arena) {
+    match stmt(tokens, 0, 500, &arena) {
         Err(ParseFault::Syntax(at)) => {
             let place = format!(in alloc; "fault {at}")?;
             out.push_str(place.as_str())?;
@@ -213,7 +163,7 @@ fn each_if_and_case(rt: HostRuntime) -> Result<(), Fail> {
         ("case ( a ) b ? c : d : ; endcase", "case a|*,:; end 12"),
         (
             "casex ( { a , b } ) default begin end endcase",
-            "casez *|{} end 12",
+            "casex *|{} end 12",
         ),
     ];
     for (text, wanted) in cases {
@@ -273,34 +223,31 @@ fn nested(
     deep: u32,
     depth: u32,
 ) -> Result<bool, Fail> {
+    let mut text = String::new(alloc);
+    push_times(&mut text, front, deep)?;
+    text.push_str(middle)?;
+    push_times(&mut text, end, deep)?;
     let arena = Bump::new(alloc);
-    let mut tokens = Vec::new(alloc);
-    for _ in 0..deep {
-        add_all(&mut tokens, front)?;
-    }
-    add_all(&mut tokens, middle)?;
-    for _ in 0..deep {
-        add_all(&mut tokens, end)?;
-    }
-    if tokens.len() >= 1_000_000 || depth > 500 {
+    let tokens = tokens_of(text.as_str(), &arena)?;
+    if depth > 500 {
         return Ok(false);
     }
-    Ok(stmt(&tokens, 0, depth, &arena).is_ok())
+    Ok(stmt(tokens, 0, depth, &arena).is_ok())
 }
 
 /// The levels of statements, arms and expressions count together.
 #[test]
 fn depths(rt: HostRuntime) -> Result<(), Fail> {
-    assert!(rt; nested(rt.alloc(), "begin", ";", "end", 500, 500)?);
-    assert!(rt; !nested(rt.alloc(), "begin", ";", "end", 501, 500)?);
-    assert!(rt; nested(rt.alloc(), "if ( a )", ";", "", 500, 500)?);
-    assert!(rt; !nested(rt.alloc(), "if ( a )", ";", "", 501, 500)?);
-    assert!(rt; nested(rt.alloc(), "if ( a ) ; else", "b = c ;", "", 499, 500)?);
-    assert!(rt; !nested(rt.alloc(), "if ( a ) ; else", "b = c ;", "", 500, 500)?);
-    assert!(rt; nested(rt.alloc(), "case ( a ) b :", ";", "endcase", 250, 500)?);
-    assert!(rt; !nested(rt.alloc(), "case ( a ) b :", ";", "endcase", 251, 500)?);
-    assert!(rt; nested(rt.alloc(), "begin", "a = ( ( b ) ) ;", "end", 497, 500)?);
-    assert!(rt; !nested(rt.alloc(), "begin", "a = ( ( b ) ) ;", "end", 498, 500)?);
+    assert!(rt; nested(rt.alloc(), "begin ", ";", " end", 500, 500)?);
+    assert!(rt; !nested(rt.alloc(), "begin ", ";", " end", 501, 500)?);
+    assert!(rt; nested(rt.alloc(), "if ( a ) ", ";", "", 500, 500)?);
+    assert!(rt; !nested(rt.alloc(), "if ( a ) ", ";", "", 501, 500)?);
+    assert!(rt; nested(rt.alloc(), "if ( a ) ; else ", "b = c ;", "", 499, 500)?);
+    assert!(rt; !nested(rt.alloc(), "if ( a ) ; else ", "b = c ;", "", 500, 500)?);
+    assert!(rt; nested(rt.alloc(), "case ( a ) b : ", ";", " endcase", 250, 500)?);
+    assert!(rt; !nested(rt.alloc(), "case ( a ) b : ", ";", " endcase", 251, 500)?);
+    assert!(rt; nested(rt.alloc(), "begin ", "a = ( ( b ) ) ;", " end", 497, 500)?);
+    assert!(rt; !nested(rt.alloc(), "begin ", "a = ( ( b ) ) ;", " end", 498, 500)?);
     assert!(rt; nested(rt.alloc(), "", ";", "", 1, 0)?);
     assert!(rt; !nested(rt.alloc(), "", "a = b ;", "", 1, 0)?);
     assert!(rt; nested(rt.alloc(), "", "a = b ;", "", 1, 1)?);
@@ -311,12 +258,8 @@ fn depths(rt: HostRuntime) -> Result<(), Fail> {
 #[test]
 fn token_numbers(rt: HostRuntime) -> Result<(), Fail> {
     let arena = Bump::new(rt.alloc());
-    let mut tokens = Vec::new(rt.alloc());
-    add_all(&mut tokens, "; begin : b a <= c ; end")?;
-    if tokens.len() >= 1_000_000 {
-        return Ok(());
-    }
-    match stmt(&tokens, 1, 500, &arena) {
+    let tokens = tokens_of("; begin : b a <= c ; end", &arena)?;
+    match stmt(tokens, 1, 500, &arena) {
         Ok(
             (
                 Stmt::Block {
@@ -347,20 +290,14 @@ fn token_numbers(rt: HostRuntime) -> Result<(), Fail> {
 #[test]
 fn many_parts(rt: HostRuntime) -> Result<(), Fail> {
     let arena = Bump::new(rt.alloc());
-    let mut tokens = Vec::new(rt.alloc());
-    add_all(&mut tokens, "begin case ( a ) b")?;
-    for _ in 0..50_000 {
-        add_all(&mut tokens, ", b")?;
-    }
-    add_all(&mut tokens, ": ; endcase")?;
-    for _ in 0..50_000 {
-        add_all(&mut tokens, "; ;")?;
-    }
-    add_all(&mut tokens, "end")?;
-    if tokens.len() >= 1_000_000 {
-        return Ok(());
-    }
-    assert!(rt; matches!(stmt(&tokens, 0, 500, &arena), Ok((_, 200_010))));
+    let mut text = String::new(rt.alloc());
+    text.push_str("begin case ( a ) b")?;
+    push_times(&mut text, ", b", 50_000)?;
+    text.push_str(": ; endcase")?;
+    push_times(&mut text, "; ;", 50_000)?;
+    text.push_str("end")?;
+    let tokens = tokens_of(text.as_str(), &arena)?;
+    assert!(rt; matches!(stmt(tokens, 0, 500, &arena), Ok((_, 200_010))));
     Ok(())
 }
 
@@ -392,15 +329,11 @@ fn source_of<'a>(body: &'a Stmt<'a>, arena: &'a Bump) -> Result<Source<'a>, Allo
 /// The number of tokens and the depth of a whole source with `deep` times `if (a)` in one another.
 fn measures(alloc: Global, deep: u32) -> Result<Option<(u64, u32)>, Fail> {
     let arena = Bump::new(alloc);
-    let mut tokens = Vec::new(alloc);
-    for _ in 0..deep {
-        add_all(&mut tokens, "if ( a )")?;
-    }
-    add_all(&mut tokens, ";")?;
-    if tokens.len() >= 1_000_000 {
-        return Ok(None);
-    }
-    match stmt(&tokens, 0, 500, &arena) {
+    let mut text = String::new(alloc);
+    push_times(&mut text, "if ( a ) ", deep)?;
+    text.push_str(";")?;
+    let tokens = tokens_of(text.as_str(), &arena)?;
+    match stmt(tokens, 0, 500, &arena) {
         Err(_) => Ok(None),
         Ok((body, _)) => {
             let source = source_of(body, &arena)?;
@@ -419,15 +352,12 @@ fn whole_source(rt: HostRuntime) -> Result<(), Fail> {
 /// A reserved word is told by its place in the table, and 255 where none stands.
 #[test]
 fn reserved_words(rt: HostRuntime) -> Result<(), Fail> {
-    let mut tokens = Vec::new(rt.alloc());
-    add_all(&mut tokens, "a begin <= 3 endcase")?;
-    assert_eq!(rt; Some(keyword_at(&tokens, 1)), place_in(&KEYWORDS, "begin"));
-    assert_eq!(rt;
-        Some(keyword_at(&tokens, 4)),
-        place_in(&KEYWORDS, "endcase")
-    );
+    let arena = Bump::new(rt.alloc());
+    let tokens = tokens_of("a begin <= 3 endcase", &arena)?;
+    assert_eq!(rt; keyword_at(tokens, 1), Keyword::BEGIN.0);
+    assert_eq!(rt; keyword_at(tokens, 4), Keyword::ENDCASE.0);
     for at in [0, 2, 3, 5, u32::MAX] {
-        assert_eq!(rt; keyword_at(&tokens, at), 255);
+        assert_eq!(rt; keyword_at(tokens, at), 255);
     }
     Ok(())
 }

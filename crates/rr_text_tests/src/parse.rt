@@ -1,9 +1,10 @@
 //! Texts that are read, and texts that are refused, each at its place.
 
-use crate::parse;
+use crate::texts::{is_in_rules, push_times, tokens_of};
 use bumpalo::Bump;
-use rr_lex::lex;
+use rr_parse::parse;
 use rr_parse_expr::ParseFault;
+use rr_stop::stop;
 use rr_syntax::{Item, KEYWORDS, Source, Stmt, depth, spell_len};
 use std::alloc::{AllocError, Global};
 use std::test::Fail;
@@ -27,72 +28,32 @@ fn outcome_of(answer: Result<&Source, ParseFault>) -> Outcome {
     }
 }
 
-fn read_text(alloc: Global, text: &str) -> Outcome {
+/// What reading a text comes to, how many tokens it has, and where it leaves the grammar.
+fn read_text(alloc: Global, text: &str) -> Result<(Outcome, u32, u32), Fail> {
     let arena = Bump::new(alloc);
-    if text.len() > 1_000_000 {
-        return Outcome::Nothing;
-    }
-    match lex(text.as_bytes(), &arena) {
-        Ok(tokens) => outcome_of(parse(tokens, &arena)),
-        Err(_) => Outcome::Nothing,
-    }
-}
-
-/// The number of tokens of a text.
-fn count(alloc: Global, text: &str) -> Option<u32> {
-    let arena = Bump::new(alloc);
-    if text.len() > 1_000_000 {
-        return None;
-    }
-    match lex(text.as_bytes(), &arena) {
-        Ok(tokens) => u32::try_from(tokens.len()).ok(),
-        Err(_) => None,
-    }
-}
-
-/// A text in four parts with blanks between.
-fn joined(
-    alloc: Global,
-    before: &str,
-    first: &str,
-    second: &str,
-    behind: &str,
-) -> Result<String<Global>, AllocError> {
-    let mut text = String::new(alloc);
-    text.push_str(before)?;
-    text.push_str(" ")?;
-    text.push_str(first)?;
-    text.push_str(" ")?;
-    text.push_str(second)?;
-    text.push_str(" ")?;
-    text.push_str(behind)?;
-    Ok(text)
+    let tokens = tokens_of(text, &arena)?;
+    let outcome = outcome_of(parse(tokens, &arena));
+    Ok((outcome, tokens.len() as u32, stop(tokens)))
 }
 
 /// A rule of the grammar: a text of it, what may be taken of another text, and what is refused
 /// behind that.
 type Rule = (&'static str, &'static str, &'static str);
 
-/// Whether the text of a rule, with this around it, is one module, and the other text is refused
-/// directly behind what may be taken.
-fn is_rule(
-    alloc: Global,
-    before: &str,
-    accepted: &str,
-    taken: &str,
-    refused: &str,
-    behind: &str,
-) -> Result<bool, Fail> {
-    let good = joined(alloc, before, accepted, "", behind)?;
-    let head = joined(alloc, before, taken, "", "")?;
-    let bad = joined(alloc, before, taken, refused, behind)?;
-    match count(alloc, head.as_str()) {
-        None => Ok(false),
-        Some(place) => Ok(
-            read_text(alloc, good.as_str()) == Outcome::Tree(1)
-                && read_text(alloc, bad.as_str()) == Outcome::Syntax(place),
-        ),
+/// Whether the text of a rule, with this around it, is one module, which is taken to its end, and the
+/// other text is refused directly behind what may be taken.
+fn is_rule(alloc: Global, before: &str, rule: Rule, behind: &str) -> Result<bool, Fail> {
+    let (accepted, taken, refused) = rule;
+    let good = format!(in alloc; "{before} {accepted} {behind}")?;
+    let (outcome, count, place) = read_text(alloc, good.as_str())?;
+    if outcome != Outcome::Tree(1) || place != count {
+        return Ok(false);
     }
+    let head = format!(in alloc; "{before} {taken}")?;
+    let (_, count, _) = read_text(alloc, head.as_str())?;
+    let bad = format!(in alloc; "{before} {taken} {refused} {behind}")?;
+    let (outcome, _, _) = read_text(alloc, bad.as_str())?;
+    Ok(outcome == Outcome::Syntax(count))
 }
 
 /// Source texts, modules and their heads.
@@ -213,9 +174,9 @@ const STATEMENTS: [Rule; 19] = [
 ];
 
 fn all_rules(alloc: Global, before: &str, rules: &[Rule], behind: &str) -> Result<(), Fail> {
-    for (accepted, taken, refused) in rules.iter() {
-        if !is_rule(alloc, before, accepted, taken, refused, behind)? {
-            return Err(Fail::from(*accepted));
+    for rule in rules.iter() {
+        if !is_rule(alloc, before, *rule, behind)? {
+            return Err(Fail::from(rule.0));
         }
     }
     Ok(())
@@ -245,28 +206,17 @@ fn words_outside(rt: HostRuntime) -> Result<(), Fail> {
         ("module a; endmodule module b; endmodule", Outcome::Tree(2)),
     ];
     for (text, wanted) in cases {
-        assert!(rt; read_text(rt.alloc(), text) == wanted, "{text}");
+        let (outcome, _, _) = read_text(rt.alloc(), text)?;
+        assert!(rt; outcome == wanted, "{text}");
     }
     Ok(())
 }
 
-/// The reserved words of the grammar, as docs/LANGUAGE.md has it.
-const IN_RULES: &str = "always assign begin case casex casez default else end endcase endmodule if \
-    input integer localparam module negedge or output parameter posedge reg signed wire";
-
-fn is_in_rules(word: &str) -> bool {
-    for rule in IN_RULES.split_ascii_whitespace() {
-        if rule == word {
-            return true;
-        }
-    }
-    false
-}
-
 /// Whether a reserved word among items is refused as its part in the grammar asks.
 fn is_judged(alloc: Global, word: &str) -> Result<bool, Fail> {
-    let text = joined(alloc, "module m; wire", word, "", "endmodule")?;
-    match read_text(alloc, text.as_str()) {
+    let text = format!(in alloc; "module m; wire {word} endmodule")?;
+    let (outcome, _, _) = read_text(alloc, text.as_str())?;
+    match outcome {
         Outcome::Unsupported(at) => Ok(at == 4 && !is_in_rules(word)),
         Outcome::Syntax(_) => Ok(is_in_rules(word)),
         _ => Ok(false),
@@ -286,9 +236,7 @@ fn each_reserved_word(rt: HostRuntime) -> Result<(), Fail> {
 fn nearest_if(rt: HostRuntime) -> Result<(), Fail> {
     let arena = Bump::new(rt.alloc());
     let text = "module m; always @* if (a) if (b) y = 1; else y = 0; endmodule";
-    let Ok(tokens) = lex(text.as_bytes(), &arena) else {
-        return Err(Fail::from("tokens"));
-    };
+    let tokens = tokens_of(text, &arena)?;
     let Ok(source) = parse(tokens, &arena) else {
         return Err(Fail::from("tree"));
     };
@@ -312,21 +260,13 @@ fn nearest_if(rt: HostRuntime) -> Result<(), Fail> {
 fn nested(alloc: Global, blocks: u32, brackets: u32) -> Result<String<Global>, AllocError> {
     let mut text = String::new(alloc);
     text.push_str("module m; always @* ")?;
-    for _ in 0..blocks {
-        text.push_str("begin ")?;
-    }
+    push_times(&mut text, "begin ", blocks)?;
     text.push_str("a = ")?;
-    for _ in 0..brackets {
-        text.push_str("(")?;
-    }
+    push_times(&mut text, "(", brackets)?;
     text.push_str("b")?;
-    for _ in 0..brackets {
-        text.push_str(")")?;
-    }
+    push_times(&mut text, ")", brackets)?;
     text.push_str("; ")?;
-    for _ in 0..blocks {
-        text.push_str("end ")?;
-    }
+    push_times(&mut text, "end ", blocks)?;
     text.push_str("endmodule")?;
     Ok(text)
 }
@@ -343,10 +283,8 @@ fn depth_five_hundred(rt: HostRuntime) -> Result<(), Fail> {
         (0, 497, Outcome::Syntax(504)),
     ] {
         let text = nested(rt.alloc(), blocks, brackets)?;
-        assert!(rt;
-            read_text(rt.alloc(), text.as_str()) == wanted,
-            "{blocks} {brackets}"
-        );
+        let (outcome, _, _) = read_text(rt.alloc(), text.as_str())?;
+        assert!(rt; outcome == wanted, "{blocks} {brackets}");
     }
     Ok(())
 }
@@ -386,24 +324,19 @@ const TOKEN_EDGES: &str = "module m(input clk,input s,output reg[3:0]q);\
     always@(posedge clk)q<=s?4'd3:4'd0;endmodule";
 
 /// Whether a text has a tree that spells as many tokens.
-fn spells(alloc: Global, text: &str) -> bool {
+fn spells(alloc: Global, text: &str) -> Result<bool, Fail> {
     let arena = Bump::new(alloc);
-    if text.len() > 1_000_000 {
-        return false;
-    }
-    match lex(text.as_bytes(), &arena) {
-        Err(_) => false,
-        Ok(tokens) => match parse(tokens, &arena) {
-            Err(_) => false,
-            Ok(source) => spell_len(source) == tokens.len() as u64 && depth(source) <= 500,
-        },
+    let tokens = tokens_of(text, &arena)?;
+    match parse(tokens, &arena) {
+        Err(_) => Ok(false),
+        Ok(source) => Ok(spell_len(source) == tokens.len() as u64 && depth(source) <= 500),
     }
 }
 
 #[test]
 fn usual_designs(rt: HostRuntime) -> Result<(), Fail> {
-    assert!(rt; spells(rt.alloc(), TRANSMITTER));
-    assert!(rt; spells(rt.alloc(), TOKEN_EDGES));
-    assert!(rt; spells(rt.alloc(), ""));
+    assert!(rt; spells(rt.alloc(), TRANSMITTER)?);
+    assert!(rt; spells(rt.alloc(), TOKEN_EDGES)?);
+    assert!(rt; spells(rt.alloc(), "")?);
     Ok(())
 }

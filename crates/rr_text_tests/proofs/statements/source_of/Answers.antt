@@ -1,7 +1,7 @@
 use Rattle.std.proofs.Common.{◌∙◌, refl}
 use Rattle.rr_syntax.specs.View.{plain_statement, plain_source}
-use Rattle.rr_parse_stmt.proofs.WholeSources.{whole_is, lengths_by, levels_by}
-use Rattle.rr_parse_stmt.proofs.tests.source_of.Goals as goal
+use Rattle.rr_text_tests.proofs.WholeSources.{whole_is, lengths_by, levels_by}
+use Rattle.rr_text_tests.proofs.statements.source_of.Goals as goal
 
 pub returns-clause-lengths : goal.returns-clause-lengths
 returns-clause-lengths c =
