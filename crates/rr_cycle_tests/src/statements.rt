@@ -204,20 +204,6 @@ const IN_ORDER: Stmt<'static> = Stmt::Block {
     ],
 };
 
-#[test]
-fn in_order(rt: HostRuntime) -> Result<(), Fail> {
-    assert!(rt;
-        gives(
-            rt.alloc(),
-            &IN_ORDER,
-            [1, 37, 0, 0],
-            [5, 21, 0, 0],
-            [5, 21, 0, 0]
-        )?
-    );
-    Ok(())
-}
-
 /// `begin a <= b; b <= a; a <= 4'd9; end`
 const LATE: Stmt<'static> = Stmt::Block {
     label: None,
@@ -228,20 +214,6 @@ const LATE: Stmt<'static> = Stmt::Block {
     ],
 };
 
-#[test]
-fn late(rt: HostRuntime) -> Result<(), Fail> {
-    assert!(rt;
-        gives(
-            rt.alloc(),
-            &LATE,
-            [1, 37, 0, 0],
-            [1, 37, 0, 0],
-            [9, 1, 0, 0]
-        )?
-    );
-    Ok(())
-}
-
 /// `{c, a} = a + b;`
 const CARRY: Stmt<'static> = assign!(
     Expr::Concat {
@@ -250,12 +222,6 @@ const CARRY: Stmt<'static> = assign!(
     true,
     binary!(name!("a"), 14, name!("b"))
 );
-
-#[test]
-fn concatenation(rt: HostRuntime) -> Result<(), Fail> {
-    assert!(rt; gives(rt.alloc(), &CARRY, [9, 9, 0, 0], [2, 9, 1, 0], [2, 9, 1, 0])?);
-    Ok(())
-}
 
 /// `b[5:2] <= 4'd9;`, `b[i +: 3] = 3'd7;` and `b[i] <= 1'b1;`
 const PART: Stmt<'static> = assign!(
@@ -291,33 +257,6 @@ const BIT: Stmt<'static> = assign!(
     number!(1, false, 1, 0)
 );
 
-#[test]
-fn parts(rt: HostRuntime) -> Result<(), Fail> {
-    let alloc = rt.alloc();
-    assert!(rt; gives(alloc, &PART, [0, 255, 0, 0], [0, 255, 0, 0], [0, 231, 0, 0])?);
-    assert!(rt; gives(alloc, &INDEXED, [0, 0, 0, 4], [0, 80, 0, 4], [0, 80, 0, 4])?);
-    assert!(rt; gives(alloc, &BIT, [0, 0, 0, 6], [0, 0, 0, 6], [0, 64, 0, 6])?);
-    Ok(())
-}
-
-/// Where `i` is 7 or less than 0, some of the bits are not there.
-#[test]
-fn past_the_ends(rt: HostRuntime) -> Result<(), Fail> {
-    let alloc = rt.alloc();
-    assert!(rt;
-        gives(
-            alloc,
-            &INDEXED,
-            [0, 0, 0, 7],
-            [0, 128, 0, 7],
-            [0, 128, 0, 7]
-        )?
-    );
-    assert!(rt; gives(alloc, &INDEXED, [0, 0, 0, 15], [0, 2, 0, 15], [0, 2, 0, 15])?);
-    assert!(rt; gives(alloc, &BIT, [0, 9, 0, 15], [0, 9, 0, 15], [0, 9, 0, 15])?);
-    Ok(())
-}
-
 /// `case (a) default: c = 1'b0; 4'd3: c = 1'b1; 4'd3, 4'd5: b = 8'd1; endcase`
 const FIRST_ARM: Stmt<'static> = Stmt::Case {
     kind: Keyword::CASE,
@@ -341,15 +280,6 @@ const FIRST_ARM: Stmt<'static> = Stmt::Case {
     ],
 };
 
-#[test]
-fn first_arm(rt: HostRuntime) -> Result<(), Fail> {
-    let alloc = rt.alloc();
-    assert!(rt; gives(alloc, &FIRST_ARM, [3, 0, 0, 0], [3, 0, 1, 0], [3, 0, 1, 0])?);
-    assert!(rt; gives(alloc, &FIRST_ARM, [5, 0, 1, 0], [5, 1, 1, 0], [5, 1, 1, 0])?);
-    assert!(rt; gives(alloc, &FIRST_ARM, [6, 0, 1, 0], [6, 0, 0, 0], [6, 0, 0, 0])?);
-    Ok(())
-}
-
 /// `casez (a) 4'b1???: b <= 8'd3; 4'b01??: b <= 8'd2; endcase`
 const WILD: Stmt<'static> = Stmt::Case {
     kind: Keyword::CASEZ,
@@ -368,15 +298,6 @@ const WILD: Stmt<'static> = Stmt::Case {
     ],
 };
 
-#[test]
-fn wild_digits(rt: HostRuntime) -> Result<(), Fail> {
-    let alloc = rt.alloc();
-    assert!(rt; gives(alloc, &WILD, [13, 0, 0, 0], [13, 0, 0, 0], [13, 3, 0, 0])?);
-    assert!(rt; gives(alloc, &WILD, [6, 0, 0, 0], [6, 0, 0, 0], [6, 2, 0, 0])?);
-    assert!(rt; gives(alloc, &WILD, [3, 9, 0, 0], [3, 9, 0, 0], [3, 9, 0, 0])?);
-    Ok(())
-}
-
 /// `if (i < 4'sd2) c = 1'b1; else c = 1'b0;` and the same with `4'd2`
 const SIGNED: Stmt<'static> = Stmt::If {
     test: &binary!(name!("i"), 24, number!(4, true, 2, 0)),
@@ -390,22 +311,6 @@ const UNSIGNED: Stmt<'static> = Stmt::If {
     no: Some(&assign!(name!("c"), true, number!(1, false, 0, 0))),
 };
 
-#[test]
-fn signs(rt: HostRuntime) -> Result<(), Fail> {
-    let alloc = rt.alloc();
-    assert!(rt; gives(alloc, &SIGNED, [0, 0, 0, 15], [0, 0, 1, 15], [0, 0, 1, 15])?);
-    assert!(rt;
-        gives(
-            alloc,
-            &UNSIGNED,
-            [0, 0, 1, 15],
-            [0, 0, 0, 15],
-            [0, 0, 0, 15]
-        )?
-    );
-    Ok(())
-}
-
 /// `b = i;`, `b = i + 4'd0;` and `b = a * a;`
 const EXTENDED: Stmt<'static> = assign!(name!("b"), true, name!("i"));
 
@@ -417,31 +322,6 @@ const MIXED: Stmt<'static> = assign!(
 
 const SQUARE: Stmt<'static> = assign!(name!("b"), true, binary!(name!("a"), 16, name!("a")));
 
-#[test]
-fn contexts(rt: HostRuntime) -> Result<(), Fail> {
-    let alloc = rt.alloc();
-    assert!(rt;
-        gives(
-            alloc,
-            &EXTENDED,
-            [0, 0, 0, 8],
-            [0, 248, 0, 8],
-            [0, 248, 0, 8]
-        )?
-    );
-    assert!(rt; gives(alloc, &MIXED, [0, 0, 0, 8], [0, 8, 0, 8], [0, 8, 0, 8])?);
-    assert!(rt;
-        gives(
-            alloc,
-            &SQUARE,
-            [15, 0, 0, 0],
-            [15, 225, 0, 0],
-            [15, 225, 0, 0]
-        )?
-    );
-    Ok(())
-}
-
 /// Without an arm for it and without a `default`, and with a false condition, nothing is done.
 const NOTHING: Stmt<'static> = Stmt::If {
     test: &name!("c"),
@@ -449,12 +329,44 @@ const NOTHING: Stmt<'static> = Stmt::If {
     no: None,
 };
 
+/// A statement, the values of `a`, `b`, `c` and `i` before it, after its `=`, and after its `<=`. Past the
+/// ends of `b`, where `i` is 7 or less than 0, some of the bits are not there.
+type Case = (&'static Stmt<'static>, [u128; 4], [u128; 4], [u128; 4]);
+
+const CASES: [Case; 23] = [
+    (&IN_ORDER, [1, 37, 0, 0], [5, 21, 0, 0], [5, 21, 0, 0]),
+    (&LATE, [1, 37, 0, 0], [1, 37, 0, 0], [9, 1, 0, 0]),
+    (&CARRY, [9, 9, 0, 0], [2, 9, 1, 0], [2, 9, 1, 0]),
+    (&PART, [0, 255, 0, 0], [0, 255, 0, 0], [0, 231, 0, 0]),
+    (&INDEXED, [0, 0, 0, 4], [0, 80, 0, 4], [0, 80, 0, 4]),
+    (&BIT, [0, 0, 0, 6], [0, 0, 0, 6], [0, 64, 0, 6]),
+    (&INDEXED, [0, 0, 0, 7], [0, 128, 0, 7], [0, 128, 0, 7]),
+    (&INDEXED, [0, 0, 0, 15], [0, 2, 0, 15], [0, 2, 0, 15]),
+    (&BIT, [0, 9, 0, 15], [0, 9, 0, 15], [0, 9, 0, 15]),
+    (&FIRST_ARM, [3, 0, 0, 0], [3, 0, 1, 0], [3, 0, 1, 0]),
+    (&FIRST_ARM, [5, 0, 1, 0], [5, 1, 1, 0], [5, 1, 1, 0]),
+    (&FIRST_ARM, [6, 0, 1, 0], [6, 0, 0, 0], [6, 0, 0, 0]),
+    (&WILD, [13, 0, 0, 0], [13, 0, 0, 0], [13, 3, 0, 0]),
+    (&WILD, [6, 0, 0, 0], [6, 0, 0, 0], [6, 2, 0, 0]),
+    (&WILD, [3, 9, 0, 0], [3, 9, 0, 0], [3, 9, 0, 0]),
+    (&SIGNED, [0, 0, 0, 15], [0, 0, 1, 15], [0, 0, 1, 15]),
+    (&UNSIGNED, [0, 0, 1, 15], [0, 0, 0, 15], [0, 0, 0, 15]),
+    (&EXTENDED, [0, 0, 0, 8], [0, 248, 0, 8], [0, 248, 0, 8]),
+    (&MIXED, [0, 0, 0, 8], [0, 8, 0, 8], [0, 8, 0, 8]),
+    (&SQUARE, [15, 0, 0, 0], [15, 225, 0, 0], [15, 225, 0, 0]),
+    (&NOTHING, [1, 2, 0, 4], [1, 2, 0, 4], [1, 2, 0, 4]),
+    (&NOTHING, [1, 2, 1, 4], [7, 2, 1, 4], [7, 2, 1, 4]),
+    (&Stmt::Null, [1, 2, 3, 4], [1, 2, 3, 4], [1, 2, 3, 4]),
+];
+
 #[test]
-fn nothing(rt: HostRuntime) -> Result<(), Fail> {
-    let alloc = rt.alloc();
-    assert!(rt; gives(alloc, &NOTHING, [1, 2, 0, 4], [1, 2, 0, 4], [1, 2, 0, 4])?);
-    assert!(rt; gives(alloc, &NOTHING, [1, 2, 1, 4], [7, 2, 1, 4], [7, 2, 1, 4])?);
-    assert!(rt; gives(alloc, &Stmt::Null, [1, 2, 3, 4], [1, 2, 3, 4], [1, 2, 3, 4])?);
+fn statements_by_hand(rt: HostRuntime) -> Result<(), Fail> {
+    for (place, case) in CASES.iter().enumerate() {
+        assert!(rt;
+            gives(rt.alloc(), case.0, case.1, case.2, case.3)?,
+            "{place}"
+        );
+    }
     Ok(())
 }
 

@@ -1,17 +1,14 @@
 //! Texts with their flat designs, and texts without one.
+use crate::texts::design_of;
 use bumpalo::Bump;
-use rr_elaborate::{DesignFault, FlatFault, Wrong, elaborate};
+use rr_elaborate::{DesignFault, FlatFault, Wrong};
 use std::alloc::Global;
 use std::test::Fail;
 
 /// Why a text has no flat design with the last module that stands in none.
 fn fault_of(alloc: Global, text: &str) -> Option<DesignFault> {
-    let bytes = text.as_bytes();
-    if bytes.len() > 1_048_576 {
-        return None;
-    }
     let arena = Bump::new(alloc);
-    match elaborate(alloc, bytes, None, &arena) {
+    match design_of(alloc, text, None, &arena) {
         Ok(_) => None,
         Err(fault) => Some(fault),
     }
@@ -19,12 +16,8 @@ fn fault_of(alloc: Global, text: &str) -> Option<DesignFault> {
 
 /// The numbers of signals, drivers, clocked and combinational blocks of a text.
 fn counts(alloc: Global, text: &str, top: Option<&str>) -> Option<(usize, usize, usize, usize)> {
-    let bytes = text.as_bytes();
-    if bytes.len() > 1_048_576 {
-        return None;
-    }
     let arena = Bump::new(alloc);
-    match elaborate(alloc, bytes, top, &arena) {
+    match design_of(alloc, text, top, &arena) {
         Ok(design) => Some((
             design.flat.signals.len(),
             design.flat.drivers.len(),

@@ -1,7 +1,7 @@
 //! The parts of a flat design, and the targets and names of a statement in the order of its text.
-use crate::texts::flat_of;
+use crate::texts::design_of;
 use bumpalo::Bump;
-use rr_flat::{Flat, Part};
+use rr_flat::Part;
 use rr_parts::{
     add_assigned, add_named, add_names, add_parts, add_read, block_of, clocked_of, driver_of,
     drivers_of, identifier_of, inputs_of, instance_of, is_constant, is_fixed, is_input, is_scalar,
@@ -9,7 +9,6 @@ use rr_parts::{
     signals_of, walk_of,
 };
 use rr_syntax::{Expr, Number, Stmt};
-use std::alloc::Global;
 use std::test::Fail;
 
 /// `{b, c[d]}`
@@ -89,52 +88,46 @@ const ONE: Expr<'static> = Expr::Literal {
 const DESIGN: &str =
     "module m(input c, input d, output y); reg [1:0] q; assign y = d; always @(posedge c) q <= d; endmodule";
 
-/// Its flat form.
-fn design<'a>(alloc: Global, arena: &'a Bump) -> Option<Flat<'a>> {
-    match flat_of(alloc, DESIGN, None, arena) {
-        Some(Ok(flat)) => Some(flat),
-        _ => None,
-    }
-}
-
 #[test]
 fn parts_of_a_design(rt: HostRuntime) {
     let arena = Bump::new(rt.alloc());
-    let found = design(rt.alloc(), &arena);
-    assert!(rt; found.is_some());
-    if let Some(flat) = found {
-        assert_eq!(rt; walk_of(&flat).len(), 2);
-        assert_eq!(rt; drivers_of(&flat).len(), 1);
-        assert_eq!(rt; clocked_of(&flat).len(), 1);
-        assert_eq!(rt; inputs_of(&flat).len(), 2);
-        assert_eq!(rt; reached_of(&flat).len(), 1);
-        assert!(rt; driver_of(&flat, Part::Driver(0)).is_some());
-        assert!(rt; driver_of(&flat, Part::Clocked(0)).is_none());
-        assert!(rt; block_of(&flat, Part::Clocked(0)).is_some());
-        assert!(rt; block_of(&flat, Part::Combinational(0)).is_none());
+    let found = design_of(rt.alloc(), DESIGN, None, &arena);
+    assert!(rt; found.is_ok());
+    if let Ok(design) = found {
+        let flat = &design.flat;
+        assert_eq!(rt; walk_of(flat).len(), 2);
+        assert_eq!(rt; drivers_of(flat).len(), 1);
+        assert_eq!(rt; clocked_of(flat).len(), 1);
+        assert_eq!(rt; inputs_of(flat).len(), 2);
+        assert_eq!(rt; reached_of(flat).len(), 1);
+        assert!(rt; driver_of(flat, Part::Driver(0)).is_some());
+        assert!(rt; driver_of(flat, Part::Clocked(0)).is_none());
+        assert!(rt; block_of(flat, Part::Clocked(0)).is_some());
+        assert!(rt; block_of(flat, Part::Combinational(0)).is_none());
     }
 }
 
 #[test]
 fn signals_of_a_design(rt: HostRuntime) {
     let arena = Bump::new(rt.alloc());
-    let found = design(rt.alloc(), &arena);
-    assert!(rt; found.is_some());
-    if let Some(flat) = found {
-        assert_eq!(rt; signal_count(&flat), 4);
-        assert_eq!(rt; signals_of(&flat).len(), 4);
-        assert_eq!(rt; signal_named(&flat, 0, "q"), Some(3));
-        assert_eq!(rt; signal_named(&flat, 0, "t"), None);
-        assert_eq!(rt; signal_named(&flat, 1, "q"), None);
-        assert_eq!(rt; scalar_named(&flat, 0, "d"), Some(1));
-        assert_eq!(rt; scalar_named(&flat, 0, "q"), None);
-        assert!(rt; is_variable(&flat, 3));
-        assert!(rt; !is_variable(&flat, 2));
-        assert!(rt; is_input(&flat, 1));
-        assert!(rt; !is_input(&flat, 2));
-        assert!(rt; is_scalar(&flat, 2));
-        assert!(rt; !is_scalar(&flat, 3));
-        assert_eq!(rt; instance_of(&flat, 3), 0);
+    let found = design_of(rt.alloc(), DESIGN, None, &arena);
+    assert!(rt; found.is_ok());
+    if let Ok(design) = found {
+        let flat = &design.flat;
+        assert_eq!(rt; signal_count(flat), 4);
+        assert_eq!(rt; signals_of(flat).len(), 4);
+        assert_eq!(rt; signal_named(flat, 0, "q"), Some(3));
+        assert_eq!(rt; signal_named(flat, 0, "t"), None);
+        assert_eq!(rt; signal_named(flat, 1, "q"), None);
+        assert_eq!(rt; scalar_named(flat, 0, "d"), Some(1));
+        assert_eq!(rt; scalar_named(flat, 0, "q"), None);
+        assert!(rt; is_variable(flat, 3));
+        assert!(rt; !is_variable(flat, 2));
+        assert!(rt; is_input(flat, 1));
+        assert!(rt; !is_input(flat, 2));
+        assert!(rt; is_scalar(flat, 2));
+        assert!(rt; !is_scalar(flat, 3));
+        assert_eq!(rt; instance_of(flat, 3), 0);
     }
 }
 
@@ -142,11 +135,12 @@ fn signals_of_a_design(rt: HostRuntime) {
 #[test]
 fn names_in_a_scope(rt: HostRuntime) {
     let arena = Bump::new(rt.alloc());
-    let found = design(rt.alloc(), &arena);
-    assert!(rt; found.is_some());
-    if let Some(flat) = found {
-        assert!(rt; scope_of(&flat, 1).is_none());
-        if let Some(scope) = scope_of(&flat, 0) {
+    let found = design_of(rt.alloc(), DESIGN, None, &arena);
+    assert!(rt; found.is_ok());
+    if let Ok(design) = found {
+        let flat = &design.flat;
+        assert!(rt; scope_of(flat, 1).is_none());
+        if let Some(scope) = scope_of(flat, 0) {
             assert_eq!(rt; signal_of(scope.find("y")), Some(2));
             assert!(rt; is_constant(&ONE, scope));
             assert!(rt; !is_constant(&name!(0, "d"), scope));

@@ -1,7 +1,7 @@
 //! Tables of one design, with their values or their first fault.
 ghost use Rattle.std.specs.Prelude.{◌≡◌, ◌<◌, ◌^◌, [], ℕ, true, length, map, get_or};
 
-use crate::texts::flat_of;
+use crate::texts::design_of;
 use bumpalo::Bump;
 use rr_trace::{Cell, Limit, Miss, Table, TableFault, read_table, write_table};
 use std::alloc::Global;
@@ -13,9 +13,9 @@ const DESIGN: &str =
 /// The table of a text, with the clock at the first port.
 fn read(alloc: Global, text: &[u8]) -> Result<Table, TableFault> {
     let arena = Bump::new(alloc);
-    match flat_of(alloc, DESIGN, None, &arena) {
-        Some(Ok(flat)) => read_table(alloc, text, &flat, Some(0)),
-        _ => Err(TableFault::Memory),
+    match design_of(alloc, DESIGN, None, &arena) {
+        Ok(design) => read_table(alloc, text, &design.flat, Some(0)),
+        Err(_) => Err(TableFault::Memory),
     }
 }
 
@@ -192,14 +192,15 @@ fn are_short(rows: &[Vec<Cell>]) -> bool
 /// The text and the first miss of a table with such outputs.
 fn told(alloc: Global, last: u128) -> Result<Option<(Vec<u8>, Option<Miss>)>, Fail> {
     let arena = Bump::new(alloc);
-    let Some(Ok(flat)) = flat_of(alloc, DESIGN, None, &arena) else {
+    let Ok(design) = design_of(alloc, DESIGN, None, &arena) else {
         return Ok(None);
     };
-    let Ok(table) = read_table(alloc, b"w,y,a\n1,0b1x01,15\n2,5,0\n", &flat, Some(0)) else {
+    let flat = &design.flat;
+    let Ok(table) = read_table(alloc, b"w,y,a\n1,0b1x01,15\n2,5,0\n", flat, Some(0)) else {
         return Ok(None);
     };
     let rows = outputs(alloc, last)?;
-    let text = write_table(alloc, &flat, Some(0), &table, rows.as_slice())?;
+    let text = write_table(alloc, flat, Some(0), &table, rows.as_slice())?;
     if table.expected.len() > 2 || !are_short(table.expected.as_slice()) {
         return Ok(None);
     }

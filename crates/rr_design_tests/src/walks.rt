@@ -1,7 +1,8 @@
-//! Flat designs of texts, with their facts or their first fault, and its place as the number of a
-//! token, by the rules of IEEE 1364-2005 section 12 and of the profile.
-use crate::texts::flat_of;
+//! Flat designs of texts, with their facts by numbers of tokens, or their first fault and its byte, by
+//! the rules of IEEE 1364-2005 section 12 and of the profile.
+use crate::texts::design_of;
 use bumpalo::Bump;
+use rr_elaborate::DesignFault;
 use rr_expr::first_token;
 use rr_flat::{Block, Driver, Flat, Part, Side, Signal};
 use std::alloc::{AllocError, Global};
@@ -103,7 +104,7 @@ const TOPS: [Case; 6] = [
     (
         "module m; endmodule module n; x u(); endmodule module m; endmodule",
         Some("z"),
-        "NameTwice(14)",
+        "NameTwice(54)",
     ),
 ];
 
@@ -141,42 +142,42 @@ const INSTANCES: [Case; 8] = [
     (
         "module m(output y); n u(y); endmodule",
         None,
-        "UnknownModule(7)",
+        "UnknownModule(20)",
     ),
     (
         "module m(output y); m u(y); endmodule",
         Some("m"),
-        "SelfInstance(7)",
+        "SelfInstance(20)",
     ),
     (
         "module a; b u(); endmodule module b; c u(); endmodule module c; a u(); endmodule",
         Some("a"),
-        "SelfInstance(21)",
+        "SelfInstance(64)",
     ),
     (
         "module n; endmodule module m; n u(); n u(); endmodule",
         None,
-        "NameTwice(13)",
+        "NameTwice(39)",
     ),
     (
         "module n; endmodule module m; n t(); wire t; endmodule",
         None,
-        "NameTwice(8)",
+        "NameTwice(32)",
     ),
     (
         "module n; endmodule module m(output y); assign y = u; n u(); endmodule",
         None,
-        "UnknownName(14)",
+        "UnknownName(51)",
     ),
     (
         "module n(output z); assign z = q; endmodule module m(output y); n u(y); assign y = r; endmodule",
         None,
-        "UnknownName(10)",
+        "UnknownName(31)",
     ),
     (
         "module m(input a); m #(.B(c)) u(.d(e)); endmodule",
         Some("m"),
-        "SelfInstance(7)",
+        "SelfInstance(19)",
     ),
 ];
 
@@ -185,52 +186,52 @@ const MISMATCHES: [Case; 10] = [
     (
         "module n(input a); endmodule module m(output y); n u(.b(y)); endmodule",
         None,
-        "PortMismatch(19)",
+        "PortMismatch(54)",
     ),
     (
         "module n(input a); endmodule module m(output y); n u(.a(y), .a()); endmodule",
         None,
-        "PortMismatch(25)",
+        "PortMismatch(61)",
     ),
     (
         "module n(input a); endmodule module m(output y); n u(y, y + y, y); endmodule",
         None,
-        "PortMismatch(20)",
+        "PortMismatch(56)",
     ),
     (
         "module n; localparam W = 1; endmodule module m; n #(.W(2)) u(); endmodule",
         None,
-        "PortMismatch(16)",
+        "PortMismatch(53)",
     ),
     (
         "module n; localparam W = 1; parameter V = 1; endmodule module m; n #(2, 3) u(); endmodule",
         None,
-        "PortMismatch(22)",
+        "PortMismatch(72)",
     ),
     (
         "module n #(parameter W = 1); endmodule module m; n #(.W(2), .W(3)) u(); endmodule",
         None,
-        "PortMismatch(24)",
+        "PortMismatch(61)",
     ),
     (
         "module n #(parameter W = 1); wire V; endmodule module m; n #(.V(2), .V(3)) u(); endmodule",
         None,
-        "UnknownName(21)",
+        "UnknownName(62)",
     ),
     (
         "module n #(parameter W = 1); endmodule module m(input a); n #(a) u(.z(b)); endmodule",
         None,
-        "NotConstant(21)",
+        "NotConstant(62)",
     ),
     (
         "module n(input a); endmodule module m; n u(.b(q), .a(r)); endmodule",
         None,
-        "PortMismatch(15)",
+        "PortMismatch(44)",
     ),
     (
         "module n(input a); endmodule module m; n u(.a(q), .b(r)); endmodule",
         None,
-        "UnknownName(17)",
+        "UnknownName(46)",
     ),
 ];
 
@@ -239,35 +240,35 @@ const EXPRESSIONS: [Case; 8] = [
     (
         "module m(output y); assign y = b; endmodule",
         None,
-        "UnknownName(10)",
+        "UnknownName(31)",
     ),
-    ("module m; assign q = r; endmodule", None, "UnknownName(4)"),
+    ("module m; assign q = r; endmodule", None, "UnknownName(17)"),
     (
         "module m(input a, output y); assign y = a[0]; endmodule",
         None,
-        "BadRange(13)",
+        "BadRange(40)",
     ),
     (
         "module m(output y); wire [127:0] a; assign y = a[0 +: 129]; endmodule",
         None,
-        "TooWide(18, 129)",
+        "TooWide(47, 129)",
     ),
     (
         "module m(output reg y); always @(posedge k) y <= q; endmodule",
         None,
-        "UnknownName(12)",
+        "UnknownName(41)",
     ),
     (
         "module m(output reg y); always @(k or y) y = q; endmodule",
         None,
-        "UnknownName(11)",
+        "UnknownName(33)",
     ),
     (
         "module n; endmodule module m(output reg y); n u(); always @(posedge u) y <= y; endmodule",
         None,
-        "UnknownName(21)",
+        "UnknownName(68)",
     ),
-    ("module m; wire w = q; endmodule", None, "UnknownName(6)"),
+    ("module m; wire w = q; endmodule", None, "UnknownName(19)"),
 ];
 
 /// Number of the instance, name and width of each signal.
@@ -354,12 +355,12 @@ fn flat_told(text: &mut String, flat: &Flat) -> Result<(), AllocError> {
 /// What the flat design of a source text is.
 fn told(alloc: Global, text: &str, top: Option<&str>) -> Result<String, AllocError> {
     let arena = Bump::new(alloc);
-    match flat_of(alloc, text, top, &arena) {
-        None => Ok(String::new(alloc)),
-        Some(Err(fault)) => format!(in alloc; "{fault:?}"),
-        Some(Ok(flat)) => {
+    match design_of(alloc, text, top, &arena) {
+        Err(DesignFault::Flaw(fault)) => format!(in alloc; "{fault:?}"),
+        Err(_) => Ok(String::new(alloc)),
+        Ok(design) => {
             let mut text = String::new(alloc);
-            flat_told(&mut text, &flat)?;
+            flat_told(&mut text, &design.flat)?;
             Ok(text)
         }
     }

@@ -78,8 +78,6 @@ pub node-Assign : (target : Bor Expr) (now : Bool) (value : Bor Expr) → plain_
 unfolding plain_statement
 node-Assign target now value = refl
 
-pub ruleset nodes = (plain_block, plain_case, node-If, node-IfElse, node-Assign)
-
 pub ran-If : (s : Names) (c : Tree) (t : Statement) (f g : Bit → Bool) (a b : List Bit) (bits : Vec Bit Global) → ((x : Bit) → NamesBit s c x → f x ≡ true)
     → BranchTells s f (in_all f None) t (Ok bits) → ((x : Bit) → g x ≡ f x) → b ≡ a → RanBy s (If c t) f g a b
 unfolding ReadsKnown known

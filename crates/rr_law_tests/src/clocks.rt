@@ -24,12 +24,10 @@ enum Told {
 /// A text, the word that names its clock, and what is told.
 type Case = (&'static str, Option<&'static str>, Told);
 
-const fn clock(signal: Option<u32>, rising: bool, used: Option<u32>) -> Told {
-    Told::Clock {
-        signal,
-        rising,
-        used,
-    }
+macro_rules! clock {
+    ($signal:expr, $rising:literal, $used:expr) => {
+        Told::Clock { signal: $signal, rising: $rising, used: $used }
+    };
 }
 
 fn start(tokens: &[Token<'_>], at: u32) -> u32 {
@@ -80,12 +78,12 @@ const CLOCKS_WITHOUT_AN_EDGE: [Case; 2] = [
     (
         "module m(input a, input [1:0] w, output y); wire t; assign y = a; endmodule",
         None,
-        clock(None, true, None),
+        clock!(None, true, None),
     ),
     (
         "module m(input a, input [1:0] w, output y); wire t; assign y = a; endmodule",
         Some("a"),
-        clock(Some(0), true, Some(63)),
+        clock!(Some(0), true, Some(63)),
     ),
 ];
 
@@ -116,7 +114,7 @@ const BLOCKS_OF_ONE_EDGE: [Case; 4] = [
     (
         "module m(input clk, input d, output reg q); always @(posedge clk) q <= d; endmodule",
         None,
-        clock(Some(0), true, None),
+        clock!(Some(0), true, None),
     ),
     (
         "module m(input clk, input d, output reg q); always @(posedge clk) q <= d; endmodule",
@@ -126,7 +124,7 @@ const BLOCKS_OF_ONE_EDGE: [Case; 4] = [
     (
         "module m(input clk, input d, output reg q); always @(negedge clk) q <= d; endmodule",
         Some("clk"),
-        clock(Some(0), false, None),
+        clock!(Some(0), false, None),
     ),
     (
         "module m(input clk, input d, output reg y, output reg z); always @(posedge clk) y <= d; always @(negedge clk) z <= d; endmodule",
@@ -139,12 +137,12 @@ const BLOCKS_OF_TWO_EDGES: [Case; 2] = [
     (
         "module m(input c, input r, input d, output reg q); always @(negedge r or posedge c) if (!r) q <= r; else q <= d; endmodule",
         None,
-        clock(Some(0), true, None),
+        clock!(Some(0), true, None),
     ),
     (
         "module m(input c, input r, input d, output reg q); always @(negedge r or posedge c) if (!r) q <= r; else q <= d; endmodule",
         Some("r"),
-        clock(Some(1), false, Some(89)),
+        clock!(Some(1), false, Some(89)),
     ),
 ];
 
@@ -152,12 +150,12 @@ const CLOCKS_USED_AS_DATA: [Case; 2] = [
     (
         "module m(input clk, output reg y); always @(posedge clk) y <= clk; endmodule",
         None,
-        clock(Some(0), true, Some(62)),
+        clock!(Some(0), true, Some(62)),
     ),
     (
         "module m(input clk, input d, output reg q, output y); assign y = clk; always @(posedge clk) q <= d; endmodule",
         None,
-        clock(Some(0), true, Some(65)),
+        clock!(Some(0), true, Some(65)),
     ),
 ];
 
@@ -175,7 +173,7 @@ const CLOCKS_OF_NETS_AND_INSTANCES: [Case; 3] = [
     (
         "module leaf(input ck, input d, output reg q); always @(posedge ck) q <= d; endmodule module mid(input c, input d, output q); leaf u(.ck(c), .d(d), .q(q)); endmodule module m(input clk, input d, output q); mid u(.c(clk), .d(d), .q(q)); endmodule",
         None,
-        clock(Some(0), true, None),
+        clock!(Some(0), true, None),
     ),
 ];
 

@@ -10,17 +10,16 @@ use std::test::Fail;
 /// A text, and the bit that holds its value with the token of the block, if there is one.
 type Case = (&'static str, Option<Latch>);
 
-const fn latch(signal: u32, place: u32, block: u32) -> Option<Latch> {
-    Some(Latch {
-        bit: Bit { signal, place },
-        block,
-    })
+macro_rules! latch {
+    ($signal:literal, $place:literal, $block:literal) => {
+        Some(Latch { bit: Bit { signal: $signal, place: $place }, block: $block })
+    };
 }
 
 const CASES: [Case; 13] = [
     (
         "module m(input a, b, output reg [1:0] y, output reg z); always @* if (a) z = b; endmodule",
-        latch(3, 0, 22),
+        latch!(3, 0, 22),
     ),
     (
         "module m(input a, b, output reg [1:0] y, output reg z); always @* if (a) z = b; else z = a; endmodule",
@@ -28,7 +27,7 @@ const CASES: [Case; 13] = [
     ),
     (
         "module m(input a, b, output reg [1:0] y, output reg z); always @* case (a) 0: z = a; 1: z = b; endcase endmodule",
-        latch(3, 0, 22),
+        latch!(3, 0, 22),
     ),
     (
         "module m(input a, b, output reg [1:0] y, output reg z); always @* case (a) 0: z = a; default: z = b; endcase endmodule",
@@ -36,7 +35,7 @@ const CASES: [Case; 13] = [
     ),
     (
         "module m(input a, b, output reg [1:0] y, output reg z); always @* begin y[0] = z; z = a; end endmodule",
-        latch(3, 0, 22),
+        latch!(3, 0, 22),
     ),
     (
         "module m(input a, b, output reg [1:0] y, output reg z); always @* begin z = a; y[0] = z; end endmodule",
@@ -44,11 +43,11 @@ const CASES: [Case; 13] = [
     ),
     (
         "module m(input a, b, output reg [1:0] y, output reg z); always @* if (a) y = b; else y[0] = a; endmodule",
-        latch(2, 1, 22),
+        latch!(2, 1, 22),
     ),
     (
         "module m(input a, b, output reg [1:0] y, output reg z); always @* y[a] = b; endmodule",
-        latch(2, 0, 22),
+        latch!(2, 0, 22),
     ),
     (
         "module m(input a, b, output reg [1:0] y, output reg z); always @* begin z = a; if (b) z = b; end endmodule",
@@ -60,11 +59,11 @@ const CASES: [Case; 13] = [
     ),
     (
         "module m(input a, b, output reg [1:0] y, output reg z); always @* if (a) begin if (b) z = a; end else z = a; endmodule",
-        latch(3, 0, 22),
+        latch!(3, 0, 22),
     ),
     (
         "module m(input a, b, output reg [1:0] y, output reg z); always @* z = a; always @* if (a) y = b; endmodule",
-        latch(2, 0, 28),
+        latch!(2, 0, 29),
     ),
     (
         "module m(input a, b, output reg [1:0] y, output reg z); always @(posedge a) if (b) z <= b; endmodule",

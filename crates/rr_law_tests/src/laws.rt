@@ -12,19 +12,15 @@ use std::test::Fail;
 enum Told {
     NoDesign,
     Kept,
-    Broken { law: u32, at: u32 },
+    Broken(u32, u32),
 }
 
 /// A text, the word that names its clock, and what is told.
 type Case = (&'static str, Option<&'static str>, Told);
 
-const fn broken(law: u32, at: u32) -> Told {
-    Told::Broken { law, at }
-}
-
 fn placed(tokens: &[Token<'_>], law: u32, at: u32) -> Told {
     match byte_of(tokens, at) {
-        Some(byte) => broken(law, byte),
+        Some(byte) => Told::Broken(law, byte),
         None => Told::NoDesign,
     }
 }
@@ -83,22 +79,22 @@ const WORDS_THAT_NAME_NO_CLOCK: [Case; 4] = [
     (
         "module m(input clk, input d, output reg q); always @(posedge clk) q <= d; endmodule",
         Some("ck"),
-        broken(11, 7),
+        Told::Broken(11, 7),
     ),
     (
         "module m(input [1:0] clk, output y); assign y = clk[0]; endmodule",
         Some("clk"),
-        broken(11, 7),
+        Told::Broken(11, 7),
     ),
     (
         "module m(input a, output y); wire w; assign w = a; assign y = w; endmodule",
         Some("w"),
-        broken(11, 7),
+        Told::Broken(11, 7),
     ),
     (
         "module c(input i, output y); assign y = i; endmodule module m(input a, output y); c one(a, y); endmodule",
         Some("i"),
-        broken(11, 60),
+        Told::Broken(11, 60),
     ),
 ];
 
@@ -119,27 +115,27 @@ const BLOCKS_OF_ANOTHER_CLOCK: [Case; 5] = [
     (
         "module m(input clk, input en, input d, output reg q); wire g; assign g = clk & en; always @(posedge g) q <= d; endmodule",
         None,
-        broken(23, 83),
+        Told::Broken(23, 83),
     ),
     (
         "module m(input a, input b, input d, output reg q, output reg r); always @(posedge a) q <= d; always @(posedge b) r <= d; endmodule",
         None,
-        broken(23, 93),
+        Told::Broken(23, 93),
     ),
     (
         "module m(input clk, input d, output reg q, output reg r); always @(posedge clk) q <= d; always @(negedge clk) r <= d; endmodule",
         None,
-        broken(23, 88),
+        Told::Broken(23, 88),
     ),
     (
         "module m(input clk, input d, output reg q, output reg r); always @(posedge clk) q <= d; always @(posedge q) r <= d; endmodule",
         None,
-        broken(23, 88),
+        Told::Broken(23, 88),
     ),
     (
         "module m(input clk, input d, output reg q); always @(posedge d) q <= 1'b1; endmodule",
         Some("clk"),
-        broken(23, 44),
+        Told::Broken(23, 44),
     ),
 ];
 
@@ -147,17 +143,17 @@ const USES_OF_THE_CLOCK_IN_ONE_MODULE: [Case; 4] = [
     (
         "module m(input clk, input d, output reg q, output y); assign y = clk; always @(posedge clk) q <= d; endmodule",
         None,
-        broken(22, 65),
+        Told::Broken(22, 65),
     ),
     (
         "module m(input clk, input d, output reg q); always @(posedge clk) q <= clk; endmodule",
         None,
-        broken(22, 71),
+        Told::Broken(22, 71),
     ),
     (
         "module m(input clk, input [1:0] d, output reg q); always @(posedge clk) q <= d[clk]; endmodule",
         None,
-        broken(22, 79),
+        Told::Broken(22, 79),
     ),
     (
         "module m(input clk, input d, output y); assign y = clk & d; endmodule",
@@ -175,12 +171,12 @@ const USES_OF_THE_CLOCK_IN_INSTANCES: [Case; 3] = [
     (
         "module c(input k, input d, output reg q); always @(negedge k) q <= d; endmodule module b(input k, input d, output q); c one(k, d, q); endmodule module m(input clk, input d, output q); b one(.k(clk), .d(clk & d), .q(q)); endmodule",
         None,
-        broken(22, 202),
+        Told::Broken(22, 202),
     ),
     (
         "module c(input k, input d, output reg q); always @(posedge k) q <= d & k; endmodule module m(input clk, input d, output q); c one(clk, d, q); endmodule",
         None,
-        broken(22, 71),
+        Told::Broken(22, 71),
     ),
 ];
 
@@ -188,12 +184,12 @@ const TWO_DRIVERS_OF_A_NET: [Case; 5] = [
     (
         "module m(input a, input b, output y); assign y = a; assign y = b; endmodule",
         None,
-        broken(17, 59),
+        Told::Broken(17, 59),
     ),
     (
         "module m(input [3:0] a, output [3:0] y); assign y[3:2] = a[3:2]; assign y[2:0] = a[2:0]; endmodule",
         None,
-        broken(17, 72),
+        Told::Broken(17, 72),
     ),
     (
         "module m(input [3:0] a, output [3:0] y); assign y[3:2] = a[3:2]; assign y[1:0] = a[1:0]; endmodule",
@@ -203,12 +199,12 @@ const TWO_DRIVERS_OF_A_NET: [Case; 5] = [
     (
         "module m(input [1:0] a, output y); wire w; assign {y, y} = a; endmodule",
         None,
-        broken(17, 50),
+        Told::Broken(17, 50),
     ),
     (
         "module c(input i, output o); assign o = i; endmodule module m(input a, input b, output y); c one(a, y); c two(b, y); endmodule",
         None,
-        broken(17, 113),
+        Told::Broken(17, 113),
     ),
 ];
 
@@ -216,12 +212,12 @@ const TWO_DRIVERS_OF_A_VARIABLE: [Case; 2] = [
     (
         "module m(input a, output reg y); always @* y = a; always @* y = ~a; endmodule",
         None,
-        broken(17, 50),
+        Told::Broken(17, 50),
     ),
     (
         "module m(input clk, input [1:0] i, output reg [3:0] y); always @(posedge clk) y[i] <= 1'b1; always @(posedge clk) y[0] <= 1'b0; endmodule",
         None,
-        broken(17, 92),
+        Told::Broken(17, 92),
     ),
 ];
 
@@ -229,22 +225,22 @@ const KINDS_OF_ASSIGNMENT: [Case; 4] = [
     (
         "module m(input a, output reg y); always @* y <= a; endmodule",
         None,
-        broken(18, 43),
+        Told::Broken(18, 43),
     ),
     (
         "module m(input clk, input a, output reg y); always @(posedge clk) begin y <= a; if (a) y = 1'b0; end endmodule",
         None,
-        broken(18, 87),
+        Told::Broken(18, 87),
     ),
     (
         "module m(input clk, input a, output reg [1:0] y); always @(posedge clk) y[0] = a; always @(posedge clk) y[1] <= a; endmodule",
         None,
-        broken(18, 104),
+        Told::Broken(18, 104),
     ),
     (
         "module m(input a, input b, output reg y, output reg z); always @* begin y = a; {z, y} <= {b, a}; end endmodule",
         None,
-        broken(18, 80),
+        Told::Broken(18, 80),
     ),
 ];
 
@@ -252,22 +248,22 @@ const RACES: [Case; 5] = [
     (
         "module m(input clk, input d, output reg y, output reg z); always @(posedge clk) y = d; always @(posedge clk) z <= y; endmodule",
         None,
-        broken(19, 114),
+        Told::Broken(19, 114),
     ),
     (
         "module m(input clk, input d, output reg y, output reg z); always @(posedge clk) if (y) z <= d; always @(posedge clk) y = d; endmodule",
         None,
-        broken(19, 84),
+        Told::Broken(19, 84),
     ),
     (
         "module m(input clk, input [1:0] d, output reg [1:0] y, output reg [3:0] z); always @(posedge clk) y = d; always @(posedge clk) z[y] <= 1'b1; endmodule",
         None,
-        broken(19, 129),
+        Told::Broken(19, 129),
     ),
     (
         "module m(input clk, input d, output reg y, output reg z); always @(posedge clk) y = d; always @(posedge clk) case (d) y: z <= 1'b1; default: z <= 1'b0; endcase endmodule",
         None,
-        broken(19, 118),
+        Told::Broken(19, 118),
     ),
     (
         "module m(input clk, input d, output reg y, output z); always @(posedge clk) y = d ^ y; assign z = y; endmodule",
@@ -280,27 +276,27 @@ const BLOCKS_WITH_A_LATCH: [Case; 5] = [
     (
         "module m(input a, input b, output reg y); always @* if (a) y = b; endmodule",
         None,
-        broken(20, 42),
+        Told::Broken(20, 42),
     ),
     (
         "module m(input [1:0] a, output reg y); always @* case (a) 2'b00: y = 1'b0; 2'b01: y = 1'b1; endcase endmodule",
         None,
-        broken(20, 39),
+        Told::Broken(20, 39),
     ),
     (
         "module m(input a, output reg y, output reg z); always @* begin z = y; y = a; end endmodule",
         None,
-        broken(20, 47),
+        Told::Broken(20, 47),
     ),
     (
         "module m(input [1:0] i, input a, output reg [3:0] y); always @* y[i] = a; endmodule",
         None,
-        broken(20, 54),
+        Told::Broken(20, 54),
     ),
     (
         "module m(input a, output reg [1:0] y); always @* begin y[0] = a; if (a) y[1] = a; end endmodule",
         None,
-        broken(20, 39),
+        Told::Broken(20, 39),
     ),
 ];
 
@@ -326,17 +322,17 @@ const LOOPS_THROUGH_SIGNALS: [Case; 3] = [
     (
         "module m(input a, output y); wire w; assign w = y & a; assign y = w; endmodule",
         None,
-        broken(21, 62),
+        Told::Broken(21, 62),
     ),
     (
         "module m(input a, output reg x, output reg y, output reg z); always @* x = z; always @* y = x & a; always @* z = y; endmodule",
         None,
-        broken(21, 61),
+        Told::Broken(21, 61),
     ),
     (
         "module n(input i, output o); assign o = ~i; endmodule module m(output y); wire w; n one(w, y); n two(y, w); endmodule",
         None,
-        broken(21, 91),
+        Told::Broken(21, 91),
     ),
 ];
 
@@ -344,22 +340,22 @@ const LOOPS_THROUGH_BITS: [Case; 4] = [
     (
         "module m(input [2:0] a, output [3:0] y); assign y = {a & y[2:0], 1'b1}; endmodule",
         None,
-        broken(21, 48),
+        Told::Broken(21, 48),
     ),
     (
         "module m(input a, output [3:0] y); assign y = {y[2:0], y[3]}; endmodule",
         None,
-        broken(21, 42),
+        Told::Broken(21, 42),
     ),
     (
         "module m(input [1:0] i, output [3:0] y); assign y[3:1] = 3'b0; assign y[0] = y[i]; endmodule",
         None,
-        broken(21, 70),
+        Told::Broken(21, 70),
     ),
     (
         "module m(output [3:0] y); assign y[3] = y[2]; assign y[2] = y[3]; assign y[0] = y[1]; assign y[1] = y[0]; endmodule",
         None,
-        broken(21, 73),
+        Told::Broken(21, 73),
     ),
 ];
 
@@ -380,22 +376,22 @@ const TWO_LAWS_UP_TO_THE_CLOCK: [Case; 4] = [
     (
         "module m(input a, output y, output reg z); always @* case (a) 1'bx: z = a; default: z = 1'b0; endcase assign a = y; endmodule",
         None,
-        broken(24, 109),
+        Told::Broken(24, 109),
     ),
     (
         "module m(input a, input b, input d, output reg y, output reg z); always @(posedge a) y <= d; always @(posedge b) case (d) 1'bx: z <= d; endcase endmodule",
         None,
-        broken(25, 122),
+        Told::Broken(25, 122),
     ),
     (
         "module m(input a, input b, output reg y, output reg z); always @(posedge a) y <= a; always @(posedge b) z <= b; endmodule",
         None,
-        broken(23, 84),
+        Told::Broken(23, 84),
     ),
     (
         "module m(input clk, input d, output y); assign y = d; assign y = d; reg q; always @(posedge clk) q <= clk; endmodule",
         None,
-        broken(22, 102),
+        Told::Broken(22, 102),
     ),
 ];
 
@@ -403,22 +399,22 @@ const TWO_LAWS_AFTER_THE_CLOCK: [Case; 4] = [
     (
         "module m(input d, output y, output reg z); always @* z <= d; assign y = d; assign y = z; endmodule",
         None,
-        broken(17, 82),
+        Told::Broken(17, 82),
     ),
     (
         "module m(input clk, input d, output reg y, output reg z); always @(posedge clk) y = d; always @(posedge clk) begin z <= y; z = d; end endmodule",
         None,
-        broken(18, 123),
+        Told::Broken(18, 123),
     ),
     (
         "module m(input clk, input d, output reg y, output reg z, output reg l); always @* if (d) l = d; always @(posedge clk) y = d; always @(posedge clk) z <= y; endmodule",
         None,
-        broken(19, 152),
+        Told::Broken(19, 152),
     ),
     (
         "module m(input d, output y, output reg l); assign y = ~y; always @* if (d) l = d; endmodule",
         None,
-        broken(20, 58),
+        Told::Broken(20, 58),
     ),
 ];
 
@@ -426,22 +422,22 @@ const ONE_LAW_UP_TO_THE_CLOCK: [Case; 4] = [
     (
         "module m(input clk,output reg y);always @(posedge clk) y <= clk;endmodule",
         None,
-        broken(22, 60),
+        Told::Broken(22, 60),
     ),
     (
         "module m(input clk,input d,output reg y,output reg z);always @(posedge clk) y <= d;always @(negedge clk) z <= d;endmodule",
         None,
-        broken(23, 83),
+        Told::Broken(23, 83),
     ),
     (
         "module m(input a,output y);always @* y = a;endmodule",
         None,
-        broken(24, 37),
+        Told::Broken(24, 37),
     ),
     (
         "module m(input a,output reg y);always @* case(a) 1'bx: y = a; default: y = 1'b0; endcase endmodule",
         None,
-        broken(25, 49),
+        Told::Broken(25, 49),
     ),
 ];
 
@@ -449,27 +445,27 @@ const ONE_LAW_AFTER_THE_CLOCK: [Case; 5] = [
     (
         "module m(output y);assign y = 1'b0;assign y = 1'b1;endmodule",
         None,
-        broken(17, 42),
+        Told::Broken(17, 42),
     ),
     (
         "module m(input clk,output reg y);always @(posedge clk) begin y <= 1'b0; y = 1'b1; end endmodule",
         None,
-        broken(18, 72),
+        Told::Broken(18, 72),
     ),
     (
         "module m(input clk,output reg y);reg t;always @(posedge clk) t = ~t;always @(posedge clk) y <= t;endmodule",
         None,
-        broken(19, 95),
+        Told::Broken(19, 95),
     ),
     (
         "module m(output y);\n  wire a, b;\n  assign a = b;\n  assign b = a;\n  assign y = a;\nendmodule\n",
         None,
-        broken(21, 42),
+        Told::Broken(21, 42),
     ),
     (
         "module m(input [1:0] s, output reg y);\n  always @*\n    case (s)\n      2'd0: y = 1'b0;\n      2'd1: y = 1'b1;\n    endcase\nendmodule\n",
         None,
-        broken(20, 41),
+        Told::Broken(20, 41),
     ),
 ];
 

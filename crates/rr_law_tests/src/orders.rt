@@ -21,12 +21,16 @@ struct Answer {
     token: u32,
 }
 
-const fn at(signal: u32, place: u32) -> Bit {
-    Bit { signal, place }
+macro_rules! at {
+    ($signal:literal, $place:literal) => {
+        Bit { signal: $signal, place: $place }
+    };
 }
 
-const fn wire(bit: u32) -> Step {
-    Step::Wire { driver: 0, bit }
+macro_rules! wire {
+    ($bit:literal) => {
+        Step::Wire { driver: 0, bit: $bit }
+    };
 }
 
 /// A ripple in one vector, and wires that shift.
@@ -46,7 +50,7 @@ const ORDERED: [Ordered; 2] = [
     ),
     (
         "module m(input a, output [3:0] d); assign d[3:1] = d[2:0]; endmodule",
-        &[wire(0), wire(1), wire(2)],
+        &[wire!(0), wire!(1), wire!(2)],
     ),
 ];
 
@@ -55,27 +59,27 @@ const ORDERED: [Ordered; 2] = [
 const LOOPED: [Looped; 5] = [
     (
         "module m(input a, output x); wire y; assign y = x & a; assign x = y & a; endmodule",
-        &[at(1, 0), at(2, 0)],
+        &[at!(1, 0), at!(2, 0)],
         21,
     ),
     (
         "module m(input a); reg x; reg y; reg z; always @* x = y & a; always @* y = z & a; always @* z = x; endmodule",
-        &[at(1, 0), at(2, 0), at(3, 0)],
+        &[at!(1, 0), at!(2, 0), at!(3, 0)],
         16,
     ),
     (
         "module m(input a); wire x; wire y; wire z; assign z = z & a; assign y = x & a; assign x = y & a; endmodule",
-        &[at(1, 0), at(2, 0)],
+        &[at!(1, 0), at!(2, 0)],
         31,
     ),
     (
         "module m(input [2:0] i, output [7:0] d); assign d[5] = d[i]; endmodule",
-        &[at(1, 5)],
+        &[at!(1, 5)],
         21,
     ),
     (
         "module m(input a, output [3:0] d); assign d[3:1] = d[2:0]; assign d[0] = d[3]; endmodule",
-        &[at(1, 0), at(1, 3), at(1, 2), at(1, 1)],
+        &[at!(1, 0), at!(1, 3), at!(1, 2), at!(1, 1)],
         31,
     ),
 ];

@@ -1,7 +1,13 @@
 //! Writers of bits in small flat designs, by the rules of IEEE 1364-2005 sections 6.1, 9 and 12.3.
+ghost use Rattle.std.specs.Prelude.{◌≡◌, ◌<◌, IfSome, length};
+ghost use Rattle.rr_flat.specs.Sound.{IsBlock};
+ghost use Rattle.rr_flat.specs.View.{plain_flat};
+ghost use Rattle.rr_flat.specs.Writers.{scope_at};
+
 use crate::texts::design_of;
 use bumpalo::Bump;
-use rr_flat::{Bit, Flat};
+use rr_expr::Scope;
+use rr_flat::{Bit, Block, Flat};
 use rr_target::Write;
 use rr_writers::{BitTable, TwoDrivers, add_assigned, first_two_drivers};
 use std::alloc::{AllocError, Global};
@@ -10,12 +16,10 @@ use std::test::Fail;
 /// A text, and the bit that is written twice with the tokens of both writers, if there is one.
 type Case = (&'static str, Option<TwoDrivers>);
 
-const fn clash(signal: u32, place: u32, first: u32, second: u32) -> Option<TwoDrivers> {
-    Some(TwoDrivers {
-        bit: Bit { signal, place },
-        first,
-        second,
-    })
+macro_rules! clash {
+    ($signal:literal, $place:literal, $first:literal, $second:literal) => {
+        Some(TwoDrivers { bit: Bit { signal: $signal, place: $place }, first: $first, second: $second })
+    };
 }
 
 const BRANCHES: &str =
@@ -28,28 +32,28 @@ const CASES: [Case; 8] = [
     ),
     (
         "module m(input a, output [1:0] y); assign y[1] = a; assign y[1] = a; endmodule",
-        clash(1, 1, 16, 24),
+        clash!(1, 1, 16, 24),
     ),
     (
         "module m(input a, output [1:0] y); assign {y[1], y[1]} = a; endmodule",
-        clash(1, 1, 16, 16),
+        clash!(1, 1, 16, 16),
     ),
     (
         "module m(input a, output [1:0] y); assign y[0] = a; always @* y = a; endmodule",
-        clash(1, 0, 16, 23),
+        clash!(1, 0, 16, 23),
     ),
     (
         "module m(input a, output [1:0] y); assign y[1] = a; always @* y[a] = a; endmodule",
-        clash(1, 1, 16, 23),
+        clash!(1, 1, 16, 23),
     ),
     (
         "module m(input a, output reg y); always @(posedge a) y <= a; always @* y = a; endmodule",
-        clash(1, 0, 11, 21),
+        clash!(1, 0, 11, 21),
     ),
     (BRANCHES, None),
     (
         "module n(output q); endmodule module m(output y); n u(.q(y)); n v(.q(y)); endmodule",
-        clash(0, 0, 21, 31),
+        clash!(0, 0, 21, 31),
     ),
 ];
 
@@ -70,13 +74,27 @@ fn two_drivers(rt: HostRuntime) -> Result<(), Fail> {
     Ok(())
 }
 
+/// The first combinational block of a design.
+fn first_block<'a>(flat: &Flat<'a>) -> Option<Block<'a>>
+    ensures { IfSome result (λ b. IsBlock flat.now.scopes b) }
+{
+    flat.combinational.get(0).copied()
+}
+
+/// The names of an instance.
+fn names_of<'f, 'a>(flat: &'f Flat<'a>, number: u32) -> &'f Scope<'a>
+    requires { number < length flat.now.scopes }
+    ensures { result.now ≡ scope_at (plain_flat flat.now) number }
+{
+    &flat.scopes[number as usize]
+}
+
 /// What the first combinational block of a design assigns.
 fn assigned(alloc: Global, flat: &Flat) -> Result<Vec<Write>, AllocError> {
     let mut writes = Vec::new(alloc);
-    if let Some(block) = flat.combinational.get(0) {
-        if let Some(scope) = flat.scopes.get(block.scope as usize) {
-            add_assigned(alloc, &mut writes, block.body, scope, false)?;
-        }
+    if let Some(block) = first_block(flat) {
+        let names = names_of(flat, block.scope);
+        add_assigned(alloc, &mut writes, block.body, names, false)?;
     }
     Ok(writes)
 }

@@ -1,6 +1,6 @@
 //! The evaluator: settled environments, clock edges and runs of a lawful flat design (IEEE 1364-2005
 //! sections 6.1, 9 and 11). It is right where its answers are the one settled environment, next state
-//! and run of `rr_cycle`. It stands on `rr_exec`'s statements and on the order of `rr_lawful`.
+//! and run of `rr_cycle`. It stands on `rr_exec`'s statements; the order of the steps is given to it.
 #![tactic(auto)]
 
 mod cycle;
