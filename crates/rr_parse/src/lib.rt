@@ -13,8 +13,6 @@ mod lists;
 mod modules;
 mod ports;
 mod source;
-#[cfg(test)]
-mod tests;
 mod tokens;
 
 pub use laws::words_have_rules;

@@ -4,7 +4,5 @@
 #![tactic(auto)]
 
 mod outside;
-#[cfg(test)]
-mod tests;
 
 pub use outside::first_outside;

@@ -4,7 +4,7 @@ ghost use Rattle.std.specs.Prelude.{◌≡◌, ◌<◌, ◌^◌, length, drop, M
 ghost use Rattle.rr_syntax.specs.Words.{words};
 ghost use Rattle.rr_profile.specs.Profile.{is_cast as cast_of, is_outside as outside_of, is_used as used_of, opens as opens_of, IsFirstOutside, NoneOutside};
 
-use rr_syntax::{Keyword, Kind, Token};
+use rr_syntax::{Keyword, Kind, Mark, Token};
 
 /// The reserved words that the grammar uses (IEEE 1364-2005 annexes A and B).
 const USED: [u8; 24] = [
@@ -33,10 +33,6 @@ const USED: [u8; 24] = [
     Keyword::SIGNED.0,
     Keyword::WIRE.0,
 ];
-
-const HASH: u8 = 10;
-
-const OPEN_PARENTHESIS: u8 = 0;
 
 /// The first token whose word has no rule in the profile: a reserved word that the grammar does not
 /// use, a system name that is no cast, or a `#` without an opening bracket behind it. `None` where
@@ -68,7 +64,7 @@ fn is_outside(tokens: &[Token], at: u32) -> bool
             Kind::Number(_) => false,
             Kind::System(name) => !is_cast(name),
             Kind::Keyword(word) => !is_used(word.0),
-            Kind::Mark(mark) => mark.0 == HASH && !opens(tokens, at + 1),
+            Kind::Mark(mark) => mark.0 == Mark::HASH.0 && !opens(tokens, at + 1),
         },
     }
 }
@@ -96,7 +92,7 @@ fn opens(tokens: &[Token], at: u32) -> bool
 {
     match tokens.get(at as usize) {
         Some(token) => match token.kind {
-            Kind::Mark(mark) => mark.0 == OPEN_PARENTHESIS,
+            Kind::Mark(mark) => mark.0 == Mark::OPEN_PARENTHESIS.0,
             _ => false,
         },
         None => false,

@@ -5,42 +5,26 @@ ghost use Rattle.std.specs.Prelude.{◌<◌, IfSome};
 ghost use Rattle.rr_stop.specs.Going.{Goes};
 
 use crate::cursor::Cursor;
-use rr_syntax::{Kind, Mark};
+use rr_syntax::{Kind, Mark, infix_level, is_prefix};
 
-/// The levels of the marks that stand between operands (section 5.1.2), 0 of the others.
-const LEVELS: [u8; 45] = [
-    0, 0, 0, 0, 0, 0, 0, 0, 0, 0, 0, 0, 0, 0, 10, 10, 11, 11, 11, 0, 0, 6, 4, 5, 8, 8, 12, 7, 7, 7,
-    7, 8, 8, 9, 9, 9, 9, 3, 2, 0, 0, 5, 5, 0, 0,
-];
-
-/// The level of the operator that comes next, 0 where none does.
-fn infix_level(cursor: &Cursor) -> u8 {
+/// The level of the operator between two operands that comes next, 0 where none does.
+fn next_level(cursor: &Cursor) -> u8 {
     match cursor.mark() {
-        Some(mark) => match LEVELS.get(mark.0 as usize) {
-            Some(level) => *level,
-            None => 0,
-        },
         None => 0,
+        Some(mark) => {
+            if mark.0 == Mark::QUESTION.0 {
+                0
+            } else {
+                infix_level(mark)
+            }
+        }
     }
 }
 
 /// Whether an operator of one operand comes next.
-fn is_prefix(cursor: &Cursor) -> bool {
+fn is_prefix_next(cursor: &Cursor) -> bool {
     match cursor.mark() {
-        Some(mark) => [
-            Mark::PLUS.0,
-            Mark::MINUS.0,
-            Mark::NOT.0,
-            Mark::TILDE.0,
-            Mark::AND.0,
-            Mark::OR.0,
-            Mark::XOR.0,
-            Mark::NAND.0,
-            Mark::NOR.0,
-            Mark::XNOR.0,
-            Mark::XNOR_REVERSED.0,
-        ]
-        .contains(&mark.0),
+        Some(mark) => is_prefix(mark),
         None => false,
     }
 }
@@ -86,7 +70,7 @@ fn climb(cursor: &mut Cursor, level: u8, room: u32) -> Option<u32>
 {
     let mut depth = operand(cursor, room)?;
     loop {
-        let found = infix_level(cursor);
+        let found = next_level(cursor);
         if found <= level {
             break;
         }
@@ -125,7 +109,7 @@ fn operand(cursor: &mut Cursor, room: u32) -> Option<u32>
     ensures goes { Goes cursor.old cursor.new }
     ensures shallow { IfSome result (λ depth. depth < room) }
 {
-    if !is_prefix(cursor) {
+    if !is_prefix_next(cursor) {
         return primary(cursor, room);
     }
     let inside = inner(room)?;
@@ -152,6 +136,8 @@ fn primary(cursor: &mut Cursor, room: u32) -> Option<u32>
     if cursor.is_mark(Mark::OPEN_BRACE) {
         return braces(cursor, room);
     }
+    // What stands in brackets lies below, so the word of a cast is not taken where no room is left.
+    inner(room)?;
     let cast = is_cast(cursor);
     cursor.take_if(cast);
     parenthesised(cursor, room)

@@ -3,7 +3,8 @@
 //!
 //! It builds no tree. The reader of modules asks it only for texts that it has refused. That its
 //! answer is a token or the number of tokens, and the first one exactly where that is not `module`, is
-//! proved; which later one is shown by tests. It stands on `rr_syntax`, and its tests on `rr_lex`.
+//! proved; which later one is shown by tests. It stands on `rr_syntax`, whose table of operators the
+//! reader of expressions asks too.
 #![tactic(auto)]
 
 mod cursor;
@@ -12,6 +13,3 @@ mod modules;
 mod statements;
 
 pub use modules::stop;
-
-#[cfg(test)]
-mod tests;

@@ -115,9 +115,10 @@ fn cases(cursor: &mut Cursor, inside: u32) -> Option<()>
     ensures goes { Goes cursor.old cursor.new }
     ensures takes { IfSome result (λ t. Takes cursor.old cursor.new) }
 {
+    // The statement of an arm lies two levels below, and a `case` has an arm.
+    let part = inner(inside)?;
     cursor.take_if(true);
     tested(cursor, inside)?;
-    let part = inner(inside)?;
     let mut default = arm(cursor, part, false)?;
     while !cursor.take_word(Keyword::ENDCASE) {
         default = arm(cursor, part, default)?;

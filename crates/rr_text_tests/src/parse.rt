@@ -2,6 +2,7 @@
 
 use crate::texts::{is_in_rules, push_times, tokens_of};
 use bumpalo::Bump;
+use rr_lex::lex;
 use rr_parse::parse;
 use rr_parse_expr::ParseFault;
 use rr_stop::stop;
@@ -324,19 +325,24 @@ const TOKEN_EDGES: &str = "module m(input clk,input s,output reg[3:0]q);\
     always@(posedge clk)q<=s?4'd3:4'd0;endmodule";
 
 /// Whether a text has a tree that spells as many tokens.
-fn spells(alloc: Global, text: &str) -> Result<bool, Fail> {
+fn spells(alloc: Global, text: &str) -> bool {
     let arena = Bump::new(alloc);
-    let tokens = tokens_of(text, &arena)?;
-    match parse(tokens, &arena) {
-        Err(_) => Ok(false),
-        Ok(source) => Ok(spell_len(source) == tokens.len() as u64 && depth(source) <= 500),
+    if text.len() > 1_000_000 {
+        return false;
+    }
+    match lex(text.as_bytes(), &arena) {
+        Err(_) => false,
+        Ok(tokens) => match parse(tokens, &arena) {
+            Err(_) => false,
+            Ok(source) => spell_len(source) == tokens.len() as u64 && depth(source) <= 500,
+        },
     }
 }
 
 #[test]
 fn usual_designs(rt: HostRuntime) -> Result<(), Fail> {
-    assert!(rt; spells(rt.alloc(), TRANSMITTER)?);
-    assert!(rt; spells(rt.alloc(), TOKEN_EDGES)?);
-    assert!(rt; spells(rt.alloc(), "")?);
+    assert!(rt; spells(rt.alloc(), TRANSMITTER));
+    assert!(rt; spells(rt.alloc(), TOKEN_EDGES));
+    assert!(rt; spells(rt.alloc(), ""));
     Ok(())
 }

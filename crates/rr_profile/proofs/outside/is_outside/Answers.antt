@@ -16,8 +16,8 @@ returns-in-System c = ap not c.is_cast.ensures ∙ sym (outside_kind c.args.toke
 pub returns-in-Keyword : goal.returns-in-Keyword
 returns-in-Keyword c = ap not c.is_used.ensures ∙ sym (outside_kind c.args.tokens.now c.args.at c.in-Some.token.now _ c.in-Some.ensures.lookup.3.0 c.in-Some.ensures.lookup.1 c.in-Keyword.is)
 
-pub returns-then-mark-eq-HASH : goal.returns-then-mark-eq-HASH
-returns-then-mark-eq-HASH c = ap not c.opens.ensures ∙ sym (outside_kind c.args.tokens.now c.args.at c.in-Some.token.now _ c.in-Some.ensures.lookup.3.0 c.in-Some.ensures.lookup.1 c.in-Mark.is ∙ hash_before c.in-Mark.mark.0 (drop (c.args.at + 1) (words c.args.tokens.now)) c.if-mark-eq-HASH.true)
+pub returns-then-mark : goal.returns-then-mark
+returns-then-mark c = ap not c.opens.ensures ∙ sym (outside_kind c.args.tokens.now c.args.at c.in-Some.token.now _ c.in-Some.ensures.lookup.3.0 c.in-Some.ensures.lookup.1 c.in-Mark.is ∙ hash_before c.in-Mark.mark.0 (drop (c.args.at + 1) (words c.args.tokens.now)) c.if-mark.true)
 
-pub returns-else-mark-eq-HASH : goal.returns-else-mark-eq-HASH
-returns-else-mark-eq-HASH c = not_equal c.in-Mark.mark.0 10 c.if-mark-eq-HASH.false ∙ sym (outside_kind c.args.tokens.now c.args.at c.in-Some.token.now _ c.in-Some.ensures.lookup.3.0 c.in-Some.ensures.lookup.1 c.in-Mark.is ∙ no_hash c.in-Mark.mark.0 (drop (c.args.at + 1) (words c.args.tokens.now)) c.if-mark-eq-HASH.false)
+pub returns-else-mark : goal.returns-else-mark
+returns-else-mark c = not_equal c.in-Mark.mark.0 10 c.if-mark.false ∙ sym (outside_kind c.args.tokens.now c.args.at c.in-Some.token.now _ c.in-Some.ensures.lookup.3.0 c.in-Some.ensures.lookup.1 c.in-Mark.is ∙ no_hash c.in-Mark.mark.0 (drop (c.args.at + 1) (words c.args.tokens.now)) c.if-mark.false)
