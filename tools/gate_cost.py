@@ -5,9 +5,10 @@ usage: tools/gate_cost.py
 
 It is started beside `rt ci`, before it or while it runs, and prints its table when no `rt ci` runs any more, or at an
 interrupt. Until then it looks at the processes of the machine twice a second, and adds up the processor time of each check
-that an `rt ci` started: that of a crate's own proof, of its tests, and of its must-fail edits with the proof that they
-begin with. What a check takes after the last look at it is not counted, nor are the runs of tests and programs. Crates
-that an earlier run kept are not proved again, so they are missing: `rt ci --anew` measures all.
+that an `rt ci` started: that of a crate's own proof, of its tests, of the second proof of the crate that its must-fail edits
+start from where there are several, and of the edits. What a check takes after the last look at it is not counted, nor
+are the runs of tests and programs. Crates that an earlier run kept are not proved again, so they are missing: `rt ci
+--anew` measures all.
 """
 
 import os
@@ -17,7 +18,7 @@ import time
 
 TOP = os.path.dirname(os.path.dirname(os.path.abspath(__file__)))
 TICKS = os.sysconf("SC_CLK_TCK")
-KINDS = ("proof", "tests", "edits")
+KINDS = ("proof", "tests", "start", "edits")
 BETWEEN = 0.5
 # Between two checks of a run there are moments without any, and a run that was started beside this may not have begun.
 PATIENCE = 30
@@ -62,9 +63,9 @@ def is_below_a_gate(number, found):
 
 
 def kind_of(number, words):
-    """What a check is for. The gate tries edits on copies of a crate, in folders of their own."""
+    """What a check is for. The gate tries edits on copies of a crate, in folders of their own, over what is in a folder `seed`."""
     if os.path.basename(os.readlink(f"/proc/{number}/cwd")).startswith("rt-edit-"):
-        return "edits"
+        return "start" if any(word.endswith("/seed") for word in words) else "edits"
     return "tests" if "--test" in words else "proof"
 
 
@@ -130,7 +131,7 @@ def main():
     if not minutes:
         print("no check of a gate ran", file=sys.stderr)
         return 1
-    print("| crate | proof | tests | edits | all |\n|---|---|---|---|---|")
+    print(f"| crate | {' | '.join(KINDS)} | all |\n|---|{'---|' * len(KINDS)}---|")
     for crate, row in sorted(minutes.items(), key=lambda it: -sum(it[1].values())):
         show(f"`{crate}`", row)
     show("all", {kind: sum(row[kind] for row in minutes.values()) for kind in KINDS})

@@ -1,8 +1,12 @@
 //! Gates, copies, and texts of circuits.
-use crate::helpers::shared;
 use rr_circuit::{AagFault, Builder, Wire, read_aag, write_aag};
 use std::alloc::Global;
 use std::test::Fail;
+
+/// Whether the value may be used by several threads.
+fn shared<T: Send + Sync>(_value: &T) -> bool {
+    true
+}
 
 fn fault_of(alloc: Global, text: &str) -> Option<AagFault> {
     match read_aag(alloc, text.as_bytes()) {
