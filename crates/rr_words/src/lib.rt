@@ -5,7 +5,7 @@
 mod line;
 mod read;
 
-pub use read::{Command, USAGE, WordsFault, read_words};
+pub use read::{Command, WordsFault, read_words, usage};
 
 #[cfg(test)]
 mod tests;

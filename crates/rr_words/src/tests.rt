@@ -293,11 +293,11 @@ fn reads_lines(rt: HostRuntime) -> Result<(), Fail> {
 #[test]
 fn says_the_usage(rt: HostRuntime) {
     assert!(rt;
-        USAGE.starts_with("usage: rtl_repair repair DESIGN TABLE CERT, run DESIGN TABLE, "),
+        usage().starts_with("usage: rtl_repair repair DESIGN TABLE CERT, run DESIGN TABLE, "),
         "front"
     );
     assert!(rt;
-        USAGE.ends_with("sites DESIGN, check CIRCUIT PROOF, make SEED CERT\n"),
+        usage().ends_with("sites DESIGN, check CIRCUIT PROOF, make SEED CERT\n"),
         "end"
     );
 }
