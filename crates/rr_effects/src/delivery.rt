@@ -1,9 +1,10 @@
 //! An answer that is carried out.
-ghost use Rattle.std.specs.Prelude.{◌≡◌, map};
+ghost use Rattle.std.specs.Prelude.{◌≡◌, ◌<◌, length, map};
 ghost use Rattle.rr_edge.specs.Sink.{Puts, CountsPut};
 ghost use Rattle.rr_report.specs.Endings.{status_of};
-ghost use Rattle.rr_report.specs.Views.{file_of, plain_answer, report_text};
-ghost use Rattle.rr_effects.specs.Delivery.{Delivers, Reports};
+ghost use Rattle.rr_report.specs.Views.{Says, file_of, plain_answer, report_text};
+ghost use Rattle.rr_report.specs.Texts.{write_fault_text};
+ghost use Rattle.rr_effects.specs.Delivery.{Delivers, Reports, file_at};
 ghost use Rattle.rr_effects.specs.Outside.{outside};
 ghost use Rattle.rr_effects.specs.Views.{Written};
 

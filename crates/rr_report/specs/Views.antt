@@ -27,9 +27,8 @@ abbrev pub report_text : Report → List ℕ
 report_text report = text_bytes report.text
 
 -- how the run ends, and the text that says so
-pub record Says (report : Report) (ending : Ending) (text : List ℕ) : Type 0 where
-  pub ends : report.ending ≡ ending
-  pub says : report_text report ≡ text
+abbrev pub Says : Report → Ending → List ℕ → Type 0
+Says report ending text = (report.ending ≡ ending) × (report_text report ≡ text)
 
 -- the name and the bytes of a file
 abbrev pub file_of : RustFile → File

@@ -19,7 +19,7 @@ use Rattle.rr_thin.specs.Choices.{off, cost, Matches, Mends, NoneMends}
 use Rattle.rr_thin.specs.Texts.{unchanged_text}
 use Rattle.rr_thin.specs.Repairs.{AreLawful, AreTaken, Answers, AnswersRepair, IsMatching, IsMendable, IsNoRepair, IsRepair, IsUnmendable, Lacks, NoThin, RefusesRepair, Repairs}
 use Rattle.rr_thin.proofs.Judged.{same_lawful, lawful_or_refusal}
-use Rattle.rr_thin.proofs.Leasts.{cheap, off_mends}
+use Rattle.rr_thin.proofs.Leasts.{off_mends}
 use Rattle.rr_thin.proofs.Patched.{patched_none}
 
 -- no words are two thin designs

@@ -91,7 +91,7 @@ pub record Calm (r : Execution) : Type 0 where
   pub notes : r.notes_faults_after ≡ r.notes_faults_before
 
 -- which failure it was
-abbrev FailureOf : Execution → Option Plan → Type 0
+abbrev pub FailureOf : Execution → Option Plan → Type 0
 FailureOf r o = IsReportFault r ⊎ ((plan : Plan) × (o ≡ Some plan) × (IsAbsent r plan ⊎ (IsReadFault r plan ⊎ IsOutFault r plan)))
 
 -- what came of a run, by its status

@@ -1,4 +1,5 @@
 pub mod Judging
+pub mod Ends
 pub mod Readings
 pub mod Once
 pub mod Executions

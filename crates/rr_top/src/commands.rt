@@ -4,7 +4,6 @@ ghost use Rattle.rr_words.specs.Plan.{check, repair, run, texts_of};
 ghost use Rattle.rr_certify.specs.Certificates.{IsFlawed};
 ghost use Rattle.rr_report.specs.Views.{plain_answer, report_text, StopsWhere};
 ghost use Rattle.rr_effects.specs.Outside.{outside};
-ghost use Rattle.rr_effects.specs.Views.{read_of};
 ghost use Rattle.rr_top.specs.Commands.{AnswersCheck, AnswersRun, RefusesCertificate, RefusesTexts, TellsVerdict};
 ghost use Rattle.rr_top.specs.Endings.{PlanEnds};
 
@@ -38,22 +37,6 @@ pub(crate) struct Names<'a> {
     pub(crate) clock: Option<&'a str>,
 }
 
-/// The reads of a design and of its table.
-fn design_reads<'a>(names: Names<'a>) -> (Read<'a>, Read<'a>)
-    ensures first { read_of result.0 ≡ (names.entry.design.now, 1048576) }
-    ensures second { read_of result.1 ≡ (names.entry.table.now, 16777216) }
-{
-    let design = Read {
-        name: names.design,
-        limit: DESIGN_LIMIT,
-    };
-    let table = Read {
-        name: names.table,
-        limit: TABLE_LIMIT,
-    };
-    (design, table)
-}
-
 /// `repair`: prints the design repaired. Names in a refusal live in the arena.
 pub(crate) fn repair_design<'a, H: Shelf, K: Sink>(
     alloc: Global,
@@ -68,7 +51,14 @@ pub(crate) fn repair_design<'a, H: Shelf, K: Sink>(
         (outside (H.told shelf.new) (H.faults shelf.new) (K.written out.new) (K.faults out.new))
         result.ending (report_text result) }
 {
-    let (design, table) = design_reads(names);
+    let design = Read {
+        name: names.design,
+        limit: DESIGN_LIMIT,
+    };
+    let table = Read {
+        name: names.table,
+        limit: TABLE_LIMIT,
+    };
     let files = match fetch(alloc, shelf, design, table) {
         Ok(files) => files,
         Err(report) => return report,
@@ -124,7 +114,14 @@ pub(crate) fn run_design<'a, H: Shelf, K: Sink>(
         (outside (H.told shelf.new) (H.faults shelf.new) (K.written out.new) (K.faults out.new))
         result.ending (report_text result) }
 {
-    let (design, table) = design_reads(names);
+    let design = Read {
+        name: names.design,
+        limit: DESIGN_LIMIT,
+    };
+    let table = Read {
+        name: names.table,
+        limit: TABLE_LIMIT,
+    };
     let files = match fetch(alloc, shelf, design, table) {
         Ok(files) => files,
         Err(report) => return report,

@@ -6,6 +6,3 @@ mod line;
 mod read;
 
 pub use read::{Command, WordsFault, read_words, usage};
-
-#[cfg(test)]
-mod tests;

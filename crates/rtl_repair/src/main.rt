@@ -5,14 +5,18 @@ use rr_edge::{FileShelf, OutSink};
 use rr_effects::put_report;
 use rr_report::{Report, no_usage, out_of_memory};
 use rr_top::run;
+use std::alloc::Global;
 use std::env;
-use std::io::ErrorKind;
+use std::io::{self, ErrorKind};
 use std::process::ExitCode;
 
 /// The arguments, or the report that they are not had: usage where one is no UTF-8, or want of memory.
-fn arguments<'a>(rt: &HostRuntime) -> Result<Vec<String>, Report<'a>> {
-    let mut words = Vec::new(rt.alloc());
-    match env::args(rt) {
+fn arguments<'a>(
+    alloc: Global,
+    found: io::Result<env::Args>,
+) -> Result<Vec<String>, Report<'a>> {
+    let mut words = Vec::new(alloc);
+    match found {
         Ok(args) => {
             for word in args {
                 if words.push(word).is_err() {
@@ -35,7 +39,7 @@ fn main(rt: HostRuntime) -> ExitCode {
     let mut shelf = FileShelf::new(&rt);
     let mut out = OutSink::new(rt.stdout());
     let mut notes = OutSink::new(rt.stderr());
-    let status = match arguments(&rt) {
+    let status = match arguments(rt.alloc(), env::args(&rt)) {
         Ok(words) => run(
             &rt,
             rt.alloc(),

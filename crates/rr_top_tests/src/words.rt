@@ -1,5 +1,5 @@
 //! Lines of words with the commands that they name.
-use crate::{Command, USAGE, WordsFault, read_words};
+use rr_words::{Command, WordsFault, read_words, usage};
 use std::alloc::Global;
 use std::test::Fail;
 
@@ -292,12 +292,8 @@ fn reads_lines(rt: HostRuntime) -> Result<(), Fail> {
 
 #[test]
 fn says_the_usage(rt: HostRuntime) {
-    assert!(rt;
-        usage().starts_with("usage: rtl_repair repair DESIGN TABLE CERT, run DESIGN TABLE, "),
-        "front"
-    );
-    assert!(rt;
-        usage().ends_with("sites DESIGN, check CIRCUIT PROOF, make SEED CERT\n"),
-        "end"
+    assert_eq!(rt;
+        usage(),
+        "usage: rtl_repair repair DESIGN TABLE CERT, run DESIGN TABLE, sites DESIGN, check CIRCUIT PROOF, make SEED CERT\n"
     );
 }
