@@ -33,8 +33,11 @@ more_written start old new files k file within is before now =
 pub stopped_at : (start old new : Option Held) (files : List RustFile) (k : ℕ) (file : RustFile) → k < length files → file ≡ get_or files k file → old ≡ with_files start (take k (map file_of files))
     → (new ≡ old) ⊎ ((n : ℕ) × (new ≡ option_map (λ held. put held (file_of file).0 (take n (file_of file).1)) old)) → StopsAtWrite start new (map file_of files) k
 stopped_at start old new files k file within is before (inl same) = inl (same ∙ before)
-stopped_at start old new files k file within is before (inr (n, now)) = inr (n, now ∙ ap (λ (told : Option Held). with_file told ((file_of file).0, take n (file_of file).1)) before
-    ∙ ap (λ (f : File). with_file (with_files start (take k (map file_of files))) (f.0, take n f.1)) (sym (file_there files k file within is)))
+stopped_at start old new files k file within is before (inr (n, now)) = inr (
+  n,
+  now ∙ ap (λ (told : Option Held). with_file told ((file_of file).0, take n (file_of file).1)) before
+      ∙ ap (λ (f : File). with_file (with_files start (take k (map file_of files))) (f.0, take n f.1)) (sym (file_there files k file within is)),
+)
 
 whole : (files : List File) (k : ℕ) → length files ≤ k → take k files ≡ files
 whole [] zero h = refl

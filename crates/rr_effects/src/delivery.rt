@@ -62,11 +62,7 @@ fn write_fault<'a>(files: Vec<File>, number: usize) -> Report<'a>
 
 /// Carries an answer out, but for its report: writes its files in order, and then puts its piece on the
 /// output, and answers the report that is due. Where a write does not succeed, nothing is put.
-pub fn deliver<'a, H: Shelf, K: Sink>(
-    found: Found<'_>,
-    shelf: &mut H,
-    out: &mut K,
-) -> Report<'a>
+pub fn deliver<'a, H: Shelf, K: Sink>(found: Found<'_>, shelf: &mut H, out: &mut K) -> Report<'a>
     ensures { Delivers (plain_answer found.entry)
         (outside (H.told shelf.old) (H.faults shelf.old) (K.written out.old) (K.faults out.old))
         (outside (H.told shelf.new) (H.faults shelf.new) (K.written out.new) (K.faults out.new))

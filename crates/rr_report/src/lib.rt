@@ -9,7 +9,10 @@ mod found;
 mod refusal;
 mod text;
 
-pub use ending::{Ending, Report, absent, no_usage, out_fault, out_of_memory, read_fault, refused, status, stopped};
+pub use ending::{
+    Ending, Report, absent, no_usage, out_fault, out_of_memory, read_fault, refused, status,
+    stopped,
+};
 pub use file::File;
 pub use found::{Found, Piece};
 pub use refusal::{Part, Refusal, Stop, stop_of};

@@ -1,11 +1,12 @@
 -- The source with one token changed.
-use Rattle.std.proofs.Common.{◌≡◌, ◌∙◌, subst, inl, inr, ℕ, ◌+◌, ◌-◌, ◌<◌, zero, suc, List, [], ◌∷◌, ◌++◌, length, take, drop, refl, sym, ap, get_or, arith, append_assoc, Bool, true, false, Some, None}
+use Rattle.std.proofs.Common.{◌≡◌, ◌∙◌, subst, inl, inr, ℕ, ◌+◌, ◌-◌, ◌<◌, zero, suc, List, [], ◌∷◌, ◌++◌, length, take, drop, refl, sym, ap, get_or, map, arith, append_assoc, Bool, true, false, Some, None}
 use Rattle.std.proofs.Math.Seq.{take-add}
 use Rattle.std.proofs.lemmas.List.{drop-drop, length-map}
 use Rattle.std.specs.Prelude.{not, Result, Ok, Err, IfOk}
 use Rattle.std.specs.declared.alloc.AllocError.{AllocError}
+use Rattle.rr_report.specs.declared.file.File.{File as RustFile}
 use Rattle.rr_report.specs.declared.found.Found.{Found}
-use Rattle.rr_report.specs.Views.{plain_answer}
+use Rattle.rr_report.specs.Views.{file_of, plain_answer}
 use Rattle.rr_syntax.specs.Words.{Word, Digits, Marked, Reserved, mark_close_parenthesis}
 use Rattle.rr_syntax.specs.declared.token.Token.{Token}
 use Rattle.rr_thin.specs.Texts.{repaired_text}
@@ -152,6 +153,10 @@ has_site Copies c is on none = let o : c.on ≡ false = ap (λ (d : Choice). d.o
 has_site (Constant b) c is on none = cc
 has_site (Masked b) c is on none = cc
 
+-- no file is written
+pub no_files : (files : List RustFile) → files ≡ [] → map file_of files ≡ []
+no_files files none = ap (map file_of) none
+
 minus_zero : (n : ℕ) → n - 0 ≡ n
 minus_zero n = omega arith
 
@@ -161,12 +166,12 @@ patched_first ts place to bs n h rise =
     rw (minus_zero (get_or ts place no_lexeme).start, minus_zero (get_or ts place no_lexeme).end) at (patched_with ts place 0 to bs n h rise)
 
 -- the answer made of the patched bytes and of the report
-pub is_changed : (bs : List ℕ) (ts : List Token) (place : ℕ) (v : Bool) (start end : ℕ) (text out notes : List ℕ) → place < length ts → Rise 0 (length bs) (lexemes ts)
+pub is_changed : (bs : List ℕ) (ts : List Token) (place : ℕ) (v : Bool) (start end : ℕ) (text out notes : List ℕ) (files : List RustFile) → files ≡ [] → place < length ts → Rise 0 (length bs) (lexemes ts)
     → start ≡ (get_or (lexemes ts) place no_lexeme).start → end ≡ (get_or (lexemes ts) place no_lexeme).end → text ≡ (new_bit v).text
     → out ≡ take start bs ++ (32 ∷ (text ++ (32 ∷ drop end bs))) → notes ≡ repaired_text 1 start text
-    → IsChanged bs (lexemes ts) place v (record { status = 0; files = []; out = out; notes = notes })
-is_changed bs ts place v start end text out notes h rise start_is end_is text_is out_is notes_is = record {
-  files = refl;
+    → IsChanged bs (lexemes ts) place v (record { status = 0; files = map file_of files; out = out; notes = notes })
+is_changed bs ts place v start end text out notes files none h rise start_is end_is text_is out_is notes_is = record {
+  files = no_files files none;
   printed = out_is ∙ rw (start_is, end_is, text_is) (sym (patched_first (lexemes ts) place (length bs) bs (new_bit v) (lexemes_within ts place h) rise));
   says = notes_is ∙ rw (start_is, text_is) refl;
   zero = refl;

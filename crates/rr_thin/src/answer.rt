@@ -97,9 +97,10 @@ fn repaired<'b>(
     let text = literal_text(value);
     let out = patched(alloc, bytes, span, text)?;
     let notes = repaired_text(alloc, 1, span.start, text)?;
+    let files = Vec::new(alloc);
     Ok(Found {
         status: 0,
-        files: Vec::new(alloc),
+        files,
         out: Piece::Made(out),
         notes: Text::Made(notes),
     })

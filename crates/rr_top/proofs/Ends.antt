@@ -1,5 +1,5 @@
 -- How commands end, from how their reads end and from what their files give.
-use Rattle.std.proofs.Common.{◌≡◌, ◌∙◌, inl, inr, ℕ, List, [], ◌∷◌, refl, sym, Option}
+use Rattle.std.proofs.Common.{◌≡◌, ◌∙◌, inl, inr, ℕ, List, [], ◌∷◌, refl, sym, ap, map, Option}
 use Rattle.rr_edge.specs.Held.{Held}
 use Rattle.rr_words.specs.Plan.{Plan, repair, run, sites, check, make}
 use Rattle.rr_report.specs.declared.ending.Ending.{Ending}
@@ -11,13 +11,18 @@ use Rattle.rr_report.specs.declared.refusal.Stop.TheVariants as stop
 use Rattle.rr_report.specs.Found.{Answer}
 use Rattle.rr_report.specs.Refusals.{Refusal, plain_refusal}
 use Rattle.rr_report.specs.Texts.{memory_text, refused_text}
-use Rattle.rr_report.specs.Views.{report_text, IsRefusedOrNoMemory, Stops, StopsWhere}
+use Rattle.rr_report.specs.declared.file.File.{File as RustFile}
+use Rattle.rr_report.specs.Views.{file_of, report_text, IsRefusedOrNoMemory, Stops, StopsWhere}
 use Rattle.rr_effects.specs.Outside.{Outside, outside, KeepsShelf, KeepsOut}
 use Rattle.rr_effects.specs.Reads.{Given, StopsReading}
 use Rattle.rr_effects.specs.Delivery.{Delivers}
 use Rattle.rr_thin.specs.Repairs.{AnswersRepair, RefusesRepair}
 use Rattle.rr_top.specs.Commands.{Answers, AnswersCheck, AnswersRun, Due, RefusesCertificate, RefusesFiles, RefusesTexts, Refuses, reads_of}
 use Rattle.rr_top.specs.Endings.{PlanEnds}
+
+-- no file is written
+pub no_file_made : (files : List RustFile) → files ≡ [] → map file_of files ≡ []
+no_file_made files none = ap (map file_of) none
 
 module _ (told told_now : Option Held) (faults faults_now : ℕ) (out : Option (List ℕ)) (out_faults : ℕ) (held : told_now ≡ told) (quiet : faults_now ≡ faults) where
   abbrev before : Outside

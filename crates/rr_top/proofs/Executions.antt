@@ -130,14 +130,18 @@ module _ (r : Execution) where
       → Appends r.notes_before r.notes_after text → r.status ≡ 4 → Came r o
   out_fault_put plan o answer text is due e put status =
       let held = held_with r.before.held answer plan r.after.held due e.0 in
-      came_fault (inr (inl e.3)) (inr (plan, is, inr (inr (record {
-        answer = answer;
-        due = due;
-        rose = e.3;
-        printed = e.2;
-        shelf = record { held = held; faults = e.1 };
-        reported = rw e.4 at put;
-      })))) status held
+      came_fault (inr (inl e.3)) (inr (
+        plan,
+        is,
+        inr (inr (record {
+          answer = answer;
+          due = due;
+          rose = e.3;
+          printed = e.2;
+          shelf = record { held = held; faults = e.1 };
+          reported = rw e.4 at put;
+        })),
+      )) status held
 
   read_fault_put : (plan : Plan) (o : Option Plan) (fault : IsReadFault r plan) → o ≡ Some plan → r.status ≡ 4 → Came r o
   read_fault_put plan o fault is status = came_fault (inl fault.rose) (inr (plan, is, inr (inl fault))) status fault.held

@@ -156,7 +156,10 @@ fn file_shelf_opens_the_name(rt: HostRuntime) {
     let mut shelf = FileShelf::new(&rt);
     for name in ["a", "a b", " a", "b", "a.b/../c", "é"] {
         let _ = fs::create_dir(&rt, "a.b");
-        assert!(rt; shelf.write(name, name.as_bytes()).is_ok(), "write {name:?}");
+        assert!(rt;
+            shelf.write(name, name.as_bytes()).is_ok(),
+            "write {name:?}"
+        );
     }
     for name in ["a", "a b", " a", "b", "a.b/../c", "é"] {
         let bytes = shelf.read(alloc, name, 9).expect(&rt, "held");

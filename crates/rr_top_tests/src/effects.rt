@@ -97,8 +97,9 @@ fn answers_are_carried_out(rt: HostRuntime) {
     for case in CASES.iter() {
         let mut shelf = MemoryShelf::new(alloc, list(&rt, case.shelf_fails));
         let mut out = MemorySink::new(alloc, 100, list(&rt, case.out_fails)).expect(&rt, "room");
-        let mut notes =
-            MemorySink::new(alloc, 100, list(&rt, case.notes_fails)).expect(&rt, "room");
+        let mut notes = MemorySink::new(alloc, 100, list(&rt, case.notes_fails)).expect(
+            &rt, "room",
+        );
         let report = deliver(found(&rt), &mut shelf, &mut out);
         let status = put_report(&report, &mut notes);
         assert_eq!(rt; status, case.status, "{}", case.notes);
@@ -136,10 +137,9 @@ fn reads<R: Abort + AllocGlobal>(rt: &R, fails: u64, first: u64, second: &str) -
             (status(Ending::Done(0)), String::new(alloc))
         }
         Err(report) => {
-            let text = String::from_utf8(
-                Vec::from_slice(alloc, report.text.as_bytes()).expect(rt, "room"),
-            )
-            .expect(rt, "text");
+            let text = String::from_utf8(Vec::from_slice(alloc, report.text.as_bytes()).expect(
+                rt, "room",
+            )).expect(rt, "text");
             (status(report.ending), text)
         }
     }

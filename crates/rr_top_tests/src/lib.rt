@@ -11,9 +11,9 @@ mod effects;
 #[cfg(test)]
 mod limits;
 #[cfg(test)]
-mod reports;
-#[cfg(test)]
 mod repairs;
+#[cfg(test)]
+mod reports;
 #[cfg(test)]
 mod runs;
 #[cfg(test)]

@@ -1,13 +1,13 @@
 //! The greatest lengths of files, at their borders, by a shelf that holds lengths and not bytes.
+ghost use Rattle.std.specs.Prelude.{◌≡◌, ℕ, None};
+ghost use Rattle.rr_edge.specs.Shelf.{Reads, Writes, Counts};
+
 use crate::repairs::words_of;
 use rr_edge::{MemorySink, Shelf, ShelfFault};
 use rr_top::run;
 use std::alloc::Global;
 use std::process::Abort;
 use std::thread::Threads;
-
-ghost use Rattle.std.specs.Prelude.{◌≡◌, ℕ, None};
-ghost use Rattle.rr_edge.specs.Shelf.{Reads, Writes, Counts};
 
 /// Two files by their lengths: each read that is within its limit gives the few bytes of a text.
 #[derive(Drop)]
@@ -75,7 +75,10 @@ fn told<R: Abort + AllocGlobal + Threads + Sync>(
     let status = run(rt, alloc, &words, &mut shelf, &mut out, &mut notes);
     let (due, text) = wanted;
     assert_eq!(rt; status, due, "{line} {first} {second}");
-    assert!(rt; notes.written() == text.as_bytes(), "{line} {first} {second}");
+    assert!(rt;
+        notes.written() == text.as_bytes(),
+        "{line} {first} {second}"
+    );
 }
 
 const DESIGN: [&[u8]; 2] = [
@@ -85,10 +88,7 @@ const DESIGN: [&[u8]; 2] = [
 
 #[test]
 fn designs_and_tables_have_a_greatest_length(rt: HostRuntime) {
-    for (line, notes) in [
-        ("p repair d t c", "unchanged\n"),
-        ("p run d t", ""),
-    ] {
+    for (line, notes) in [("p repair d t c", "unchanged\n"), ("p run d t", "")] {
         told(&rt, line, (1_048_576, 16_777_216), DESIGN, (0, notes));
         told(
             &rt,

@@ -11,10 +11,22 @@ fn refusals_are_told(rt: HostRuntime) {
     let alloc = rt.alloc();
     for (refusal, text) in [
         (Refusal::TooManyBytes(7), "refused 16 TooMany bytes 7\n"),
-        (Refusal::NotBuilt(Part::Command), "refused 0 NotBuilt command\n"),
-        (Refusal::NotBuilt(Part::Design), "refused 0 NotBuilt design\n"),
-        (Refusal::Flawed(Flaw::Circuit, 1), "refused 34 BadCircuit line 1\n"),
-        (Refusal::Flawed(Flaw::Proof, 2), "refused 35 BadProof line 2\n"),
+        (
+            Refusal::NotBuilt(Part::Command),
+            "refused 0 NotBuilt command\n",
+        ),
+        (
+            Refusal::NotBuilt(Part::Design),
+            "refused 0 NotBuilt design\n",
+        ),
+        (
+            Refusal::Flawed(Flaw::Circuit, 1),
+            "refused 34 BadCircuit line 1\n",
+        ),
+        (
+            Refusal::Flawed(Flaw::Proof, 2),
+            "refused 35 BadProof line 2\n",
+        ),
         (Refusal::Flawed(Flaw::Rat, 3), "refused 36 RatLine line 3\n"),
     ] {
         let report = refused(alloc, refusal);
@@ -65,9 +77,7 @@ fn certificates_are_judged(rt: HostRuntime) {
     assert!(rt; found(&rt, circuit, "3 0 1 2 0\n") == Ok(Verdict::Accepted));
     assert!(rt; found(&rt, circuit, "3 0 9 0\n") == Ok(Verdict::Line(1)));
     assert!(rt; found(&rt, circuit, "") == Ok(Verdict::NoEmptyClause));
-    assert!(rt;
-        found(&rt, "aag 9\n", "x") == Err(CertificateFault::Flawed(Flaw::Circuit, 1))
-    );
+    assert!(rt; found(&rt, "aag 9\n", "x") == Err(CertificateFault::Flawed(Flaw::Circuit, 1)));
     for (verdict, text) in [
         (Verdict::Accepted, "accepted\n"),
         (Verdict::Line(5), "refused addition 5\n"),

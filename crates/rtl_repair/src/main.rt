@@ -11,10 +11,7 @@ use std::io::{self, ErrorKind};
 use std::process::ExitCode;
 
 /// The arguments, or the report that they are not had: usage where one is no UTF-8, or want of memory.
-fn arguments<'a>(
-    alloc: Global,
-    found: io::Result<env::Args>,
-) -> Result<Vec<String>, Report<'a>> {
+fn arguments<'a>(alloc: Global, found: io::Result<env::Args>) -> Result<Vec<String>, Report<'a>> {
     let mut words = Vec::new(alloc);
     match found {
         Ok(args) => {
@@ -40,14 +37,7 @@ fn main(rt: HostRuntime) -> ExitCode {
     let mut out = OutSink::new(rt.stdout());
     let mut notes = OutSink::new(rt.stderr());
     let status = match arguments(rt.alloc(), env::args(&rt)) {
-        Ok(words) => run(
-            &rt,
-            rt.alloc(),
-            &words,
-            &mut shelf,
-            &mut out,
-            &mut notes,
-        ),
+        Ok(words) => run(&rt, rt.alloc(), &words, &mut shelf, &mut out, &mut notes),
         Err(report) => put_report(&report, &mut notes),
     };
     ExitCode::from(status)
