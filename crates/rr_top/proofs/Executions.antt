@@ -48,23 +48,23 @@ two_given told one other (a ∷ []) P g p = absurd p
 two_given told one other (a ∷ (b ∷ [])) P g p = record { first = a; second = b; first_given = g.0; second_given = g.1.0; holds = p }
 two_given told one other (a ∷ (b ∷ (c ∷ files))) P g p = absurd p
 
-abbrev Repaired : Option Held → List ℕ → List ℕ → Option (List ℕ) → Option (List ℕ) → Answer → Type 0
-Repaired told d t top clock answer = TwoGiven told (d, 1048576) (t, 16777216) (λ x y. AnswersRepair top clock x y answer)
+abbrev GivenRepair : Option Held → List ℕ → List ℕ → Option (List ℕ) → Option (List ℕ) → Answer → Type 0
+GivenRepair told d t top clock answer = TwoGiven told (d, 1048576) (t, 16777216) (λ x y. AnswersRepair top clock x y answer)
 
-abbrev Ran : Option Held → List ℕ → List ℕ → Option (List ℕ) → Option (List ℕ) → Answer → Type 0
-Ran told d t top clock answer = TwoGiven told (d, 1048576) (t, 16777216) (λ x y. AnswersRun top clock x y answer)
+abbrev GivenRun : Option Held → List ℕ → List ℕ → Option (List ℕ) → Option (List ℕ) → Answer → Type 0
+GivenRun told d t top clock answer = TwoGiven told (d, 1048576) (t, 16777216) (λ x y. AnswersRun top clock x y answer)
 
-abbrev Checked : Option Held → List ℕ → List ℕ → Answer → Type 0
-Checked told c p answer = TwoGiven told (c, 268435456) (p, 1073741824) (λ x y. AnswersCheck x y answer)
+abbrev GivenCheck : Option Held → List ℕ → List ℕ → Answer → Type 0
+GivenCheck told c p answer = TwoGiven told (c, 268435456) (p, 1073741824) (λ x y. AnswersCheck x y answer)
 
 module _ (told : Option Held) (answer : Answer) where
-  repair_given : (d t cert : List ℕ) (top clock : Option (List ℕ)) (budget members : ℕ) → Due (repair d t cert top clock budget members) told answer → Repaired told d t top clock answer
+  repair_given : (d t cert : List ℕ) (top clock : Option (List ℕ)) (budget members : ℕ) → Due (repair d t cert top clock budget members) told answer → GivenRepair told d t top clock answer
   repair_given d t cert top clock budget members due = two_given told (d, 1048576) (t, 16777216) due.files (λ x y. AnswersRepair top clock x y answer) due.given due.answers
 
-  run_given : (d t : List ℕ) (top clock : Option (List ℕ)) → Due (run d t top clock) told answer → Ran told d t top clock answer
+  run_given : (d t : List ℕ) (top clock : Option (List ℕ)) → Due (run d t top clock) told answer → GivenRun told d t top clock answer
   run_given d t top clock due = two_given told (d, 1048576) (t, 16777216) due.files (λ x y. AnswersRun top clock x y answer) due.given due.answers
 
-  check_given : (c p : List ℕ) → Due (check c p) told answer → Checked told c p answer
+  check_given : (c p : List ℕ) → Due (check c p) told answer → GivenCheck told c p answer
   check_given c p due = two_given told (c, 268435456) (p, 1073741824) due.files (λ x y. AnswersCheck x y answer) due.given due.answers
 
   repair_files : (top clock : Option (List ℕ)) (design table : List ℕ) → AnswersRepair top clock design table answer → answer.files ≡ []
@@ -227,7 +227,7 @@ due_status (check c p) told answer due = let two = check_given told answer c p d
 due_status (make s c) told answer due = absurd due.answers
 
 module _ (r : Execution) (answer : Answer) (calm : Calm r) (out : Appends r.before.out r.after.out answer.out) (notes : Appends r.notes_before r.notes_after answer.notes) where
-  mends_given : (d t : List ℕ) (top clock : Option (List ℕ)) → Repaired r.before.held d t top clock answer → answer.status ≡ 0 → IsRepaired r d t top clock
+  mends_given : (d t : List ℕ) (top clock : Option (List ℕ)) → GivenRepair r.before.held d t top clock answer → answer.status ≡ 0 → IsRepaired r d t top clock
   mends_given d t top clock two zero = elim (answered top clock two.first two.second answer two.holds) [
     | repairs is ↦ record {
       design = two.first;
@@ -242,7 +242,7 @@ module _ (r : Execution) (answer : Answer) (calm : Calm r) (out : Appends r.befo
     | despairs is ↦ absurd (omega (arith, is.despairs.status, zero))
   ]
 
-  despairs_given : (d t : List ℕ) (top clock : Option (List ℕ)) → Repaired r.before.held d t top clock answer → answer.status ≡ 1 → IsBeyondRepair r d t top clock
+  despairs_given : (d t : List ℕ) (top clock : Option (List ℕ)) → GivenRepair r.before.held d t top clock answer → answer.status ≡ 1 → IsBeyondRepair r d t top clock
   despairs_given d t top clock two one = elim (answered top clock two.first two.second answer two.holds) [
     | repairs is ↦ absurd (omega (arith, is.repairs.status, one))
     | despairs is ↦ record {
@@ -257,7 +257,7 @@ module _ (r : Execution) (answer : Answer) (calm : Calm r) (out : Appends r.befo
     }
   ]
 
-  simulates_given : (d t : List ℕ) (top clock : Option (List ℕ)) → Ran r.before.held d t top clock answer → IsSimulated r d t top clock
+  simulates_given : (d t : List ℕ) (top clock : Option (List ℕ)) → GivenRun r.before.held d t top clock answer → IsSimulated r d t top clock
   simulates_given d t top clock two = record {
     design = two.first;
     table = two.second;
@@ -269,10 +269,10 @@ module _ (r : Execution) (answer : Answer) (calm : Calm r) (out : Appends r.befo
     shelf = calm.shelf;
   }
 
-  checked_of : (c p : List ℕ) (two : Checked r.before.held c p answer) → IsChecked r.before.held c p two.holds.verdict
+  checked_of : (c p : List ℕ) (two : GivenCheck r.before.held c p answer) → IsChecked r.before.held c p two.holds.verdict
   checked_of c p two = record { circuit = two.first; proof = two.second; given = record { circuit_given = two.first_given; proof_given = two.second_given }; judged = two.holds.judged }
 
-  accepts_given : (c p : List ℕ) → Checked r.before.held c p answer → answer.status ≡ 0 → IsAccepted r c p
+  accepts_given : (c p : List ℕ) → GivenCheck r.before.held c p answer → answer.status ≡ 0 → IsAccepted r c p
   accepts_given c p two zero =
       let tells = two.holds.tells in
       let is = status_zero two.holds.verdict (sym tells.status ∙ zero) in
@@ -284,7 +284,7 @@ module _ (r : Execution) (answer : Answer) (calm : Calm r) (out : Appends r.befo
         shelf = calm.shelf;
       }
 
-  rejects_given : (c p : List ℕ) → Checked r.before.held c p answer → answer.status ≡ 1 → IsRejected r c p
+  rejects_given : (c p : List ℕ) → GivenCheck r.before.held c p answer → answer.status ≡ 1 → IsRejected r c p
   rejects_given c p two one =
       let tells = two.holds.tells in
       record {
@@ -393,6 +393,9 @@ some_plan o plan p q = absurd (cc)
 
 same_plan : (o : Option Plan) (plan other : Plan) → o ≡ Some plan → o ≡ Some other → plan ≡ other
 same_plan o plan other p q = cc
+
+no_fault : (r : Execution) → NoFaults r → SomeFault r → ⊥
+no_fault r quiet f = grind arith
 
 module _ (r : Execution) (o : Option Plan) where
   of_repaired : Came r o → r.status ≡ 0 → (plan : Plan) × (o ≡ Some plan) × HasDone r plan
@@ -526,7 +529,7 @@ module _ (r : Execution) (o : Option Plan) where
     no_absent (read ∷ reads) name all (inr a) = no_absent reads name all.1 a.1
 
     of_complete : AllGiven (Some held) (reads_of plan) → NoneRefuses plan (Some held) → NoFaults r → Came r o → (r.status ≡ 0) ⊎ ((r.status ≡ 1) ⊎ (r.status ≡ 5))
-    of_complete all none quiet (came_fault f w s h) = absurd (grind arith)
+    of_complete all none quiet (came_fault f w s h) = absurd (no_fault r quiet f)
     of_complete all none quiet (came_memory c m s) = inr (inr s)
     of_complete all none quiet (came_usage c n k a s) = some_plan o plan is n
     of_complete all none quiet (came_absent c other p a s) =
