@@ -1,15 +1,14 @@
 -- Refusals of a design and its table, and what a text without a tree is.
-use Rattle.std.proofs.Common.{◌≡◌, ◌⊎◌, inl, inr, refl, ℕ, List, Option, Bool}
+use Rattle.std.proofs.Common.{◌≡◌, ◌⊎◌, inl, inr, refl, ℕ, List, Option}
 use Rattle.rr_run.specs.declared.fault.Fault.{Fault}
 use Rattle.rr_run.specs.declared.fault.Fault.TheVariants as fault
 use Rattle.rr_run.specs.declared.fault.RunFault.{RunFault}
 use Rattle.rr_run.specs.declared.fault.RunFault.TheVariants as run_fault
 use Rattle.rr_run.specs.Refusals.{Refusal as RunRefusal, At, TooMany, NoHeader, UnknownColumn, ColumnTwice, MissingInput, RowLength, BadCell, CellTooLarge, NotUtf8, StopsWhere as RunStops}
-use Rattle.rr_run.specs.Runs.{IsLawfulDesign, RefusesDesign, RefusesTable, Refuses as RefusesRun}
-use Rattle.rr_flat.specs.Plain.{Flat}
-use Rattle.rr_lex.specs.Tokens.{Lexeme}
-use Rattle.rr_top.specs.Verdicts.{IsSyntax, RefusesFiles, RefusesTexts}
-use Rattle.rr_top.specs.Rust.{stop_from, StopsWhere}
+use Rattle.rr_run.specs.Runs.{Refuses as RefusesRun}
+use Rattle.rr_report.specs.Views.{stop_from, StopsWhere}
+use Rattle.rr_top.specs.Commands.{RefusesTexts}
+use Rattle.rr_top.specs.Expected.{IsSyntax}
 
 other_fault : (a b : Fault) (at offset : ℕ) → (a ≡ b → ⊥) → At a at ≡ At b offset → ⊥
 other_fault a b at offset apart is = apart (let same : a ≡ b = cc in same)
@@ -58,15 +57,6 @@ placed_or_syntax NotUtf8 = inl (λ (offset, is). cc)
 
 -- what the calls below refuse, the commands refuse
 module _ (top word : Option (List ℕ)) (design table : List ℕ) where
-  pub stops_design : (f : RunFault) → RunStops (RefusesDesign design top word) f → StopsWhere (RefusesFiles top word design table) (stop_from f)
-  stops_design (run_fault.Refused r) h = inl h
-  stops_design run_fault.Memory h = tt
-
-  pub stops_table : (ts : List Lexeme) (flat : Flat) (clock : Option ℕ) (rising : Bool) → IsLawfulDesign design top word ts flat clock rising → (f : RunFault)
-      → RunStops (RefusesTable flat clock table) f → StopsWhere (RefusesFiles top word design table) (stop_from f)
-  stops_table ts flat clock rising lawful (run_fault.Refused r) h = inr (record { tokens = ts; flat = flat; clock = clock; rising = rising; design = lawful; refused = h })
-  stops_table ts flat clock rising lawful run_fault.Memory h = tt
-
   pub stops_run : (f : RunFault) → RunStops (RefusesRun design table top word) f → StopsWhere (RefusesTexts top word design table) (stop_from f)
   stops_run (run_fault.Refused r) h = h
   stops_run run_fault.Memory h = tt

@@ -1,12 +1,5 @@
-pub mod Over
-pub mod Designs
-pub mod Leasts
-pub mod Matching
-pub mod Places
-pub mod Patched
 pub mod Judging
-pub mod Judged
+pub mod Ends
 pub mod Readings
-pub mod Certificates
-pub mod Verdict
-pub mod Courses
+pub mod Once
+pub mod Executions

@@ -1,62 +1,34 @@
 //! The top call: it runs the command of a command line over a shelf of files, an output and a report.
 //! It is right where the status, the bytes put out and the report are those that its files decide,
-//! for each command that is built. It stands on `rr_words`, `rr_edge`, `rr_run` and the crates of
-//! certificates.
+//! for each command that is built. It stands on `rr_words` for the arguments, on `rr_effects` for the
+//! files, and on one crate for each command: `rr_run`, `rr_certify`, and that of the repair.
 #![tactic(auto)]
 
 ghost use Rattle.std.specs.Prelude.{◌≡◌, ◌<◌, ◌⊎◌, ℕ, List, Some, map, string_bytes};
 ghost use Rattle.rr_edge.specs.Held.{Held};
 ghost use Rattle.rr_words.specs.Plan.{Plan, command_of, plan_of};
 ghost use Rattle.rr_words.specs.Plain.{IsPlain};
-ghost use Rattle.rr_top.specs.Effects.{outside};
-ghost use Rattle.rr_top.specs.Check.{IsNeverTrue};
-ghost use Rattle.rr_top.specs.Verdicts.{Verdict, Judges, reads_of};
+ghost use Rattle.rr_report.specs.Views.{report_text};
+ghost use Rattle.rr_effects.specs.Outside.{outside};
+ghost use Rattle.rr_top.specs.Commands.{reads_of};
+ghost use Rattle.rr_top.specs.Expected.{Expected, Judges};
 ghost use Rattle.rr_top.specs.Endings.{PlanEnds};
-ghost use Rattle.rr_top.specs.Run.{Ends, course, IsCourse, HasDone, HasFailed, IsCheck, IsRefused, IsAbsent, IsExhausted, IsUnread, WhereCommand, SomeFault, Follows, AllGiven, NoneRefuses, NoFaults};
-ghost use Rattle.rr_top.specs.Rust.{report_text, SaysWhy};
+ghost use Rattle.rr_top.specs.Execution.{Ends, execution, IsExecution, HasDone, HasFailed, HoldsNeverTrue, IsCheck, IsRefused, IsAbsent, IsExhausted, IsFailure, IsMatchingRepair, IsUnread, PrintsAsItWas, WhereCommand, SomeFault, Follows, AllGiven, NoneRefuses, NoFaults};
+ghost use Rattle.rr_top.specs.Views.{SaysWhy};
 
 use bumpalo::Bump;
 use rr_edge::{Shelf, Sink};
-use rr_words::{Command, USAGE, WordsFault, read_words};
+use rr_effects::put_report;
+use rr_report::{Part, Refusal, Report, no_usage, out_of_memory, refused};
+use rr_words::{Command, WordsFault, read_words};
 use std::alloc::Global;
 use std::thread::Threads;
 
-mod answer;
-#[cfg(test)]
-mod certificate_tests;
-mod check;
-mod design;
-mod ending;
+mod commands;
 mod laws;
-mod repair;
-#[cfg(test)]
-mod run_tests;
-mod search;
-mod simulate;
-#[cfg(test)]
-mod tests;
 
-use answer::Options;
-use check::run_check;
-pub use design::Right;
-pub use ending::{Ending, Flaw, Part, Refusal};
-use ending::{Report, Text, status};
-pub use laws::{one_thin_design, one_verdict};
-use repair::{Names, out_of_memory, put_piece, refused, run_repair};
-pub use search::Choice;
-use simulate::run_simulation;
-
-/// The most bytes of a design.
-pub const DESIGN_LIMIT: u64 = 1048576;
-
-/// The most bytes of a table.
-pub const TABLE_LIMIT: u64 = 16777216;
-
-/// The most bytes of a certificate's circuit.
-pub const CIRCUIT_LIMIT: u64 = 268435456;
-
-/// The most bytes of a certificate's proof.
-pub const PROOF_LIMIT: u64 = 1073741824;
+use commands::{Names, check_certificate, repair_design, run_design};
+pub use laws::one_outcome;
 
 /// How the command ends; `sites` and `make` are refused. Names in a refusal live in the arena.
 fn run_command<'a, R: Threads + Sync, H: Shelf, K: Sink>(
@@ -82,13 +54,13 @@ fn run_command<'a, R: Threads + Sync, H: Shelf, K: Sink>(
             budget: _,
             members: _,
         } => {
-            let options = Options { top, clock };
             let names = Names {
                 design,
                 table,
-                options,
+                top,
+                clock,
             };
-            run_repair(alloc, names, arena, shelf, out)
+            repair_design(alloc, names, arena, shelf, out)
         }
         Command::Run {
             design,
@@ -96,15 +68,17 @@ fn run_command<'a, R: Threads + Sync, H: Shelf, K: Sink>(
             top,
             clock,
         } => {
-            let options = Options { top, clock };
             let names = Names {
                 design,
                 table,
-                options,
+                top,
+                clock,
             };
-            run_simulation(alloc, names, arena, shelf, out)
+            run_design(alloc, names, arena, shelf, out)
         }
-        Command::Check { circuit, proof } => run_check(rt, alloc, circuit, proof, shelf, out),
+        Command::Check { circuit, proof } => {
+            check_certificate(rt, alloc, circuit, proof, shelf, out)
+        }
         Command::Sites { .. } | Command::Make { .. } => {
             refused(alloc, Refusal::NotBuilt(Part::Command))
         }
@@ -116,11 +90,8 @@ fn unread<'a>(fault: WordsFault) -> Report<'a>
     ensures { SaysWhy fault result.ending (report_text result) }
 {
     match fault {
-        WordsFault::Usage => Report {
-            ending: Ending::Usage,
-            text: Text::Fixed(USAGE),
-        },
-        WordsFault::Memory => out_of_memory(),
+        WordsFault::Usage => no_usage(),
+        WordsFault::Memory => out_of_memory(0),
     }
 }
 
@@ -154,24 +125,21 @@ fn conduct<R: Threads + Sync, H: Shelf, K: Sink, E: Sink>(
     out: &mut K,
     notes: &mut E,
 ) -> u8
-    ensures { IsCourse (course (map string_bytes words.now)
+    ensures { IsExecution (execution (map string_bytes words.now)
         (outside (H.told shelf.old) (H.faults shelf.old) (K.written out.old) (K.faults out.old))
         (outside (H.told shelf.new) (H.faults shelf.new) (K.written out.new) (K.faults out.new))
         (E.written notes.old) (E.written notes.new) (E.faults notes.old) (E.faults notes.new) result) }
 {
     let arena = Bump::new(alloc);
     let report = attempt(rt, alloc, words, &arena, shelf, out);
-    match put_piece(notes, report.text.as_bytes()) {
-        Ok(()) => status(report.ending),
-        Err(_) => 4,
-    }
+    put_report(&report, notes)
 }
 
 /// Runs the command that the words name, the first of which is the program's own name, over a shelf,
 /// an output and a report, and answers the program's status: 0 done, 1 no repair or a certificate that
 /// does not hold, 3 refused input, 4 a fault or an absent name, 5 want of memory, 6 usage.
 ///
-/// Of the commands `repair DESIGN TABLE CERT`, on thin designs, `run DESIGN TABLE` and
+/// Of the commands `repair DESIGN TABLE CERT`, on designs of one form, `run DESIGN TABLE` and
 /// `check CIRCUIT PROOF` are built; the shelf is only read.
 pub fn run<R: Threads + Sync, H: Shelf, K: Sink, E: Sink>(
     rt: &R,
@@ -182,7 +150,7 @@ pub fn run<R: Threads + Sync, H: Shelf, K: Sink, E: Sink>(
     notes: &mut E,
 ) -> u8
     // How the run ends, whole: what was found, which text reports it, and what it leaves.
-    ensures ended { IsCourse (course (map string_bytes words.now)
+    ensures ended { IsExecution (execution (map string_bytes words.now)
         (outside (H.told shelf.old) (H.faults shelf.old) (K.written out.old) (K.faults out.old))
         (outside (H.told shelf.new) (H.faults shelf.new) (K.written out.new) (K.faults out.new))
         (E.written notes.old) (E.written notes.new) (E.faults notes.old) (E.faults notes.new) result) }
@@ -195,50 +163,59 @@ pub fn run<R: Threads + Sync, H: Shelf, K: Sink, E: Sink>(
     // rows that were read with the outputs of the one run of the design on them. Of `check`: `accepted` is put out, and
     // the proof that was read refutes the formula of the circuit that was read.
     ensures done { result ≡ 0 → WhereCommand (map string_bytes words.now) (HasDone
-        (course (map string_bytes words.now)
+        (execution (map string_bytes words.now)
         (outside (H.told shelf.old) (H.faults shelf.old) (K.written out.old) (K.faults out.old))
         (outside (H.told shelf.new) (H.faults shelf.new) (K.written out.new) (K.faults out.new))
         (E.written notes.old) (E.written notes.new) (E.faults notes.old) (E.faults notes.new) result)) }
 
     // Status 0 of `check`: no input makes every output of the circuit in the file true.
     ensures certified { result ≡ 0 → (circuit proof : List ℕ) → IsCheck (map string_bytes words.now) circuit proof
-        → IsNeverTrue (H.told shelf.old) circuit }
+        → HoldsNeverTrue (H.told shelf.old) circuit }
 
     // Status 1. Of `repair`: no instance matches. Of `check`: the verdict is put out, and the proof does not refute.
     ensures failed { result ≡ 1 → WhereCommand (map string_bytes words.now) (HasFailed
-        (course (map string_bytes words.now)
+        (execution (map string_bytes words.now)
         (outside (H.told shelf.old) (H.faults shelf.old) (K.written out.old) (K.faults out.old))
         (outside (H.told shelf.new) (H.faults shelf.new) (K.written out.new) (K.faults out.new))
         (E.written notes.old) (E.written notes.new) (E.faults notes.old) (E.faults notes.new) result)) }
 
     // Status 3: the refusal that is due is printed.
     ensures refused { result ≡ 3 → WhereCommand (map string_bytes words.now) (IsRefused
-        (course (map string_bytes words.now)
+        (execution (map string_bytes words.now)
         (outside (H.told shelf.old) (H.faults shelf.old) (K.written out.old) (K.faults out.old))
         (outside (H.told shelf.new) (H.faults shelf.new) (K.written out.new) (K.faults out.new))
         (E.written notes.old) (E.written notes.new) (E.faults notes.old) (E.faults notes.new) result)) }
 
     // Status 4: a count of faults rose or stands at its end, or a name is absent.
     ensures faulty { result ≡ 4 → SomeFault
-        (course (map string_bytes words.now)
+        (execution (map string_bytes words.now)
         (outside (H.told shelf.old) (H.faults shelf.old) (K.written out.old) (K.faults out.old))
         (outside (H.told shelf.new) (H.faults shelf.new) (K.written out.new) (K.faults out.new))
         (E.written notes.old) (E.written notes.new) (E.faults notes.old) (E.faults notes.new) result) ⊎ WhereCommand (map string_bytes words.now) (IsAbsent
-        (course (map string_bytes words.now)
+        (execution (map string_bytes words.now)
         (outside (H.told shelf.old) (H.faults shelf.old) (K.written out.old) (K.faults out.old))
         (outside (H.told shelf.new) (H.faults shelf.new) (K.written out.new) (K.faults out.new))
         (E.written notes.old) (E.written notes.new) (E.faults notes.old) (E.faults notes.new) result)) }
 
+    // .. and which: a put on the notes failed, and all else is as the ending leaves it that was to be reported; or `absent`
+    // tells an absent name; or `fault read` tells one of the command's names, the shelf's count rose, and the output stays;
+    // or `fault out` says so, the output's count rose, and it has grown by a front of the piece that was due.
+    ensures failure { result ≡ 4 → IsFailure
+        (execution (map string_bytes words.now)
+        (outside (H.told shelf.old) (H.faults shelf.old) (K.written out.old) (K.faults out.old))
+        (outside (H.told shelf.new) (H.faults shelf.new) (K.written out.new) (K.faults out.new))
+        (E.written notes.old) (E.written notes.new) (E.faults notes.old) (E.faults notes.new) result) }
+
     // Status 5: memory ran out.
     ensures exhausted { result ≡ 5 → IsExhausted
-        (course (map string_bytes words.now)
+        (execution (map string_bytes words.now)
         (outside (H.told shelf.old) (H.faults shelf.old) (K.written out.old) (K.faults out.old))
         (outside (H.told shelf.new) (H.faults shelf.new) (K.written out.new) (K.faults out.new))
         (E.written notes.old) (E.written notes.new) (E.faults notes.old) (E.faults notes.new) result) }
 
     // Status 6: the words name no command, so they are not plain.
     ensures usage { result ≡ 6 → IsUnread
-        (course (map string_bytes words.now)
+        (execution (map string_bytes words.now)
         (outside (H.told shelf.old) (H.faults shelf.old) (K.written out.old) (K.faults out.old))
         (outside (H.told shelf.new) (H.faults shelf.new) (K.written out.new) (K.faults out.new))
         (E.written notes.old) (E.written notes.new) (E.faults notes.old) (E.faults notes.new) result) }
@@ -251,17 +228,28 @@ pub fn run<R: Threads + Sync, H: Shelf, K: Sink, E: Sink>(
 
     // What a told shelf decides comes about: each absent name, each refusal, each verdict on a certificate, and the
     // statuses 0 and 1, exactly where they are due. Otherwise memory ran out, or the status is 4 and a count of faults rose or stands at its end.
-    ensures decided { (plan : Plan) (held : Held) (verdict : Verdict) → command_of (map string_bytes words.now) ≡ Some plan → H.told shelf.old ≡ Some held
-        → Judges plan held verdict → Follows
-        (course (map string_bytes words.now)
+    ensures decided { (plan : Plan) (held : Held) (expected : Expected) → command_of (map string_bytes words.now) ≡ Some plan → H.told shelf.old ≡ Some held
+        → Judges plan held expected → Follows
+        (execution (map string_bytes words.now)
         (outside (H.told shelf.old) (H.faults shelf.old) (K.written out.old) (K.faults out.old))
         (outside (H.told shelf.new) (H.faults shelf.new) (K.written out.new) (K.faults out.new))
-        (E.written notes.old) (E.written notes.new) (E.faults notes.old) (E.faults notes.new) result) verdict }
+        (E.written notes.old) (E.written notes.new) (E.faults notes.old) (E.faults notes.new) result) expected }
+
+    // Where the design of a repair matches as it is, it is put out as it was, or memory ran out, or something failed.
+    ensures as_it_was { (design : List ℕ) → IsMatchingRepair
+        (execution (map string_bytes words.now)
+        (outside (H.told shelf.old) (H.faults shelf.old) (K.written out.old) (K.faults out.old))
+        (outside (H.told shelf.new) (H.faults shelf.new) (K.written out.new) (K.faults out.new))
+        (E.written notes.old) (E.written notes.new) (E.faults notes.old) (E.faults notes.new) result) design → PrintsAsItWas
+        (execution (map string_bytes words.now)
+        (outside (H.told shelf.old) (H.faults shelf.old) (K.written out.old) (K.faults out.old))
+        (outside (H.told shelf.new) (H.faults shelf.new) (K.written out.new) (K.faults out.new))
+        (E.written notes.old) (E.written notes.new) (E.faults notes.old) (E.faults notes.new) result) design }
 
     // Plain words, files that are held within their limits, no refusal that is due and no fault: the command is done, or memory ran out.
     ensures complete { (plan : Plan) (held : Held) → IsPlain (map string_bytes words.now) plan → H.told shelf.old ≡ Some held
         → AllGiven (Some held) (reads_of plan) → NoneRefuses plan (Some held) → NoFaults
-        (course (map string_bytes words.now)
+        (execution (map string_bytes words.now)
         (outside (H.told shelf.old) (H.faults shelf.old) (K.written out.old) (K.faults out.old))
         (outside (H.told shelf.new) (H.faults shelf.new) (K.written out.new) (K.faults out.new))
         (E.written notes.old) (E.written notes.new) (E.faults notes.old) (E.faults notes.new) result) → (result ≡ 0) ⊎ ((result ≡ 1) ⊎ (result ≡ 5)) }

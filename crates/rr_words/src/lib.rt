@@ -5,7 +5,4 @@
 mod line;
 mod read;
 
-pub use read::{Command, USAGE, WordsFault, read_words};
-
-#[cfg(test)]
-mod tests;
+pub use read::{Command, WordsFault, read_words, usage};

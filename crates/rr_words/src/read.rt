@@ -3,6 +3,7 @@ ghost use Rattle.std.specs.Prelude.{◌≡◌, ◌≢◌, ◌⊎◌, [], IfOk, I
 ghost use Rattle.clap.specs.Words.{fault_of, found_of, first_of, rows_of, subcommand_of, subcommand_rows_of};
 ghost use Rattle.rr_words.specs.Line.{tool};
 ghost use Rattle.rr_words.specs.Plain.{IsPlain};
+ghost use Rattle.rr_words.specs.Usage.{usage_text};
 ghost use Rattle.rr_words.specs.Plan.{Plan, command_of, number_of, number_or, plan_of, read_of, repair_of, run_of, sites_of, check_of, make_of, most_seed};
 
 use crate::line::program;
@@ -73,8 +74,11 @@ impl From<AllocError> for WordsFault {
 }
 
 /// The usage line of the program, with the LF that ends it.
-pub const USAGE: &str =
-    "usage: rtl_repair repair DESIGN TABLE CERT, run DESIGN TABLE, sites DESIGN, check CIRCUIT PROOF, make SEED CERT\n";
+pub fn usage() -> &'static str
+    ensures { result.now ≡ usage_text }
+{
+    "usage: rtl_repair repair DESIGN TABLE CERT, run DESIGN TABLE, sites DESIGN, check CIRCUIT PROOF, make SEED CERT\n"
+}
 
 /// The command that the words name, the first of which is the program's own name. `Usage` comes
 /// exactly where `command_of`, the words as `clap` matches them, has no command, so only where the

@@ -1,44 +1,50 @@
-use Rattle.rr_top.proofs.Courses.{course_done, course_certified, course_failed, course_refused, course_faulty, course_exhausted, course_usage, course_not_plain, course_kept, course_shelf, course_out, course_notes, course_decided, course_complete}
+use Rattle.rr_top.proofs.Executions.{execution_done, execution_certified, execution_failed, execution_refused, execution_faulty, execution_failure, execution_exhausted, execution_usage, execution_not_plain, execution_kept, execution_shelf, execution_out, execution_notes, execution_decided, execution_as_it_was, execution_complete}
 use Rattle.rr_top.proofs.run.Goals as goal
 
 pub returns-clause-done : goal.returns-clause-done
-returns-clause-done g c = course_done c.conduct.ensures
+returns-clause-done g c = execution_done c.conduct.ensures
 
 pub returns-clause-certified : goal.returns-clause-certified
-returns-clause-certified g c = course_certified c.conduct.ensures
+returns-clause-certified g c = execution_certified c.conduct.ensures
 
 pub returns-clause-failed : goal.returns-clause-failed
-returns-clause-failed g c = course_failed c.conduct.ensures
+returns-clause-failed g c = execution_failed c.conduct.ensures
 
 pub returns-clause-refused : goal.returns-clause-refused
-returns-clause-refused g c = course_refused c.conduct.ensures
+returns-clause-refused g c = execution_refused c.conduct.ensures
 
 pub returns-clause-faulty : goal.returns-clause-faulty
-returns-clause-faulty g c = course_faulty c.conduct.ensures
+returns-clause-faulty g c = execution_faulty c.conduct.ensures
+
+pub returns-clause-failure : goal.returns-clause-failure
+returns-clause-failure g c = execution_failure c.conduct.ensures
+
+pub returns-clause-as_it_was : goal.returns-clause-as_it_was
+returns-clause-as_it_was g c = execution_as_it_was c.conduct.ensures
 
 pub returns-clause-exhausted : goal.returns-clause-exhausted
-returns-clause-exhausted g c = course_exhausted c.conduct.ensures
+returns-clause-exhausted g c = execution_exhausted c.conduct.ensures
 
 pub returns-clause-usage : goal.returns-clause-usage
-returns-clause-usage g c = course_usage c.conduct.ensures
+returns-clause-usage g c = execution_usage c.conduct.ensures
 
 pub returns-clause-not_plain : goal.returns-clause-not_plain
-returns-clause-not_plain g c = course_not_plain c.conduct.ensures
+returns-clause-not_plain g c = execution_not_plain c.conduct.ensures
 
 pub returns-clause-kept : goal.returns-clause-kept
-returns-clause-kept g c = course_kept c.conduct.ensures
+returns-clause-kept g c = execution_kept c.conduct.ensures
 
 pub returns-clause-shelf_fault : goal.returns-clause-shelf_fault
-returns-clause-shelf_fault g c = course_shelf c.conduct.ensures
+returns-clause-shelf_fault g c = execution_shelf c.conduct.ensures
 
 pub returns-clause-out_fault : goal.returns-clause-out_fault
-returns-clause-out_fault g c = course_out c.conduct.ensures
+returns-clause-out_fault g c = execution_out c.conduct.ensures
 
 pub returns-clause-notes_fault : goal.returns-clause-notes_fault
-returns-clause-notes_fault g c = course_notes c.conduct.ensures
+returns-clause-notes_fault g c = execution_notes c.conduct.ensures
 
 pub returns-clause-decided : goal.returns-clause-decided
-returns-clause-decided g c = course_decided c.conduct.ensures
+returns-clause-decided g c = execution_decided c.conduct.ensures
 
 pub returns-clause-complete : goal.returns-clause-complete
-returns-clause-complete g c = course_complete c.conduct.ensures
+returns-clause-complete g c = execution_complete c.conduct.ensures

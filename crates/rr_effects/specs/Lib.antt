@@ -1,0 +1,4 @@
+pub mod Outside
+pub mod Reads
+pub mod Delivery
+pub mod Views

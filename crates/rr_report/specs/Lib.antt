@@ -1,0 +1,5 @@
+pub mod Refusals
+pub mod Texts
+pub mod Found
+pub mod Endings
+pub mod Views

@@ -1,0 +1,259 @@
+-- How a run ends, what it reports, and its status.
+use Rattle.std.specs.Prelude.{◌≡◌, ◌≢◌, ◌⊎◌, ℕ, List, [], ◌∷◌, Option, Some, None, MatchOption, ⊤}
+use Rattle.std.specs.Io.KnownBytes.{Appends}
+use Rattle.rr_edge.specs.Held.{Held}
+use Rattle.rr_edge.specs.Faults.{Faulted, NoFault}
+use Rattle.rr_edge.specs.Sink.{AppendsFront}
+use Rattle.rr_words.specs.Plan.{Plan, repair, check, command_of}
+use Rattle.rr_words.specs.Usage.{usage_text}
+use Rattle.rr_run.specs.declared.fault.Fault.TheVariants.{Syntax}
+use Rattle.rr_run.specs.Refusals.{At}
+use Rattle.rr_run.specs.Runs.{IsRun}
+use Rattle.rr_check.specs.declared.verdict.Verdict.{Verdict}
+use Rattle.rr_check.specs.declared.verdict.Verdict.TheVariants as found
+use Rattle.rr_certify.specs.Certificates.{IsNeverTrue}
+use Rattle.rr_certify.specs.Texts.{verdict_text}
+use Rattle.rr_report.specs.declared.ending.Ending.{Ending}
+use Rattle.rr_report.specs.declared.ending.Ending.TheVariants.{Usage, NoMemory}
+use Rattle.rr_report.specs.Endings.{status_of}
+use Rattle.rr_report.specs.Found.{Answer}
+use Rattle.rr_report.specs.Refusals.{Refusal, Input}
+use Rattle.rr_report.specs.Texts.{memory_text, refused_text, absent_text, read_fault_text, out_fault_text}
+use Rattle.rr_effects.specs.Outside.{Outside, KeepsShelf, KeepsOut}
+use Rattle.rr_effects.specs.Reads.{AbsentAt, Gave, IsRead}
+use Rattle.rr_effects.specs.Delivery.{Reports}
+use Rattle.rr_thin.specs.Repairs.{IsMatching, IsNoRepair, IsRepair}
+use Rattle.rr_thin.specs.Texts.{unchanged_text}
+use Rattle.rr_top.specs.Commands.{reads_of, BothGiven, Due, Refuses, WhereRepair, WhereRun, WhereCheck}
+use Rattle.rr_top.specs.Expected.{Expected, absent, refused, unparsed, mended, unmendable, ran, checked, IsChecked, expected_status}
+use Rattle.rr_top.specs.Endings.{PlanEnds}
+
+-- what is said of words that name no command, or of words for which memory ran out
+abbrev pub SaysUsage : Ending → List ℕ → Type 0
+SaysUsage ending text = ((ending ≡ Usage) × (text ≡ usage_text)) ⊎ ((ending ≡ NoMemory 0) × (text ≡ memory_text))
+
+-- the words name no command
+pub record IsUsage (before after : Outside) (ending : Ending) (text : List ℕ) : Type 0 where
+  pub shelf : KeepsShelf before after
+  pub out : KeepsOut before after
+  pub says : SaysUsage ending text
+
+-- how a run over these words ends, and the text for the report
+pub record Ends (words : List (List ℕ)) (before after : Outside) (ending : Ending) (text : List ℕ) : Type 0 where
+  pub how : MatchOption (command_of words) (IsUsage before after ending text) (λ plan. PlanEnds plan before after ending text)
+
+-- what a whole run found and left
+pub record Execution : Type 0 where
+  pub words : List (List ℕ)
+  pub before : Outside
+  pub after : Outside
+  pub notes_before : Option (List ℕ)
+  pub notes_after : Option (List ℕ)
+  pub notes_faults_before : ℕ
+  pub notes_faults_after : ℕ
+  pub status : ℕ
+
+-- some command ends in this way, and its report was put
+pub record IsExecution (r : Execution) : Type 0 where
+  pub ending : Ending
+  pub text : List ℕ
+  pub ends : Ends r.words r.before r.after ending text
+  pub reports : Reports r.notes_before r.notes_after r.notes_faults_before r.notes_faults_after text (status_of ending) r.status
+
+-- Status 0 of `repair`: the design and the table were read, the output has grown by exactly the source with one choice
+-- patched in, whose design matches every expected cell and costs least, and the notes by the report of this choice.
+pub record IsRepaired (r : Execution) (design_name table_name : List ℕ) (top clock : Option (List ℕ)) : Type 0 where
+  pub design : List ℕ
+  pub table : List ℕ
+  pub given : BothGiven r.before.held design_name table_name design table
+  pub answer : Answer
+  pub repair : IsRepair top clock design table answer
+  pub printed : Appends r.before.out r.after.out answer.out
+  pub reported : Appends r.notes_before r.notes_after answer.notes
+  pub shelf : KeepsShelf r.before r.after
+
+-- Status 1 of `repair`: the design and the table were read, no choice gives a design that matches, and nothing was put out.
+pub record IsBeyondRepair (r : Execution) (design_name table_name : List ℕ) (top clock : Option (List ℕ)) : Type 0 where
+  pub design : List ℕ
+  pub table : List ℕ
+  pub given : BothGiven r.before.held design_name table_name design table
+  pub answer : Answer
+  pub none : IsNoRepair top clock design table answer
+  pub printed : Appends r.before.out r.after.out []
+  pub reported : Appends r.notes_before r.notes_after answer.notes
+  pub shelf : KeepsShelf r.before r.after
+
+-- Status 0 of `check`: both files were read, the proof refutes the circuit's formula, and `accepted` was put out.
+pub record IsAccepted (r : Execution) (circuit_name proof_name : List ℕ) : Type 0 where
+  pub accepted : IsChecked r.before.held circuit_name proof_name found.Accepted
+  pub printed : Appends r.before.out r.after.out (verdict_text found.Accepted)
+  pub reported : Appends r.notes_before r.notes_after []
+  pub shelf : KeepsShelf r.before r.after
+
+-- Status 1 of `check`: both files were read, the proof does not refute the circuit's formula, and the verdict was put out.
+pub record IsRejected (r : Execution) (circuit_name proof_name : List ℕ) : Type 0 where
+  pub verdict : Verdict
+  pub rejected : IsChecked r.before.held circuit_name proof_name verdict
+  pub differs : verdict ≢ found.Accepted
+  pub printed : Appends r.before.out r.after.out (verdict_text verdict)
+  pub reported : Appends r.notes_before r.notes_after []
+  pub shelf : KeepsShelf r.before r.after
+
+-- Status 0 of `run`: both files were read, and the output has grown by exactly the table of the rows with the outputs of
+-- the design's one run.
+pub record IsSimulated (r : Execution) (design_name table_name : List ℕ) (top clock : Option (List ℕ)) : Type 0 where
+  pub design : List ℕ
+  pub table : List ℕ
+  pub given : BothGiven r.before.held design_name table_name design table
+  pub text : List ℕ
+  pub ran : IsRun design table top clock text
+  pub printed : Appends r.before.out r.after.out text
+  pub reported : Appends r.notes_before r.notes_after []
+  pub shelf : KeepsShelf r.before r.after
+
+-- the file holds a circuit, and no input makes every output of it true
+pub record HoldsNeverTrue (told : Option Held) (circuit_name : List ℕ) : Type 0 where
+  pub circuit : List ℕ
+  pub given : Gave told circuit_name 268435456 circuit
+  pub never : IsNeverTrue circuit
+
+-- the words ask for a check of these files
+abbrev pub IsCheck : List (List ℕ) → List ℕ → List ℕ → Type 0
+IsCheck words circuit proof = command_of words ≡ Some (check circuit proof)
+
+-- what `repair` has done, or `run`, or `check`
+abbrev pub HasDone : Execution → Plan → Type 0
+HasDone r plan = WhereRepair plan (IsRepaired r) ⊎ (WhereRun plan (IsSimulated r) ⊎ WhereCheck plan (IsAccepted r))
+
+-- what `repair` and `check` found not to be so
+abbrev pub HasFailed : Execution → Plan → Type 0
+HasFailed r plan = WhereRepair plan (IsBeyondRepair r) ⊎ WhereCheck plan (IsRejected r)
+
+-- Status 3: a refusal was due, it is printed, and all else stays.
+pub record IsRefused (r : Execution) (plan : Plan) : Type 0 where
+  pub refusal : Refusal
+  pub due : Refuses plan r.before.held refusal
+  pub reported : Appends r.notes_before r.notes_after (refused_text refusal)
+  pub shelf : KeepsShelf r.before r.after
+  pub out : KeepsOut r.before r.after
+
+-- Status 4 with an absent name: it is the first that a told shelf does not hold, and all else stays.
+pub record IsAbsent (r : Execution) (plan : Plan) : Type 0 where
+  pub name : List ℕ
+  pub due : AbsentAt r.before.held (reads_of plan) name
+  pub reported : Appends r.notes_before r.notes_after (absent_text name)
+  pub shelf : KeepsShelf r.before r.after
+  pub out : KeepsOut r.before r.after
+
+-- Status 4 with a read that failed: the shelf's count of faults rose, and all else stays but the notes.
+pub record IsReadFault (r : Execution) (plan : Plan) : Type 0 where
+  pub name : List ℕ
+  pub read : IsRead (reads_of plan) name
+  pub rose : Faulted r.before.faults r.after.faults
+  pub held : r.after.held ≡ r.before.held
+  pub out : KeepsOut r.before r.after
+  pub reported : Appends r.notes_before r.notes_after (read_fault_text name)
+
+-- Status 4 with a put on the output that failed: its count of faults rose, and it has grown by a front of the piece that is due.
+pub record IsOutFault (r : Execution) (plan : Plan) : Type 0 where
+  pub answer : Answer
+  pub due : Due plan r.before.held answer
+  pub rose : Faulted r.before.out_faults r.after.out_faults
+  pub printed : AppendsFront r.before.out r.after.out answer.out
+  pub shelf : KeepsShelf r.before r.after
+  pub reported : Appends r.notes_before r.notes_after out_fault_text
+
+-- Status 4 with a put on the notes that failed: their count of faults rose, they have grown by a front of the text that is
+-- due, and shelf and output are as the ending leaves them that it reports.
+pub record IsReportFault (r : Execution) : Type 0 where
+  pub ending : Ending
+  pub text : List ℕ
+  pub ends : Ends r.words r.before r.after ending text
+  pub rose : Faulted r.notes_faults_before r.notes_faults_after
+  pub reported : AppendsFront r.notes_before r.notes_after text
+
+-- Status 5: memory ran out, this is printed, and all else stays.
+pub record IsExhausted (r : Execution) : Type 0 where
+  pub reported : Appends r.notes_before r.notes_after memory_text
+  pub shelf : KeepsShelf r.before r.after
+  pub out : KeepsOut r.before r.after
+
+-- Status 6: the words name no command, the usage is printed, and all else stays.
+pub record IsUnread (r : Execution) : Type 0 where
+  pub none : command_of r.words ≡ None
+  pub reported : Appends r.notes_before r.notes_after usage_text
+  pub shelf : KeepsShelf r.before r.after
+  pub out : KeepsOut r.before r.after
+
+-- the words name a command of which this holds
+abbrev pub WhereCommand : List (List ℕ) → (Plan → Type 0) → Type 0
+WhereCommand words P = (plan : Plan) × (command_of words ≡ Some plan) × P plan
+
+-- a count of faults rose in the run, or stands at its type's end
+abbrev pub SomeFault : Execution → Type 0
+SomeFault r = Faulted r.before.faults r.after.faults ⊎ (Faulted r.before.out_faults r.after.out_faults ⊎ Faulted r.notes_faults_before r.notes_faults_after)
+
+-- which failure it was: of the report; or of a command, a name that is absent, a read, or the put on the output
+abbrev pub IsFailure : Execution → Type 0
+IsFailure r = IsReportFault r ⊎ WhereCommand r.words (λ plan. IsAbsent r plan ⊎ (IsReadFault r plan ⊎ IsOutFault r plan))
+
+-- the texts that what is expected decides alone
+abbrev pub Shows : Expected → Execution → Type 0
+Shows (absent name) r = Appends r.notes_before r.notes_after (absent_text name)
+Shows (refused refusal) r = Appends r.notes_before r.notes_after (refused_text refusal)
+Shows unparsed r = (offset : ℕ) × Appends r.notes_before r.notes_after (refused_text (Input (At Syntax offset)))
+Shows mended r = ⊤
+Shows unmendable r = ⊤
+Shows (ran text) r = Appends r.before.out r.after.out text × Appends r.notes_before r.notes_after []
+Shows (checked verdict) r = Appends r.before.out r.after.out (verdict_text verdict) × Appends r.notes_before r.notes_after []
+
+-- what is expected was carried out and reported; or memory ran out; or something failed
+abbrev pub Follows : Execution → Expected → Type 0
+Follows r v = ((r.status ≡ expected_status v) × Shows v r) ⊎ ((r.status ≡ 5) ⊎ ((r.status ≡ 4) × SomeFault r))
+
+abbrev pub execution : List (List ℕ) → Outside → Outside → Option (List ℕ) → Option (List ℕ) → ℕ → ℕ → ℕ → Execution
+execution words before after notes_before notes_after notes_faults_before notes_faults_after status = record {
+  words = words;
+  before = before;
+  after = after;
+  notes_before = notes_before;
+  notes_after = notes_after;
+  notes_faults_before = notes_faults_before;
+  notes_faults_after = notes_faults_after;
+  status = status;
+}
+
+-- each name that the command reads is held, with few enough bytes
+abbrev pub AllGiven : Option Held → List (List ℕ × ℕ) → Type 0
+AllGiven told [] = ⊤
+AllGiven told (read ∷ reads) = ((bytes : List ℕ) × Gave told read.0 read.1 bytes) × AllGiven told reads
+
+-- no refusal of the command is due
+abbrev pub NoneRefuses : Plan → Option Held → Type 0
+NoneRefuses plan told = (refusal : Refusal) → Refuses plan told refusal → ⊥
+
+-- no count of faults rose, or stands at its type's end
+pub record NoFaults (r : Execution) : Type 0 where
+  pub shelf : NoFault r.before.faults r.after.faults
+  pub out : NoFault r.before.out_faults r.after.out_faults
+  pub notes : NoFault r.notes_faults_before r.notes_faults_after
+
+-- The words ask for a repair, a told shelf holds both files, and the design matches the table as it is.
+pub record IsMatchingRepair (r : Execution) (design : List ℕ) : Type 0 where
+  pub held : Held
+  pub told : r.before.held ≡ Some held
+  pub design_name : List ℕ
+  pub table_name : List ℕ
+  pub cert : List ℕ
+  pub top : Option (List ℕ)
+  pub clock : Option (List ℕ)
+  pub budget : ℕ
+  pub members : ℕ
+  pub words : command_of r.words ≡ Some (repair design_name table_name cert top clock budget members)
+  pub table : List ℕ
+  pub given : BothGiven (Some held) design_name table_name design table
+  pub matching : IsMatching top clock design table
+
+-- the source is put out as it was; or memory ran out; or something failed
+abbrev pub PrintsAsItWas : Execution → List ℕ → Type 0
+PrintsAsItWas r design = ((r.status ≡ 0) × (Appends r.before.out r.after.out design × Appends r.notes_before r.notes_after unchanged_text)) ⊎ ((r.status ≡ 5) ⊎ ((r.status ≡ 4) × SomeFault r))

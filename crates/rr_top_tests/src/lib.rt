@@ -1,0 +1,20 @@
+//! Tests of the top call and of the crates below it that deal with arguments, files, reports and
+//! commands. It has no code but tests.
+#![tactic(auto)]
+
+#[cfg(test)]
+mod certificates;
+#[cfg(test)]
+mod edge;
+#[cfg(test)]
+mod effects;
+#[cfg(test)]
+mod limits;
+#[cfg(test)]
+mod repairs;
+#[cfg(test)]
+mod reports;
+#[cfg(test)]
+mod runs;
+#[cfg(test)]
+mod words;
