@@ -66,11 +66,7 @@ fn add_input(list: &mut Vec<u32>, clock: Option<u32>, id: u32) -> Result<(), All
 }
 
 /// The top inputs but the clock, by their numbers in port order: a row has a value for each.
-pub fn row_inputs(
-    alloc: Global,
-    flat: &Flat,
-    clock: Option<u32>,
-) -> Result<Vec<u32>, AllocError>
+pub fn row_inputs(alloc: Global, flat: &Flat, clock: Option<u32>) -> Result<Vec<u32>, AllocError>
     ensures value { IfOk result (λ r. r.items ≡ inputs_but clock flat.now.inputs) }
     ensures inside { IfOk result (λ r. All (λ id. id < length flat.now.signals) r.items) }
 {
