@@ -2,8 +2,9 @@
 use Rattle.std.proofs.Common.{ℕ, ◌≡◌, ◌∙◌, ◌<◌, ◌⊎◌, inl, inr, List, refl, sym, ap, subst, Option, Ok, Err}
 use Rattle.std.proofs.lemmas.Bool.{cases_order}
 use Rattle.rr_syntax.specs.Tree.{SourceText}
-use Rattle.rr_lex.specs.Tokens.{Lexeme, AreTokens}
+use Rattle.rr_lex.specs.Tokens.{Lexeme, AreTokens, words_of}
 use Rattle.rr_lex.proofs.Unique.{one_list, one_fault, one_answer}
+use Rattle.rr_grammar.specs.Trees.{SpellsShallow, IsNumberedTree}
 use Rattle.rr_grammar.proofs.OneSource.{unique_source}
 use Rattle.rr_flat.specs.Signals.{Text}
 use Rattle.rr_flat.specs.Plain.{Flat}
@@ -11,18 +12,21 @@ use Rattle.rr_walk.specs.Walk.{flat_of}
 use Rattle.rr_flat.specs.declared.fault.FlatFault.{FlatFault}
 use Rattle.rr_elaborate.specs.declared.design.DesignFault.{DesignFault}
 use Rattle.rr_elaborate.specs.declared.design.DesignFault.TheVariants as fault
-use Rattle.rr_elaborate.specs.Designs.{AllHaveRules, IsOutside, placed, Spells, IsText, IsDesign, IsUnsupported, IsUnparsed, IsFlawed, Refuses, IsSameRefusal, same, first_memory, second_memory, both_unparsed}
+use Rattle.rr_elaborate.specs.Designs.{AllHaveRules, IsOutside, placed, IsText, IsDesign, IsUnsupported, IsUnparsed, IsFlawed, Refuses, IsSameRefusal, same, first_memory, second_memory, both_unparsed}
 use Rattle.rr_elaborate.proofs.RenumberedItems.{same_numbered}
 
 -- tokens spell one text, with its numbers
-pub one_tree : (ts : List Lexeme) (a b : SourceText) → Spells ts a → Spells ts b → a ≡ b
-one_tree ts a b s t = same_numbered a b s.well t.well s.numbered t.numbered (unique_source a b s.well t.well (s.spelled ∙ sym t.spelled))
+pub one_tree : (ts : List Lexeme) (a b : SourceText) → IsNumberedTree (words_of ts) a → IsNumberedTree (words_of ts) b → a ≡ b
+one_tree ts a b s t =
+    let x = s.tree.spells in
+    let y = t.tree.spells in
+    same_numbered a b x.well y.well s.numbered t.numbered (unique_source a b x.well y.well (x.spelled ∙ sym y.spelled))
 
 -- bytes are one text
 pub one_text : (bytes : List ℕ) (ts us : List Lexeme) (a b : SourceText) → IsText bytes ts a → IsText bytes us b → (ts ≡ us) × (a ≡ b)
 one_text bytes ts us a b s t =
     let e : ts ≡ us = one_list bytes ts us s.lexed t.lexed in
-    (e, one_tree us a b (subst (λ (l : List Lexeme). Spells l a) e s.spells) t.spells)
+    (e, one_tree us a b (subst (λ (l : List Lexeme). IsNumberedTree (words_of l) a) e s.spells) t.spells)
 
 -- where all tokens have rules, no word is the first without one
 pub all_have_rules : (bytes : List ℕ) (ts : List Lexeme) (at : ℕ) → AreTokens bytes ts → AllHaveRules ts → IsUnsupported bytes at → ⊥
@@ -30,7 +34,7 @@ all_have_rules bytes ts at lexed rules p = rules p.at (subst (λ (l : List Lexem
 
 -- bytes that are a text do not lack one
 pub has_text : (bytes : List ℕ) (ts : List Lexeme) (t : SourceText) → IsText bytes ts t → IsUnparsed bytes → ⊥
-has_text bytes ts t text p = p.none t (subst (λ (l : List Lexeme). Spells l t) (one_list bytes ts p.tokens text.lexed p.lexed) text.spells)
+has_text bytes ts t text p = p.none t (subst (λ (l : List Lexeme). SpellsShallow (words_of l) t) (one_list bytes ts p.tokens text.lexed p.lexed) text.spells.tree)
 
 -- one word is the first without a rule
 pub one_outside : (bytes : List ℕ) (i j : ℕ) → IsUnsupported bytes i → IsUnsupported bytes j → i ≡ j

@@ -10,7 +10,8 @@ use Rattle.rr_lex.specs.Tokens.{lexeme, lexemes, words_of, AreTokens}
 use Rattle.rr_lex.proofs.Sound.{words_sound}
 use Rattle.rr_lex.proofs.Steps.{token_words}
 use Rattle.rr_profile.specs.Profile.{is_outside, NoneOutside, IsFirstOutside}
-use Rattle.rr_parse.specs.Exact.{IsParsed, NoneSpells}
+use Rattle.rr_grammar.specs.Trees.{NoneSpells, IsNumberedTree}
+use Rattle.rr_parse.specs.Exact.{IsParsed}
 use Rattle.rr_elaborate.proofs.Fitting.{few_modules, fit_source}
 use Rattle.rr_elaborate.specs.Designs.{AllHaveRules, IsText, IsUnparsed, IsUnsupported, start_of}
 
@@ -25,7 +26,7 @@ pub text_of : (bytes : List ℕ) (tokens : List Token) (s : Source) → AreToken
 text_of bytes tokens s lexed p = record {
   lexed = lexed;
   rules = rules_of tokens p.rules;
-  spells = record { well = p.well; shallow = p.shallow; spelled = rw (sym (token_words tokens)) at p.spelled; numbered = p.numbered };
+  spells = subst (λ (ws : List Word). IsNumberedTree ws (plain_source s)) (sym (token_words tokens)) p.spelled;
 }
 
 pub unsupported : (bytes : List ℕ) (tokens : List Token) (at : ℕ) → AreTokens bytes (lexemes tokens) → IsFirstOutside tokens at → IsUnsupported bytes (start_of (lexemes tokens) at)
@@ -39,12 +40,12 @@ unsupported bytes tokens at lexed p = record {
   starts = refl;
 }
 
-pub unparsed : (bytes : List ℕ) (tokens : List Token) → AreTokens bytes (lexemes tokens) → NoneOutside tokens → NoneSpells tokens → IsUnparsed bytes
+pub unparsed : (bytes : List ℕ) (tokens : List Token) → AreTokens bytes (lexemes tokens) → NoneOutside tokens → NoneSpells (words tokens) → IsUnparsed bytes
 unparsed bytes tokens lexed rules none = record {
   tokens = lexemes tokens;
   lexed = lexed;
   rules = rules_of tokens rules;
-  none = λ t s. none t (record { well = s.well; shallow = s.shallow; spelled = rw (token_words tokens) at s.spelled });
+  none = subst NoneSpells (sym (token_words tokens)) none;
 }
 
 words_length : (tokens : List Token) → length (words tokens) ≡ length tokens
@@ -52,7 +53,7 @@ words_length tokens = ap length (sym (token_words tokens)) ∙ (length-map (lexe
 
 pub few_of : (tokens : List Token) (s : Source) → IsParsed tokens s → length tokens < 2 ^ 32 → length s.modules.now < 2 ^ 32
 unfolding plain_source
-few_of tokens s p few = omega (arith, few, few_modules (plain_source s) (words tokens) p.spelled, length-map s.modules.now plain_module, words_length tokens)
+few_of tokens s p few = omega (arith, few, few_modules (plain_source s) (words tokens) p.spelled.tree.spells.spelled, length-map s.modules.now plain_module, words_length tokens)
 
 pub fit_of : (bytes : List ℕ) (tokens : List Token) (s : Source) → AreTokens bytes (lexemes tokens) → IsParsed tokens s → FitLiteralsSource (plain_source s)
-fit_of bytes tokens s lexed p = fit_source (plain_source s) (words_of (lexemes tokens)) p.well (rw (sym (token_words tokens)) at p.spelled) (words_sound bytes (lexemes tokens) lexed)
+fit_of bytes tokens s lexed p = fit_source (plain_source s) (words_of (lexemes tokens)) p.spelled.tree.spells.well (rw (sym (token_words tokens)) at p.spelled.tree.spells.spelled) (words_sound bytes (lexemes tokens) lexed)

@@ -1,10 +1,10 @@
 -- The flat design of a text, and why it has none.
-use Rattle.std.specs.Prelude.{ℕ, ◌≡◌, ◌≤◌, ◌<◌, List, length, drop, get_or, IsTrue, Option, Ok, Err}
+use Rattle.std.specs.Prelude.{ℕ, ◌≡◌, ◌<◌, List, length, drop, get_or, IsTrue, Option, Ok, Err}
 use Rattle.rr_syntax.specs.Tree.{SourceText}
-use Rattle.rr_syntax.specs.Items.{spell_source, depth_source, WellFormedSource, NumberedSource}
 use Rattle.rr_syntax.specs.Words.{Marked}
 use Rattle.rr_lex.specs.Tokens.{Lexeme, AreTokens, IsFirstFault, words_of}
 use Rattle.rr_profile.specs.Profile.{is_outside}
+use Rattle.rr_grammar.specs.Trees.{IsNumberedTree, NoneSpells}
 use Rattle.rr_flat.specs.Signals.{Text}
 use Rattle.rr_flat.specs.declared.fault.FlatFault.{FlatFault}
 use Rattle.rr_flat.specs.declared.fault.FlatFault.TheVariants as flat
@@ -24,18 +24,11 @@ AllHaveRules ts = (at : ℕ) → IsOutside ts at → ⊥
 abbrev pub start_of : List Lexeme → ℕ → ℕ
 start_of ts at = (get_or ts at (record { word = Marked 0; start = 0; end = 0 })).start
 
--- a well-formed source text (IEEE 1364-2005 annex A.1.2) of depth at most 500 that the tokens spell, with their numbers
-pub record Spells (ts : List Lexeme) (t : SourceText) : Type 0 where
-  pub well : WellFormedSource t
-  pub shallow : depth_source t ≤ 500
-  pub spelled : spell_source t ≡ words_of ts
-  pub numbered : NumberedSource t
-
--- the bytes are these tokens, which have rules and spell this text
+-- the bytes are these tokens, which have rules and spell this text, with their numbers
 pub record IsText (bytes : List ℕ) (ts : List Lexeme) (t : SourceText) : Type 0 where
   pub lexed : AreTokens bytes ts
   pub rules : AllHaveRules ts
-  pub spells : Spells ts t
+  pub spells : IsNumberedTree (words_of ts) t
 
 -- the bytes have these tokens and this flat design with a top (section 12)
 pub record IsDesign (bytes : List ℕ) (tokens : List Lexeme) (top : Option Text) (design : Flat) : Type 0 where
@@ -58,7 +51,7 @@ pub record IsUnparsed (bytes : List ℕ) : Type 0 where
   pub tokens : List Lexeme
   pub lexed : AreTokens bytes tokens
   pub rules : AllHaveRules tokens
-  pub none : (t : SourceText) → Spells tokens t → ⊥
+  pub none : NoneSpells (words_of tokens)
 
 -- a fault of elaboration with the byte at which its token begins in the place of the token's number
 abbrev pub placed : List Lexeme → FlatFault → FlatFault

@@ -31,4 +31,4 @@ unique_source a b v w e =
 pub unique_tree : (bytes : List ℕ) (a b : SourceText) → IsTree bytes a → IsTree bytes b → IsSameSource a b
 unique_tree bytes a b s t =
     let e : words_of s.tokens ≡ words_of t.tokens = ap words_of (one_list bytes s.tokens t.tokens s.are t.are) in
-    unique_source a b s.well t.well (s.spelled ∙ e ∙ sym t.spelled)
+    unique_source a b s.spells.well t.spells.well (s.spells.spelled ∙ e ∙ sym t.spells.spelled)

@@ -1,11 +1,11 @@
 //! The laws of source texts.
 
-ghost use Rattle.std.specs.Prelude.{◌≡◌, ℕ, List};
+ghost use Rattle.std.specs.Prelude.{ℕ, List};
+ghost use Rattle.rr_syntax.specs.Words.{Word};
 ghost use Rattle.rr_syntax.specs.Tree.{SourceText, IsSameSource};
-ghost use Rattle.rr_syntax.specs.Items.{spell_source, WellFormedSource};
 ghost use Rattle.rr_grammar.specs.Formats.{IsExact};
 ghost use Rattle.rr_grammar.specs.ModuleForms.{modules};
-ghost use Rattle.rr_grammar.specs.Trees.{IsTree};
+ghost use Rattle.rr_grammar.specs.Trees.{IsTree, Spells};
 
 /// No bytes have two trees, token numbers aside.
 pub fn one_tree()
@@ -14,7 +14,7 @@ pub fn one_tree()
 
 /// No words are the spelling of two well-formed source texts, token numbers aside.
 pub fn one_source()
-    ensures { (a b : SourceText) → WellFormedSource a → WellFormedSource b → spell_source a ≡ spell_source b → IsSameSource a b }
+    ensures { (ws : List Word) (a b : SourceText) → Spells ws a → Spells ws b → IsSameSource a b }
 {}
 
 /// Reading modules by the grammar finds each list of good ones from its words, and finds nothing

@@ -12,7 +12,8 @@ use Rattle.rr_grammar.specs.Formats.{Finds, FindsNone}
 use Rattle.rr_grammar.specs.ModuleForms.{modules}
 use Rattle.rr_grammar.proofs.Goods.{modules_good}
 use Rattle.rr_grammar.proofs.ModulesExact.{modules_exact, no_module}
-use Rattle.rr_parse.specs.Exact.{Spells, NoneSpells, IsSpelled, NotSpelled}
+use Rattle.rr_grammar.specs.Trees.{SpellsShallow, NoneSpells}
+use Rattle.rr_parse.specs.Exact.{IsSpelled, NotSpelled}
 use Rattle.rr_parse.proofs.Backs.{modules_back}
 use Rattle.rr_parse_expr.specs.declared.expression.ParseFault.{ParseFault}
 use Rattle.rr_parse_expr.specs.declared.expression.ParseFault.TheVariants.{Unsupported, Syntax, Memory}
@@ -31,28 +32,32 @@ spelled_source T s next e f =
     let x = modules_exact 498 497 in
     let b = modules_back 498 497 499 (omega arith) (omega arith) (map bare_module ms) (x.good (words T) (map bare_module ms, []) r) in
     record {
-      well = subst (λ (P : Type 0). P) (WellFormedSource-bare t) b.0;
-      shallow = omega (arith, b.1, depth_source-bare t);
-      spelled = sym (x.spelled (words T) (map bare_module ms, []) r ∙ append-nil (spell_all spell_module (map bare_module ms)) ∙ spell_source-bare t);
+      tree = record {
+        spells = record {
+          well = subst (λ (P : Type 0). P) (WellFormedSource-bare t) b.0;
+          spelled = sym (x.spelled (words T) (map bare_module ms, []) r ∙ append-nil (spell_all spell_module (map bare_module ms)) ∙ spell_source-bare t);
+        };
+        shallow = omega (arith, b.1, depth_source-bare t);
+      };
       numbered = f.numbered;
     }
 
 -- what the tokens spell is read
-spelled_read : (T : List Token) (t : SourceText) → Spells T t → (modules 498 497).read (words T) ≡ Some (map bare_module t.modules, [])
+spelled_read : (T : List Token) (t : SourceText) → SpellsShallow (words T) t → (modules 498 497).read (words T) ≡ Some (map bare_module t.modules, [])
 unfolding WellFormedSource depth_source spell_source
 spelled_read T t h =
-    let m = modules_good 498 497 t.modules h.well (omega (arith, h.shallow)) (omega (arith, h.shallow)) in
-    ap (modules 498 497).read (sym h.spelled ∙ sym (append-nil (spell_all spell_module t.modules))) ∙ (modules_exact 498 497).finds t.modules m [] (tt, no_module 498 497)
+    let m = modules_good 498 497 t.modules h.spells.well (omega (arith, h.shallow)) (omega (arith, h.shallow)) in
+    ap (modules 498 497).read (sym h.spells.spelled ∙ sym (append-nil (spell_all spell_module t.modules))) ∙ (modules_exact 498 497).finds t.modules m [] (tt, no_module 498 497)
 
 -- words are left
-pub not_in_full : (T : List Token) (ms : List ModuleDeclaration) (next : ℕ) → (next ≡ length T → ⊥) → Finds (modules 498 497) T 0 ms next → NoneSpells T
+pub not_in_full : (T : List Token) (ms : List ModuleDeclaration) (next : ℕ) → (next ≡ length T → ⊥) → Finds (modules 498 497) T 0 ms next → NoneSpells (words T)
 not_in_full T ms next h f t s =
     let e : Some (map bare_module ms, drop next (words T)) ≡ Some (map bare_module t.modules, []) = sym f.found_is ∙ spelled_read T t s in
     let q : (map bare_module ms, drop next (words T)) ≡ (map bare_module t.modules, []) = cc e in
     let n : drop next (words T) ≡ [] = ap (λ (x : List ModuleDeclaration × List Word). x.1) q in
     h (omega (arith, f.within, length-drop next (words T), length_words T, ap length n))
 
-pub none_in_full : (T : List Token) → FindsNone (modules 498 497) T 0 → NoneSpells T
+pub none_in_full : (T : List Token) → FindsNone (modules 498 497) T 0 → NoneSpells (words T)
 none_in_full T n t s = let e : Some (map bare_module t.modules, []) ≡ None = sym (spelled_read T t s) ∙ n.none_is in absurd (cc e)
 
 pub missed_source : (T : List Token) (e : ParseFault) → Misses (modules 498 497) T 0 e → NotSpelled T e

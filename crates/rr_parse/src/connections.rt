@@ -10,10 +10,10 @@ ghost use Rattle.rr_parse.specs.Trees.{plain_list_by};
 
 use crate::expressions::{closed, entry};
 use crate::lists::list;
-use crate::tokens::{CLOSE_PARENTHESIS, DOT, HASH, Input, OPEN_PARENTHESIS, Piece, mark, name};
+use crate::tokens::{Input, Piece, mark, name};
 use bumpalo::collections::into_bump_slice;
 use rr_parse_expr::{ParseFault, mark_at};
-use rr_syntax::{Connection, Conns, Expr, Instance};
+use rr_syntax::{Connection, Conns, Expr, Instance, Mark};
 
 /// An expression, if one stands there, and the closing bracket.
 fn optional<'a>(
@@ -25,13 +25,13 @@ fn optional<'a>(
     requires shallow { depth ≤ 500 }
     ensures { Answers (optional_of depth) plain_value input.entry.tokens.now from result }
 {
-    if mark_at(input.tokens, from) == CLOSE_PARENTHESIS {
+    if mark_at(input.tokens, from) == Mark::CLOSE_PARENTHESIS.0 {
         return Ok(Piece {
             value: None,
             next: from + 1,
         });
     }
-    let found = closed(input, from, CLOSE_PARENTHESIS, depth)?;
+    let found = closed(input, from, Mark::CLOSE_PARENTHESIS.0, depth)?;
     Ok(Piece {
         value: Some(found.value),
         next: found.next,
@@ -48,9 +48,9 @@ fn connection<'a>(
     requires shallow { depth ≤ 500 }
     ensures { Answers (connection_of depth) plain_connection input.entry.tokens.now from result }
 {
-    let dot = mark(input.tokens, from, DOT)?;
+    let dot = mark(input.tokens, from, Mark::DOT.0)?;
     let name = name(input.tokens, dot)?;
-    let inside = mark(input.tokens, name.next, OPEN_PARENTHESIS)?;
+    let inside = mark(input.tokens, name.next, Mark::OPEN_PARENTHESIS.0)?;
     let value = optional(input, inside, depth)?;
     Ok(Piece {
         value: Connection {
@@ -99,7 +99,7 @@ fn named<'a>(input: Input<'a>, from: u32, depth: u32) -> Result<Piece<Conns<'a>>
     ensures { Answers (named_of depth) plain_connections input.entry.tokens.now from result }
 {
     let list = connection_list(input, from, depth)?;
-    let next = mark(input.tokens, list.next, CLOSE_PARENTHESIS)?;
+    let next = mark(input.tokens, list.next, Mark::CLOSE_PARENTHESIS.0)?;
     Ok(Piece {
         value: Conns::Names(list.value),
         next,
@@ -113,7 +113,7 @@ fn positions<'a>(input: Input<'a>, from: u32, depth: u32) -> Result<Piece<Conns<
     ensures { Answers (positions_of depth) plain_connections input.entry.tokens.now from result }
 {
     let list = entries(input, from, depth)?;
-    let next = mark(input.tokens, list.next, CLOSE_PARENTHESIS)?;
+    let next = mark(input.tokens, list.next, Mark::CLOSE_PARENTHESIS.0)?;
     Ok(Piece {
         value: Conns::Positions(list.value),
         next,
@@ -127,12 +127,12 @@ fn connected<'a>(input: Input<'a>, from: u32, depth: u32) -> Result<Piece<Conns<
     ensures { Answers (connected_of depth) plain_connections input.entry.tokens.now from result }
 {
     let first = mark_at(input.tokens, from);
-    if first == CLOSE_PARENTHESIS {
+    if first == Mark::CLOSE_PARENTHESIS.0 {
         Ok(Piece {
             value: Conns::Positions(into_bump_slice(Vec::new(input.arena))),
             next: from + 1,
         })
-    } else if first == DOT {
+    } else if first == Mark::DOT.0 {
         named(input, from, depth)
     } else {
         positions(input, from, depth)
@@ -145,7 +145,7 @@ fn connections<'a>(input: Input<'a>, from: u32, depth: u32) -> Result<Piece<Conn
     requires shallow { depth ≤ 500 }
     ensures { Answers (connections_of depth) plain_connections input.entry.tokens.now from result }
 {
-    let inside = mark(input.tokens, from, OPEN_PARENTHESIS)?;
+    let inside = mark(input.tokens, from, Mark::OPEN_PARENTHESIS.0)?;
     connected(input, inside, depth)
 }
 
@@ -160,7 +160,7 @@ pub(crate) fn overrides<'a>(
     requires shallow { depth ≤ 500 }
     ensures { Answers (overrides_of depth) plain_overrides input.entry.tokens.now from result }
 {
-    if mark_at(input.tokens, from) != HASH {
+    if mark_at(input.tokens, from) != Mark::HASH.0 {
         return Ok(Piece {
             value: None,
             next: from,

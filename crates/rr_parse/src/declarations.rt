@@ -13,12 +13,10 @@ ghost use Rattle.rr_parse.specs.Trees.{plain_kind, plain_list_by, plain_type};
 
 use crate::expressions::{expression, range, target};
 use crate::lists::list;
-use crate::tokens::{
-    EQUALS, INTEGER, Input, LOCALPARAM, PARAMETER, Piece, SIGNED, choice, flag, mark, name,
-};
+use crate::tokens::{Input, Piece, choice, flag, mark, name};
 use rr_parse_expr::{ParseFault, mark_at};
 use rr_parse_stmt::keyword_at;
-use rr_syntax::{Bounds, Expr, Named, NetName, Pair, Params, Setting};
+use rr_syntax::{Bounds, Expr, Keyword, Mark, Named, NetName, Pair, Params, Setting};
 
 /// `signed` and a range, where they stand.
 #[derive(Clone, Copy)]
@@ -45,7 +43,7 @@ pub(crate) fn typed<'a>(
     requires shallow { depth ≤ 500 }
     ensures { Answers (typed_of depth) plain_type input.entry.tokens.now from result }
 {
-    let signed = flag(input.tokens, from, SIGNED);
+    let signed = flag(input.tokens, from, Keyword::SIGNED.0);
     let range = range(input, signed.next, depth)?;
     Ok(Piece {
         value: Type {
@@ -71,7 +69,7 @@ fn setting<'a>(input: Input<'a>, from: u32, depth: u32) -> Result<Piece<Setting<
     ensures { Answers (setting_of depth) plain_assignment input.entry.tokens.now from result }
 {
     let name = name(input.tokens, from)?;
-    let equals = mark(input.tokens, name.next, EQUALS)?;
+    let equals = mark(input.tokens, name.next, Mark::EQUALS.0)?;
     let value = expression(input, equals, depth)?;
     Ok(Piece {
         value: Setting {
@@ -111,7 +109,7 @@ fn driver<'a>(
     requires shallow { depth ≤ 500 }
     ensures { Answers (where_mark mark_equals (expression_of depth)) plain_value input.entry.tokens.now from result }
 {
-    if mark_at(input.tokens, from) != EQUALS {
+    if mark_at(input.tokens, from) != Mark::EQUALS.0 {
         return Ok(Piece {
             value: None,
             next: from,
@@ -161,7 +159,7 @@ fn pair<'a>(input: Input<'a>, from: u32, depth: u32) -> Result<Piece<Pair<'a>>, 
     ensures { Answers (pair_of depth) plain_pair input.entry.tokens.now from result }
 {
     let target = target(input, from, depth)?;
-    let equals = mark(input.tokens, target.next, EQUALS)?;
+    let equals = mark(input.tokens, target.next, Mark::EQUALS.0)?;
     let value = expression(input, equals, depth)?;
     Ok(Piece {
         value: Pair {
@@ -191,7 +189,7 @@ fn kind<'a>(input: Input<'a>, from: u32, depth: u32) -> Result<Piece<ParameterTy
     requires shallow { depth ≤ 500 }
     ensures { Answers (kind_of depth) plain_kind input.entry.tokens.now from result }
 {
-    if keyword_at(input.tokens, from) == INTEGER {
+    if keyword_at(input.tokens, from) == Keyword::INTEGER.0 {
         let typed = Type {
             signed: false,
             range: None,
@@ -219,7 +217,7 @@ fn kind<'a>(input: Input<'a>, from: u32, depth: u32) -> Result<Piece<ParameterTy
 pub(crate) fn begins_parameter(word: u8) -> bool
     ensures { result ≡ begins_parameters word }
 {
-    word == LOCALPARAM || word == PARAMETER
+    word == Keyword::LOCALPARAM.0 || word == Keyword::PARAMETER.0
 }
 
 /// Parameters that are declared together (section 12.2, annex A.2.1.1), without a semicolon.
@@ -232,7 +230,12 @@ pub(crate) fn parameters<'a>(
     requires shallow { depth ≤ 500 }
     ensures { Answers (parameter_of depth) plain_parameter input.entry.tokens.now from result }
 {
-    let local = choice(input.tokens, from, LOCALPARAM, PARAMETER)?;
+    let local = choice(
+        input.tokens,
+        from,
+        Keyword::LOCALPARAM.0,
+        Keyword::PARAMETER.0,
+    )?;
     let kind = kind(input, local.next, depth)?;
     let sets = settings(input, kind.next, depth)?;
     Ok(Piece {

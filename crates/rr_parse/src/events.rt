@@ -10,19 +10,17 @@ ghost use Rattle.rr_parse.specs.Trees.{AnswersParts};
 
 use crate::expressions::entry;
 use crate::lists::{Separated, alternating};
-use crate::tokens::{
-    CLOSE_PARENTHESIS, Input, NEGEDGE, OPEN_PARENTHESIS, POSEDGE, Piece, STAR, choice, mark, name,
-};
+use crate::tokens::{Input, Piece, choice, mark, name};
 use rr_parse_expr::{ParseFault, mark_at};
 use rr_parse_stmt::keyword_at;
-use rr_syntax::{Event, Events, Expr};
+use rr_syntax::{Event, Events, Expr, Keyword, Mark};
 
 /// `posedge` or `negedge`, and a name (section 9.7.2).
 fn edge<'a>(input: Input<'a>, from: u32) -> Result<Piece<Event<'a>>, ParseFault>
     requires short { length input.tokens.now < 2 ^ 32 }
     ensures { Answers edge_of plain_edge input.entry.tokens.now from result }
 {
-    let rising = choice(input.tokens, from, POSEDGE, NEGEDGE)?;
+    let rising = choice(input.tokens, from, Keyword::POSEDGE.0, Keyword::NEGEDGE.0)?;
     let name = name(input.tokens, rising.next)?;
     Ok(Piece {
         value: Event {
@@ -67,7 +65,7 @@ fn edges<'a>(input: Input<'a>, from: u32) -> Result<Piece<Events<'a>>, ParseFaul
     ensures { Answers edges_of plain_events input.entry.tokens.now from result }
 {
     let found = separated_edges(input, from)?;
-    let next = mark(input.tokens, found.next, CLOSE_PARENTHESIS)?;
+    let next = mark(input.tokens, found.next, Mark::CLOSE_PARENTHESIS.0)?;
     Ok(Piece {
         value: Events::Edges {
             list: found.value.list,
@@ -84,7 +82,7 @@ fn levels<'a>(input: Input<'a>, from: u32, depth: u32) -> Result<Piece<Events<'a
     ensures { Answers (levels_of depth) plain_events input.entry.tokens.now from result }
 {
     let found = separated_levels(input, from, depth)?;
-    let next = mark(input.tokens, found.next, CLOSE_PARENTHESIS)?;
+    let next = mark(input.tokens, found.next, Mark::CLOSE_PARENTHESIS.0)?;
     Ok(Piece {
         value: Events::Levels {
             list: found.value.list,
@@ -99,8 +97,8 @@ fn star<'a>(input: Input<'a>, from: u32) -> Result<Piece<Events<'a>>, ParseFault
     requires short { length input.tokens.now < 2 ^ 32 }
     ensures { Answers star_of plain_events input.entry.tokens.now from result }
 {
-    let star = mark(input.tokens, from, STAR)?;
-    let next = mark(input.tokens, star, CLOSE_PARENTHESIS)?;
+    let star = mark(input.tokens, from, Mark::STAR.0)?;
+    let next = mark(input.tokens, star, Mark::CLOSE_PARENTHESIS.0)?;
     Ok(Piece {
         value: Events::Star { brackets: true },
         next,
@@ -111,7 +109,7 @@ fn star<'a>(input: Input<'a>, from: u32) -> Result<Piece<Events<'a>>, ParseFault
 fn is_edge(word: u8) -> bool
     ensures { result ≡ (word == keyword_posedge || word == keyword_negedge) }
 {
-    word == POSEDGE || word == NEGEDGE
+    word == Keyword::POSEDGE.0 || word == Keyword::NEGEDGE.0
 }
 
 /// What stands behind the opening bracket.
@@ -121,7 +119,7 @@ fn bracketed<'a>(input: Input<'a>, from: u32, depth: u32) -> Result<Piece<Events
     ensures { Answers (bracketed_of depth) plain_events input.entry.tokens.now from result }
 {
     let word = keyword_at(input.tokens, from);
-    if mark_at(input.tokens, from) == STAR {
+    if mark_at(input.tokens, from) == Mark::STAR.0 {
         star(input, from)
     } else if is_edge(word) {
         edges(input, from)
@@ -140,12 +138,12 @@ pub(crate) fn events<'a>(
     requires shallow { depth ≤ 500 }
     ensures { Answers (events_of depth) plain_events input.entry.tokens.now from result }
 {
-    if mark_at(input.tokens, from) == STAR {
+    if mark_at(input.tokens, from) == Mark::STAR.0 {
         return Ok(Piece {
             value: Events::Star { brackets: false },
             next: from + 1,
         });
     }
-    let inside = mark(input.tokens, from, OPEN_PARENTHESIS)?;
+    let inside = mark(input.tokens, from, Mark::OPEN_PARENTHESIS.0)?;
     bracketed(input, inside, depth)
 }

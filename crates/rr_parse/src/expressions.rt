@@ -8,10 +8,10 @@ ghost use Rattle.rr_grammar.specs.ItemForms.{statement_of};
 ghost use Rattle.rr_grammar.specs.Leaves.{expression as expression_of, range as range_of, target_of};
 ghost use Rattle.rr_parse.specs.Answer.{Answers, bounds_of, plain_behind, plain_bounds, statement_behind};
 
-use crate::tokens::{CLOSE_BRACKET, COLON, Input, OPEN_BRACKET, Piece, mark};
+use crate::tokens::{Input, Piece, mark};
 use rr_parse_expr::{ParseFault, expr_within, mark_at, operand_within};
 use rr_parse_stmt::stmt;
-use rr_syntax::{Bounds, Expr, Stmt, is_target};
+use rr_syntax::{Bounds, Expr, Mark, Stmt, is_target};
 
 /// The longest expression of a depth.
 pub(crate) fn expression<'a>(
@@ -100,8 +100,8 @@ fn bounds<'a>(input: Input<'a>, from: u32, depth: u32) -> Result<Piece<Bounds<'a
     requires shallow { depth ≤ 500 }
     ensures { Answers (bounds_of depth) plain_bounds input.entry.tokens.now from result }
 {
-    let left = closed(input, from, COLON, depth)?;
-    let right = closed(input, left.next, CLOSE_BRACKET, depth)?;
+    let left = closed(input, from, Mark::COLON.0, depth)?;
+    let right = closed(input, left.next, Mark::CLOSE_BRACKET.0, depth)?;
     Ok(Piece {
         value: Bounds {
             left: left.value,
@@ -122,7 +122,7 @@ pub(crate) fn range<'a>(
     requires shallow { depth ≤ 500 }
     ensures { Answers (range_of depth) plain_range input.entry.tokens.now from result }
 {
-    if mark_at(input.tokens, from) != OPEN_BRACKET {
+    if mark_at(input.tokens, from) != Mark::OPEN_BRACKET.0 {
         return Ok(Piece {
             value: None,
             next: from,

@@ -13,12 +13,10 @@ use crate::events::events;
 use crate::expressions::statement;
 use crate::lists::all;
 use crate::ports::{begins_port, port};
-use crate::tokens::{
-    ALWAYS, ASSIGN, AT, INTEGER, Input, Piece, REG, SEMICOLON, WIRE, mark, name, word,
-};
+use crate::tokens::{Input, Piece, mark, name, word};
 use rr_parse_expr::ParseFault;
 use rr_parse_stmt::keyword_at;
-use rr_syntax::Item;
+use rr_syntax::{Item, Keyword, Mark};
 
 /// Ports that are declared among the items (section 12.3.3).
 fn port_item<'a>(input: Input<'a>, from: u32, depth: u32) -> Result<Piece<Item<'a>>, ParseFault>
@@ -27,7 +25,7 @@ fn port_item<'a>(input: Input<'a>, from: u32, depth: u32) -> Result<Piece<Item<'
     ensures { Answers (ports_of depth) plain_item input.entry.tokens.now from result }
 {
     let group = port(input, from, depth)?;
-    let next = mark(input.tokens, group.next, SEMICOLON)?;
+    let next = mark(input.tokens, group.next, Mark::SEMICOLON.0)?;
     Ok(Piece {
         value: Item::Ports(group.value),
         next,
@@ -40,10 +38,10 @@ fn net_item<'a>(input: Input<'a>, from: u32, depth: u32) -> Result<Piece<Item<'a
     requires shallow { depth ≤ 500 }
     ensures { Answers (nets_of depth) plain_item input.entry.tokens.now from result }
 {
-    let wire = word(input.tokens, from, WIRE)?;
+    let wire = word(input.tokens, from, Keyword::WIRE.0)?;
     let typed = typed(input, wire, depth)?;
     let names = nets(input, typed.next, depth)?;
-    let next = mark(input.tokens, names.next, SEMICOLON)?;
+    let next = mark(input.tokens, names.next, Mark::SEMICOLON.0)?;
     Ok(Piece {
         value: Item::Nets {
             signed: typed.value.signed,
@@ -60,10 +58,10 @@ fn variable_item<'a>(input: Input<'a>, from: u32, depth: u32) -> Result<Piece<It
     requires shallow { depth ≤ 500 }
     ensures { Answers (variables_of depth) plain_item input.entry.tokens.now from result }
 {
-    let reg = word(input.tokens, from, REG)?;
+    let reg = word(input.tokens, from, Keyword::REG.0)?;
     let typed = typed(input, reg, depth)?;
     let names = names(input, typed.next)?;
-    let next = mark(input.tokens, names.next, SEMICOLON)?;
+    let next = mark(input.tokens, names.next, Mark::SEMICOLON.0)?;
     Ok(Piece {
         value: Item::Variables {
             signed: typed.value.signed,
@@ -79,9 +77,9 @@ fn integer_item<'a>(input: Input<'a>, from: u32, depth: u32) -> Result<Piece<Ite
     requires short { length input.tokens.now < 2 ^ 32 }
     ensures { Answers (integers_of depth) plain_item input.entry.tokens.now from result }
 {
-    let integer = word(input.tokens, from, INTEGER)?;
+    let integer = word(input.tokens, from, Keyword::INTEGER.0)?;
     let names = names(input, integer)?;
-    let next = mark(input.tokens, names.next, SEMICOLON)?;
+    let next = mark(input.tokens, names.next, Mark::SEMICOLON.0)?;
     Ok(Piece {
         value: Item::Integers { names: names.value },
         next,
@@ -99,7 +97,7 @@ fn parameter_item<'a>(
     ensures { Answers (parameters_of depth) plain_item input.entry.tokens.now from result }
 {
     let found = parameters(input, from, depth)?;
-    let next = mark(input.tokens, found.next, SEMICOLON)?;
+    let next = mark(input.tokens, found.next, Mark::SEMICOLON.0)?;
     Ok(Piece {
         value: Item::Parameters(found.value),
         next,
@@ -112,9 +110,9 @@ fn assign_item<'a>(input: Input<'a>, from: u32, depth: u32) -> Result<Piece<Item
     requires shallow { depth ≤ 500 }
     ensures { Answers (assigns_of depth) plain_item input.entry.tokens.now from result }
 {
-    let assign = word(input.tokens, from, ASSIGN)?;
+    let assign = word(input.tokens, from, Keyword::ASSIGN.0)?;
     let pairs = pairs(input, assign, depth)?;
-    let next = mark(input.tokens, pairs.next, SEMICOLON)?;
+    let next = mark(input.tokens, pairs.next, Mark::SEMICOLON.0)?;
     Ok(Piece {
         value: Item::Assigns { pairs: pairs.value },
         next,
@@ -127,8 +125,8 @@ fn always_item<'a>(input: Input<'a>, from: u32, depth: u32) -> Result<Piece<Item
     requires shallow { depth ≤ 500 }
     ensures { Answers (always_of depth) plain_item input.entry.tokens.now from result }
 {
-    let always = word(input.tokens, from, ALWAYS)?;
-    let at = mark(input.tokens, always, AT)?;
+    let always = word(input.tokens, from, Keyword::ALWAYS.0)?;
+    let at = mark(input.tokens, always, Mark::AT.0)?;
     let events = events(input, at, depth)?;
     let body = statement(input, events.next, depth)?;
     Ok(Piece {
@@ -150,7 +148,7 @@ fn instance_item<'a>(input: Input<'a>, from: u32, depth: u32) -> Result<Piece<It
     let module = name(input.tokens, from)?;
     let overrides = overrides(input, module.next, depth)?;
     let list = instances(input, overrides.next, depth)?;
-    let next = mark(input.tokens, list.next, SEMICOLON)?;
+    let next = mark(input.tokens, list.next, Mark::SEMICOLON.0)?;
     Ok(Piece {
         value: Item::Instances {
             module: module.value.name,
@@ -171,17 +169,17 @@ fn item<'a>(input: Input<'a>, from: u32, depth: u32) -> Result<Piece<Item<'a>>, 
     let word = keyword_at(input.tokens, from);
     if begins_port(word) {
         port_item(input, from, depth)
-    } else if word == WIRE {
+    } else if word == Keyword::WIRE.0 {
         net_item(input, from, depth)
-    } else if word == REG {
+    } else if word == Keyword::REG.0 {
         variable_item(input, from, depth)
-    } else if word == INTEGER {
+    } else if word == Keyword::INTEGER.0 {
         integer_item(input, from, depth)
     } else if begins_parameter(word) {
         parameter_item(input, from, depth)
-    } else if word == ASSIGN {
+    } else if word == Keyword::ASSIGN.0 {
         assign_item(input, from, depth)
-    } else if word == ALWAYS {
+    } else if word == Keyword::ALWAYS.0 {
         always_item(input, from, depth)
     } else {
         instance_item(input, from, depth)

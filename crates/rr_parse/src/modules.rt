@@ -11,14 +11,11 @@ use crate::declarations::{heads, names};
 use crate::items::items;
 use crate::lists::all;
 use crate::ports::{begins_port, ports};
-use crate::tokens::{
-    CLOSE_PARENTHESIS, ENDMODULE, HASH, Input, MODULE, OPEN_PARENTHESIS, Piece, SEMICOLON, mark,
-    name, word,
-};
+use crate::tokens::{Input, Piece, mark, name, word};
 use bumpalo::collections::into_bump_slice;
 use rr_parse_expr::{ParseFault, mark_at};
 use rr_parse_stmt::keyword_at;
-use rr_syntax::{Group, Module, Named, Params};
+use rr_syntax::{Group, Keyword, Mark, Module, Named, Params};
 
 /// The depth of an expression in the brackets of a module: the module is one level, and the node
 /// that holds the expression is another.
@@ -40,15 +37,15 @@ fn module_parameters<'a>(input: Input<'a>, from: u32) -> Result<Piece<&'a [Param
     requires inside { from ≤ length input.tokens.now }
     ensures { Answers (heads_of 498) (plain_list_by plain_parameter) input.entry.tokens.now from result }
 {
-    if mark_at(input.tokens, from) != HASH {
+    if mark_at(input.tokens, from) != Mark::HASH.0 {
         return Ok(Piece {
             value: into_bump_slice(Vec::new(input.arena)),
             next: from,
         });
     }
-    let inside = mark(input.tokens, from + 1, OPEN_PARENTHESIS)?;
+    let inside = mark(input.tokens, from + 1, Mark::OPEN_PARENTHESIS.0)?;
     let found = heads(input, inside, HEAD_DEPTH)?;
-    let next = mark(input.tokens, found.next, CLOSE_PARENTHESIS)?;
+    let next = mark(input.tokens, found.next, Mark::CLOSE_PARENTHESIS.0)?;
     Ok(Piece {
         value: found.value,
         next,
@@ -61,7 +58,7 @@ fn declared_ports<'a>(input: Input<'a>, from: u32) -> Result<Piece<PortList<'a>>
     ensures { Answers (groups_of 498) plain_port_list input.entry.tokens.now from result }
 {
     let groups = ports(input, from, HEAD_DEPTH)?;
-    let next = mark(input.tokens, groups.next, CLOSE_PARENTHESIS)?;
+    let next = mark(input.tokens, groups.next, Mark::CLOSE_PARENTHESIS.0)?;
     Ok(Piece {
         value: PortList {
             header: Some(into_bump_slice(Vec::new(input.arena))),
@@ -77,7 +74,7 @@ fn named_ports<'a>(input: Input<'a>, from: u32) -> Result<Piece<PortList<'a>>, P
     ensures { Answers names_of plain_port_list input.entry.tokens.now from result }
 {
     let names = names(input, from)?;
-    let next = mark(input.tokens, names.next, CLOSE_PARENTHESIS)?;
+    let next = mark(input.tokens, names.next, Mark::CLOSE_PARENTHESIS.0)?;
     Ok(Piece {
         value: PortList {
             header: Some(names.value),
@@ -93,7 +90,7 @@ fn bracketed_ports<'a>(input: Input<'a>, from: u32) -> Result<Piece<PortList<'a>
     ensures { Answers (ports_of 498) plain_port_list input.entry.tokens.now from result }
 {
     let word = keyword_at(input.tokens, from);
-    if mark_at(input.tokens, from) == CLOSE_PARENTHESIS {
+    if mark_at(input.tokens, from) == Mark::CLOSE_PARENTHESIS.0 {
         Ok(Piece {
             value: PortList {
                 header: Some(into_bump_slice(Vec::new(input.arena))),
@@ -114,7 +111,7 @@ fn port_list<'a>(input: Input<'a>, from: u32) -> Result<Piece<PortList<'a>>, Par
     requires inside { from ≤ length input.tokens.now }
     ensures { Answers (port_list_of 498) plain_port_list input.entry.tokens.now from result }
 {
-    if mark_at(input.tokens, from) == OPEN_PARENTHESIS {
+    if mark_at(input.tokens, from) == Mark::OPEN_PARENTHESIS.0 {
         bracketed_ports(input, from + 1)
     } else {
         Ok(Piece {
@@ -132,13 +129,13 @@ fn module<'a>(input: Input<'a>, from: u32) -> Result<Piece<Module<'a>>, ParseFau
     requires short { length input.tokens.now < 2 ^ 32 }
     ensures { Answers (module_of 498 497) plain_module input.entry.tokens.now from result }
 {
-    let module = word(input.tokens, from, MODULE)?;
+    let module = word(input.tokens, from, Keyword::MODULE.0)?;
     let name = name(input.tokens, module)?;
     let params = module_parameters(input, name.next)?;
     let ports = port_list(input, params.next)?;
-    let semicolon = mark(input.tokens, ports.next, SEMICOLON)?;
+    let semicolon = mark(input.tokens, ports.next, Mark::SEMICOLON.0)?;
     let items = items(input, semicolon, ITEM_DEPTH)?;
-    let next = word(input.tokens, items.next, ENDMODULE)?;
+    let next = word(input.tokens, items.next, Keyword::ENDMODULE.0)?;
     Ok(Piece {
         value: Module {
             name: name.value.name,

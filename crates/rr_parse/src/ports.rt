@@ -11,17 +11,17 @@ ghost use Rattle.rr_parse.specs.Trees.{plain_list_by};
 
 use crate::declarations::{names, typed};
 use crate::lists::list;
-use crate::tokens::{INPUT, Input, OUTPUT, Piece, REG, WIRE};
+use crate::tokens::{Input, Piece};
 use rr_parse_expr::ParseFault;
 use rr_parse_stmt::keyword_at;
-use rr_syntax::{Dir, Group, Token};
+use rr_syntax::{Dir, Group, Keyword, Token};
 
 /// Whether a reserved word begins port declarations.
 #[tactic(auto, unfolding(rr_grammar::specs::ItemForms::begins_ports))]
 pub(crate) fn begins_port(word: u8) -> bool
     ensures { result ≡ begins_ports word }
 {
-    word == INPUT || word == OUTPUT
+    word == Keyword::INPUT.0 || word == Keyword::OUTPUT.0
 }
 
 /// What stands behind `input`.
@@ -30,7 +30,7 @@ fn behind_input(tokens: &[Token], from: u32) -> Piece<Dir>
     requires inside { from ≤ length tokens.now }
     ensures { FindsDirection of_input tokens.now from result }
 {
-    if keyword_at(tokens, from) == WIRE {
+    if keyword_at(tokens, from) == Keyword::WIRE.0 {
         Piece {
             value: Dir::InputWire,
             next: from + 1,
@@ -50,12 +50,12 @@ fn behind_output(tokens: &[Token], from: u32) -> Piece<Dir>
     ensures { FindsDirection of_output tokens.now from result }
 {
     let word = keyword_at(tokens, from);
-    if word == WIRE {
+    if word == Keyword::WIRE.0 {
         Piece {
             value: Dir::OutputWire,
             next: from + 1,
         }
-    } else if word == REG {
+    } else if word == Keyword::REG.0 {
         Piece {
             value: Dir::OutputReg,
             next: from + 1,
@@ -74,9 +74,9 @@ fn direction(tokens: &[Token], from: u32) -> Result<Piece<Dir>, ParseFault>
     ensures { Answers direction_of the_same tokens.now from result }
 {
     let word = keyword_at(tokens, from);
-    if word == INPUT {
+    if word == Keyword::INPUT.0 {
         Ok(behind_input(tokens, from + 1))
-    } else if word == OUTPUT {
+    } else if word == Keyword::OUTPUT.0 {
         Ok(behind_output(tokens, from + 1))
     } else {
         Err(ParseFault::Syntax(from))

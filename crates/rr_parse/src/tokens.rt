@@ -14,60 +14,6 @@ use rr_parse_expr::{ParseFault, mark_at};
 use rr_parse_stmt::keyword_at;
 use rr_syntax::{Kind, Named, Token};
 
-pub(crate) const OPEN_PARENTHESIS: u8 = 0;
-
-pub(crate) const CLOSE_PARENTHESIS: u8 = 1;
-
-pub(crate) const OPEN_BRACKET: u8 = 2;
-
-pub(crate) const CLOSE_BRACKET: u8 = 3;
-
-pub(crate) const COMMA: u8 = 6;
-
-pub(crate) const SEMICOLON: u8 = 7;
-
-pub(crate) const COLON: u8 = 8;
-
-pub(crate) const DOT: u8 = 9;
-
-pub(crate) const HASH: u8 = 10;
-
-pub(crate) const AT: u8 = 11;
-
-pub(crate) const EQUALS: u8 = 13;
-
-pub(crate) const STAR: u8 = 16;
-
-pub(crate) const ALWAYS: u8 = 0;
-
-pub(crate) const ASSIGN: u8 = 2;
-
-pub(crate) const ENDMODULE: u8 = 26;
-
-pub(crate) const INPUT: u8 = 47;
-
-pub(crate) const INTEGER: u8 = 49;
-
-pub(crate) const LOCALPARAM: u8 = 54;
-
-pub(crate) const MODULE: u8 = 57;
-
-pub(crate) const NEGEDGE: u8 = 59;
-
-pub(crate) const OR: u8 = 66;
-
-pub(crate) const OUTPUT: u8 = 67;
-
-pub(crate) const PARAMETER: u8 = 68;
-
-pub(crate) const POSEDGE: u8 = 70;
-
-pub(crate) const REG: u8 = 81;
-
-pub(crate) const SIGNED: u8 = 91;
-
-pub(crate) const WIRE: u8 = 120;
-
 /// The tokens that are read, and where the trees are put.
 #[derive(Clone, Copy)]
 pub(crate) struct Input<'a> {

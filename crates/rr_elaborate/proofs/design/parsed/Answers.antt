@@ -5,6 +5,9 @@ use Rattle.rr_elaborate.proofs.design.parsed.Goals as goal
 pub flattened-requires-clause-few : goal.flattened-requires-clause-few
 flattened-requires-clause-few c = few_of c.args.tokens.now c.in-Ok.source.now c.in-Ok.ensures c.requires.few
 
+pub flattened-requires-clause-formed : goal.flattened-requires-clause-formed
+flattened-requires-clause-formed c = c.in-Ok.ensures.spelled.tree.spells.well
+
 pub flattened-requires-clause-fit : goal.flattened-requires-clause-fit
 flattened-requires-clause-fit c = fit_of c.requires.lexed.0 c.args.tokens.now c.in-Ok.source.now c.requires.lexed.1 c.in-Ok.ensures
 

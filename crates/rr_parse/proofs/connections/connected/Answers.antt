@@ -9,13 +9,13 @@ use Rattle.rr_syntax.specs.Words.{mark_close_parenthesis, mark_dot}
 use Rattle.rr_parse.proofs.connections.connected.Goals as goal
 
 pub overflow_add-result : goal.overflow_add-result
-overflow_add-result c = let h = mark_inside c.args.input.tokens.now c.args.from mark_close_parenthesis (sym c.mark_at-first.ensures ∙ c.if-first-eq-CLOSE_PARENTHESIS.true) (omega arith) in omega arith
+overflow_add-result c = let h = mark_inside c.args.input.tokens.now c.args.from mark_close_parenthesis (sym c.mark_at-first.ensures ∙ c.if-first.true) (omega arith) in omega arith
 
-pub returns-then-first-eq-CLOSE_PARENTHESIS : goal.returns-then-first-eq-CLOSE_PARENTHESIS
-returns-then-first-eq-CLOSE_PARENTHESIS c = finds_left front_close (choose front_dot (names_closed c.args.depth) (positions_closed c.args.depth)) (same _ mark_close_parenthesis (sym c.mark_at-first.ensures ∙ c.if-first-eq-CLOSE_PARENTHESIS.true)) (made_empty c.into_bump_slice.result (c.into_bump_slice.ensures ∙ c.new.ensures.items) (mark_here c.args.input.tokens.now c.args.from mark_close_parenthesis (sym c.mark_at-first.ensures ∙ c.if-first-eq-CLOSE_PARENTHESIS.true) (omega arith)))
+pub returns-then-first : goal.returns-then-first
+returns-then-first c = finds_left front_close (choose front_dot (names_closed c.args.depth) (positions_closed c.args.depth)) (same _ mark_close_parenthesis (sym c.mark_at-first.ensures ∙ c.if-first.true)) (made_empty c.into_bump_slice.result (c.into_bump_slice.ensures ∙ c.new.ensures.items) (mark_here c.args.input.tokens.now c.args.from mark_close_parenthesis (sym c.mark_at-first.ensures ∙ c.if-first.true) (omega arith)))
 
-pub returns-then-first-eq-DOT : goal.returns-then-first-eq-DOT
-returns-then-first-eq-DOT c = answers_right front_close empty_closed (choose front_dot (names_closed c.args.depth) (positions_closed c.args.depth)) plain_connections c.args.input.tokens.now c.args.from (not_equal _ mark_close_parenthesis (λ e. c.if-first-eq-CLOSE_PARENTHESIS.false (c.mark_at-first.ensures ∙ e))) (λ b. refl) (λ b. refl) (λ b at n. n) c.named.result (answers_left front_dot (names_closed c.args.depth) (positions_closed c.args.depth) plain_connections c.args.input.tokens.now c.args.from (same _ mark_dot (sym c.mark_at-first.ensures ∙ c.if-first-eq-DOT.true)) c.named.result c.named.ensures)
+pub returns-then-first-2 : goal.returns-then-first-2
+returns-then-first-2 c = answers_right front_close empty_closed (choose front_dot (names_closed c.args.depth) (positions_closed c.args.depth)) plain_connections c.args.input.tokens.now c.args.from (not_equal _ mark_close_parenthesis (λ e. c.if-first.false (c.mark_at-first.ensures ∙ e))) (λ b. refl) (λ b. refl) (λ b at n. n) c.named.result (answers_left front_dot (names_closed c.args.depth) (positions_closed c.args.depth) plain_connections c.args.input.tokens.now c.args.from (same _ mark_dot (sym c.mark_at-first.ensures ∙ c.if-first-2.true)) c.named.result c.named.ensures)
 
-pub returns-else-first-eq-DOT : goal.returns-else-first-eq-DOT
-returns-else-first-eq-DOT c = answers_right front_close empty_closed (choose front_dot (names_closed c.args.depth) (positions_closed c.args.depth)) plain_connections c.args.input.tokens.now c.args.from (not_equal _ mark_close_parenthesis (λ e. c.if-first-eq-CLOSE_PARENTHESIS.false (c.mark_at-first.ensures ∙ e))) (λ b. refl) (λ b. refl) (λ b at n. n) c.positions.result (answers_right front_dot (names_closed c.args.depth) (positions_closed c.args.depth) plain_connections c.args.input.tokens.now c.args.from (not_equal _ mark_dot (λ e. c.if-first-eq-DOT.false (c.mark_at-first.ensures ∙ e))) (λ b. refl) (λ b. refl) (λ b at n. n) c.positions.result c.positions.ensures)
+pub returns-else-first-2 : goal.returns-else-first-2
+returns-else-first-2 c = answers_right front_close empty_closed (choose front_dot (names_closed c.args.depth) (positions_closed c.args.depth)) plain_connections c.args.input.tokens.now c.args.from (not_equal _ mark_close_parenthesis (λ e. c.if-first.false (c.mark_at-first.ensures ∙ e))) (λ b. refl) (λ b. refl) (λ b at n. n) c.positions.result (answers_right front_dot (names_closed c.args.depth) (positions_closed c.args.depth) plain_connections c.args.input.tokens.now c.args.from (not_equal _ mark_dot (λ e. c.if-first-2.false (c.mark_at-first.ensures ∙ e))) (λ b. refl) (λ b. refl) (λ b at n. n) c.positions.result c.positions.ensures)

@@ -7,15 +7,15 @@ use Rattle.rr_syntax.specs.Words.{mark_close_parenthesis}
 use Rattle.rr_parse.proofs.connections.optional.Goals as goal
 
 pub overflow_add-result : goal.overflow_add-result
-overflow_add-result c = let h = mark_inside c.args.input.tokens.now c.args.from mark_close_parenthesis (sym c.mark_at.ensures ∙ c.if-mark_at-eq-CLOSE_PARENTHESIS.true) (omega arith) in omega arith
+overflow_add-result c = let h = mark_inside c.args.input.tokens.now c.args.from mark_close_parenthesis (sym c.mark_at.ensures ∙ c.if-mark_at.true) (omega arith) in omega arith
 
-pub returns-then-mark_at-eq-CLOSE_PARENTHESIS : goal.returns-then-mark_at-eq-CLOSE_PARENTHESIS
-returns-then-mark_at-eq-CLOSE_PARENTHESIS c = finds_left front_close (present_closed c.args.depth) (same _ mark_close_parenthesis (sym c.mark_at.ensures ∙ c.if-mark_at-eq-CLOSE_PARENTHESIS.true)) (made_absent (mark_here c.args.input.tokens.now c.args.from mark_close_parenthesis (sym c.mark_at.ensures ∙ c.if-mark_at-eq-CLOSE_PARENTHESIS.true) (omega arith)))
+pub returns-then-mark_at : goal.returns-then-mark_at
+returns-then-mark_at c = finds_left front_close (present_closed c.args.depth) (same _ mark_close_parenthesis (sym c.mark_at.ensures ∙ c.if-mark_at.true)) (made_absent (mark_here c.args.input.tokens.now c.args.from mark_close_parenthesis (sym c.mark_at.ensures ∙ c.if-mark_at.true) (omega arith)))
 
 pub returns-in_err-found : goal.returns-in_err-found
 returns-in_err-found c =
     let q : c.from_residual.result ≡ Err c.in_err-found.field-0.0 = search rules in
-    rw q (passes (optional_closed c.args.depth) _ c.args.input.tokens.now c.args.from _ c.in_err-found.field-0.0 (λ n. record { none_is = (cond_second _ (not_equal _ mark_close_parenthesis (λ e. c.if-mark_at-eq-CLOSE_PARENTHESIS.false (c.mark_at.ensures ∙ e))) (mapped_none _ n.none_is)) }) c.in_err-found.ensures)
+    rw q (passes (optional_closed c.args.depth) _ c.args.input.tokens.now c.args.from _ c.in_err-found.field-0.0 (λ n. record { none_is = (cond_second _ (not_equal _ mark_close_parenthesis (λ e. c.if-mark_at.false (c.mark_at.ensures ∙ e))) (mapped_none _ n.none_is)) }) c.in_err-found.ensures)
 
 pub returns : goal.returns
-returns c = finds_right front_close absent_closed (not_equal _ mark_close_parenthesis (λ e. c.if-mark_at-eq-CLOSE_PARENTHESIS.false (c.mark_at.ensures ∙ e))) refl refl (λ n. n) (made_present c.in_ok-found.found.value c.in_ok-found.ensures)
+returns c = finds_right front_close absent_closed (not_equal _ mark_close_parenthesis (λ e. c.if-mark_at.false (c.mark_at.ensures ∙ e))) refl refl (λ n. n) (made_present c.in_ok-found.found.value c.in_ok-found.ensures)

@@ -6,16 +6,16 @@ use Rattle.rr_parse_expr.proofs.Answered.{mark_inside}
 use Rattle.rr_syntax.specs.Words.{mark_open_bracket}
 use Rattle.rr_parse.proofs.expressions.range.Goals as goal
 
-pub returns-then-mark_at-ne-OPEN_BRACKET : goal.returns-then-mark_at-ne-OPEN_BRACKET
-returns-then-mark_at-ne-OPEN_BRACKET c = made_no_range c.args.depth c.args.input.tokens.now c.args.from (λ e. c.if-mark_at-ne-OPEN_BRACKET.true (c.mark_at.ensures ∙ e)) c.requires.inside
+pub returns-then-mark_at : goal.returns-then-mark_at
+returns-then-mark_at c = made_no_range c.args.depth c.args.input.tokens.now c.args.from (λ e. c.if-mark_at.true (c.mark_at.ensures ∙ e)) c.requires.inside
 
 pub overflow_add-from : goal.overflow_add-from
-overflow_add-from c = let h = mark_inside c.args.input.tokens.now c.args.from mark_open_bracket (sym c.mark_at.ensures ∙ c.if-mark_at-ne-OPEN_BRACKET.false) (omega arith) in omega arith
+overflow_add-from c = let h = mark_inside c.args.input.tokens.now c.args.from mark_open_bracket (sym c.mark_at.ensures ∙ c.if-mark_at.false) (omega arith) in omega arith
 
 pub returns-in_err-bounds : goal.returns-in_err-bounds
 returns-in_err-bounds c =
     let q : c.from_residual.result ≡ Err c.in_err-bounds.field-0.0 = search rules in
-    rw q (passes (range c.args.depth) _ c.args.input.tokens.now c.args.from _ c.in_err-bounds.field-0.0 (λ n. record { none_is = (cond_first _ (same _ _ (mark_here c.args.input.tokens.now c.args.from mark_open_bracket (sym c.mark_at.ensures ∙ c.if-mark_at-ne-OPEN_BRACKET.false) (omega arith)).1) (mapped_none _ (read_behind c.args.input.tokens.now c.args.from _ (mark_here c.args.input.tokens.now c.args.from mark_open_bracket (sym c.mark_at.ensures ∙ c.if-mark_at-ne-OPEN_BRACKET.false) (omega arith)).0 n))) }) c.in_err-bounds.ensures)
+    rw q (passes (range c.args.depth) _ c.args.input.tokens.now c.args.from _ c.in_err-bounds.field-0.0 (λ n. record { none_is = (cond_first _ (same _ _ (mark_here c.args.input.tokens.now c.args.from mark_open_bracket (sym c.mark_at.ensures ∙ c.if-mark_at.false) (omega arith)).1) (mapped_none _ (read_behind c.args.input.tokens.now c.args.from _ (mark_here c.args.input.tokens.now c.args.from mark_open_bracket (sym c.mark_at.ensures ∙ c.if-mark_at.false) (omega arith)).0 n))) }) c.in_err-bounds.ensures)
 
 pub returns : goal.returns
-returns c = made_range c.in_ok-bounds.bounds.value (mark_here c.args.input.tokens.now c.args.from mark_open_bracket (sym c.mark_at.ensures ∙ c.if-mark_at-ne-OPEN_BRACKET.false) (omega arith)) c.in_ok-bounds.ensures
+returns c = made_range c.in_ok-bounds.bounds.value (mark_here c.args.input.tokens.now c.args.from mark_open_bracket (sym c.mark_at.ensures ∙ c.if-mark_at.false) (omega arith)) c.in_ok-bounds.ensures
