@@ -1,5 +1,5 @@
 -- Files that are written one after the other.
-use Rattle.std.proofs.Common.{◌≡◌, ◌∙◌, ◌⊎◌, inl, inr, ℕ, ◌+◌, ◌<◌, ◌≤◌, zero, suc, List, [], ◌∷◌, length, map, take, refl, sym, ap, get_or, arith, Option}
+use Rattle.std.proofs.Common.{◌≡◌, ◌∙◌, ◌⊎◌, inl, inr, ℕ, ◌+◌, ◌<◌, ◌≤◌, zero, suc, List, [], ◌∷◌, length, map, take, refl, sym, ap, subst, get_or, arith, Option}
 use Rattle.std.specs.Option.{option_map}
 use Rattle.std.proofs.lemmas.List.{get_or-map, length-map}
 use Rattle.rr_edge.specs.Held.{Held, put}
@@ -25,9 +25,10 @@ plain_within files k h = omega (arith, length-map files file_of)
 pub more_written : (start old new : Option Held) (files : List RustFile) (k : ℕ) (file : RustFile) → k < length files → file ≡ get_or files k file → old ≡ with_files start (take k (map file_of files))
     → new ≡ option_map (λ held. put held (file_of file).0 (file_of file).1) old → new ≡ with_files start (take (k + 1) (map file_of files))
 more_written start old new files k file within is before now =
-    now ∙ ap (λ (told : Option Held). with_file told (file_of file)) before
+    let more : suc k ≡ k + 1 = omega arith in
+    subst (λ (n : ℕ). new ≡ with_files start (take n (map file_of files))) more (now ∙ ap (λ (told : Option Held). with_file told (file_of file)) before
     ∙ ap (λ (f : File). with_file (with_files start (take k (map file_of files))) f) (sym (file_there files k file within is))
-    ∙ sym (one_more (map file_of files) k start (plain_within files k within))
+    ∙ sym (one_more (map file_of files) k start (plain_within files k within)))
 
 -- a write that fails leaves the name as it was or with a front of its bytes
 pub stopped_at : (start old new : Option Held) (files : List RustFile) (k : ℕ) (file : RustFile) → k < length files → file ≡ get_or files k file → old ≡ with_files start (take k (map file_of files))

@@ -1,5 +1,6 @@
 //! An answer that is carried out.
 ghost use Rattle.std.specs.Prelude.{◌≡◌, ◌<◌, length, map};
+ghost use Rattle.rr_edge.specs.Shelf.{Counts, Writes};
 ghost use Rattle.rr_edge.specs.Sink.{Puts, CountsPut};
 ghost use Rattle.rr_report.specs.Endings.{status_of};
 ghost use Rattle.rr_report.specs.Views.{Says, file_of, plain_answer, report_text};
@@ -20,12 +21,20 @@ enum WriteStop {
     Failed(usize),
 }
 
+/// Writes one file.
+fn write_file<H: Shelf>(shelf: &mut H, file: &File) -> Result<(), ShelfFault>
+    ensures answer { Writes (H.told shelf.old) (H.told shelf.new) (file_of file.now).0 (file_of file.now).1 result }
+    ensures count { Counts (H.faults shelf.old) (H.faults shelf.new) result }
+{
+    shelf.write(file.name(), file.bytes())
+}
+
 /// Writes the files in order, up to the first write that fails.
 fn write_files<H: Shelf>(shelf: &mut H, files: &[File]) -> Result<(), WriteStop>
     ensures { Written (H.told shelf.old) (H.told shelf.new) (H.faults shelf.old) (H.faults shelf.new) (map file_of files.now) result }
 {
     for number in 0..files.len() {
-        match shelf.write(files[number].name(), files[number].bytes()) {
+        match write_file(shelf, &files[number]) {
             Ok(()) => {}
             Err(ShelfFault::Memory) => return Err(WriteStop::Memory(number)),
             Err(ShelfFault::Failed) => return Err(WriteStop::Failed(number)),
