@@ -5,7 +5,7 @@ use Rattle.rr_thin.proofs.laws.one_outcome.Goals as goal
 pub returns-clause-one_refusal : goal.returns-clause-one_refusal
 returns-clause-one_refusal c = λ top word design table a b p q. elim (one_refusal top word design table a b p q) [
   | same is ↦ inl is
-  | alike r s is_r is_s one ↦ inr (r, (s, (is_r, (is_s, one))))
+  | alike r s is_r is_s one ↦ inr (r, s, (is_r, (is_s, one)))
 ]
 
 pub returns-clause-mendable_or_refusal : goal.returns-clause-mendable_or_refusal
