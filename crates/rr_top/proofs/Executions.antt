@@ -10,8 +10,8 @@ use Rattle.rr_words.specs.Plain.{IsPlain}
 use Rattle.rr_words.specs.Usage.{usage_text}
 use Rattle.rr_words.proofs.PlainCommands.{plain_command}
 use Rattle.rr_run.specs.Refusals.{Refusal as RunRefusal}
-use Rattle.rr_check.specs.declared.expected.Verdict.{Verdict}
-use Rattle.rr_check.specs.declared.expected.Verdict.TheVariants as found
+use Rattle.rr_check.specs.declared.verdict.Verdict.{Verdict}
+use Rattle.rr_check.specs.declared.verdict.Verdict.TheVariants as found
 use Rattle.rr_certify.specs.Texts.{verdict_text}
 use Rattle.rr_certify.proofs.Certified.{never_true}
 use Rattle.rr_report.specs.declared.ending.Ending.{Ending}
@@ -25,7 +25,7 @@ use Rattle.rr_effects.specs.Reads.{AbsentAt, Gave, Given}
 use Rattle.rr_effects.specs.Delivery.{Delivers, Reports, with_files}
 use Rattle.rr_thin.specs.Repairs.{AnswersRepair, IsMatching, IsMendable, IsRepair, IsNoRepair}
 use Rattle.rr_thin.specs.Texts.{unchanged_text}
-use Rattle.rr_thin.proofs.Outcomes.{repairs, despairs, answered, mendable, unmendable, matching, matching_mends}
+use Rattle.rr_thin.proofs.Outcomes.{repairs, despairs, answered, mendable, unmendable as unmended, matching, matching_mends}
 use Rattle.rr_top.specs.Commands.{Answers, AnswersRun, AnswersCheck, BothGiven, Due, Refuses, WhereTwo, reads_of, verdict_status}
 use Rattle.rr_top.specs.Expected.{Expected, absent, refused, unparsed, mended, unmendable, ran, checked, expected_status, IsChecked, IsPlaced, Judges}
 use Rattle.rr_top.specs.Endings.{PlanEnds}
@@ -341,7 +341,7 @@ module _ (held : Held) (answer : Answer) where
     }
     | despairs is ↦ record {
       expected = unmendable;
-      judged = record { files = x ∷ (y ∷ []); given = g; decides = unmendable top clock x y answer is };
+      judged = record { files = x ∷ (y ∷ []); given = g; decides = unmended top clock x y answer is };
       status = is.despairs.status;
       shows = tt;
     }

@@ -64,7 +64,7 @@ module _ (held : Held) where
   long_given (read ∷ reads) n (x ∷ xs) (inl p) q = long_or_gave read.0 x p.1.0 read.1 n p.0 p.1.1 p.1.2 q.0
   long_given (read ∷ reads) n (x ∷ xs) (inr p) q = long_given reads n xs p.1 q.1
 
-  given_given : (reads : List (List ℕ × ℕ)) (xs ys : List (List ℕ)) → Given (Some held) reads xs → Given (Some held) reads ys → xs ≡ ys
+  pub given_given : (reads : List (List ℕ × ℕ)) (xs ys : List (List ℕ)) → Given (Some held) reads xs → Given (Some held) reads ys → xs ≡ ys
   given_given [] [] [] p q = refl
   given_given [] [] (y ∷ ys) p q = absurd q
   given_given [] (x ∷ xs) ys p q = absurd p
