@@ -381,40 +381,22 @@ const WORKED: [Case; 4] = [
 ];
 
 #[test]
-fn registers_and_writes(rt: HostRuntime) -> Result<(), Fail> {
+fn designs_with_rows(rt: HostRuntime) -> Result<(), Fail> {
     let alloc = rt.alloc();
     assert_eq!(rt; first_wrong(alloc, &REGISTERS_WITH_A_RESET)?, None);
     assert_eq!(rt; first_wrong(alloc, &REGISTERS_OF_BOTH_EDGES)?, None);
     assert_eq!(rt; first_wrong(alloc, &ASSIGNMENTS_IN_ORDER)?, None);
     assert_eq!(rt; first_wrong(alloc, &WRITES_OF_PARTS)?, None);
     assert_eq!(rt; first_wrong(alloc, &WRITES_AT_AN_INDEX)?, None);
-    Ok(())
-}
-
-#[test]
-fn arithmetic(rt: HostRuntime) -> Result<(), Fail> {
-    let alloc = rt.alloc();
     assert_eq!(rt; first_wrong(alloc, &SUMS_AND_CARRIES)?, None);
     assert_eq!(rt; first_wrong(alloc, &PRODUCTS_AND_DIFFERENCES)?, None);
     assert_eq!(rt; first_wrong(alloc, &SIGNED_SUMS)?, None);
     assert_eq!(rt; first_wrong(alloc, &COMPARISONS)?, None);
-    Ok(())
-}
-
-#[test]
-fn bits_selects_and_cases(rt: HostRuntime) -> Result<(), Fail> {
-    let alloc = rt.alloc();
     assert_eq!(rt; first_wrong(alloc, &OPERATORS_ON_BITS)?, None);
     assert_eq!(rt; first_wrong(alloc, &CHOICES_AND_CONCATENATIONS)?, None);
     assert_eq!(rt; first_wrong(alloc, &SELECTS)?, None);
     assert_eq!(rt; first_wrong(alloc, &LABELS_OF_CASES)?, None);
     assert_eq!(rt; first_wrong(alloc, &SIGNS_OF_CASES)?, None);
-    Ok(())
-}
-
-#[test]
-fn nets_and_instances(rt: HostRuntime) -> Result<(), Fail> {
-    let alloc = rt.alloc();
     assert_eq!(rt; first_wrong(alloc, &OPEN_NETS_AND_PORTS)?, None);
     assert_eq!(rt; first_wrong(alloc, &INSTANCES_OF_MODULES)?, None);
     assert_eq!(rt; first_wrong(alloc, &DRIVERS_IN_ANY_ORDER)?, None);
