@@ -67,6 +67,7 @@ fn found<R: Abort + AllocGlobal + Threads + Sync>(
     let alloc = rt.alloc();
     let circuit = Vec::from_slice(alloc, circuit.as_bytes()).expect(rt, "room");
     let proof = Vec::from_slice(alloc, proof.as_bytes()).expect(rt, "room");
+    assert!(rt; circuit.len() <= 268_435_456);
     judge(rt, alloc, circuit, proof)
 }
 
