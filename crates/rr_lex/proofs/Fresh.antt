@@ -9,15 +9,15 @@ use Rattle.rr_lex.specs.declared.piece.Piece.{Piece}
 use Rattle.rr_lex.specs.declared.piece.Piece.TheVariants as part
 use Rattle.rr_lex.specs.declared.piece.Shape.TheVariants as shape
 use Rattle.rr_lex.specs.Bytes.{is, begins, is_letter, is_name_byte, is_dark, is_blank, is_digit}
-use Rattle.rr_lex.specs.Numbers.{text_of, literal_parts, size_text}
+use Rattle.rr_lex.specs.Numbers.{IsDecimal, text_of, literal_parts, size_text, number, digit}
 use Rattle.rr_lex.specs.Tokens.{place_of, IsName, Stands, more, begins_with, attribute_begins}
-use Rattle.rr_lex.specs.Patch.{IsNew, IsNameText, is_plain_name, new_name, new_keyword, new_mark, new_literal}
+use Rattle.rr_lex.specs.Patch.{IsNew, IsNewUnquoted, IsNameText, is_plain_name, new_name, new_keyword, new_mark, new_literal, new_decimal}
 use Rattle.rr_lex.specs.Reading.{some_piece, word_of, is_mark, keyword_word, mark_word, mark_len, mark_piece, has_mark, at_least}
 use Rattle.rr_lex.proofs.Places.{all_below, below_all, is_place, place_is}
 use Rattle.rr_lex.proofs.Runs.{run_stops, run_all}
 use Rattle.rr_lex.proofs.Exact.{name_first, escape_piece, read_stands}
 use Rattle.rr_lex.proofs.Edges.{dark_name}
-use Rattle.rr_lex.proofs.Unique.{literal_alone}
+use Rattle.rr_lex.proofs.Unique.{literal_alone, decimal_alone}
 use Rattle.rr_lex.proofs.Written.{written_parts, size_decimal, written_fits, written_literal}
 
 -- a name
@@ -167,6 +167,14 @@ literal_new w signed v h k l =
       alone = λ after. subst (λ (n : Number). Stands (Digits n) (text_of p) (32 ∷ after)) (sym (written_literal w signed v h k l)) (literal_alone p base.Hexadecimal (written_parts w signed v h d) (written_fits w signed v h k) after);
       unquoted = sized_unquoted (size_text w) _ d.0;
     }
+
+-- plain decimals
+decimal_unquoted : (text : List ℕ) → begins is_digit text ≡ true → begins (is 39) text ≡ false
+decimal_unquoted [] h = refl
+decimal_unquoted (b ∷ text) h = digit_quote b h
+
+pub decimal_new : (text : List ℕ) → IsDecimal text → number 10 digit text < 2 ^ 32 → IsNewUnquoted (new_decimal text)
+decimal_new text d f = record { alone = λ after q. decimal_alone text d f after q; unquoted = decimal_unquoted text d.0 }
 
 -- whether a name is plain, by its run of bytes
 whole_run : (p : ℕ → Bool) (xs : List ℕ) → prefix_len p xs ≡ length xs → list_all p xs ≡ true

@@ -8,7 +8,7 @@ use Rattle.rr_syntax.specs.Words.{Word, Marked, marks, mark_star, mark_close_par
 use Rattle.rr_lex.specs.Tokens.{Lexeme, place_of, more, is_closed_next, IsWhite, blank, line, block, attribute, skipped, IsToken, named, reserved, escaped_name, system_name, numbered, marked, Stands, Read, here, white, token, words_of, AreTokens}
 use Rattle.rr_lex.specs.Numbers.{IsNumberText}
 use Rattle.rr_lex.specs.Reading.{is_mark}
-use Rattle.rr_lex.specs.Patch.{New, Edit, run_end, run_text, token_text, patched, token_word, new_words, patched_words, IsNew, AllNew, Replaces, IsNext, AreEdits, AreWords}
+use Rattle.rr_lex.specs.Patch.{New, Edit, run_end, run_text, token_text, patched, token_word, new_words, patched_words, IsNew, IsNewUnquoted, IsNewBefore, AllNew, Replaces, IsNext, AreEdits, AreWords}
 use Rattle.rr_lex.proofs.Runs.{gap_blank}
 use Rattle.rr_lex.proofs.Marks.{place_sound, fine_parts}
 use Rattle.rr_lex.proofs.Exact.{empty_seen, text_first, number_text, place_mark}
@@ -49,19 +49,33 @@ at_dark b bs h = rw h refl
 past_blank : (b : ℕ) (bs : List ℕ) → is_gap b ≡ true → starts is_gap (b ∷ bs) ≡ starts is_gap bs
 past_blank b bs h = let e : prefix_len is_gap (b ∷ bs) ≡ suc (prefix_len is_gap bs) = rw h (omega arith) in ap (λ (n : ℕ). drop n (b ∷ bs)) e
 
+-- a new token that begins with no apostrophe
+quote_there : (w : Word) (text rest after : List ℕ) → Stands w text after → begins (is 39) text ≡ false → begins (is 39) (starts is_gap (text ++ rest)) ≡ false
+quote_there w [] rest after t q = absurd (empty_seen w after t.token)
+quote_there w (b ∷ text) rest after t q = rw (at_dark b (text ++ rest) (no_gap b (token_dark w b text after t))) q
+
 new_quote : (w : Word) (text rest after : List ℕ) → Stands w text after → begins (is 39) text ≡ false → begins (is 39) (starts is_gap (32 ∷ (text ++ rest))) ≡ false
 unfolding is_gap
-new_quote w [] rest after t q = absurd (empty_seen w after t.token)
-new_quote w (b ∷ text) rest after t q =
-    let d = no_gap b (token_dark w b text after t) in
-    rw (past_blank 32 (b ∷ (text ++ rest)) refl, at_dark b (text ++ rest) d) q
+new_quote w text rest after t q = rw (past_blank 32 (text ++ rest) refl) (quote_there w text rest after t q)
+
+-- what holds wherever a blank follows
+weaker : (n : New) → IsNew n → IsNewUnquoted n
+weaker n k = record { alone = λ after _. k.alone after; unquoted = k.unquoted }
+
+-- of each token of a run
+first_new : (n : New) (ns : List New) → IsNewBefore ns n → IsNewUnquoted n
+first_new n [] k = weaker n k
+first_new n (m ∷ ns) k = k
+
+alone_there : (n : New) → IsNewUnquoted n → Stands n.word n.text (32 ∷ [])
+alone_there n k = k.alone [] refl
 
 -- a blank and a new token
-new_edge : (old rest : List ℕ) (n : New) → IsNew n → Edged old (32 ∷ (n.text ++ rest))
+new_edge : (old rest : List ℕ) (n : New) → IsNewUnquoted n → Edged old (32 ∷ (n.text ++ rest))
 unfolding opens
 new_edge old rest n k = record {
   heads = λ p d h. d.blank;
-  quote = λ _. new_quote n.word n.text rest (32 ∷ []) (k.alone []) k.unquoted;
+  quote = λ _. new_quote n.word n.text rest (32 ∷ []) (alone_there n k) k.unquoted;
   star = λ _. refl;
 }
 
@@ -81,8 +95,11 @@ read_run n [] after ws k r =
     subst (λ (l : List ℕ). Reads (32 ∷ l) (n.word ∷ ws)) (sym (append_assoc n.text (32 ∷ []) after)) b
 read_run n (m ∷ ns) after ws k r =
     let t : Reads (run_end (m ∷ ns) ++ after) (new_words (m ∷ ns) ++ ws) = read_run m ns after ws k.1 r in
+    let h = first_new m ns k.1.0 in
+    let q : begins (is 39) (starts is_gap ((m.text ++ run_end ns) ++ after)) ≡ false =
+    subst (λ (l : List ℕ). begins (is 39) (starts is_gap l) ≡ false) (sym (append_assoc m.text (run_end ns) after)) (quote_there m.word m.text (run_end ns ++ after) (32 ∷ []) (alone_there m h) h.unquoted) in
     let a : Reads (n.text ++ (run_end (m ∷ ns) ++ after)) (n.word ∷ (new_words (m ∷ ns) ++ ws)) =
-    read_token n.word n.text (run_end (m ∷ ns) ++ after) (new_words (m ∷ ns) ++ ws) (k.0.alone ((m.text ++ run_end ns) ++ after)) t in
+    read_token n.word n.text (run_end (m ∷ ns) ++ after) (new_words (m ∷ ns) ++ ws) (k.0.alone ((m.text ++ run_end ns) ++ after) q) t in
     let b : Reads (32 ∷ (n.text ++ (run_end (m ∷ ns) ++ after))) (n.word ∷ (new_words (m ∷ ns) ++ ws)) = read_white (32 ∷ []) (n.text ++ (run_end (m ∷ ns) ++ after)) _ (space _) a in
     subst (λ (l : List ℕ). Reads (32 ∷ l) (n.word ∷ (new_words (m ∷ ns) ++ ws))) (sym (append_assoc n.text (run_end (m ∷ ns)) after)) b
 
@@ -91,7 +108,7 @@ read_runs [] after ws k r = r
 read_runs (n ∷ ns) after ws k r = read_run n ns after ws k r
 
 -- what a token sees of a run after it
-run_edge : (old rest : List ℕ) (n : New) (ns : List New) → IsNew n → Edged old (run_end (n ∷ ns) ++ rest)
+run_edge : (old rest : List ℕ) (n : New) (ns : List New) → IsNewUnquoted n → Edged old (run_end (n ∷ ns) ++ rest)
 run_edge old rest n ns k = subst (λ (l : List ℕ). Edged old (32 ∷ l)) (sym (append_assoc n.text (run_end ns) rest)) (new_edge old (run_end ns ++ rest) n k)
 
 -- white space stays before other bytes
@@ -298,7 +315,7 @@ pub record Patches (bs new : List ℕ) (ws : List Word) : Type 0 where
 
 run_sees : (old next : List ℕ) (ns : List New) → AllNew ns → Edged old next → Edged old (run_text ns ++ next)
 run_sees old next [] k e = e
-run_sees old next (n ∷ ns) k e = run_edge old next n ns k.0
+run_sees old next (n ∷ ns) k e = run_edge old next n ns (first_new n ns k.0)
 
 run_closed : (w : Word) (old next : List ℕ) (ns : List New) (ts : List Lexeme) → ((ns ≡ []) ⊎ (w ≡ Marked mark_star → IsNext (Marked mark_close_parenthesis) ts → ⊥)) → (is_closed_next old ≡ true → IsNext (Marked mark_close_parenthesis) ts) →
     (is_closed_next old ≡ true → is_closed_next next ≡ true) → is_closed_next old ≡ true → w ≡ Marked mark_star → is_closed_next (run_text ns ++ next) ≡ true
@@ -328,7 +345,7 @@ replaced_patch w text old next ws m ns t k d n p =
     record {
       reads = read_run m [] (run_text ns ++ next) (new_words ns ++ ws) (k, tt) (read_runs ns next ws n p.reads);
       sees = record {
-        edged = run_edge (text ++ old) (run_text ns ++ next) m [] k;
+        edged = run_edge (text ++ old) (run_text ns ++ next) m [] (weaker m k);
         closed = λ h. absurd (d (closed_first w text old t h));
         lines = λ h. absurd (false≢true (sym h ∙ token_line w text old t));
       };

@@ -1,19 +1,20 @@
 -- No bytes have two token lists.
-use Rattle.std.proofs.Common.{ℕ, suc, ◌≡◌, ◌+◌, ◌<◌, List, [], ◌∷◌, ◌++◌, length, true, ◌||◌, Some, refl, ap, ◌∙◌, sym, arith, subst}
+use Rattle.std.proofs.Common.{ℕ, suc, ◌≡◌, ◌+◌, ◌<◌, ◌^◌, List, [], ◌∷◌, ◌++◌, length, drop, true, false, ◌||◌, Some, refl, ap, ◌∙◌, sym, arith, subst}
+use Rattle.std.specs.List.{prefix_len}
 use Rattle.rr_lex.specs.declared.piece.Shape.{Shape}
 use Rattle.rr_lex.specs.declared.piece.Piece.TheVariants as part
 use Rattle.rr_lex.specs.declared.number.Base.{Base}
-use Rattle.rr_lex.specs.Bytes.{is, begins, is_digit}
+use Rattle.rr_lex.specs.Bytes.{is, begins, starts, is_digit, is_decimal, is_gap}
 use Rattle.rr_lex.specs.Reading.{some_piece, word_of, number_len, number_of, in_range, checked}
 use Rattle.rr_syntax.specs.Words.{Word, Digits}
 use Rattle.rr_lex.specs.Tokens.{Lexeme, begins_with, attribute_begins, HasApostrophe, IsWhite, IsBroken, open_block, open_attribute, directive, no_digits, out_of_range, IsFault, broken, no_token, IsFirstFault, Stands, Read, here, white, token, AreTokens}
-use Rattle.rr_lex.specs.Numbers.{Parts, AreParts, text_of, based, fits, literal, is_signed, radix_of, goes_on, is_wild}
-use Rattle.std.proofs.lemmas.Bool.{false≢true}
+use Rattle.rr_lex.specs.Numbers.{Parts, AreParts, IsDecimal, text_of, decimal, based, number, digit, plain_literal, fits, literal, is_signed, radix_of, goes_on, is_wild}
+use Rattle.std.proofs.lemmas.Bool.{false≢true, lt-ltb}
 use Rattle.std.proofs.lemmas.List.{length-append}
 use Rattle.rr_lex.specs.declared.piece.Wrong.{Wrong}
 use Rattle.rr_lex.specs.declared.piece.Shape.TheVariants as shape
 use Rattle.rr_lex.proofs.Runs.{bare_run}
-use Rattle.rr_lex.proofs.NumberText.{based_len, based_of, dark_further, text_length}
+use Rattle.rr_lex.proofs.NumberText.{based_len, based_of, decimal_len, decimal_of, dark_further, text_length}
 use Rattle.rr_lex.proofs.Exact.{white_is, stands_read, read_stands, fronts, text_first, first_byte, found_number, fault_read}
 use Rattle.rr_lex.proofs.Steps.{white_length, token_length}
 
@@ -66,6 +67,10 @@ unique m n a b c d ts us (token at bs x r z xs w t i) (token bt cs y s o vs v k 
 pub one_list : (bs : List ℕ) (ts us : List Lexeme) → AreTokens bs ts → AreTokens bs us → ts ≡ us
 one_list bs ts us r s = unique (length bs) (length bs) 0 0 bs bs ts us r s refl refl
 
+decimal_length : (text : List ℕ) → IsDecimal text → 0 < length text
+decimal_length [] d = absurd (false≢true d.0)
+decimal_length (b ∷ text) d = omega arith
+
 -- A number with an apostrophe is that token wherever a blank follows.
 pub literal_alone : (p : Parts) (c : Base) → AreParts p c → fits p.size (radix_of c p.digits) p.digits ≡ true → (after : List ℕ) → Stands (Digits (literal p.size (is_signed p.sign) (radix_of c p.digits) p.digits)) (text_of p) (32 ∷ after)
 unfolding in_range checked word_of
@@ -75,6 +80,20 @@ literal_alone p c a f after =
     let e : some_piece (text_of p ++ (32 ∷ after)) ≡ part.Text (shape.Number (literal p.size (is_signed p.sign) (radix_of c p.digits) p.digits)) (length (text_of p)) =
     first_byte (text_of p ++ (32 ∷ after)) (text_first (text_of p) (32 ∷ after) (based p c a refl)) ∙ found_number (text_of p) (32 ∷ after) l ∙ rw n refl in
     read_stands (shape.Number (literal p.size (is_signed p.sign) (radix_of c p.digits) p.digits)) (text_of p) (32 ∷ after) e (omega (arith, text_length p))
+
+past_space : (after : List ℕ) → starts is_gap (32 ∷ after) ≡ starts is_gap after
+unfolding is_gap
+past_space after = let e : prefix_len is_gap (32 ∷ after) ≡ suc (prefix_len is_gap after) = omega arith in ap (λ (n : ℕ). drop n (32 ∷ after)) e
+
+-- A plain decimal is that token where a blank and then, past blanks, no apostrophe follows.
+pub decimal_alone : (text : List ℕ) → IsDecimal text → number 10 digit text < 2 ^ 32 → (after : List ℕ) → begins (is 39) (starts is_gap after) ≡ false → Stands (Digits (plain_literal text)) text (32 ∷ after)
+unfolding in_range checked word_of is_decimal is_digit
+decimal_alone text d f after q =
+    let n : number_of text ≡ Some (plain_literal text) = decimal_of text d.1 ∙ rw (lt-ltb (number 10 digit text) (2 ^ 32) f) refl in
+    let l : number_len (text ++ (32 ∷ after)) ≡ Some (length text) = decimal_len text (32 ∷ after) d.1 refl (ap (begins (is 39)) (past_space after) ∙ q) in
+    let e : some_piece (text ++ (32 ∷ after)) ≡ part.Text (shape.Number (plain_literal text)) (length text) =
+    first_byte (text ++ (32 ∷ after)) (text_first text (32 ∷ after) (decimal d)) ∙ found_number text (32 ∷ after) l ∙ rw n refl in
+    read_stands (shape.Number (plain_literal text)) text (32 ∷ after) e (decimal_length text d)
 
 empty_apostrophe : HasApostrophe [] → ⊥
 empty_apostrophe t = let l : 0 ≡ length (t.0 ++ (t.1 ++ (39 ∷ t.2))) = ap length t.3 in let k : length (t.0 ++ (t.1 ++ (39 ∷ t.2))) ≡ length t.0 + (length t.1 + suc (length t.2)) = simp length-append in omega arith

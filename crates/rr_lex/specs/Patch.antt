@@ -3,8 +3,8 @@ use Rattle.std.specs.Prelude.{ℕ, ◌≡◌, ◌≢◌, ◌-◌, ◌⊎◌, Lis
 use Rattle.std.specs.List.{list_all}
 use Rattle.rr_syntax.specs.declared.token.Number.{Number}
 use Rattle.rr_syntax.specs.Words.{Word, Named, Digits, Reserved, Marked, marks, keywords, mark_star, mark_close_parenthesis}
-use Rattle.rr_lex.specs.Bytes.{is, begins, is_letter, is_name_byte, is_printable}
-use Rattle.rr_lex.specs.Numbers.{text_of, literal_parts}
+use Rattle.rr_lex.specs.Bytes.{is, begins, starts, is_gap, is_letter, is_name_byte, is_printable}
+use Rattle.rr_lex.specs.Numbers.{text_of, literal_parts, plain_literal}
 use Rattle.rr_lex.specs.Tokens.{Lexeme, words_of, place_of, Stands, AreTokens}
 
 -- a new token and its text
@@ -56,9 +56,19 @@ pub record IsNew (n : New) : Type 0 where
   pub alone : (after : List ℕ) → Stands n.word n.text (32 ∷ after)
   pub unquoted : begins (is 39) n.text ≡ false
 
+-- The same where, past the blank and all others, no apostrophe follows, which would make a plain decimal the size of a based one (section 3.5.1).
+pub record IsNewUnquoted (n : New) : Type 0 where
+  pub alone : (after : List ℕ) → begins (is 39) (starts is_gap after) ≡ false → Stands n.word n.text (32 ∷ after)
+  pub unquoted : begins (is 39) n.text ≡ false
+
+-- A new token before the others of its run. What follows the last one is the source's, and may begin with an apostrophe.
+abbrev pub IsNewBefore : List New → New → Type 0
+IsNewBefore [] n = IsNew n
+IsNewBefore (m ∷ ns) n = IsNewUnquoted n
+
 abbrev pub AllNew : List New → Type 0
 AllNew [] = Unit {0}
-AllNew (n ∷ ns) = IsNew n × AllNew ns
+AllNew (n ∷ ns) = IsNewBefore ns n × AllNew ns
 
 abbrev pub Replaces : Option New → Word → Type 0
 Replaces None old = Unit {0}
@@ -85,6 +95,10 @@ plain_number w signed v = record { width = w; signed = signed; value = v; any = 
 
 abbrev pub new_literal : ℕ → Bool → ℕ → New
 new_literal w signed v = record { word = Digits (plain_number w signed v); text = text_of (literal_parts w signed v) }
+
+-- a plain decimal, which has 32 bits
+abbrev pub new_decimal : List ℕ → New
+new_decimal text = record { word = Digits (plain_literal text); text = text }
 
 abbrev pub new_keyword : ℕ → New
 new_keyword k = record { word = Reserved k; text = get_or keywords k [] }

@@ -5,7 +5,8 @@ ghost use Rattle.rr_syntax.specs.declared.token.Token.{Token};
 ghost use Rattle.rr_syntax.specs.Words.{words};
 ghost use Rattle.rr_lex.specs.declared.piece.Wrong.{Wrong};
 ghost use Rattle.rr_lex.specs.Tokens.{Lexeme, lexemes, words_of, AreTokens, IsFirstFault, IsSound};
-ghost use Rattle.rr_lex.specs.Patch.{Edit, PatchReads, IsNew, IsNameText, new_literal, new_name, new_keyword, new_mark};
+ghost use Rattle.rr_lex.specs.Numbers.{IsDecimal, number, digit};
+ghost use Rattle.rr_lex.specs.Patch.{Edit, PatchReads, IsNew, IsNewUnquoted, IsNameText, new_decimal, new_literal, new_name, new_keyword, new_mark};
 
 /// No bytes have two token lists.
 pub fn one_token_list()
@@ -40,6 +41,11 @@ pub fn patched_text_reads()
 /// The text of a literal is that literal wherever a blank follows.
 pub fn literal_is_new()
     ensures { (width : ℕ) (signed : Bool) (value : ℕ) → 1 ≤ width → width ≤ 128 → value < 2 ^ width → IsNew (new_literal width signed value) }
+{}
+
+/// A plain decimal is that literal wherever a blank and then no apostrophe follows.
+pub fn decimal_is_new()
+    ensures { (text : List ℕ) → IsDecimal text → number 10 digit text < 2 ^ 32 → IsNewUnquoted (new_decimal text) }
 {}
 
 /// The text of a name is that name wherever a blank follows.

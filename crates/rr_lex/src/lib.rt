@@ -13,8 +13,8 @@ mod piece;
 mod words;
 
 pub use laws::{
-    keyword_is_new, literal_is_new, mark_is_new, name_is_new, one_first_fault, one_token_list,
-    patched_text_reads, tokens_or_fault, words_are_sound, words_of_tokens,
+    decimal_is_new, keyword_is_new, literal_is_new, mark_is_new, name_is_new, one_first_fault,
+    one_token_list, patched_text_reads, tokens_or_fault, words_are_sound, words_of_tokens,
 };
 pub use lexer::{TextFault, lex};
 pub use literal::number_text;
