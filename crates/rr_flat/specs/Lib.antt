@@ -7,6 +7,7 @@ pub mod Sound
 pub mod Targets
 pub mod Reads
 pub mod Writers
+pub mod Parts
 pub mod Latches
 pub mod Clocks
 pub mod Lawful

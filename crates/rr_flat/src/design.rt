@@ -214,7 +214,7 @@ impl<'a> Flat<'a> {
 }
 
 /// The number that comes after so many; want of memory where 32 bits do not hold it.
-fn number_of(count: usize) -> Result<u32, AllocError>
+pub fn number_of(count: usize) -> Result<u32, AllocError>
     ensures { IfOk result (λ n. n ≡ count) }
 {
     if count > u32::MAX as usize {

@@ -8,11 +8,13 @@ mod design;
 mod fault;
 mod first;
 mod laws;
+mod reading;
 mod signal;
 
-pub use design::{Block, Driver, Flat, Order, Part, Side, Step};
+pub use design::{Block, Driver, Flat, Order, Part, Side, Step, number_of};
 pub use fault::{FlatFault, Limit};
 pub use first::{earlier, note, note_if, sooner_of};
 pub use laws::order_laws;
+pub use reading::is_constant;
 pub use rr_expr::Bit;
 pub use signal::{Port, Signal};
