@@ -14,7 +14,8 @@ use Rattle.rr_parts.specs.View.{plain_target}
 use Rattle.rr_parts.specs.declared.lists.Target.{Target}
 use Rattle.rr_assign.specs.View.{plain_aim}
 use Rattle.rr_assign.specs.declared.kinds.Assignment.{Assignment}
-use Rattle.rr_parts.specs.Parts.{block_of, entry}
+use Rattle.rr_flat.specs.Parts.{block_of}
+use Rattle.rr_parts.specs.Names.{entry}
 use Rattle.rr_parts.specs.Firsts.{earliest}
 use Rattle.rr_assign.specs.Kinds.{Aim, aim_of, aims_of_part, is_combinational, same_signal, differs, clashes, wrong_after, kind_fault, kind_of, HoldsKinds, AreNoted}
 use Rattle.rr_parts.proofs.Covering.{Member}

@@ -10,7 +10,7 @@ use Rattle.rr_flat.specs.Plain.{Block, Flat}
 use Rattle.rr_flat.specs.Reads.{Assigned, assigned_by, names_read}
 use Rattle.rr_flat.specs.Targets.{part_name}
 use Rattle.rr_flat.specs.Writers.{scope_at, block_at}
-use Rattle.rr_parts.specs.Parts.{is_the, signal_of, signal_named}
+use Rattle.rr_parts.specs.Names.{is_the, signal_of, signal_named}
 use Rattle.rr_assign.specs.Races.{writer_of, writers_of, writers_from, is_other, raced, race_of, races_from, races}
 use Rattle.rr_assign.proofs.Same.{is_the_yes}
 use Rattle.rr_parts.proofs.Covering.{Member, empty_member, member_empty}

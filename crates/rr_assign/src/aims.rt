@@ -5,7 +5,8 @@ ghost use Rattle.rr_flat.specs.Lawful.{RightTargets};
 ghost use Rattle.rr_expr.specs.Scopes.{meant};
 ghost use Rattle.rr_flat.specs.Targets.{is_fixed as is_fixed_in, target_parts};
 ghost use Rattle.rr_flat.specs.Writers.{scope_at};
-ghost use Rattle.rr_parts.specs.Parts.{block_of as block_of_part, driver_of as driver_of_part, signal_of as signal_of_entity};
+ghost use Rattle.rr_flat.specs.Parts.{block_of as block_of_part, driver_of as driver_of_part};
+ghost use Rattle.rr_parts.specs.Names.{signal_of as signal_of_entity};
 ghost use Rattle.rr_flat.specs.View.{plain_block, plain_driver, plain_flat, plain_side};
 ghost use Rattle.rr_assign.specs.Aims.{may_drive as may_drive_in, may_assign as may_assign_in, bad_driven, bad_assigned, bad_declared as bad_declared_in, bad_of_driver as bad_of_driver_in, bad_of_block as bad_of_block_in, bad_of_part as bad_of_part_in, bad_targets};
 ghost use Rattle.rr_parts.specs.Firsts.{earliest};
@@ -13,8 +14,8 @@ ghost use Rattle.rr_parts.specs.View.{plain_target};
 
 use rr_flat::{Block, Driver, Flat, Part, Side};
 use rr_parts::{
-    Target, add_assigned, add_parts, block_of, driver_of, identifier_of, instance_of, is_fixed,
-    is_input, is_variable, scope_of, signal_named, signal_of, walk_of,
+    Target, add_assigned_targets, add_parts, identifier_of, instance_of, is_fixed, is_input,
+    is_variable, signal_named, signal_of,
 };
 use rr_syntax::{Expr, is_target};
 use std::alloc::{AllocError, Global};
@@ -41,7 +42,7 @@ fn may_assign(flat: &Flat, id: Option<u32>) -> bool
 fn drives(flat: &Flat, scope: u32, part: &Expr, name: &str) -> bool
     ensures { result ≡ may_drive_in (plain_flat flat.now) (signal_of_entity (meant (scope_at (plain_flat flat.now) scope) name.now)) (is_fixed_in (scope_at (plain_flat flat.now) scope) (plain part.now)) }
 {
-    match scope_of(flat, scope) {
+    match flat.scope(scope) {
         Some(names) => may_drive(flat, signal_of(names.find(name)), is_fixed(part, names)),
         None => false,
     }
@@ -152,7 +153,7 @@ fn bad_of_block<'a>(
     ensures { IfOk result (λ r. r ≡ earliest (bad_of_block_in (plain_flat flat.now) (plain_block block.now))) }
 {
     let mut targets = Vec::new(alloc);
-    add_assigned(&mut targets, block.body)?;
+    add_assigned_targets(&mut targets, block.body)?;
     Ok(first_bad_assigned(flat, block.scope, targets.as_slice()))
 }
 
@@ -160,7 +161,7 @@ fn bad_of_block<'a>(
 fn bad_driver<'a>(alloc: Global, flat: &Flat<'a>, part: Part) -> Result<Option<u32>, AllocError>
     ensures { IfOk result (λ r. r ≡ earliest (bad_of_driver_in (plain_flat flat.now) (driver_of_part (plain_flat flat.now) part))) }
 {
-    match driver_of(flat, part) {
+    match flat.driver_of(part) {
         Some(driver) => bad_of_driver(alloc, flat, &driver),
         None => Ok(None),
     }
@@ -170,7 +171,7 @@ fn bad_driver<'a>(alloc: Global, flat: &Flat<'a>, part: Part) -> Result<Option<u
 fn bad_block<'a>(alloc: Global, flat: &Flat<'a>, part: Part) -> Result<Option<u32>, AllocError>
     ensures { IfOk result (λ r. r ≡ earliest (bad_of_block_in (plain_flat flat.now) (block_of_part (plain_flat flat.now) part))) }
 {
-    match block_of(flat, part) {
+    match flat.block_of(part) {
         Some(block) => bad_of_block(alloc, flat, &block),
         None => Ok(None),
     }
@@ -195,7 +196,7 @@ pub fn first_bad_target(alloc: Global, flat: &Flat) -> Result<Option<u32>, Alloc
     ensures none { IfOk result (λ r. IfNone r (RightTargets (plain_flat flat.now))) }
     ensures some { IfOk result (λ r. IfSome r (λ at. RightTargets (plain_flat flat.now) → ⊥)) }
 {
-    let walk = walk_of(flat);
+    let walk = flat.parts();
     for part in walk.iter() {
         let found = bad_of_part(alloc, flat, *part)?;
         if found.is_some() {

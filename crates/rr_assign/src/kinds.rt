@@ -4,15 +4,13 @@ ghost use Rattle.rr_flat.specs.Lawful.{RightKinds};
 ghost use Rattle.rr_flat.specs.Sound.{IsWalk};
 ghost use Rattle.rr_flat.specs.View.{plain_flat};
 ghost use Rattle.rr_parts.specs.Firsts.{earliest};
-ghost use Rattle.rr_parts.specs.Parts.{entry};
+ghost use Rattle.rr_parts.specs.Names.{entry};
 ghost use Rattle.rr_parts.specs.View.{plain_target};
 ghost use Rattle.rr_assign.specs.Kinds.{Aim, AreNoted, HoldsKinds, aim_of, aims, aims_of_part, is_combinational as is_combinational_part, kind_fault, wrong_after, wrong_kinds};
 ghost use Rattle.rr_assign.specs.View.{plain_aim};
 
 use rr_flat::{Flat, Part};
-use rr_parts::{
-    Target, add_assigned, block_of, identifier_of, signal_count, signal_named, walk_of,
-};
+use rr_parts::{Target, add_assigned_targets, identifier_of, signal_named};
 use std::alloc::{AllocError, Global};
 
 /// A target of a block, with the number of the block's scope.
@@ -32,7 +30,8 @@ fn is_combinational(part: Part) -> bool
     }
 }
 
-fn add_targets<'a>(
+/// Adds the targets of a block.
+fn add_assignments<'a>(
     list: &mut Vec<Assignment<'a>>,
     flat: &Flat<'a>,
     scope: u32,
@@ -60,13 +59,13 @@ fn add_part<'a>(
 ) -> Result<(), AllocError>
     ensures { OnOk result (map (plain_aim (plain_flat flat.now)) list.new.items ≡ map (plain_aim (plain_flat flat.now)) list.old.items ++ aims_of_part (plain_flat flat.now) part) }
 {
-    match block_of(flat, part) {
+    match flat.block_of(part) {
         None => Ok(()),
         Some(block) => {
             let mut targets = Vec::new(alloc);
-            add_assigned(&mut targets, block.body)?;
+            add_assigned_targets(&mut targets, block.body)?;
             let combinational = is_combinational(part);
-            add_targets(list, flat, block.scope, combinational, targets.as_slice())
+            add_assignments(list, flat, block.scope, combinational, targets.as_slice())
         }
     }
 }
@@ -77,7 +76,7 @@ fn assignments<'a>(alloc: Global, flat: &Flat<'a>) -> Result<Vec<Assignment<'a>>
     ensures walked { IfOk result (λ r. IsWalk (length flat.now.drivers) (length flat.now.clocked) (length flat.now.combinational) flat.now.walk) }
 {
     let mut list = Vec::new(alloc);
-    let walk = walk_of(flat);
+    let walk = flat.parts();
     for part in walk.iter() {
         add_part(alloc, &mut list, flat, *part)?;
     }
@@ -155,6 +154,6 @@ pub fn first_wrong_kind(alloc: Global, flat: &Flat) -> Result<Option<u32>, Alloc
     ensures some { IfOk result (λ r. IfSome r (λ at. RightKinds (plain_flat flat.now) → ⊥)) }
 {
     let list = assignments(alloc, flat)?;
-    let mut kinds = no_kinds(alloc, signal_count(flat))?;
+    let mut kinds = no_kinds(alloc, flat.signal_count())?;
     Ok(first_clash(flat, &mut kinds, list.as_slice()))
 }

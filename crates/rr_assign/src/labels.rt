@@ -8,7 +8,6 @@ ghost use Rattle.rr_parts.specs.Firsts.{earliest};
 ghost use Rattle.rr_assign.specs.Labels.{all_wild, wild, wild_label, wild_labels, wild_in, wild_in_all, wild_in_arms, wild_literal as wild_literal_tokens, wild_of_part};
 
 use rr_flat::{Flat, Part};
-use rr_parts::{block_of, walk_of};
 use rr_syntax::{Arm, Expr, Keyword, Number, Stmt};
 
 fn has_wild(number: &Number) -> bool
@@ -149,7 +148,7 @@ pub fn first_wild_label(flat: &Flat) -> Option<u32>
     ensures none { IfNone result (RightLabels (plain_flat flat.now)) }
     ensures some { IfSome result (λ at. RightLabels (plain_flat flat.now) → ⊥) }
 {
-    let walk = walk_of(flat);
+    let walk = flat.parts();
     for part in walk.iter() {
         let found = wild_in_part(flat, *part);
         if found.is_some() {
@@ -163,7 +162,7 @@ pub fn first_wild_label(flat: &Flat) -> Option<u32>
 fn wild_in_part(flat: &Flat, part: Part) -> Option<u32>
     ensures { result ≡ earliest (wild_of_part (plain_flat flat.now) part) }
 {
-    match block_of(flat, part) {
+    match flat.block_of(part) {
         Some(block) => first_in(block.body),
         None => None,
     }

@@ -9,9 +9,7 @@ ghost use Rattle.rr_assign.specs.Races.{HoldsWriters, race_of as race_in, raced_
 ghost use Rattle.rr_parts.specs.View.{plain_target};
 
 use rr_flat::{Block, Flat};
-use rr_parts::{
-    Target, add_assigned, add_read, clocked_of, identifier_of, signal_count, signal_named,
-};
+use rr_parts::{Target, add_assigned_targets, add_read_names, identifier_of, signal_named};
 use rr_syntax::Named;
 use std::alloc::{AllocError, Global};
 
@@ -107,7 +105,7 @@ fn note_block(
         → HoldsWriters (ws ++ writers_by (plain_flat flat.now) number (plain_block block.now)) (writer_table writers.new.items)) }
 {
     let mut targets = Vec::new(alloc);
-    add_assigned(&mut targets, block.body)?;
+    add_assigned_targets(&mut targets, block.body)?;
     note_writers(flat, writers, block.scope, number, targets.as_slice());
     Ok(())
 }
@@ -126,8 +124,8 @@ fn writers_of(alloc: Global, flat: &Flat) -> Result<Vec<Writers>, AllocError>
     ensures size { IfOk result (λ t. length t.items ≡ length flat.now.signals) }
     ensures held { IfOk result (λ t. HoldsWriters (writers_from (plain_flat flat.now) 0 (plain_flat flat.now).clocked) (writer_table t.items)) }
 {
-    let mut writers = no_writers(alloc, signal_count(flat))?;
-    let blocks = clocked_of(flat);
+    let mut writers = no_writers(alloc, flat.signal_count())?;
+    let blocks = flat.clocked_blocks();
     for number in 0..blocks.len() {
         note_block(alloc, flat, &mut writers, number, &blocks[number])?;
     }
@@ -182,7 +180,7 @@ fn race_in_block(
         → r ≡ earliest (flat_map (race_in (plain_flat flat.now) ws number (plain_block block.now).scope) (names_read (plain_block block.now).body))) }
 {
     let mut names = Vec::new(alloc);
-    add_read(&mut names, block.body)?;
+    add_read_names(&mut names, block.body)?;
     Ok(first_race_of(flat, writers, number, block.scope, names.as_slice()))
 }
 
@@ -193,7 +191,7 @@ pub fn first_race(alloc: Global, flat: &Flat) -> Result<Option<u32>, AllocError>
     ensures some { IfOk result (λ r. IfSome r (λ at. NoRace (plain_flat flat.now) → ⊥)) }
 {
     let writers = writers_of(alloc, flat)?;
-    let blocks = clocked_of(flat);
+    let blocks = flat.clocked_blocks();
     for number in 0..blocks.len() {
         let found = race_in_block(alloc, flat, writers.as_slice(), number, &blocks[number])?;
         if found.is_some() {

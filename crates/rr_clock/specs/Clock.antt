@@ -10,7 +10,8 @@ use Rattle.rr_flat.specs.Writers.{block_at}
 use Rattle.rr_clock.specs.declared.clock.Found.{Found}
 use Rattle.rr_clock.specs.declared.clock.Found.TheVariants.{Clock, Nowhere}
 use Rattle.rr_parts.specs.Firsts.{earliest, walked}
-use Rattle.rr_parts.specs.Parts.{driver_of, block_of, scalar_named, is_input}
+use Rattle.rr_flat.specs.Parts.{driver_of, block_of}
+use Rattle.rr_parts.specs.Names.{scalar_named, is_input}
 
 -- a table by signal has the top input to which each leads, if any
 pub record AreSources (flat : Flat) (table : ℕ → Option ℕ) : Type 0 where

@@ -9,14 +9,14 @@ ghost use Rattle.rr_flat.specs.Lawful.{ClockNamed};
 ghost use Rattle.rr_flat.specs.Reads.{names_of};
 ghost use Rattle.rr_flat.specs.View.{plain_block, plain_flat};
 ghost use Rattle.rr_clock.specs.Clock.{IsNamed, IsOne, IsFirst, HasInput, source_named as source_named_in};
-ghost use Rattle.rr_parts.specs.Parts.{entry, is_the as is_the_clock};
+ghost use Rattle.rr_parts.specs.Names.{entry, is_the as is_the_clock};
 ghost use Rattle.rr_parts.specs.Firsts.{earliest};
 ghost use Rattle.rr_clock.specs.Found.{any_runs, by_clock, by_direction, deciding_source as deciding_source_in, first_rising, found as found_in, free_among, leads_by, or_deciding, or_free, runs_by, by_all, unclocked_block};
 
 use crate::sources::{sources, told_by};
 use rr_expr::{Entity, Scope};
 use rr_flat::{Block, Flat};
-use rr_parts::{add_named, clocked_of, inputs_of, is_scalar, scalar_named};
+use rr_parts::{add_statement_names, is_scalar, scalar_named};
 use rr_syntax::{Event, Named, Stmt};
 use std::alloc::{AllocError, Global};
 
@@ -53,7 +53,7 @@ pub(crate) fn is_the(clock: u32, source: Option<u32>) -> bool
 fn is_top_input(flat: &Flat, id: u32) -> bool
     ensures { result ≡ list_any (λ x. nat_eq x id) (plain_flat flat.now).inputs }
 {
-    inputs_of(flat).contains(&id)
+    flat.input_list().contains(&id)
 }
 
 /// Whether it is a scalar one.
@@ -220,7 +220,7 @@ fn names_within<'a>(alloc: Global, body: &'a Stmt<'a>) -> Result<Scope<'a>, Allo
     ensures { IfOk result (λ set. (name : List ℕ) → is_some (lookup name set) ≡ is_among name (names_of (plain_statement body.now))) }
 {
     let mut list = Vec::new(alloc);
-    add_named(&mut list, body)?;
+    add_statement_names(&mut list, body)?;
     name_set(alloc, list.as_slice())
 }
 
@@ -349,5 +349,5 @@ pub fn find_clock(alloc: Global, flat: &Flat, word: Option<&str>) -> Result<Foun
 {
     let table = sources(alloc, flat)?;
     let named = named_input(flat, word);
-    found_by(alloc, flat, table.as_slice(), clocked_of(flat), named)
+    found_by(alloc, flat, table.as_slice(), flat.clocked_blocks(), named)
 }

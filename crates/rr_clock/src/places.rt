@@ -5,7 +5,7 @@ ghost use Rattle.rr_flat.specs.Signals.{with_name};
 ghost use Rattle.rr_flat.specs.View.{plain_signal};
 ghost use Rattle.rr_flat.specs.View.{plain_flat};
 ghost use Rattle.rr_flat.specs.View.{texts};
-ghost use Rattle.rr_parts.specs.Parts.{entry, is_the as is_the_clock, scalar_named as scalar_named_in};
+ghost use Rattle.rr_parts.specs.Names.{entry, is_the as is_the_clock, scalar_named as scalar_named_in};
 ghost use Rattle.rr_clock.specs.Clock.{IsClockInput, has};
 ghost use Rattle.rr_clock.specs.Places.{AreNames, ArePlaces, clock_name, clock_names, clock_set, names_in, owner_at, place_of as place_in, with_clock};
 ghost use Rattle.rr_clock.specs.View.{plain_name, plain_place};
@@ -15,7 +15,7 @@ use crate::sources::{sources, told_by};
 use bumpalo::Bump;
 use rr_expr::{Entity, Scope};
 use rr_flat::{Flat, Signal};
-use rr_parts::{reached_of, scalar_named, signals_of};
+use rr_parts::scalar_named;
 use rr_syntax::ModulePlace;
 use std::alloc::{AllocError, Global};
 
@@ -74,7 +74,7 @@ fn add_names<'a>(
 ) -> Result<(), AllocError>
     ensures { OnOk result (map plain_name names.new.items ≡ map plain_name names.old.items ++ clock_names (plain_flat flat.now) (λ x. is_the_clock clock (entry table.now x))) }
 {
-    for signal in signals_of(flat).iter() {
+    for signal in flat.signal_list().iter() {
         add_name(names, flat, table, clock, signal)?;
     }
     Ok(())
@@ -197,5 +197,5 @@ pub fn clock_places<'a>(
     ensures { IfOk result (λ ps. ArePlaces (plain_flat flat.now) clock (map plain_place ps.now)) }
 {
     let names = names_of_clock(alloc, flat, clock)?;
-    places_of(alloc, names.as_slice(), reached_of(flat), arena)
+    places_of(alloc, names.as_slice(), flat.reached.as_slice(), arena)
 }

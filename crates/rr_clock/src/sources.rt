@@ -4,11 +4,11 @@ ghost use Rattle.rr_syntax.specs.View.{plain};
 ghost use Rattle.rr_flat.specs.Plain.{Written};
 ghost use Rattle.rr_flat.specs.View.{plain_flat, plain_side};
 ghost use Rattle.rr_clock.specs.Clock.{AreSources, told, bare_scalar as bare_scalar_of};
-ghost use Rattle.rr_parts.specs.Parts.{entry};
+ghost use Rattle.rr_parts.specs.Names.{entry};
 ghost use Rattle.rr_clock.specs.Spread.{bare_value as bare_value_of, AreFirstDrivers, AreSound, IsSpread, feeder as feeder_of, input_noted, next_source as next_source_of, noted};
 
 use rr_flat::{Flat, Side};
-use rr_parts::{drivers_of, inputs_of, is_input, is_scalar, scalar_named, signal_count};
+use rr_parts::{is_input, is_scalar, scalar_named};
 use rr_syntax::Expr;
 use std::alloc::{AllocError, Global};
 
@@ -55,8 +55,8 @@ fn no_drivers(alloc: Global, count: u32) -> Result<Vec<Option<usize>>, AllocErro
 fn first_drivers(alloc: Global, flat: &Flat) -> Result<Vec<Option<usize>>, AllocError>
     ensures { IfOk result (λ t. AreFirstDrivers (plain_flat flat.now) (entry t.items)) }
 {
-    let mut table = no_drivers(alloc, signal_count(flat))?;
-    let drivers = drivers_of(flat);
+    let mut table = no_drivers(alloc, flat.signal_count())?;
+    let drivers = flat.driver_list();
     for number in 0..drivers.len() {
         note_target(&mut table, &drivers[number].target, number);
     }
@@ -101,8 +101,8 @@ fn input_table(alloc: Global, flat: &Flat) -> Result<Vec<Option<u32>>, AllocErro
     ensures size { IfOk result (λ t. length t.items ≡ length flat.now.signals) }
     ensures sound { IfOk result (λ t. AreSound (plain_flat flat.now) (entry t.items)) }
 {
-    let mut table = no_sources(alloc, signal_count(flat))?;
-    let inputs = inputs_of(flat);
+    let mut table = no_sources(alloc, flat.signal_count())?;
+    let inputs = flat.input_list();
     for id in inputs.iter() {
         note_input(flat, &mut table, *id);
     }
@@ -115,7 +115,7 @@ fn bare_value(flat: &Flat, number: Option<usize>) -> Option<u32>
 {
     match number {
         None => None,
-        Some(number) => match drivers_of(flat).get(number) {
+        Some(number) => match flat.driver_list().get(number) {
             Some(driver) => bare_scalar(flat, &driver.value),
             None => None,
         },
@@ -194,7 +194,7 @@ fn spread(flat: &Flat, first: &[Option<usize>], table: &mut Vec<Option<u32>>) ->
     ensures { IsSpread (plain_flat flat.now) (entry first.now) table.old.items (length flat.now.signals) table.new.items result }
 {
     let mut grown = false;
-    for port in 0..signal_count(flat) {
+    for port in 0..flat.signal_count() {
         let source = next_source(flat, first, table.as_slice(), port);
         grown = fill(table, port, source, grown);
     }

@@ -6,15 +6,14 @@ ghost use Rattle.rr_flat.specs.Lawful.{ClockUnread, NoClockRead};
 ghost use Rattle.rr_flat.specs.Sound.{IsWalk};
 ghost use Rattle.rr_flat.specs.View.{plain_block, plain_driver, plain_flat, plain_side};
 ghost use Rattle.rr_clock.specs.Clock.{FirstUse, IsClockInput, IsFirstUse, hands_on as hands_on_in, is_scalar_port as is_scalar_port_in, side_uses, all_uses, use_of, uses, uses_of_block, uses_of_driver, uses_of_part, value_uses};
-ghost use Rattle.rr_parts.specs.Parts.{block_of as block_of_part, driver_of as driver_of_part, entry, is_the as is_the_clock};
+ghost use Rattle.rr_flat.specs.Parts.{block_of as block_of_part, driver_of as driver_of_part};
+ghost use Rattle.rr_parts.specs.Names.{entry, is_the as is_the_clock};
 ghost use Rattle.rr_parts.specs.Firsts.{earliest};
 
 use crate::clock::is_the;
 use crate::sources::{bare_scalar, sources, told_by};
 use rr_flat::{Block, Driver, Flat, Part, Side};
-use rr_parts::{
-    add_named, add_names, block_of, driver_of, is_input, is_scalar, scalar_named, walk_of,
-};
+use rr_parts::{add_names, add_statement_names, is_input, is_scalar, scalar_named};
 use rr_syntax::Named;
 use std::alloc::{AllocError, Global};
 
@@ -135,7 +134,7 @@ fn use_in_block<'a>(
     ensures { IfOk result (λ r. r ≡ earliest (uses_of_block (plain_flat flat.now) (λ x. is_the_clock clock (entry table.now x)) (plain_block block.now))) }
 {
     let mut names = Vec::new(alloc);
-    add_named(&mut names, block.body)?;
+    add_statement_names(&mut names, block.body)?;
     Ok(first_use(flat, table, clock, block.scope, names.as_slice()))
 }
 
@@ -148,7 +147,7 @@ fn use_by_driver(
 ) -> Result<Option<u32>, AllocError>
     ensures { IfOk result (λ r. r ≡ earliest (uses_of_driver (plain_flat flat.now) (λ x. is_the_clock clock (entry table.now x)) (driver_of_part (plain_flat flat.now) part))) }
 {
-    match driver_of(flat, part) {
+    match flat.driver_of(part) {
         Some(driver) => use_in_driver(alloc, flat, table, clock, &driver),
         None => Ok(None),
     }
@@ -164,7 +163,7 @@ fn use_by_block(
 ) -> Result<Option<u32>, AllocError>
     ensures { IfOk result (λ r. r ≡ earliest (uses_of_block (plain_flat flat.now) (λ x. is_the_clock clock (entry table.now x)) (block_of_part (plain_flat flat.now) part))) }
 {
-    match block_of(flat, part) {
+    match flat.block_of(part) {
         Some(block) => use_in_block(alloc, flat, table, clock, &block),
         None => Ok(None),
     }
@@ -197,7 +196,7 @@ fn first_use_in_walk(
     ensures first { IfOk result (λ r. r ≡ earliest (all_uses (plain_flat flat.now) (λ x. is_the_clock clock (entry table.now x)))) }
     ensures walked { IfOk result (λ r. IsWalk (length flat.now.drivers) (length flat.now.clocked) (length flat.now.combinational) flat.now.walk) }
 {
-    let walk = walk_of(flat);
+    let walk = flat.parts();
     for part in walk.iter() {
         let found = use_in_part(alloc, flat, table, clock, *part)?;
         if found.is_some() {

@@ -11,14 +11,13 @@ ghost use Rattle.rr_target.specs.Pieces.{covers};
 ghost use Rattle.rr_latch.specs.Paths.{assigned};
 ghost use Rattle.rr_latch.specs.Unassigned.{IsLatch, KeepsBit};
 
-use crate::blocks::{block_of, scope_of};
 use crate::branches::run;
 use crate::paths::{Path, unassigned_at};
 use rr_expr::Scope;
 use rr_flat::{Bit, Flat};
 use rr_syntax::Stmt;
 use rr_target::{Piece, Write};
-use rr_writers::{BitTable, add_assigned};
+use rr_writers::{BitTable, add_assigned_bits};
 use std::alloc::{AllocError, Global};
 
 /// A bit that a combinational block writes and keeps: it is read before it is assigned on some path, or
@@ -83,7 +82,7 @@ fn kept_bit(
     ensures some { IfOk result (λ r. IfSome r (KeepsBit names.now (plain_statement body.now))) }
 {
     let mut writes = Vec::new(alloc);
-    add_assigned(alloc, &mut writes, body, names, false)?;
+    add_assigned_bits(alloc, &mut writes, body, names, false)?;
     unassign_all(&mut path.unassigned, writes.as_slice())?;
     let found = run(alloc, body, names, path)?;
     if found.is_some() {
@@ -104,9 +103,8 @@ pub fn first_latch(alloc: Global, flat: &Flat) -> Result<Option<Latch>, AllocErr
         unassigned: BitTable::new(alloc),
         log: Vec::new(alloc),
     };
-    for number in 0..flat.combinational.len() {
-        let block = block_of(flat, number);
-        let names = scope_of(flat, block.scope);
+    for block in flat.combinational_blocks().iter() {
+        let names = flat.scope_at(block.scope);
         if let Some(bit) = kept_bit(alloc, block.body, names, &mut path)? {
             return Ok(Some(Latch {
                 bit,

@@ -4,7 +4,6 @@
 //! pieces.
 #![tactic(auto)]
 
-mod blocks;
 mod branches;
 mod latches;
 mod paths;

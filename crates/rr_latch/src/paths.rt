@@ -14,7 +14,7 @@ ghost use Rattle.rr_latch.specs.Paths.{Logged, assigned, listed};
 use rr_expr::Scope;
 use rr_flat::Bit;
 use rr_syntax::Expr;
-use rr_target::{Piece, Write, add_named, add_target_reads};
+use rr_target::{Piece, Write, add_named_bits, add_target_reads};
 use rr_writers::BitTable;
 use std::alloc::{AllocError, Global};
 
@@ -69,7 +69,7 @@ pub(crate) fn read(
     ensures some { IfOk result (λ r. IfSome r (λ b. NamesBit names.now (plain expr.now) b × (assigned table.now b ≡ false))) }
 {
     let mut pieces = Vec::new(alloc);
-    add_named(alloc, &mut pieces, expr, names)?;
+    add_named_bits(alloc, &mut pieces, expr, names)?;
     Ok(unassigned_in(table, pieces.as_slice()))
 }
 

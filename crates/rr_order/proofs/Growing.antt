@@ -28,7 +28,7 @@ use Rattle.rr_target.specs.declared.writes.Write.{Write}
 use Rattle.rr_target.specs.Lists.{covered, may, Grown}
 use Rattle.rr_sort.specs.Graphs.{names_of}
 use Rattle.rr_sort.proofs.Sorting.{get_old, get_new, graph_count}
-use Rattle.rr_order.specs.Nodes.{bit_node, widths, In, IsRow, IsWritten, Joined, IsGraphOf, IsNamedBy, IsWrittenBy, IsStepGraph, StepsTo, Foreign, Stamped, IsSound, IsThere, total}
+use Rattle.rr_order.specs.Nodes.{bit_node, widths, In, IsRow, IsWritten, Joined, IsGraphOf, IsNamedBy, IsWrittenBy, IsStepGraph, StepsTo, Foreign, Stamped, IsClosed, IsThere, total}
 use Rattle.rr_flat.proofs.Bits.{missed, place_inside}
 use Rattle.rr_order.proofs.Designs.{step_added}
 use Rattle.rr_writers.specs.Assigned.{assigns}
@@ -270,7 +270,7 @@ drivers_sound d (x ∷ xs) h k l =
     let P : plain_design.Driver → Type 0 = λ y. IsThere (plain_flat d) y.target × IsThere (plain_flat d) y.value in
     subst P (sym e) (there_side d (get_or (x ∷ xs) k x).target i.target, there_side d (get_or (x ∷ xs) k x).value i.value)
 
-pub sound_of : (d : Design) → IsFlat d.signals d.scopes d.drivers d.clocked d.combinational d.walk d.inputs d.outputs d.owners → IsSound (plain_flat d)
+pub sound_of : (d : Design) → IsFlat d.signals d.scopes d.drivers d.clocked d.combinational d.walk d.inputs d.outputs d.owners → IsClosed (plain_flat d)
 sound_of d f = record {
   scopes = λ i. elim (cases_lt i (length d.scopes)) [
     | inl l ↦ All-get_or (IsScope d.signals) d.scopes i [] l f.scopes_in

@@ -19,7 +19,7 @@ use Rattle.rr_flat.specs.Plain.{Flat}
 use Rattle.rr_flat.specs.Reads.{TargetReads, TargetsRead, StatementReads, StatementsRead, ArmReads, ArmsRead, writes, write_any, arm_writes, arms_write}
 use Rattle.rr_flat.specs.Targets.{has_bit, is_bit_of, bits_there, target_bits, targets_bits, is_fixed, part_name, target_parts, may_write}
 use Rattle.rr_flat.specs.Writers.{scope_at, signal_bits, entity_of_signal, taken, all_taken, nothing}
-use Rattle.rr_order.specs.Nodes.{IsBit, IsSound, widths}
+use Rattle.rr_order.specs.Nodes.{IsBit, IsClosed, widths}
 use Rattle.rr_flat.proofs.Bits.{has_append, one_of_name, bits_of_name}
 
 -- a bit of what some name stands for
@@ -219,12 +219,12 @@ same_get (x ∷ xs) (suc k) y d l = same_get xs k y d (omega arith)
 pub width_is : (flat : Flat) (id : ℕ) → id < length flat.signals → get_or (widths flat) id 0 ≡ (signal_at flat.signals id).width
 width_is flat id l = get_or-map (λ s. s.width) flat.signals id (signal_at flat.signals id) 0 l ∙ ap (λ s. s.width) (same_get flat.signals id (signal_at flat.signals id) no_signal l)
 
-pub signal_there : (flat : Flat) (id : ℕ) (b : Bit) → IsSound flat → id < length flat.signals → id ≡ b.signal → b.place < (signal_at flat.signals id).width → IsBit (widths flat) b
+pub signal_there : (flat : Flat) (id : ℕ) (b : Bit) → IsClosed flat → id < length flat.signals → id ≡ b.signal → b.place < (signal_at flat.signals id).width → IsBit (widths flat) b
 signal_there flat id b i l e p =
     let w = width_is flat id l in
     (omega (arith, length-map flat.signals (λ s. s.width)), let z : b.place < get_or (widths flat) id 0 = omega (arith, w, p) in subst (λ (n : ℕ). b.place < get_or (widths flat) n 0) e z)
 
-entity_there : (flat : Flat) (e : Entity) (b : Bit) → IsSound flat → IsNamed 0 flat.signals e → is_bit_of e b ≡ true → IsBit (widths flat) b
+entity_there : (flat : Flat) (e : Entity) (b : Bit) → IsClosed flat → IsNamed 0 flat.signals e → is_bit_of e b ≡ true → IsBit (widths flat) b
 entity_there flat (Constant bits signed) b i n h = absurd (both_ways false refl h)
 entity_there flat (Signal id range signed) b i (low, high, r, q) h =
     let p = and_parts (nat_eq id b.signal) (nat_lt b.place (range_width range)) h in
@@ -236,14 +236,14 @@ entity_there flat (Signal id range signed) b i (low, high, r, q) h =
     signal_there flat id b i (omega arith) e (omega (arith, w, ap range_width q2, l))
 entity_there flat Instance b i n h = absurd (both_ways false refl h)
 
-pub of_there : (flat : Flat) (k : ℕ) (b : Bit) → IsSound flat → Of (scope_at flat k) b → IsBit (widths flat) b
+pub of_there : (flat : Flat) (k : ℕ) (b : Bit) → IsClosed flat → Of (scope_at flat k) b → IsBit (widths flat) b
 unfolding meant
 of_there flat k b i (name, h) =
     let n : IsNamed 0 flat.signals (meant (scope_at flat k) name) =
     meant_all (IsNamed 0 flat.signals) tt (scope_at flat k) (λ j l. All-get_or (λ e. IsNamed 0 flat.signals e.1) (scope_at flat k) j ([], Instance) l (i.scopes k)) name in
     entity_there flat (meant (scope_at flat k) name) b i n h
 
-pub signal_bit : (flat : Flat) (id : ℕ) (b : Bit) → IsSound flat → id < length flat.signals → has_bit (signal_bits flat id) b ≡ true → IsBit (widths flat) b
+pub signal_bit : (flat : Flat) (id : ℕ) (b : Bit) → IsClosed flat → id < length flat.signals → has_bit (signal_bits flat id) b ≡ true → IsBit (widths flat) b
 signal_bit flat id b i l h =
     let e : Entity = entity_of_signal flat id in
     let r : Option (ℕ × ℕ) = (signal_at flat.signals id).range in

@@ -10,7 +10,7 @@ use Rattle.rr_flat.specs.Plain.{Flat, Side, Written, Whole}
 use Rattle.rr_flat.specs.Targets.{has_bit}
 use Rattle.rr_flat.specs.Writers.{scope_at, driver_at, block_at, driven, driven_by, SideReads, side_taken, side_signed, taken_at, NamesIf, BitNames, wires, Writes, writes_at_all, writes_now, writes_later}
 use Rattle.rr_order.specs.Loops.{AreOrdered, BitChain}
-use Rattle.rr_order.specs.Nodes.{IsBit, IsSound, IsThere, widths, IsWrittenBy, IsNamedBy}
+use Rattle.rr_order.specs.Nodes.{IsBit, IsClosed, IsThere, widths, IsWrittenBy, IsNamedBy}
 use Rattle.rr_expr.specs.Values.{nowhere}
 use Rattle.rr_flat.proofs.Bits.{has_place, place_has, place_inside, one_bit}
 use Rattle.rr_order.proofs.Inside.{of_there, target_of, taken_of, named_of, read_of, write_of, signal_there, signal_bit}
@@ -97,17 +97,17 @@ unranked flat b cs h (rank, f) = omega (arith, falls flat rank f b cs b h)
 
 -- the bits that steps write and name are there
 
-side_there : (flat : Flat) (x : Side) (b : Bit) → IsSound flat → IsThere flat x → has_bit (driven_by flat x) b ≡ true → IsBit (widths flat) b
+side_there : (flat : Flat) (x : Side) (b : Bit) → IsClosed flat → IsThere flat x → has_bit (driven_by flat x) b ≡ true → IsBit (widths flat) b
 unfolding driven_by
 side_there flat (Written t i) b s l h = of_there flat i b s (target_of (scope_at flat i) nowhere t b h)
 side_there flat (Whole id) b s l h = signal_bit flat id b s l h
 
-taken_there : (flat : Flat) (x : Side) (b : Bit) → IsSound flat → IsThere flat x → has_bit (side_taken flat x) b ≡ true → IsBit (widths flat) b
+taken_there : (flat : Flat) (x : Side) (b : Bit) → IsClosed flat → IsThere flat x → has_bit (side_taken flat x) b ≡ true → IsBit (widths flat) b
 unfolding side_taken
 taken_there flat (Written t i) b s l h = of_there flat i b s (taken_of (scope_at flat i) t b h)
 taken_there flat (Whole id) b s l h = signal_bit flat id b s l h
 
-read_there : (flat : Flat) (x : Side) (b : Bit) → IsSound flat → IsThere flat x → SideReads flat x b → IsBit (widths flat) b
+read_there : (flat : Flat) (x : Side) (b : Bit) → IsClosed flat → IsThere flat x → SideReads flat x b → IsBit (widths flat) b
 unfolding SideReads
 read_there flat (Written t i) b s l h = of_there flat i b s (named_of (scope_at flat i) t b h)
 read_there flat (Whole id) b s l h = signal_there flat id b s l (sym h.0) h.1
@@ -122,11 +122,11 @@ at_there signed bits i b h = elim (cases_Bool (nat_lt i (length bits))) [
     top true e = place_has bits b (length bits - 1) e
     top false e = cc
 
-if_there : (v : Bool) (flat : Flat) (k i : ℕ) (b : Bit) → IsSound flat → k < length flat.drivers → NamesIf v flat k i b → IsBit (widths flat) b
+if_there : (v : Bool) (flat : Flat) (k i : ℕ) (b : Bit) → IsClosed flat → k < length flat.drivers → NamesIf v flat k i b → IsBit (widths flat) b
 if_there true flat k i b s l n = taken_there flat (driver_at flat k).value b s (s.values k l) (at_there (side_signed flat (driver_at flat k).value) (side_taken flat (driver_at flat k).value) i b n)
 if_there false flat k i b s l n = read_there flat (driver_at flat k).value b s (s.values k l) n
 
-pub written_there : (flat : Flat) → IsSound flat → (s : Step) (b : Bit) → IsWrittenBy flat s b → IsBit (widths flat) b
+pub written_there : (flat : Flat) → IsClosed flat → (s : Step) (b : Bit) → IsWrittenBy flat s b → IsBit (widths flat) b
 unfolding IsStep StepWrites Writes
 written_there flat s (step.Driver k) b (h, (i, w)) = side_there flat (driver_at flat k).target b s (s.targets k h.0) (place_has (driven flat k) b i w.1)
 written_there flat s (step.Wire k i) b (h, w) = side_there flat (driver_at flat k).target b s (s.targets k h.0) (place_has (driven flat k) b i w.1)
@@ -135,7 +135,7 @@ written_there flat s (step.Block k) b (h, w) = elim (or_cases (writes_now flat (
   | inr x ↦ of_there flat (block_at flat.combinational k).scope b s (write_of false (scope_at flat (block_at flat.combinational k).scope) (block_at flat.combinational k).body b x)
 ]
 
-pub named_there : (flat : Flat) → IsSound flat → (s : Step) (b : Bit) → IsNamedBy flat s b → IsBit (widths flat) b
+pub named_there : (flat : Flat) → IsClosed flat → (s : Step) (b : Bit) → IsNamedBy flat s b → IsBit (widths flat) b
 unfolding IsStep StepNames
 named_there flat s (step.Driver k) b (h, n) = if_there (wires flat k) flat k 0 b s h.0 n
 named_there flat s (step.Wire k i) b (h, n) = if_there (wires flat k) flat k i b s h.0 n

@@ -28,38 +28,16 @@ use Rattle.rr_flat.specs.Plain.{Whole}
 use Rattle.rr_target.proofs.Runs.{run_of, signal_run, in_has, covers_in}
 use denote.Ref.{Bor}
 
-pub signal_is : (d : Design) (xs : List Signal) (id : ℕ) (z : Signal) → id < length d.signals → xs ≡ d.signals → plain_head.signal_at (map plain_signal d.signals) id ≡ plain_signal (get_or xs id z)
-signal_is d xs id z l e = get_or-map plain_signal d.signals id z plain_head.no_signal l ∙ ap (λ (ys : List Signal). plain_signal (get_or ys id z)) (sym e)
-
-pub whole_signal : (d : Design) (xs : List Signal) (id instances : ℕ) (z : Signal) → id < length d.signals → xs ≡ d.signals → IsSignal instances (get_or xs id z)
-    → bits_of (run_of id (get_or xs id z).width (pos 0) (get_or xs id z).width) ≡ signal_bits (plain_flat d) id
-whole_signal d xs id instances z l e i =
-    let x : Signal = get_or xs id z in
-    let q : plain_head.signal_at (map plain_signal d.signals) id ≡ plain_signal (get_or xs id z) = signal_is d xs id z l e in
-    let P : plain_head.Signal → Type 0 = λ y. bits_of (run_of id (get_or xs id z).width (pos 0) (get_or xs id z).width) ≡ bits_there (entity.Signal id y.range y.signed) (pos 0) y.width in
-    subst P (sym q) (ap (λ w. bits_of (run_of id w (pos 0) (get_or xs id z).width)) i.width ∙ signal_run id (get_or xs id z).range (get_or xs id z).signed (pos 0) (pos 0) (get_or xs id z).width (get_or xs id z).width)
-
 pub one_piece : (ps : List Piece) (p : Piece) (old bits : List (Option Bit)) → all_bits ps ≡ bits_of p ++ old → old ≡ [] → bits_of p ≡ bits → all_bits ps ≡ bits
 one_piece ps p old bits e f g = e ∙ (ap (λ (xs : List (Option Bit)). bits_of p ++ xs) f ∙ (append-nil (bits_of p) ∙ g))
 
-none_left : (all new : List (Option Bit)) (ps : List Piece) → ps ≡ [] → all ≡ new ++ all_bits ps → all ≡ new
+pub none_left : (all new : List (Option Bit)) (ps : List Piece) → ps ≡ [] → all ≡ new ++ all_bits ps → all ≡ new
 unfolding all_bits
 none_left all new ps e h = h ∙ (ap (λ (qs : List Piece). new ++ all_bits qs) e ∙ append-nil new)
-
-pub whole_driven : (d : Design) (id : ℕ) (x : declared_side.Side) (p : Piece) (all : List (Option Bit)) (ps : List Piece) → x ≡ side.Whole id → ps ≡ [] → all ≡ bits_of p ++ all_bits ps → bits_of p ≡ signal_bits (plain_flat d) id → all ≡ driven_by (plain_flat d) (plain_side x)
-unfolding driven_by
-whole_driven d id x p all ps e f h g = none_left all (bits_of p) ps f h ∙ (g ∙ ap (λ z. driven_by (plain_flat d) (plain_side z)) (sym e))
 
 pub whole_taken : (d : Design) (id : ℕ) (x : declared_side.Side) (p : Piece) (all : List (Option Bit)) (ps : List Piece) → x ≡ side.Whole id → ps ≡ [] → all ≡ bits_of p ++ all_bits ps → bits_of p ≡ signal_bits (plain_flat d) id → all ≡ side_taken (plain_flat d) (plain_side x)
 unfolding side_taken
 whole_taken d id x p all ps e f h g = none_left all (bits_of p) ps f h ∙ (g ∙ ap (λ z. side_taken (plain_flat d) (plain_side z)) (sym e))
-
-pub text_driven : (d : Design) (t : Bor Expr) (scope : ℕ) (names : Names) (values : List ℕ) (x : declared_side.Side) (all : List (Option Bit)) (ps : List Piece) → x ≡ side.Text t scope → names ≡ scope_at (plain_flat d) scope → values ≡ [] → ps ≡ []
-    → all ≡ target_bits names (env_of values) (plain t.now) ++ all_bits ps → all ≡ driven_by (plain_flat d) (plain_side x)
-unfolding driven_by
-text_driven d t scope names values x all ps e f g k h =
-    none_left all (target_bits names (env_of values) (plain t.now)) ps k h ∙ (ap (λ z. target_bits z (env_of values) (plain t.now)) f
-    ∙ (ap (λ z. target_bits (scope_at (plain_flat d) scope) (env_of z) (plain t.now)) g ∙ ap (λ z. driven_by (plain_flat d) (plain_side z)) (sym e)))
 
 pub text_taken : (d : Design) (t : Bor Expr) (scope : ℕ) (names : Names) (x : declared_side.Side) (all : List (Option Bit)) (ps : List Piece) → x ≡ side.Text t scope → names ≡ scope_at (plain_flat d) scope → ps ≡ [] → all ≡ taken names (plain t.now) ++ all_bits ps
     → all ≡ side_taken (plain_flat d) (plain_side x)
@@ -74,10 +52,6 @@ text_wires d t scope names x e f = ap (λ z. is_wiring z (plain t.now)) f ∙ ap
 pub whole_wires : (d : Design) (id : ℕ) (x : declared_side.Side) → x ≡ side.Whole id → true ≡ side_is_wiring (plain_flat d) (plain_side x)
 unfolding side_is_wiring
 whole_wires d id x e = ap (λ z. side_is_wiring (plain_flat d) (plain_side z)) (sym e)
-
-pub signal_value : (d : Design) (xs : List Signal) (id : ℕ) (z : Signal) → id < length d.signals → xs ≡ d.signals
-    → run_of id (get_or xs id z).width (pos 0) (get_or xs id z).width ≡ run_of id (plain_head.signal_at (map plain_signal d.signals) id).width (pos 0) (plain_head.signal_at (map plain_signal d.signals) id).width
-signal_value d xs id z l e = ap (λ (y : plain_head.Signal). run_of id y.width (pos 0) y.width) (sym (signal_is d xs id z l e))
 
 covers_place : (id w : ℕ) (b : Bit) → covers (run_of id w (pos 0) w) b ≡ true → (b.signal ≡ id) × (b.place < w)
 covers_place id w b h =
@@ -112,9 +86,9 @@ side_named d id x ps qs e g =
     let Q : declared_side.Side → Type 0 = λ z. Grown ps qs (SideReads (plain_flat d) (plain_side z)) in
     subst Q (sym e) g
 
-pub whole_signed : (d : Design) (xs : List Signal) (id : ℕ) (z : Signal) (x : declared_side.Side) → id < length d.signals → xs ≡ d.signals → x ≡ side.Whole id → (get_or xs id z).signed ≡ side_signed (plain_flat d) (plain_side x)
+pub whole_signed : (d : Design) (id : ℕ) (s : Signal) (x : declared_side.Side) → plain_signal s ≡ plain_head.signal_at (plain_flat d).signals id → x ≡ side.Whole id → s.signed ≡ side_signed (plain_flat d) (plain_side x)
 unfolding side_signed
-whole_signed d xs id z x l e f = ap (λ (y : plain_head.Signal). y.signed) (sym (signal_is d xs id z l e)) ∙ ap (λ y. side_signed (plain_flat d) (plain_side y)) (sym f)
+whole_signed d id s x q f = ap (λ (y : plain_head.Signal). y.signed) q ∙ ap (λ y. side_signed (plain_flat d) (plain_side y)) (sym f)
 
 pub text_signed : (d : Design) (t : Bor Expr) (scope : ℕ) (names : Names) (x : declared_side.Side) (own : Shape) → x ≡ side.Text t scope → names ≡ scope_at (plain_flat d) scope → own ≡ form names (plain t.now) → own.signed ≡ side_signed (plain_flat d) (plain_side x)
 unfolding side_signed

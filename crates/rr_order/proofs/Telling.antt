@@ -13,7 +13,7 @@ use Rattle.rr_flat.specs.Writers.{BitNames}
 use Rattle.rr_sort.specs.Graphs.{Names, Chain, IsGraph, IsOrder, IsLowestCycle, names_of}
 use Rattle.rr_sort.proofs.Sorting.{graph_count}
 use Rattle.rr_order.specs.Loops.{AreOrdered, BitChain, IsLoop, step_token}
-use Rattle.rr_order.specs.Nodes.{IsBit, bit_node, total, widths, IsTable, IsNamedBy, IsWrittenBy, IsSound, IsStepGraph, StepsTo, keep, steps_in, pick, bits_among, no_bit}
+use Rattle.rr_order.specs.Nodes.{IsBit, bit_node, total, widths, IsTable, IsNamedBy, IsWrittenBy, IsClosed, IsStepGraph, StepsTo, keep, steps_in, pick, bits_among, no_bit}
 use Rattle.rr_order.proofs.Designs.{graph_closed}
 use Rattle.rr_order.proofs.Layouts.{node_below}
 use Rattle.rr_order.proofs.Growing.{all_steps}
@@ -27,7 +27,7 @@ rows_closed flat P steps rows h = graph_closed (step.Block 0) (widths flat) (IsW
 steps_of : (flat : Flat) (steps : List Step) (rows : List (Vec ℕ Global)) → IsStepGraph flat (StepsTo (length flat.drivers) 0 (length flat.combinational)) steps rows → AreSteps (step.Block 0) (IsStep flat) steps
 steps_of flat steps rows h = record { each = λ i l. (h.each i l).0; all = λ s i. h.all s i (all_steps flat s i); once = h.once }
 
-pub told_order : (flat : Flat) (steps sorted : List Step) (rows : List (Vec ℕ Global)) (order : List ℕ) (first : ℕ) → IsSound flat → IsStepGraph flat (StepsTo (length flat.drivers) 0 (length flat.combinational)) steps rows → IsOrder (map names_of rows) order
+pub told_order : (flat : Flat) (steps sorted : List Step) (rows : List (Vec ℕ Global)) (order : List ℕ) (first : ℕ) → IsClosed flat → IsStepGraph flat (StepsTo (length flat.drivers) 0 (length flat.combinational)) steps rows → IsOrder (map names_of rows) order
     → first ≡ length rows - length steps → sorted ≡ steps_in (step.Block 0) first steps order → AreOrdered flat sorted
 told_order flat steps sorted rows order first v h o e f =
     let g : first ≡ total (widths flat) + length (widths flat) = omega (arith, e, h.graph.count, graph_count rows) in
@@ -56,7 +56,7 @@ ring_of flat steps rows h b (c ∷ cs) t n = (leads_of flat steps rows h b c n.0
 
 -- the second node of a cycle is a step that writes the first bit
 
-pub second_is : (flat : Flat) (steps : List Step) (rows : List (Vec ℕ Global)) (table : List Bit) (cycle : List ℕ) (first : ℕ) → IsSound flat → IsStepGraph flat (StepsTo (length flat.drivers) 0 (length flat.combinational)) steps rows → IsTable (widths flat) table
+pub second_is : (flat : Flat) (steps : List Step) (rows : List (Vec ℕ Global)) (table : List Bit) (cycle : List ℕ) (first : ℕ) → IsClosed flat → IsStepGraph flat (StepsTo (length flat.drivers) 0 (length flat.combinational)) steps rows → IsTable (widths flat) table
     → IsLowestCycle (map names_of rows) cycle → first ≡ length rows - length steps → (1 < length cycle) × ((first ≤ get_or cycle 1 0) × (get_or cycle 1 0 - first < length steps))
 second_is flat steps rows table [] first v h t c e = absurd c
 second_is flat steps rows table (n ∷ []) first v h t c e =
@@ -75,13 +75,13 @@ second_is flat steps rows table (n ∷ m ∷ ms) first v h t c e =
     let g : first ≡ total (widths flat) + length (widths flat) = omega (arith, e, h.graph.count, graph_count rows) in
     (omega arith, (omega (arith, g, s.0), omega (arith, g, s.1.0)))
 
-pub second_step : (flat : Flat) (steps : List Step) (rows : List (Vec ℕ Global)) (table : List Bit) (cycle : List ℕ) (first : ℕ) (s : Step) → IsSound flat → IsStepGraph flat (StepsTo (length flat.drivers) 0 (length flat.combinational)) steps rows → IsTable (widths flat) table
+pub second_step : (flat : Flat) (steps : List Step) (rows : List (Vec ℕ Global)) (table : List Bit) (cycle : List ℕ) (first : ℕ) (s : Step) → IsClosed flat → IsStepGraph flat (StepsTo (length flat.drivers) 0 (length flat.combinational)) steps rows → IsTable (widths flat) table
     → IsLowestCycle (map names_of rows) cycle → first ≡ length rows - length steps → s ≡ step_at steps (get_or cycle 1 0 - first) → IsStep flat s
 second_step flat steps rows table cycle first s v h t c e q =
     let l = second_is flat steps rows table cycle first v h t c e in
     subst (IsStep flat) (sym q) (h.each (get_or cycle 1 0 - first) l.1.1).0
 
-pub told_loop : (flat : Flat) (steps : List Step) (rows : List (Vec ℕ Global)) (table bits : List Bit) (cycle : List ℕ) (first token : ℕ) (s : Step) → IsSound flat → IsStepGraph flat (StepsTo (length flat.drivers) 0 (length flat.combinational)) steps rows
+pub told_loop : (flat : Flat) (steps : List Step) (rows : List (Vec ℕ Global)) (table bits : List Bit) (cycle : List ℕ) (first token : ℕ) (s : Step) → IsClosed flat → IsStepGraph flat (StepsTo (length flat.drivers) 0 (length flat.combinational)) steps rows
     → IsTable (widths flat) table → IsLowestCycle (map names_of rows) cycle → first ≡ length rows - length steps → bits ≡ bits_among table cycle → s ≡ step_at steps (get_or cycle 1 0 - first) → token ≡ step_token flat s → IsLoop flat bits token
 told_loop flat steps rows table bits [] first token s v h t c e f q k = absurd c
 told_loop flat steps rows table bits (n ∷ ns) first token s v h t c e f q k =
@@ -183,7 +183,7 @@ pub bits_put : (table : List Bit) (cycle : List ℕ) (k : ℕ) (done : List Bit)
 bits_put table cycle k done z l e f =
     ap (λ (b : Bit). (done ++ b ∷ []) ++ bits_among table (drop (k + 1) cycle)) (same_get table (get_or cycle k 0) z no_bit f) ∙ bits_left table cycle k done l e f
 
-pub told_slices : (flat : Flat) (steps slice sorted : List Step) (rows : List (Vec ℕ Global)) (order other : List ℕ) (first : ℕ) → IsSound flat → IsStepGraph flat (StepsTo (length flat.drivers) 0 (length flat.combinational)) steps rows
+pub told_slices : (flat : Flat) (steps slice sorted : List Step) (rows : List (Vec ℕ Global)) (order other : List ℕ) (first : ℕ) → IsClosed flat → IsStepGraph flat (StepsTo (length flat.drivers) 0 (length flat.combinational)) steps rows
     → IsOrder (map names_of rows) order → first ≡ length rows - length steps → slice ≡ steps → other ≡ order → sorted ≡ steps_in (step.Block 0) first slice other → AreOrdered flat sorted
 told_slices flat steps slice sorted rows order other first v h o e p q f =
     told_order flat steps sorted rows order first v h o e (f ∙ (ap (λ (ss : List Step). steps_in (step.Block 0) first ss other) p ∙ ap (λ (ns : List ℕ). steps_in (step.Block 0) first steps ns) q))

@@ -163,7 +163,7 @@ IsThere flat (Written t i) = Unit {0}
 IsThere flat (Whole id) = id < length flat.signals
 
 -- names stand for signals that there are
-pub record IsSound (flat : Flat) : Type 0 where
+pub record IsClosed (flat : Flat) : Type 0 where
   pub scopes : (i : ℕ) → AreNamed 0 flat.signals (scope_at flat i)
   pub signals : (id : ℕ) → id < length flat.signals → (signal_at flat.signals id).width ≡ range_width (signal_at flat.signals id).range
   pub targets : (k : ℕ) → k < length flat.drivers → IsThere flat (driver_at flat k).target

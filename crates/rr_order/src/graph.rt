@@ -6,8 +6,7 @@ ghost use Rattle.rr_flat.specs.View.{plain_flat};
 ghost use Rattle.rr_sort.specs.Graphs.{names_of};
 ghost use Rattle.rr_order.specs.Nodes.{In, IsGraphOf, IsLayout, IsNamedBy, IsWrittenBy, Joined, widths};
 
-use crate::layout::Layout;
-use crate::parts::signal_count;
+use crate::layout::{Layout, signal_count};
 use rr_flat::{Flat, Step};
 use rr_sort::{bare, join};
 use std::alloc::{AllocError, Global};

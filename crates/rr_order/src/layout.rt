@@ -1,9 +1,8 @@
 //! The numbers of the nodes of the graph of a design: its bits, its signals and its steps, in this order.
-ghost use Rattle.std.specs.Prelude.{◌≡◌, ◌<◌, IfOk, OnOk, MatchOption};
+ghost use Rattle.std.specs.Prelude.{◌≡◌, ◌<◌, ◌≤◌, length, get_or, IfOk, OnOk, MatchOption};
 ghost use Rattle.rr_flat.specs.View.{plain_flat};
 ghost use Rattle.rr_order.specs.Nodes.{IsBit, IsLayout, MoreBits, bit_node, widths};
 
-use crate::parts::{signal_count, width_of};
 use rr_expr::Bit;
 use rr_flat::Flat;
 use std::alloc::{AllocError, Global};
@@ -14,6 +13,24 @@ use std::alloc::{AllocError, Global};
 pub(crate) struct Layout {
     pub(crate) starts: Vec<usize>,
     pub(crate) table: Vec<Bit>,
+}
+
+/// The number of signals.
+pub(crate) fn signal_count(flat: &Flat) -> usize
+    ensures value { result ≡ length (widths (plain_flat flat.now)) }
+    ensures few { result ≤ 65536 }
+{
+    flat.signal_list().len()
+}
+
+/// The number of bits of a signal.
+pub(crate) fn width_of(flat: &Flat, id: usize) -> u32
+    requires { id < length (widths (plain_flat flat.now)) }
+    ensures value { get_or (widths (plain_flat flat.now)) id 0 ≡ result }
+    ensures high { result ≤ 128 }
+{
+    let signals = flat.signal_list();
+    signals[id].width
 }
 
 /// The layout of a design.

@@ -14,7 +14,6 @@ mod graph;
 mod layout;
 mod nodes;
 mod order;
-mod parts;
 mod reading;
 mod rows;
 mod sides;

@@ -6,11 +6,10 @@ ghost use Rattle.rr_flat.specs.Ordered.{IsStep};
 ghost use Rattle.rr_flat.specs.View.{plain_flat};
 ghost use Rattle.rr_sort.specs.Graphs.{IsLowestCycle, IsOrder, names_of};
 ghost use Rattle.rr_order.specs.Loops.{AreOrdered, IsLoop, Tells, step_token};
-ghost use Rattle.rr_order.specs.Nodes.{IsLayout, IsSound, IsStepGraph, StepsTo, widths, bits_among as bits_among_nodes, steps_in as steps_in_nodes};
+ghost use Rattle.rr_order.specs.Nodes.{IsLayout, IsClosed, IsStepGraph, StepsTo, widths, bits_among as bits_among_nodes, steps_in as steps_in_nodes};
 
 use crate::graph::Nodes;
 use crate::layout::{Layout, layout_of};
-use crate::parts::{block_of, driver_of};
 use crate::steps::graph_of;
 use rr_expr::Bit;
 use rr_flat::{Flat, Step};
@@ -53,7 +52,7 @@ fn order_of(
     nodes: &Nodes,
     order: &Vec<usize>,
 ) -> Result<Vec<Step>, AllocError>
-    requires sound { IsSound (plain_flat flat.now) }
+    requires sound { IsClosed (plain_flat flat.now) }
     requires graph { IsStepGraph (plain_flat flat.now) (StepsTo (length flat.now.drivers) 0 (length flat.now.combinational)) nodes.now.steps.items nodes.now.rows.items }
     requires order { IsOrder (map names_of nodes.now.rows.items) order.now.items }
     ensures order { IfOk result (λ r. AreOrdered (plain_flat flat.now) r.items) }
@@ -72,7 +71,7 @@ fn loop_of(
     cycle: &Vec<usize>,
 ) -> Result<Loop, AllocError>
     requires layout { IsLayout (widths (plain_flat flat.now)) layout.now.starts.items layout.now.table.items }
-    requires sound { IsSound (plain_flat flat.now) }
+    requires sound { IsClosed (plain_flat flat.now) }
     requires graph { IsStepGraph (plain_flat flat.now) (StepsTo (length flat.now.drivers) 0 (length flat.now.combinational)) nodes.now.steps.items nodes.now.rows.items }
     requires cycle { IsLowestCycle (map names_of nodes.now.rows.items) cycle.now.items }
     ensures { IfOk result (λ l. IsLoop (plain_flat flat.now) l.cycle.items l.token) }
@@ -121,8 +120,8 @@ fn token_of(flat: &Flat, step: Step) -> u32
     ensures { result ≡ step_token (plain_flat flat.now) step }
 {
     match step {
-        Step::Driver(number) => driver_of(flat, number).token,
-        Step::Wire { driver, .. } => driver_of(flat, driver).token,
-        Step::Block(number) => block_of(flat, number).token,
+        Step::Driver(number) => flat.driver_at(number).token,
+        Step::Wire { driver, .. } => flat.driver_at(driver).token,
+        Step::Block(number) => flat.combinational_at(number).token,
     }
 }

@@ -8,13 +8,13 @@ ghost use Rattle.rr_target.specs.Lists.{Grown};
 
 use rr_expr::Scope;
 use rr_syntax::{Arm, Expr, Stmt};
-use rr_target::{Piece, add_named, add_target_reads};
+use rr_target::{Piece, add_named_bits, add_target_reads};
 use std::alloc::{AllocError, Global};
 
 /// Adds the bits that a statement reads on some path: those that its expressions, and the indices of
 /// its targets, name (IEEE 1364-2005 section 9). Each expression in it has a shape.
 #[cycle(reading)]
-pub(crate) fn add_read(
+pub(crate) fn add_read_bits(
     alloc: Global,
     list: &mut Vec<Piece>,
     stmt: &Stmt,
@@ -27,20 +27,20 @@ pub(crate) fn add_read(
         Stmt::Null => Ok(()),
         Stmt::Block { body, .. } => add_read_by_all(alloc, list, body, names),
         Stmt::If { test, yes, no } => {
-            add_named(alloc, list, test, names)?;
-            add_read(alloc, list, yes, names)?;
+            add_named_bits(alloc, list, test, names)?;
+            add_read_bits(alloc, list, yes, names)?;
             match no {
-                Some(other) => add_read(alloc, list, other, names),
+                Some(other) => add_read_bits(alloc, list, other, names),
                 None => Ok(()),
             }
         }
         Stmt::Case { on, arms, .. } => {
-            add_named(alloc, list, on, names)?;
+            add_named_bits(alloc, list, on, names)?;
             add_read_by_arms(alloc, list, arms, names)
         }
         Stmt::Assign { target, value, .. } => {
             add_target_reads(alloc, list, target, names)?;
-            add_named(alloc, list, value, names)
+            add_named_bits(alloc, list, value, names)
         }
     }
 }
@@ -56,7 +56,7 @@ fn add_read_by_all(
     ensures { OnOk result (Grown list.old.items list.new.items (StatementsRead names.now (plain_statements body.now))) }
 {
     for stmt in body.iter() {
-        add_read(alloc, list, stmt, names)?;
+        add_read_bits(alloc, list, stmt, names)?;
     }
     Ok(())
 }
@@ -73,7 +73,7 @@ fn add_read_by_arms(
 {
     for arm in arms.iter() {
         add_labels(alloc, list, arm.labels, names)?;
-        add_read(alloc, list, arm.body, names)?;
+        add_read_bits(alloc, list, arm.body, names)?;
     }
     Ok(())
 }
@@ -88,7 +88,7 @@ fn add_labels(
     ensures { OnOk result (Grown list.old.items list.new.items (NamesBits names.now (plain_list labels.now))) }
 {
     for label in labels.iter() {
-        add_named(alloc, list, label, names)?;
+        add_named_bits(alloc, list, label, names)?;
     }
     Ok(())
 }

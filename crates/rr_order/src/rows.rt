@@ -6,9 +6,8 @@ ghost use Rattle.rr_target.specs.Lists.{covered};
 ghost use Rattle.rr_target.specs.Pieces.{covers};
 ghost use Rattle.rr_order.specs.Nodes.{Covered, Foreign, IsBit, IsLayout, IsRow, total, widths};
 
-use crate::layout::Layout;
+use crate::layout::{Layout, signal_count, width_of};
 use crate::nodes::{add_places, push_node};
-use crate::parts::{signal_count, width_of};
 use rr_flat::Flat;
 use rr_target::Piece;
 use std::alloc::{AllocError, Global};

@@ -1,35 +1,17 @@
 //! The sides of drivers.
-ghost use Rattle.std.specs.Prelude.{◌≡◌, ◌<◌, [], length, pos, IfOk, OnOk};
-ghost use Rattle.rr_flat.specs.Signals.{signal_at};
+ghost use Rattle.std.specs.Prelude.{◌≡◌, ◌<◌, [], length, IfOk, OnOk};
 ghost use Rattle.rr_flat.specs.Plain.{Whole};
 ghost use Rattle.rr_flat.specs.Sound.{IsSide};
 ghost use Rattle.rr_flat.specs.View.{plain_flat, plain_side};
-ghost use Rattle.rr_flat.specs.Writers.{SideReads, driven_by, side_is_wiring, side_signed, side_taken, signal_bits};
+ghost use Rattle.rr_flat.specs.Writers.{SideReads, driven_by, side_is_wiring, side_signed, side_taken};
 ghost use Rattle.rr_target.specs.Lists.{Grown};
-ghost use Rattle.rr_target.specs.Pieces.{all_bits, bits_of};
+ghost use Rattle.rr_target.specs.Pieces.{all_bits};
 
-use crate::parts::{scope_of, signals_of};
-use crate::wiring::{add_taken, bits_of_all, is_wiring, push_piece};
-use rr_expr::{Bit, Env, shape};
+use crate::wiring::{add_taken, bits_of_all, is_wiring};
+use rr_expr::{Bit, shape};
 use rr_flat::{Flat, Side};
-use rr_target::{Piece, add_named, add_pieces};
+use rr_target::{Piece, add_driven, add_named_bits, no_values, push_piece};
 use std::alloc::{AllocError, Global};
-
-/// All bits of a signal.
-fn signal_piece(flat: &Flat, id: u32) -> Piece
-    requires { id < length flat.now.signals }
-    ensures bits { bits_of result ≡ signal_bits (plain_flat flat.now) id }
-    ensures value { result ≡ record { signal = id; width = (signal_at (plain_flat flat.now).signals id).width; from = pos 0; count = (signal_at (plain_flat flat.now).signals id).width } }
-{
-    let signals = signals_of(flat);
-    let width = signals[id as usize].width;
-    Piece {
-        signal: id,
-        width,
-        from: 0,
-        count: width,
-    }
-}
 
 /// The bits of a side as a target, lowest first; its indices are constant.
 pub(crate) fn driven(
@@ -41,29 +23,8 @@ pub(crate) fn driven(
     ensures { IfOk result (λ r. r.items ≡ driven_by (plain_flat flat.now) (plain_side side.now)) }
 {
     let mut pieces = Vec::new(alloc);
-    add_driven(alloc, &mut pieces, flat, side)?;
+    add_driven(&mut pieces, flat, side, &no_values(alloc))?;
     bits_of_all(alloc, pieces.as_slice())
-}
-
-fn add_driven(
-    alloc: Global,
-    pieces: &mut Vec<Piece>,
-    flat: &Flat,
-    side: &Side,
-) -> Result<(), AllocError>
-    requires side { IsSide flat.now.signals flat.now.scopes side.now }
-    requires none { pieces.old.items ≡ [] }
-    ensures { OnOk result (all_bits pieces.new.items ≡ driven_by (plain_flat flat.now) (plain_side side.now)) }
-{
-    match side {
-        Side::Whole(id) => push_piece(pieces, signal_piece(flat, *id)),
-        Side::Text { expr, scope } => {
-            let none = Env {
-                values: Vec::new(alloc),
-            };
-            add_pieces(pieces, expr, scope_of(flat, *scope), &none)
-        }
-    }
 }
 
 /// The bits that a side takes which only wires, lowest first.
@@ -87,12 +48,9 @@ fn add_side(
     ensures { OnOk result (all_bits pieces.new.items ≡ side_taken (plain_flat flat.now) (plain_side side.now)) }
 {
     match side {
-        Side::Whole(id) => push_piece(pieces, signal_piece(flat, *id)),
+        Side::Whole(id) => push_piece(pieces, Piece::whole(flat, *id)),
         Side::Text { expr, scope } => {
-            let none = Env {
-                values: Vec::new(alloc),
-            };
-            add_taken(pieces, expr, scope_of(flat, *scope), &none)
+            add_taken(pieces, expr, flat.scope_at(*scope), &no_values(alloc))
         }
     }
 }
@@ -109,7 +67,7 @@ pub(crate) fn add_named_by(
 {
     match side {
         Side::Whole(id) => add_signal(pieces, flat, *id),
-        Side::Text { expr, scope } => add_named(alloc, pieces, expr, scope_of(flat, *scope)),
+        Side::Text { expr, scope } => add_named_bits(alloc, pieces, expr, flat.scope_at(*scope)),
     }
 }
 
@@ -118,7 +76,7 @@ fn add_signal(pieces: &mut Vec<Piece>, flat: &Flat, id: u32) -> Result<(), Alloc
     requires { id < length flat.now.signals }
     ensures { OnOk result (Grown pieces.old.items pieces.new.items (SideReads (plain_flat flat.now) (Whole id))) }
 {
-    pieces.push(signal_piece(flat, id))?;
+    pieces.push(Piece::whole(flat, id))?;
     Ok(())
 }
 
@@ -129,7 +87,7 @@ pub(crate) fn wires(flat: &Flat, side: &Side) -> bool
 {
     match side {
         Side::Whole(_) => true,
-        Side::Text { expr, scope } => is_wiring(expr, scope_of(flat, *scope)),
+        Side::Text { expr, scope } => is_wiring(expr, flat.scope_at(*scope)),
     }
 }
 
@@ -139,11 +97,8 @@ pub(crate) fn is_signed(flat: &Flat, side: &Side) -> bool
     ensures { result ≡ side_signed (plain_flat flat.now) (plain_side side.now) }
 {
     match side {
-        Side::Whole(id) => {
-            let signals = signals_of(flat);
-            signals[*id as usize].signed
-        }
-        Side::Text { expr, scope } => match shape(expr, scope_of(flat, *scope)) {
+        Side::Whole(id) => flat.signal_at(*id).signed,
+        Side::Text { expr, scope } => match shape(expr, flat.scope_at(*scope)) {
             Ok(own) => own.signed,
             Err(_) => false,
         },

@@ -3,45 +3,34 @@ ghost use Rattle.std.specs.Prelude.{◌≡◌, ◌≤◌, ◌<◌, ◌+◌, ℕ,
 ghost use Rattle.rr_flat.specs.Sound.{IsDriver};
 ghost use Rattle.rr_flat.specs.View.{plain_driver, plain_flat};
 ghost use Rattle.rr_flat.specs.Writers.{driver_at, wires as wires_in};
-ghost use Rattle.rr_order.specs.Nodes.{IsLayout, IsSound, IsStepGraph, StepsTo, total, widths};
+ghost use Rattle.rr_order.specs.Nodes.{IsLayout, IsClosed, IsStepGraph, StepsTo, total, widths};
 
 use crate::graph::{Nodes, add_step, without_steps};
 use crate::layout::Layout;
 use crate::nodes::{node_list, nodes_of, stamp_all, written_of};
-use crate::parts::{block_count, block_of, driver_count, driver_of, scope_of};
-use crate::reading::add_read;
+use crate::reading::add_read_bits;
 use crate::rows::row_of;
 use crate::sides::{add_named_by, driven, is_signed, taken, wires};
 use crate::wiring::taken_at;
-use rr_flat::{Driver, Flat, Step};
-use rr_writers::add_assigned;
+use rr_flat::{Driver, Flat, Step, number_of};
+use rr_writers::add_assigned_bits;
 use std::alloc::{AllocError, Global};
 
 /// The graph of a design, with all its steps.
 pub(crate) fn graph_of(alloc: Global, flat: &Flat, layout: &Layout) -> Result<Nodes, AllocError>
     requires { IsLayout (widths (plain_flat flat.now)) layout.now.starts.items layout.now.table.items }
-    ensures sound { IfOk result (λ n. IsSound (plain_flat flat.now)) }
+    ensures sound { IfOk result (λ n. IsClosed (plain_flat flat.now)) }
     ensures graph { IfOk result (λ n. IsStepGraph (plain_flat flat.now) (StepsTo (length flat.now.drivers) 0 (length flat.now.combinational)) n.steps.items n.rows.items) }
 {
     let mut nodes = without_steps(alloc, flat, layout)?;
     let mut own = all_zero(alloc, layout.table.len())?;
-    for driver in 0..driver_count(flat) {
+    for driver in 0..flat.drivers.len() {
         add_driver(alloc, flat, layout, &mut nodes, number_of(driver)?, &own)?;
     }
-    for block in 0..block_count(flat) {
+    for block in 0..flat.combinational.len() {
         add_block(alloc, flat, layout, &mut nodes, number_of(block)?, &mut own)?;
     }
     Ok(nodes)
-}
-
-/// A number in 32 bits; want of memory where they do not hold it.
-fn number_of(count: usize) -> Result<u32, AllocError>
-    ensures { IfOk result (λ n. n ≡ count) }
-{
-    if count > u32::MAX as usize {
-        return Err(AllocError);
-    }
-    Ok(count as u32)
 }
 
 fn all_zero(alloc: Global, count: usize) -> Result<Vec<usize>, AllocError>
@@ -71,7 +60,7 @@ fn add_driver(
     requires graph { IsStepGraph (plain_flat flat.now) (StepsTo number 0 0) nodes.old.steps.items nodes.old.rows.items }
     ensures { OnOk result (IsStepGraph (plain_flat flat.now) (StepsTo (number + 1) 0 0) nodes.new.steps.items nodes.new.rows.items) }
 {
-    let driver = driver_of(flat, number);
+    let driver = flat.driver_at(number);
     if wires(flat, &driver.value) {
         add_wires(alloc, flat, layout, nodes, number, &driver)
     } else {
@@ -154,15 +143,15 @@ fn add_block(
     ensures own { OnOk result ((length own.new.items ≡ total (widths (plain_flat flat.now))) × ((v : ℕ) → get_or own.new.items v 0 ≤ number + 1)) }
     ensures graph { OnOk result (IsStepGraph (plain_flat flat.now) (StepsTo (length flat.now.drivers) 0 (number + 1)) nodes.new.steps.items nodes.new.rows.items) }
 {
-    let block = block_of(flat, number);
-    let names = scope_of(flat, block.scope);
+    let block = flat.combinational_at(number);
+    let names = flat.scope_at(block.scope);
     let stamp = number as usize + 1;
     let mut writes = Vec::new(alloc);
-    add_assigned(alloc, &mut writes, block.body, names, true)?;
+    add_assigned_bits(alloc, &mut writes, block.body, names, true)?;
     let written = written_of(alloc, flat, layout, writes.as_slice(), own, stamp)?;
     stamp_all(own, written.as_slice(), stamp);
     let mut pieces = Vec::new(alloc);
-    add_read(alloc, &mut pieces, block.body, names)?;
+    add_read_bits(alloc, &mut pieces, block.body, names)?;
     let row = row_of(alloc, flat, layout, pieces.as_slice(), own, stamp)?;
     add_step(nodes, Step::Block(number), row, written.as_slice())?;
     Ok(())

@@ -1,25 +1,15 @@
 //! Sides of drivers that only take bits.
-ghost use Rattle.std.specs.Prelude.{◌≡◌, ◌++◌, [], IfOk, OnOk, None, false, pos, ◌+ℤ◌};
+ghost use Rattle.std.specs.Prelude.{◌≡◌, ◌++◌, [], IfOk, OnOk, None, false};
 ghost use Rattle.rr_syntax.specs.View.{plain, plain_list};
 ghost use Rattle.rr_expr.specs.Faults.{fault, faults};
-ghost use Rattle.rr_flat.specs.Targets.{is_constant as is_constant_in};
 ghost use Rattle.rr_flat.specs.Writers.{all_taken, are_wiring as are_wiring_in, is_wiring as is_wiring_in, taken, taken_at as taken_at_place};
-ghost use Rattle.rr_target.specs.Pieces.{all_bits, bit_in, bits_of};
+ghost use Rattle.rr_target.specs.Pieces.{all_bits, bits_of};
 
-use rr_expr::{Bit, Env, Scope, constant};
+use rr_expr::{Bit, Env, Scope};
+use rr_flat::is_constant;
 use rr_syntax::Expr;
-use rr_target::{Piece, add_pieces};
+use rr_target::{Piece, add_pieces, push_piece};
 use std::alloc::{AllocError, Global};
-
-/// Whether no signal stands in an expression.
-fn is_constant(expr: &Expr, scope: &Scope) -> bool
-    ensures { result ≡ is_constant_in scope.now (plain expr.now) }
-{
-    match constant(expr, scope) {
-        Ok(_) => true,
-        Err(_) => false,
-    }
-}
 
 /// Whether an expression only takes bits: a name, a select with constant indices, a literal, or a
 /// concatenation of these.
@@ -74,7 +64,7 @@ pub(crate) fn add_taken(
         Expr::Part { .. } => add_pieces(list, expr, scope, none),
         Expr::Bit { .. } => add_pieces(list, expr, scope, none),
         Expr::Indexed { .. } => add_pieces(list, expr, scope, none),
-        Expr::Literal { number, .. } => push_piece(list, absent(number.width)),
+        Expr::Literal { number, .. } => push_piece(list, Piece::absent(number.width)),
         Expr::Concat { parts } => add_all_taken(list, parts, scope, none),
         Expr::Unary { .. } => Ok(()),
         Expr::Binary { .. } => Ok(()),
@@ -102,26 +92,6 @@ fn add_all_taken(
     Ok(())
 }
 
-/// So many places without a bit.
-fn absent(count: u32) -> Piece
-    ensures { result ≡ record { signal = 0; width = 0; from = pos 0; count = count } }
-{
-    Piece {
-        signal: 0,
-        width: 0,
-        from: 0,
-        count,
-    }
-}
-
-#[tactic(auto, using(rr_target::proofs::Growing::pushes))]
-pub(crate) fn push_piece(list: &mut Vec<Piece>, piece: Piece) -> Result<(), AllocError>
-    ensures { OnOk result (all_bits list.new.items ≡ bits_of piece ++ all_bits list.old.items) }
-{
-    list.push(piece)?;
-    Ok(())
-}
-
 /// The bits of pieces of which the first has the top bits, lowest first.
 pub(crate) fn bits_of_all(alloc: Global, pieces: &[Piece]) -> Result<Vec<Option<Bit>>, AllocError>
     ensures { IfOk result (λ r. r.items ≡ all_bits pieces.now) }
@@ -138,26 +108,9 @@ fn add_bits_of(bits: &mut Vec<Option<Bit>>, piece: Piece) -> Result<(), AllocErr
     ensures { OnOk result (bits.new.items ≡ bits.old.items ++ bits_of piece) }
 {
     for place in 0..piece.count {
-        bits.push(bit_at(piece, place))?;
+        bits.push(piece.bit(place))?;
     }
     Ok(())
-}
-
-/// The bit at a place of a piece, counted from its lowest.
-fn bit_at(piece: Piece, place: u32) -> Option<Bit>
-    ensures { result ≡ bit_in piece (piece.from +ℤ pos place) }
-{
-    if piece.from >= piece.width as i64 {
-        return None;
-    }
-    let at = piece.from + place as i64;
-    if at < 0 || at >= piece.width as i64 {
-        return None;
-    }
-    Some(Bit {
-        signal: piece.signal,
-        place: at as u32,
-    })
 }
 
 /// The bit that a side gives the target at a place: above its last, a signed side repeats its top bit.

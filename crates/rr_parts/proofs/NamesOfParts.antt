@@ -17,7 +17,7 @@ use Rattle.rr_flat.specs.Signals.{Text, Signal}
 use Rattle.rr_flat.specs.Sound.{AreNamed, IsNamed}
 use Rattle.rr_flat.specs.Targets.{is_constant, is_fixed}
 use Rattle.rr_flat.specs.Targets.{part_name}
-use Rattle.rr_parts.specs.Parts.{part_identifier, part_token, signal_of}
+use Rattle.rr_parts.specs.Names.{part_identifier, part_token, signal_of}
 use denote.Ref.{Bor}
 
 pub identifier-Name : (token : ℕ) (name : Bor (List ℕ)) → part_identifier (plain (expr.Name token name)) ≡ record { token = token; text = name.now }

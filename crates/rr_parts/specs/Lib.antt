@@ -1,3 +1,3 @@
 pub mod Firsts
-pub mod Parts
+pub mod Names
 pub mod View

@@ -71,20 +71,23 @@ fn add_parts_of_all<'a>(
 /// The names and selects that a statement assigns.
 #[cycle(assigned)]
 #[tactic(auto, using(crate::proofs::PartsOfNodes::assigned_nodes))]
-pub fn add_assigned<'a>(list: &mut Vec<Target<'a>>, stmt: &'a Stmt<'a>) -> Result<(), AllocError>
+pub fn add_assigned_targets<'a>(
+    list: &mut Vec<Target<'a>>,
+    stmt: &'a Stmt<'a>,
+) -> Result<(), AllocError>
     ensures { OnOk result (map plain_target list.new.items ≡ map plain_target list.old.items ++ assigned_by (plain_statement stmt.now)) }
 {
     match stmt {
         Stmt::Null => Ok(()),
         Stmt::Block { body, .. } => add_assigned_by_all(list, body),
-        Stmt::If { yes, no: None, .. } => add_assigned(list, yes),
+        Stmt::If { yes, no: None, .. } => add_assigned_targets(list, yes),
         Stmt::If {
             yes,
             no: Some(other),
             ..
         } => {
-            add_assigned(list, yes)?;
-            add_assigned(list, other)
+            add_assigned_targets(list, yes)?;
+            add_assigned_targets(list, other)
         }
         Stmt::Case { arms, .. } => add_assigned_by_arms(list, arms),
         Stmt::Assign { target, now, .. } => add_parts(list, target, *now),
@@ -99,7 +102,7 @@ fn add_assigned_by_all<'a>(
     ensures { OnOk result (map plain_target list.new.items ≡ map plain_target list.old.items ++ assigned_by_all (plain_statements body.now)) }
 {
     for stmt in body.iter() {
-        add_assigned(list, stmt)?;
+        add_assigned_targets(list, stmt)?;
     }
     Ok(())
 }
@@ -112,7 +115,7 @@ fn add_assigned_by_arms<'a>(
     ensures { OnOk result (map plain_target list.new.items ≡ map plain_target list.old.items ++ assigned_by_arms (plain_arms arms.now)) }
 {
     for arm in arms.iter() {
-        add_assigned(list, arm.body)?;
+        add_assigned_targets(list, arm.body)?;
     }
     Ok(())
 }
@@ -186,7 +189,10 @@ fn add_names_of_all<'a>(list: &mut Vec<Named<'a>>, exprs: &'a [Expr<'a>]) -> Res
 /// The names of a statement.
 #[cycle(named)]
 #[tactic(auto, using(crate::proofs::NamesOfNodes::named_nodes))]
-pub fn add_named<'a>(list: &mut Vec<Named<'a>>, stmt: &'a Stmt<'a>) -> Result<(), AllocError>
+pub fn add_statement_names<'a>(
+    list: &mut Vec<Named<'a>>,
+    stmt: &'a Stmt<'a>,
+) -> Result<(), AllocError>
     ensures { OnOk result (map plain_identifier list.new.items ≡ map plain_identifier list.old.items ++ names_of (plain_statement stmt.now)) }
 {
     match stmt {
@@ -198,7 +204,7 @@ pub fn add_named<'a>(list: &mut Vec<Named<'a>>, stmt: &'a Stmt<'a>) -> Result<()
             no: None,
         } => {
             add_names(list, test)?;
-            add_named(list, yes)
+            add_statement_names(list, yes)
         }
         Stmt::If {
             test,
@@ -206,8 +212,8 @@ pub fn add_named<'a>(list: &mut Vec<Named<'a>>, stmt: &'a Stmt<'a>) -> Result<()
             no: Some(other),
         } => {
             add_names(list, test)?;
-            add_named(list, yes)?;
-            add_named(list, other)
+            add_statement_names(list, yes)?;
+            add_statement_names(list, other)
         }
         Stmt::Case { on, arms, .. } => {
             add_names(list, on)?;
@@ -225,7 +231,7 @@ fn add_named_in_all<'a>(list: &mut Vec<Named<'a>>, body: &'a [Stmt<'a>]) -> Resu
     ensures { OnOk result (map plain_identifier list.new.items ≡ map plain_identifier list.old.items ++ names_of_all (plain_statements body.now)) }
 {
     for stmt in body.iter() {
-        add_named(list, stmt)?;
+        add_statement_names(list, stmt)?;
     }
     Ok(())
 }
@@ -236,7 +242,7 @@ fn add_named_in_arms<'a>(list: &mut Vec<Named<'a>>, arms: &'a [Arm<'a>]) -> Resu
 {
     for arm in arms.iter() {
         add_names_of_all(list, arm.labels)?;
-        add_named(list, arm.body)?;
+        add_statement_names(list, arm.body)?;
     }
     Ok(())
 }
@@ -285,7 +291,7 @@ fn add_index_names_of_all<'a>(
 /// The names that a statement reads.
 #[cycle(reading)]
 #[tactic(auto, using(crate::proofs::NamesOfNodes::read_nodes))]
-pub fn add_read<'a>(list: &mut Vec<Named<'a>>, stmt: &'a Stmt<'a>) -> Result<(), AllocError>
+pub fn add_read_names<'a>(list: &mut Vec<Named<'a>>, stmt: &'a Stmt<'a>) -> Result<(), AllocError>
     ensures { OnOk result (map plain_identifier list.new.items ≡ map plain_identifier list.old.items ++ names_read (plain_statement stmt.now)) }
 {
     match stmt {
@@ -297,7 +303,7 @@ pub fn add_read<'a>(list: &mut Vec<Named<'a>>, stmt: &'a Stmt<'a>) -> Result<(),
             no: None,
         } => {
             add_names(list, test)?;
-            add_read(list, yes)
+            add_read_names(list, yes)
         }
         Stmt::If {
             test,
@@ -305,8 +311,8 @@ pub fn add_read<'a>(list: &mut Vec<Named<'a>>, stmt: &'a Stmt<'a>) -> Result<(),
             no: Some(other),
         } => {
             add_names(list, test)?;
-            add_read(list, yes)?;
-            add_read(list, other)
+            add_read_names(list, yes)?;
+            add_read_names(list, other)
         }
         Stmt::Case { on, arms, .. } => {
             add_names(list, on)?;
@@ -324,7 +330,7 @@ fn add_read_by_all<'a>(list: &mut Vec<Named<'a>>, body: &'a [Stmt<'a>]) -> Resul
     ensures { OnOk result (map plain_identifier list.new.items ≡ map plain_identifier list.old.items ++ names_read_by (plain_statements body.now)) }
 {
     for stmt in body.iter() {
-        add_read(list, stmt)?;
+        add_read_names(list, stmt)?;
     }
     Ok(())
 }
@@ -335,7 +341,7 @@ fn add_read_by_arms<'a>(list: &mut Vec<Named<'a>>, arms: &'a [Arm<'a>]) -> Resul
 {
     for arm in arms.iter() {
         add_names_of_all(list, arm.labels)?;
-        add_read(list, arm.body)?;
+        add_read_names(list, arm.body)?;
     }
     Ok(())
 }

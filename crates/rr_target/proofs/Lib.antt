@@ -3,3 +3,4 @@ pub mod Nodes
 pub mod Growing
 pub mod Naming
 pub mod Writing
+pub mod Sides

@@ -1,11 +1,11 @@
 -- The bits that expressions name at nodes of the arena, and lists that grow by them.
-use Rattle.std.proofs.Common.{◌≡◌, ◌∙◌, sym, ap, subst, ℕ, ◌+◌, ◌<◌, ◌≤◌, ◌⊎◌, inl, inr, Bool, true, false, List, [], ◌∷◌, ◌++◌, length, drop, get_or, None, Some, is_none, ℤ, pos}
+use Rattle.std.proofs.Common.{◌≡◌, ◌∙◌, sym, ap, subst, ℕ, ◌+◌, ◌<◌, ◌≤◌, ◌⊎◌, inl, inr, Bool, true, false, List, [], ◌∷◌, ◌++◌, length, drop, get_or, None, is_none, ℤ, pos}
 use Rattle.std.proofs.lemmas.List.{drop_all}
 use Rattle.rr_syntax.specs.declared.token.Mark.{Mark}
 use Rattle.rr_syntax.specs.declared.token.Number.{Number}
 use Rattle.rr_syntax.specs.declared.tree.Expr.{Expr}
 use Rattle.rr_syntax.specs.declared.tree.Expr.TheVariants as expr
-use Rattle.rr_syntax.specs.Tree.{Tree, Name, Literal, Part, Indexed, Unary, Binary, Cond, Concat, Repeat, Cast, Paren}
+use Rattle.rr_syntax.specs.Tree.{Tree, Concat, Repeat}
 use Rattle.rr_syntax.specs.View.{plain, plain_list}
 use Rattle.rr_syntax.proofs.Rows.{plain_concat, plain_repeat}
 use Rattle.rr_expr.specs.declared.types.Bit.{Bit}

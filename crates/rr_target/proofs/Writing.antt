@@ -1,11 +1,11 @@
 -- Targets at nodes of the arena: the bits that they name, and those that they write.
-use Rattle.std.proofs.Common.{◌≡◌, ◌∙◌, sym, ap, ℕ, ◌+◌, ◌<◌, ◌≤◌, Bool, true, false, cond, ◌&&◌, ◌||◌, List, [], ◌∷◌, ◌++◌, length, drop, get_or, Option, None, Some, refl, append_assoc}
+use Rattle.std.proofs.Common.{◌≡◌, ◌∙◌, sym, ap, ℕ, ◌+◌, ◌<◌, ◌≤◌, Bool, true, false, cond, ◌&&◌, ◌||◌, List, [], ◌∷◌, ◌++◌, length, drop, get_or, Option, None, refl, append_assoc}
 use Rattle.std.proofs.lemmas.List.{drop_all}
 use Rattle.rr_syntax.specs.declared.token.Mark.{Mark}
 use Rattle.rr_syntax.specs.declared.token.Number.{Number}
 use Rattle.rr_syntax.specs.declared.tree.Expr.{Expr, the_lemmas as expr_lemmas}
 use Rattle.rr_syntax.specs.declared.tree.Expr.TheVariants as expr
-use Rattle.rr_syntax.specs.Tree.{Tree, Name, Literal, Part, Indexed, Unary, Binary, Cond, Concat, Repeat, Cast, Paren}
+use Rattle.rr_syntax.specs.Tree.{Tree}
 use Rattle.rr_syntax.specs.View.{plain, plain_list}
 use Rattle.rr_syntax.proofs.Rows.{plain_concat, plain_repeat}
 use Rattle.rr_expr.specs.declared.types.Bit.{Bit}
@@ -15,7 +15,7 @@ use Rattle.rr_expr.specs.Values.{nowhere}
 use Rattle.rr_flat.specs.Targets.{has_bit, is_bit_of, is_constant, is_fixed, part_name, target_bits, targets_bits, target_parts, targets_parts, may_write, must_write}
 use Rattle.rr_target.specs.declared.writes.Write.{Write}
 use Rattle.rr_target.specs.Lists.{may, must}
-use Rattle.rr_target.specs.Pieces.{all_bits, part_bits}
+use Rattle.rr_target.specs.Pieces.{part_bits}
 use Rattle.rr_target.proofs.Growing.{rest_is}
 use Rattle.rr_target.proofs.Nodes.{none_parts, shaped-Concat}
 use denote.Ref.{Bor}

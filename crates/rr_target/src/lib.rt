@@ -9,7 +9,8 @@ mod select;
 mod targets;
 mod writes;
 
-pub use piece::Piece;
-pub use reads::{add_named, add_target_reads};
-pub use targets::add_pieces;
+pub use piece::{Piece, push_piece};
+pub use reads::{add_named_bits, add_target_reads};
+pub use select::no_values;
+pub use targets::{add_driven, add_pieces};
 pub use writes::{Write, add_writes};

@@ -7,15 +7,16 @@ ghost use Rattle.rr_flat.specs.Reads.{TargetReads, TargetsRead};
 ghost use Rattle.rr_target.specs.Lists.{Grown};
 
 use crate::piece::{Piece, push_piece};
-use crate::select::{is_constant, meaning, piece_of, whole};
+use crate::select::{meaning, no_values, piece_of, whole};
 use rr_expr::{Env, Scope};
+use rr_flat::is_constant;
 use rr_syntax::Expr;
 use std::alloc::{AllocError, Global};
 
 /// Adds the bits that an expression names: of a select by constant indices those at its places, by any
 /// other index all bits of its name and those that the index names (IEEE 1364-2005 section 5.2.1). The
 /// expression has a shape in its scope. One piece is added for each name that stands in it at most.
-pub fn add_named(
+pub fn add_named_bits(
     alloc: Global,
     list: &mut Vec<Piece>,
     expr: &Expr,
@@ -24,9 +25,7 @@ pub fn add_named(
     requires { fault scope.now (plain expr.now) false ≡ None }
     ensures { OnOk result (Grown list.old.items list.new.items (NamesBit scope.now (plain expr.now))) }
 {
-    let none = Env {
-        values: Vec::new(alloc),
-    };
+    let none = no_values(alloc);
     add_named_in(list, expr, scope, &none)
 }
 
@@ -107,8 +106,8 @@ pub fn add_target_reads(
     ensures { OnOk result (Grown list.old.items list.new.items (TargetReads scope.now (plain target.now))) }
 {
     match target {
-        Expr::Bit { index, .. } => add_named(alloc, list, index, scope),
-        Expr::Indexed { from, .. } => add_named(alloc, list, from, scope),
+        Expr::Bit { index, .. } => add_named_bits(alloc, list, index, scope),
+        Expr::Indexed { from, .. } => add_named_bits(alloc, list, from, scope),
         Expr::Concat { parts } => add_targets_reads(alloc, list, parts, scope),
         Expr::Name { .. } => Ok(()),
         Expr::Part { .. } => Ok(()),

@@ -1,5 +1,5 @@
 //! The bits of one name or select.
-ghost use Rattle.std.specs.Prelude.{◌≡◌, ◌≤◌, ℕ, Some, None, pos, ◌-ℤ◌, Bool, true, false};
+ghost use Rattle.std.specs.Prelude.{◌≡◌, ◌≤◌, [], ℕ, Some, None, pos, ◌-ℤ◌, Bool, true, false};
 ghost use Rattle.rr_syntax.specs.View.{plain};
 ghost use Rattle.rr_expr.specs.Faults.{fault};
 ghost use Rattle.rr_expr.specs.Indices.{integer_of};
@@ -7,7 +7,7 @@ ghost use Rattle.rr_expr.specs.Scopes.{env_of, meant, entity_range, entity_shape
 ghost use Rattle.rr_expr.specs.Selects.{place, integer_with};
 ghost use Rattle.rr_expr.specs.Values.{form, value as value_of, nowhere};
 ghost use Rattle.rr_expr.specs.declared.types.Entity.TheVariants as entity;
-ghost use Rattle.rr_flat.specs.Targets.{bits_there, is_constant as is_constant_in};
+ghost use Rattle.rr_flat.specs.Targets.{bits_there};
 ghost use Rattle.rr_target.specs.Pieces.{bits_of, part_bits};
 
 use crate::piece::Piece;
@@ -15,6 +15,7 @@ use rr_expr::{
     Entity, Env, Index, Scope, below_index, constant, index_of, near_place, shape_of, value,
 };
 use rr_syntax::Expr;
+use std::alloc::Global;
 
 const ZERO: Index = Index {
     negative: false,
@@ -32,13 +33,12 @@ pub(crate) fn meaning(scope: &Scope, name: &str) -> Entity
     }
 }
 
-/// Whether no signal stands in an expression.
-pub(crate) fn is_constant(expr: &Expr, scope: &Scope) -> bool
-    ensures { result ≡ is_constant_in scope.now (plain expr.now) }
+/// An environment without values, for expressions that are constant.
+pub fn no_values(alloc: Global) -> Env
+    ensures { result.values.items ≡ [] }
 {
-    match constant(expr, scope) {
-        Ok(_) => true,
-        Err(_) => false,
+    Env {
+        values: Vec::new(alloc),
     }
 }
 
@@ -95,18 +95,6 @@ fn range_of(entity: &Entity) -> (u32, u32)
     }
 }
 
-/// So many places without a bit.
-fn absent(count: u32) -> Piece
-    ensures { result ≡ record { signal = 0; width = 0; from = pos 0; count = count } }
-{
-    Piece {
-        signal: 0,
-        width: 0,
-        from: 0,
-        count,
-    }
-}
-
 /// The bounds of a range; a scalar has the one place 0.
 fn bounds_of(range: Option<(u32, u32)>) -> (u32, u32)
     ensures value { (id : ℕ) (signed : Bool) → result ≡ entity_range (entity.Signal id range signed) }
@@ -133,7 +121,7 @@ fn near(signal: u32, range: Option<(u32, u32)>, index: Index, below: u32, count:
             from: place - below as i64,
             count,
         },
-        None => absent(count),
+        None => Piece::absent(count),
     }
 }
 
@@ -146,7 +134,7 @@ fn run(entity: &Entity, index: Index, below: u32, count: u32) -> Piece
 {
     match entity {
         Entity::Signal { id, range, .. } => { near(*id, *range, index, below, count) }
-        Entity::Constant { .. } | Entity::Instance => absent(count),
+        Entity::Constant { .. } | Entity::Instance => Piece::absent(count),
     }
 }
 
@@ -172,8 +160,8 @@ pub(crate) fn whole(entity: &Entity) -> Piece
 {
     match entity {
         Entity::Signal { id, range, .. } => { all_of(*id, *range) }
-        Entity::Constant { bits, .. } => absent(bits.width()),
-        Entity::Instance => absent(0),
+        Entity::Constant { bits, .. } => Piece::absent(bits.width()),
+        Entity::Instance => Piece::absent(0),
     }
 }
 
@@ -202,13 +190,13 @@ pub(crate) fn piece_of(part: &Expr, scope: &Scope, env: &Env) -> Piece
             let below = below_index(range_of(&entity), count, *up);
             run(&entity, index_in(from, scope, env), below, count)
         }
-        Expr::Literal { .. } => absent(0),
-        Expr::Unary { .. } => absent(0),
-        Expr::Binary { .. } => absent(0),
-        Expr::Cond { .. } => absent(0),
-        Expr::Concat { .. } => absent(0),
-        Expr::Repeat { .. } => absent(0),
-        Expr::Cast { .. } => absent(0),
-        Expr::Paren { .. } => absent(0),
+        Expr::Literal { .. } => Piece::absent(0),
+        Expr::Unary { .. } => Piece::absent(0),
+        Expr::Binary { .. } => Piece::absent(0),
+        Expr::Cond { .. } => Piece::absent(0),
+        Expr::Concat { .. } => Piece::absent(0),
+        Expr::Repeat { .. } => Piece::absent(0),
+        Expr::Cast { .. } => Piece::absent(0),
+        Expr::Paren { .. } => Piece::absent(0),
     }
 }

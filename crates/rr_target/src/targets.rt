@@ -1,14 +1,18 @@
 //! The bits of whole targets in an environment.
-ghost use Rattle.std.specs.Prelude.{◌≡◌, ◌++◌, OnOk, None, false};
+ghost use Rattle.std.specs.Prelude.{◌≡◌, ◌++◌, [], OnOk, None, false};
 ghost use Rattle.rr_syntax.specs.View.{plain, plain_list};
 ghost use Rattle.rr_expr.specs.Faults.{fault, faults};
 ghost use Rattle.rr_expr.specs.Scopes.{env_of};
+ghost use Rattle.rr_flat.specs.Sound.{IsSide};
 ghost use Rattle.rr_flat.specs.Targets.{target_bits, targets_bits};
-ghost use Rattle.rr_target.specs.Pieces.{all_bits, bits_of};
+ghost use Rattle.rr_flat.specs.View.{plain_flat, plain_side};
+ghost use Rattle.rr_flat.specs.Writers.{driven_by};
+ghost use Rattle.rr_target.specs.Pieces.{all_bits};
 
 use crate::piece::{Piece, push_piece};
 use crate::select::piece_of;
 use rr_expr::{Env, Scope};
+use rr_flat::{Flat, Side};
 use rr_syntax::Expr;
 use std::alloc::AllocError;
 
@@ -28,7 +32,7 @@ pub fn add_pieces(
 {
     match target {
         Expr::Name { .. } | Expr::Bit { .. } | Expr::Part { .. } | Expr::Indexed { .. } => {
-            push_bits(list, piece_of(target, scope, env))
+            push_piece(list, piece_of(target, scope, env))
         }
         Expr::Concat { parts } => add_pieces_of_all(list, parts, scope, env),
         Expr::Literal { .. }
@@ -57,9 +61,20 @@ fn add_pieces_of_all(
     Ok(())
 }
 
-#[tactic(auto, using(crate::proofs::Growing::pushes))]
-fn push_bits(list: &mut Vec<Piece>, piece: Piece) -> Result<(), AllocError>
-    ensures { OnOk result (all_bits list.new.items ≡ bits_of piece ++ all_bits list.old.items) }
+/// Adds the bits of the target of a driver, of which the first piece has the top bits (IEEE 1364-2005
+/// sections 6.1 and 12.3.9.2). Its indices are constant, so `none` has no values.
+pub fn add_driven(
+    list: &mut Vec<Piece>,
+    flat: &Flat,
+    target: &Side,
+    none: &Env,
+) -> Result<(), AllocError>
+    requires side { IsSide flat.now.signals flat.now.scopes target.now }
+    requires none { none.now.values.items ≡ [] }
+    ensures { OnOk result (all_bits list.new.items ≡ driven_by (plain_flat flat.now) (plain_side target.now) ++ all_bits list.old.items) }
 {
-    push_piece(list, piece)
+    match target {
+        Side::Whole(id) => push_piece(list, Piece::whole(flat, *id)),
+        Side::Text { expr, scope } => add_pieces(list, expr, flat.scope_at(*scope), none),
+    }
 }

@@ -10,8 +10,9 @@ ghost use Rattle.rr_target.specs.Lists.{may, must};
 ghost use Rattle.rr_target.specs.Pieces.{covers, part_bits};
 
 use crate::piece::Piece;
-use crate::select::{is_constant, meaning, piece_of, whole};
+use crate::select::{meaning, no_values, piece_of, whole};
 use rr_expr::{Entity, Env, Scope};
+use rr_flat::is_constant;
 use rr_syntax::Expr;
 use std::alloc::{AllocError, Global};
 
@@ -81,9 +82,7 @@ pub fn add_writes(
     ensures may { OnOk result ((b : Bit) → may list.new.items b ≡ (may list.old.items b || writes_target scope.now (plain target.now) b)) }
     ensures must { OnOk result ((b : Bit) → must list.new.items b ≡ (must list.old.items b || assigns_target scope.now (plain target.now) b)) }
 {
-    let none = Env {
-        values: Vec::new(alloc),
-    };
+    let none = no_values(alloc);
     add_writes_in(list, target, scope, &none)
 }
 

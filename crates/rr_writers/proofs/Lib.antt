@@ -6,4 +6,3 @@ pub mod Ordering
 pub mod Filling
 pub mod Parting
 pub mod Statements
-pub mod Sides

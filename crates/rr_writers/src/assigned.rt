@@ -15,7 +15,7 @@ use std::alloc::{AllocError, Global};
 /// target in the order of the text (IEEE 1364-2005 sections 9.2.1 and 9.2.2). Each expression in it
 /// has a shape.
 #[cycle(assigned)]
-pub fn add_assigned(
+pub fn add_assigned_bits(
     alloc: Global,
     list: &mut Vec<Write>,
     stmt: &Stmt,
@@ -29,9 +29,9 @@ pub fn add_assigned(
         Stmt::Null => Ok(()),
         Stmt::Block { body, .. } => add_assigned_by_all(alloc, list, body, names, later),
         Stmt::If { yes, no, .. } => {
-            add_assigned(alloc, list, yes, names, later)?;
+            add_assigned_bits(alloc, list, yes, names, later)?;
             match no {
-                Some(other) => add_assigned(alloc, list, other, names, later),
+                Some(other) => add_assigned_bits(alloc, list, other, names, later),
                 None => Ok(()),
             }
         }
@@ -65,7 +65,7 @@ fn add_assigned_by_all(
     ensures { OnOk result ((b : Bit) → may list.new.items b ≡ (may list.old.items b || assign_any later names.now (plain_statements body.now) b)) }
 {
     for stmt in body.iter() {
-        add_assigned(alloc, list, stmt, names, later)?;
+        add_assigned_bits(alloc, list, stmt, names, later)?;
     }
     Ok(())
 }
@@ -82,7 +82,7 @@ fn add_assigned_by_arms(
     ensures { OnOk result ((b : Bit) → may list.new.items b ≡ (may list.old.items b || arms_assign later names.now (plain_arms arms.now) b)) }
 {
     for arm in arms.iter() {
-        add_assigned(alloc, list, arm.body, names, later)?;
+        add_assigned_bits(alloc, list, arm.body, names, later)?;
     }
     Ok(())
 }

@@ -9,11 +9,11 @@ ghost use Rattle.rr_writers.specs.Doubles.{IsDouble, token_of as token_of_part};
 ghost use Rattle.rr_writers.specs.Marks.{IsTaken, IsTwice, ListMarked, PartMarked, PartTaken, SetMarked};
 ghost use Rattle.rr_writers.specs.Tables.{entry};
 
-use crate::assigned::add_assigned;
+use crate::assigned::add_assigned_bits;
 use crate::marks::{mark_pieces, mark_writes};
-use crate::parts::{add_driven, clocked_of, combinational_of, driver_of, scope_of, walk_of};
 use crate::table::BitTable;
 use rr_flat::{Bit, Block, Driver, Flat, Part};
+use rr_target::{add_driven, no_values};
 use std::alloc::{AllocError, Global};
 
 /// A bit with two writers, by the tokens of their targets or of their `always` (IEEE 1364-2005
@@ -38,7 +38,7 @@ fn mark_driver(
     ensures some { IfOk result (λ r. IfSome r (IsTwice number (driven_by (plain_flat flat.now) (plain_driver driver.now).target) (entry table.old) (entry table.new))) }
 {
     let mut pieces = Vec::new(alloc);
-    add_driven(alloc, &mut pieces, flat, &driver.target)?;
+    add_driven(&mut pieces, flat, &driver.target, &no_values(alloc))?;
     mark_pieces(table, pieces.as_slice(), number)
 }
 
@@ -54,8 +54,8 @@ fn mark_block(
     ensures some { IfOk result (λ r. IfSome r (IsTaken true number (writes_at_all (plain_flat flat.now) (plain_block block.now)) (entry table.old) (entry table.new))) }
 {
     let mut writes = Vec::new(alloc);
-    let names = scope_of(flat, block.scope);
-    add_assigned(alloc, &mut writes, block.body, names, true)?;
+    let names = flat.scope_at(block.scope);
+    add_assigned_bits(alloc, &mut writes, block.body, names, true)?;
     mark_writes(table, writes.as_slice(), number)
 }
 
@@ -73,15 +73,15 @@ fn mark_part(
     ensures some { IfOk result (λ r. IfSome r (PartTaken (plain_flat flat.now) part number (entry table.old) (entry table.new))) }
 {
     match part {
-        Part::Driver(at) => match driver_of(flat, at) {
+        Part::Driver(at) => match flat.driver(at) {
             Some(driver) => mark_driver(alloc, flat, &driver, number, table),
             None => Ok(None),
         },
-        Part::Clocked(at) => match clocked_of(flat, at) {
+        Part::Clocked(at) => match flat.clocked_block(at) {
             Some(block) => mark_block(alloc, flat, &block, number, table),
             None => Ok(None),
         },
-        Part::Combinational(at) => match combinational_of(flat, at) {
+        Part::Combinational(at) => match flat.combinational_block(at) {
             Some(block) => mark_block(alloc, flat, &block, number, table),
             None => Ok(None),
         },
@@ -93,15 +93,15 @@ fn token_of(flat: &Flat, part: Part) -> u32
     ensures { result ≡ token_of_part (plain_flat flat.now) part }
 {
     match part {
-        Part::Driver(at) => match driver_of(flat, at) {
+        Part::Driver(at) => match flat.driver(at) {
             Some(driver) => driver.token,
             None => 0,
         },
-        Part::Clocked(at) => match clocked_of(flat, at) {
+        Part::Clocked(at) => match flat.clocked_block(at) {
             Some(block) => block.token,
             None => 0,
         },
-        Part::Combinational(at) => match combinational_of(flat, at) {
+        Part::Combinational(at) => match flat.combinational_block(at) {
             Some(block) => block.token,
             None => 0,
         },
@@ -116,7 +116,7 @@ pub fn first_two_drivers(alloc: Global, flat: &Flat) -> Result<Option<TwoDrivers
     ensures some { IfOk result (λ r. IfSome r (λ d. OneWriter (plain_flat flat.now) → ⊥)) }
     ensures first { IfOk result (λ r. IfSome r (IsDouble (plain_flat flat.now))) }
 {
-    let walk = walk_of(flat);
+    let walk = flat.parts();
     let mut table = BitTable::new(alloc);
     for (at, part) in walk.iter().enumerate() {
         if let Some(bit) = mark_part(alloc, flat, *part, at + 1, &mut table)? {

@@ -6,9 +6,8 @@
 mod assigned;
 mod doubles;
 mod marks;
-mod parts;
 mod table;
 
-pub use assigned::add_assigned;
+pub use assigned::add_assigned_bits;
 pub use doubles::{TwoDrivers, first_two_drivers};
 pub use table::BitTable;

@@ -12,4 +12,4 @@ pub returns : goal.returns
 returns c =
     let ts = assigned_by (plain_statement c.args.block.now.body.now) in
     c.first_bad_assigned.ensures ∙ ap earliest (targets_collected (bad_assigned (plain_flat c.args.flat.now) c.args.block.now.scope) c.as_slice.result.now ts
-    (ap (map plain_target) c.as_slice.ensures.value ∙ (c.in_ok-add_assigned.ensures ∙ ap (λ z. map plain_target z ++ ts) c.new-targets.ensures.items)))
+    (ap (map plain_target) c.as_slice.ensures.value ∙ (c.in_ok-add_assigned_targets.ensures ∙ ap (λ z. map plain_target z ++ ts) c.new-targets.ensures.items)))

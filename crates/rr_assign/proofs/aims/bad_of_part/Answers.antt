@@ -1,7 +1,7 @@
 use Rattle.std.proofs.Common.{◌∙◌, sym, ap, is_some}
 use Rattle.rr_flat.specs.View.{plain_flat}
 use Rattle.rr_assign.specs.Aims.{bad_of_driver, bad_of_block}
-use Rattle.rr_parts.specs.Parts.{driver_of, block_of}
+use Rattle.rr_flat.specs.Parts.{driver_of, block_of}
 use Rattle.rr_parts.proofs.Walks.{earliest_hit}
 use Rattle.rr_assign.proofs.aims.bad_of_part.Goals as goal
 

@@ -10,8 +10,8 @@ use Rattle.rr_assign.proofs.kinds.add_part.Goals as goal
 pub returns-in-None : goal.returns-in-None
 returns-in-None c = no_aims (plain_flat c.args.flat.now) (map (plain_aim (plain_flat c.args.flat.now)) c.args.list.now.items) c.args.part c.in-None.ensures.none
 
-pub returns-in_ok-add_assigned-in-Some : goal.returns-in_ok-add_assigned-in-Some
-returns-in_ok-add_assigned-in-Some c =
-    part_aims (plain_flat c.args.flat.now) c.add_targets.result _ _ c.args.part (plain_block c.in-Some.block) c.is_combinational-combinational.result (map plain_target c.as_slice.result.now) c.in-Some.ensures.some c.is_combinational-combinational.ensures
-    (ap (map plain_target) c.as_slice.ensures.value ∙ (c.in_ok-add_assigned-in-Some.ensures ∙ ap (λ z. map plain_target z ++ assigned_by (plain_statement c.in-Some.block.body.now)) c.new-targets.ensures.items))
-    c.add_targets.ensures
+pub returns-in_ok-add_assigned_targets-in-Some : goal.returns-in_ok-add_assigned_targets-in-Some
+returns-in_ok-add_assigned_targets-in-Some c =
+    part_aims (plain_flat c.args.flat.now) c.add_assignments.result _ _ c.args.part (plain_block c.in-Some.block) c.is_combinational-combinational.result (map plain_target c.as_slice.result.now) c.in-Some.ensures.some c.is_combinational-combinational.ensures
+    (ap (map plain_target) c.as_slice.ensures.value ∙ (c.in_ok-add_assigned_targets-in-Some.ensures ∙ ap (λ z. map plain_target z ++ assigned_by (plain_statement c.in-Some.block.body.now)) c.new-targets.ensures.items))
+    c.add_assignments.ensures

@@ -8,7 +8,7 @@ use Rattle.rr_assign.proofs.kinds.assignments.Goals as goal
 
 pub returns-clause-aims : goal.returns-clause-aims
 returns-clause-aims c =
-    sym (add_done (aims_of_part (plain_flat c.args.flat.now)) (map (plain_aim (plain_flat c.args.flat.now)) c.loop-part.list.items) c.walk_of-walk.result.now c.loop-part.part-index c.loop-part-test.false) ∙ c.loop-part.invariant
+    sym (add_done (aims_of_part (plain_flat c.args.flat.now)) (map (plain_aim (plain_flat c.args.flat.now)) c.loop-part.list.items) c.parts-walk.result.now c.loop-part.part-index c.loop-part-test.false) ∙ c.loop-part.invariant
 
 pub returns-clause-walked : goal.returns-clause-walked
-returns-clause-walked c = subst (IsWalk (length c.args.flat.now.drivers) (length c.args.flat.now.clocked) (length c.args.flat.now.combinational)) c.walk_of-walk.ensures.value c.walk_of-walk.ensures.parts
+returns-clause-walked c = subst (IsWalk (length c.args.flat.now.drivers) (length c.args.flat.now.clocked) (length c.args.flat.now.combinational)) c.parts-walk.ensures.value c.parts-walk.ensures.sound

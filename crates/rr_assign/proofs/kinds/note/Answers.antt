@@ -3,7 +3,7 @@ use Rattle.rr_syntax.specs.View.{plain}
 use Rattle.rr_expr.specs.Scopes.{meant}
 use Rattle.rr_flat.specs.View.{plain_flat}
 use Rattle.rr_flat.specs.Writers.{scope_at}
-use Rattle.rr_parts.specs.Parts.{entry, signal_of}
+use Rattle.rr_parts.specs.Names.{entry, signal_of}
 use Rattle.rr_parts.proofs.NamesOfParts.{named_text, named_token}
 use Rattle.rr_assign.specs.Kinds.{kind_fault}
 use Rattle.rr_assign.specs.View.{plain_aim}

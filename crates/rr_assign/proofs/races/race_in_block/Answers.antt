@@ -11,4 +11,4 @@ pub returns : goal.returns
 returns c ws h =
     c.first_race_of.ensures ws h
     ∙ ap (λ z. earliest (flat_map (race_of (plain_flat c.args.flat.now) ws c.args.number c.args.block.now.scope) z))
-    (ap (map plain_identifier) c.as_slice.ensures.value ∙ (c.in_ok-add_read.ensures ∙ ap (λ z. map plain_identifier z ++ names_read (plain_statement c.args.block.now.body.now)) c.new-names.ensures.items))
+    (ap (map plain_identifier) c.as_slice.ensures.value ∙ (c.in_ok-add_read_names.ensures ∙ ap (λ z. map plain_identifier z ++ names_read (plain_statement c.args.block.now.body.now)) c.new-names.ensures.items))

@@ -2,7 +2,7 @@ use Rattle.std.proofs.Common.{◌≡◌, drop}
 use Rattle.std.specs.Prelude.{flat_map}
 use Rattle.rr_flat.specs.View.{plain_block, plain_flat}
 use Rattle.rr_parts.specs.Firsts.{earliest}
-use Rattle.rr_parts.specs.Parts.{entry}
+use Rattle.rr_parts.specs.Names.{entry}
 use Rattle.rr_clock.specs.Found.{unclocked_block}
 use Rattle.rr_clock.proofs.clock.first_unclocked.Given as goal
 

@@ -5,7 +5,7 @@ use Rattle.rr_parts.specs.Firsts.{earliest}
 use Rattle.rr_parts.proofs.Walks.{walk_skip_at, walk_hit_at, walk_done}
 use Rattle.rr_syntax.specs.View.{plain_identifier}
 use Rattle.rr_clock.specs.Clock.{use_of}
-use Rattle.rr_parts.specs.Parts.{entry, is_the}
+use Rattle.rr_parts.specs.Names.{entry, is_the}
 use Rattle.rr_parts.proofs.Walks.{flat_map_map}
 use Rattle.rr_clock.proofs.uses.first_use.Goals as goal
 

@@ -3,5 +3,5 @@ use Rattle.rr_latch.specs.Paths.{assigned}
 use Rattle.rr_latch.proofs.BlocksInTurn.{BlocksRead}
 use Rattle.rr_latch.proofs.latches.first_latch.Given as goal
 
-abbrev pub invariant-loop-number : goal.invariant-loop-number
-invariant-loop-number l = BlocksRead (plain_flat l.flat) l.number (assigned l.path.unassigned)
+abbrev pub invariant-loop-block : goal.invariant-loop-block
+invariant-loop-block l = BlocksRead (plain_flat l.flat) l.block-index (assigned l.path.unassigned)

@@ -18,12 +18,12 @@ returns-clause-own c = (c.stamp_all.ensures.count ∙ c.requires.own.0, stamped_
 pub returns-clause-graph : goal.returns-clause-graph
 returns-clause-graph c =
     let l = block_there c.args.flat.now c.args.number c.requires.number in
-    let m = block_writes (plain_flat c.args.flat.now) (plain_block c.block_of-block.result) (block_at (plain_flat c.args.flat.now).combinational c.args.number) c.scope_of-names.result.now c.new-writes.result.items c.add_assigned.new.list.items c.as_slice.result.now c.new-writes.ensures.items c.as_slice.ensures.value
-    c.scope_of-names.ensures c.block_of-block.ensures.value c.in_ok-add_assigned.ensures in
+    let m = block_writes (plain_flat c.args.flat.now) (plain_block c.combinational_at-block.result) (block_at (plain_flat c.args.flat.now).combinational c.args.number) c.scope_at-names.result.now c.new-writes.result.items c.add_assigned_bits.new.list.items c.as_slice.result.now c.new-writes.ensures.items c.as_slice.ensures.value
+    c.scope_at-names.ensures.value c.combinational_at-block.ensures.value c.in_ok-add_assigned_bits.ensures in
     let w : IsWritten (widths (plain_flat c.args.flat.now)) (λ b. writes_at_all (plain_flat c.args.flat.now) (block_at (plain_flat c.args.flat.now).combinational c.args.number) b ≡ true) c.in_ok-written.written.items =
     block_written (plain_flat c.args.flat.now) c.args.number c.as_slice.result.now c.in_ok-written.written.items l m c.in_ok-written.ensures in
-    let g = grown_block (plain_flat c.args.flat.now) (plain_block c.block_of-block.result) (block_at (plain_flat c.args.flat.now).combinational c.args.number) c.scope_of-names.result.now c.new-pieces.result.items c.add_read.new.list.items c.as_slice-3.result.now c.new-pieces.ensures.items c.as_slice-3.ensures.value
-    c.scope_of-names.ensures c.block_of-block.ensures.value c.in_ok-add_read.ensures in
+    let g = grown_block (plain_flat c.args.flat.now) (plain_block c.combinational_at-block.result) (block_at (plain_flat c.args.flat.now).combinational c.args.number) c.scope_at-names.result.now c.new-pieces.result.items c.add_read_bits.new.list.items c.as_slice-3.result.now c.new-pieces.ensures.items c.as_slice-3.ensures.value
+    c.scope_at-names.ensures.value c.combinational_at-block.ensures.value c.in_ok-add_read_bits.ensures in
     let v : IsWritten (widths (plain_flat c.args.flat.now)) (λ b. writes_at_all (plain_flat c.args.flat.now) (block_at (plain_flat c.args.flat.now).combinational c.args.number) b ≡ true) c.as_slice-2.result.now = rw c.as_slice-2.ensures.value w in
     let u : IsWritten (widths (plain_flat c.args.flat.now)) (λ b. writes_at_all (plain_flat c.args.flat.now) (block_at (plain_flat c.args.flat.now).combinational c.args.number) b ≡ true) c.as_slice-4.result.now = rw c.as_slice-4.ensures.value w in
     let h : (n : ℕ) → get_or c.args.own.now.items n 0 < c.args.number + 1 = λ n. let o = c.requires.own.1 n in omega (arith, o) in

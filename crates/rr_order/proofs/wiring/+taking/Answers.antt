@@ -19,7 +19,7 @@ pub add_taken-returns-in-Indexed : goal.add_taken-returns-in-Indexed
 add_taken-returns-in-Indexed t c = on_ok_weaker c.add_pieces-in-Indexed.result (λ e. rw c.in-Indexed.is ((rw c.in-Indexed.is at e) ∙ takes-Indexed _ _ _ _ _ _ _ _ c.requires.none)) c.add_pieces-in-Indexed.ensures
 
 pub add_taken-returns-in-Literal : goal.add_taken-returns-in-Literal
-add_taken-returns-in-Literal t c = on_ok_weaker c.push_piece.result (λ e. rw c.in-Literal.is (e ∙ takes-Literal _ _ _ c.absent.result _ c.absent.ensures)) c.push_piece.ensures
+add_taken-returns-in-Literal t c = on_ok_weaker c.push_piece.result (λ e. rw c.in-Literal.is (e ∙ takes-Literal _ _ _ c.absent.result _ c.absent.ensures)) c.push_piece.ensures.bits
 
 pub add_taken-add_all_taken-requires : goal.add_taken-add_all_taken-requires
 add_taken-add_all_taken-requires t c = (search (rules, the_lemmas), (shaped-Concat _ _ (rw c.in-Concat.is at c.requires.shaped), c.requires.none))

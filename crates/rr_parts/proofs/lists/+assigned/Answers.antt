@@ -9,7 +9,7 @@ use Rattle.rr_parts.proofs.lists.+assigned.Goals as goal
 
 pub add_assigned_by_all-loop-stmt-preserved : goal.add_assigned_by_all-loop-stmt-preserved
 add_assigned_by_all-loop-stmt-preserved t c =
-    ap (λ z. z ++ flat_map (λ x. assigned_by (plain_statement x)) (drop (c.loop-stmt.stmt-index + 1) c.args.body.now)) c.in_ok-add_assigned.ensures
+    ap (λ z. z ++ flat_map (λ x. assigned_by (plain_statement x)) (drop (c.loop-stmt.stmt-index + 1) c.args.body.now)) c.in_ok-add_assigned_targets.ensures
     ∙ (add_more (λ x. assigned_by (plain_statement x)) (map plain_target c.loop-stmt.list.items) c.args.body.now c.loop-stmt.stmt-index c.stmt-item.result c.loop-stmt-test.true c.stmt-item.is
     ∙ c.loop-stmt.invariant)
 
@@ -20,7 +20,7 @@ add_assigned_by_all-returns t c =
 
 pub add_assigned_by_arms-loop-arm-preserved : goal.add_assigned_by_arms-loop-arm-preserved
 add_assigned_by_arms-loop-arm-preserved t c =
-    ap (λ z. z ++ flat_map (λ x. assigned_by (plain_statement x.body.now)) (drop (c.loop-arm.arm-index + 1) c.args.arms.now)) c.in_ok-add_assigned.ensures
+    ap (λ z. z ++ flat_map (λ x. assigned_by (plain_statement x.body.now)) (drop (c.loop-arm.arm-index + 1) c.args.arms.now)) c.in_ok-add_assigned_targets.ensures
     ∙ (add_more (λ x. assigned_by (plain_statement x.body.now)) (map plain_target c.loop-arm.list.items) c.args.arms.now c.loop-arm.arm-index c.arm-item.result c.loop-arm-test.true c.arm-item.is
     ∙ c.loop-arm.invariant)
 

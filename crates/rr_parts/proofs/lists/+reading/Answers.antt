@@ -8,7 +8,7 @@ use Rattle.rr_parts.proofs.lists.+reading.Goals as goal
 
 pub add_read_by_all-loop-stmt-preserved : goal.add_read_by_all-loop-stmt-preserved
 add_read_by_all-loop-stmt-preserved t c =
-    ap (λ z. z ++ flat_map (λ x. names_read (plain_statement x)) (drop (c.loop-stmt.stmt-index + 1) c.args.body.now)) c.in_ok-add_read.ensures
+    ap (λ z. z ++ flat_map (λ x. names_read (plain_statement x)) (drop (c.loop-stmt.stmt-index + 1) c.args.body.now)) c.in_ok-add_read_names.ensures
     ∙ (add_more (λ x. names_read (plain_statement x)) (map plain_identifier c.loop-stmt.list.items) c.args.body.now c.loop-stmt.stmt-index c.stmt-item.result c.loop-stmt-test.true c.stmt-item.is
     ∙ c.loop-stmt.invariant)
 
@@ -22,7 +22,7 @@ add_read_by_arms-loop-arm-preserved t c =
     let x = c.arm-item.result in
     let start = map plain_identifier c.loop-arm.list.items in
     ap (λ z. z ++ flat_map arm_reads (drop (c.loop-arm.arm-index + 1) c.args.arms.now))
-    (c.in_ok-add_read.ensures ∙ (ap (λ z. z ++ names_read (plain_statement x.body.now)) c.in_ok-add_names_of_all.ensures
+    (c.in_ok-add_read_names.ensures ∙ (ap (λ z. z ++ names_read (plain_statement x.body.now)) c.in_ok-add_names_of_all.ensures
     ∙ append_assoc start (names_in_parts (plain_list x.labels.now)) (names_read (plain_statement x.body.now))))
     ∙ (add_more arm_reads start c.args.arms.now c.loop-arm.arm-index x c.loop-arm-test.true c.arm-item.is ∙ c.loop-arm.invariant)
 

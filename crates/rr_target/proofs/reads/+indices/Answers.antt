@@ -17,20 +17,20 @@ add_targets_reads-loop-target-preserved t c = reads_more c.args.scope.now c.args
 pub add_targets_reads-returns : goal.add_targets_reads-returns
 add_targets_reads-returns t c = reads_done c.args.scope.now c.args.targets.now c.loop-target.target-index c.args.list.now.items c.loop-target.list.items c.loop-target-test.false c.loop-target.invariant
 
-pub add_target_reads-add_named-requires : goal.add_target_reads-add_named-requires
-add_target_reads-add_named-requires t c = (shaped-Bit _ _ _ _ (rw c.in-Bit.is at c.requires)).1
+pub add_target_reads-add_named_bits-requires : goal.add_target_reads-add_named_bits-requires
+add_target_reads-add_named_bits-requires t c = (shaped-Bit _ _ _ _ (rw c.in-Bit.is at c.requires)).1
 
-pub add_target_reads-add_named-requires-in-Indexed : goal.add_target_reads-add_named-requires-in-Indexed
-add_target_reads-add_named-requires-in-Indexed t c = (shaped-Indexed _ _ _ _ _ _ (rw c.in-Indexed.is at c.requires)).1
+pub add_target_reads-add_named_bits-requires-in-Indexed : goal.add_target_reads-add_named_bits-requires-in-Indexed
+add_target_reads-add_named_bits-requires-in-Indexed t c = (shaped-Indexed _ _ _ _ _ _ (rw c.in-Indexed.is at c.requires)).1
 
 pub add_target_reads-add_targets_reads-requires : goal.add_target_reads-add_targets_reads-requires
 add_target_reads-add_targets_reads-requires t c = (search (rules, the_lemmas), shaped-Concat _ _ (rw c.in-Concat.is at c.requires))
 
 pub add_target_reads-returns-in-Bit : goal.add_target_reads-returns-in-Bit
-add_target_reads-returns-in-Bit t c = on_ok_weaker c.add_named.result (λ g. rw c.in-Bit.is (reads-Bit _ _ _ _ _ _ g)) c.add_named.ensures
+add_target_reads-returns-in-Bit t c = on_ok_weaker c.add_named_bits.result (λ g. rw c.in-Bit.is (reads-Bit _ _ _ _ _ _ g)) c.add_named_bits.ensures
 
 pub add_target_reads-returns-in-Indexed : goal.add_target_reads-returns-in-Indexed
-add_target_reads-returns-in-Indexed t c = on_ok_weaker c.add_named-in-Indexed.result (λ g. rw c.in-Indexed.is (reads-Indexed _ _ _ _ _ _ _ _ g)) c.add_named-in-Indexed.ensures
+add_target_reads-returns-in-Indexed t c = on_ok_weaker c.add_named_bits-in-Indexed.result (λ g. rw c.in-Indexed.is (reads-Indexed _ _ _ _ _ _ _ _ g)) c.add_named_bits-in-Indexed.ensures
 
 pub add_target_reads-returns-in-Concat : goal.add_target_reads-returns-in-Concat
 add_target_reads-returns-in-Concat t c = on_ok_weaker c.add_targets_reads.result (λ g. rw c.in-Concat.is (reads-Concat _ _ _ _ g)) c.add_targets_reads.ensures

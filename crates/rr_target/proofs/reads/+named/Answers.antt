@@ -62,27 +62,27 @@ add_named_in-add_named_by_all-requires-in-Repeat t c = (search (rules, the_lemma
 
 pub add_named_in-returns-then-is_constant : goal.add_named_in-returns-then-is_constant
 add_named_in-returns-then-is_constant t c =
-    on_ok_weaker c.push_piece-then-is_constant.result (λ e. rw c.in-Bit.is (grown_at _ _ _ _ e (pushed-Bit _ _ _ _ c.args.list.now.items c.piece_of-then-is_constant.result (sym c.is_constant.ensures ∙ c.if-is_constant.true) (rw (c.requires.none, c.in-Bit.is) at c.piece_of-then-is_constant.ensures)))) c.push_piece-then-is_constant.ensures
+    on_ok_weaker c.push_piece-then-is_constant.result (λ e. rw c.in-Bit.is (grown_at _ _ _ _ e (pushed-Bit _ _ _ _ c.args.list.now.items c.piece_of-then-is_constant.result (sym c.is_constant.ensures ∙ c.if-is_constant.true) (rw (c.requires.none, c.in-Bit.is) at c.piece_of-then-is_constant.ensures)))) c.push_piece-then-is_constant.ensures.items
 
 pub add_named_in-returns-in_ok-push_piece-in-Bit : goal.add_named_in-returns-in_ok-push_piece-in-Bit
 add_named_in-returns-in_ok-push_piece-in-Bit t c =
-    on_ok_weaker c.add_named_in.result (λ g. rw c.in-Bit.is (whole-Bit _ _ _ _ c.args.list.now.items _ c.whole.result (sym c.is_constant.ensures ∙ c.if-is_constant.false) (rw c.meaning.ensures at c.whole.ensures) (rw c.in_ok-push_piece-in-Bit.ensures at g))) c.add_named_in.ensures
+    on_ok_weaker c.add_named_in.result (λ g. rw c.in-Bit.is (whole-Bit _ _ _ _ c.args.list.now.items _ c.whole.result (sym c.is_constant.ensures ∙ c.if-is_constant.false) (rw c.meaning.ensures at c.whole.ensures) (rw c.in_ok-push_piece-in-Bit.ensures.items at g))) c.add_named_in.ensures
 
 pub add_named_in-returns-then-is_constant-2 : goal.add_named_in-returns-then-is_constant-2
 add_named_in-returns-then-is_constant-2 t c =
-    on_ok_weaker c.push_piece-then-is_constant-2.result (λ e. rw c.in-Indexed.is (grown_at _ _ _ _ e (pushed-Indexed _ _ _ _ _ _ c.args.list.now.items c.piece_of-then-is_constant-2.result (sym c.is_constant-in-Indexed.ensures ∙ c.if-is_constant-2.true) (rw (c.requires.none, c.in-Indexed.is) at c.piece_of-then-is_constant-2.ensures)))) c.push_piece-then-is_constant-2.ensures
+    on_ok_weaker c.push_piece-then-is_constant-2.result (λ e. rw c.in-Indexed.is (grown_at _ _ _ _ e (pushed-Indexed _ _ _ _ _ _ c.args.list.now.items c.piece_of-then-is_constant-2.result (sym c.is_constant-in-Indexed.ensures ∙ c.if-is_constant-2.true) (rw (c.requires.none, c.in-Indexed.is) at c.piece_of-then-is_constant-2.ensures)))) c.push_piece-then-is_constant-2.ensures.items
 
 pub add_named_in-returns-in_ok-push_piece-in-Indexed : goal.add_named_in-returns-in_ok-push_piece-in-Indexed
 add_named_in-returns-in_ok-push_piece-in-Indexed t c =
-    on_ok_weaker c.add_named_in-else-is_constant-2.result (λ g. rw c.in-Indexed.is (whole-Indexed _ _ _ _ _ _ c.args.list.now.items _ c.whole-else-is_constant-2.result (sym c.is_constant-in-Indexed.ensures ∙ c.if-is_constant-2.false) (rw c.meaning-else-is_constant-2.ensures at c.whole-else-is_constant-2.ensures) (rw c.in_ok-push_piece-in-Indexed.ensures at g))) c.add_named_in-else-is_constant-2.ensures
+    on_ok_weaker c.add_named_in-else-is_constant-2.result (λ g. rw c.in-Indexed.is (whole-Indexed _ _ _ _ _ _ c.args.list.now.items _ c.whole-else-is_constant-2.result (sym c.is_constant-in-Indexed.ensures ∙ c.if-is_constant-2.false) (rw c.meaning-else-is_constant-2.ensures at c.whole-else-is_constant-2.ensures) (rw c.in_ok-push_piece-in-Indexed.ensures.items at g))) c.add_named_in-else-is_constant-2.ensures
 
 pub add_named_in-returns-in-Name : goal.add_named_in-returns-in-Name
 add_named_in-returns-in-Name t c =
-    on_ok_weaker c.push_piece.result (λ e. rw c.in-Name.is (grown_at _ _ _ _ e (pushed-Name _ _ _ c.args.list.now.items c.piece_of.result (rw (c.requires.none, c.in-Name.is) at c.piece_of.ensures)))) c.push_piece.ensures
+    on_ok_weaker c.push_piece.result (λ e. rw c.in-Name.is (grown_at _ _ _ _ e (pushed-Name _ _ _ c.args.list.now.items c.piece_of.result (rw (c.requires.none, c.in-Name.is) at c.piece_of.ensures)))) c.push_piece.ensures.items
 
 pub add_named_in-returns-in-Part : goal.add_named_in-returns-in-Part
 add_named_in-returns-in-Part t c =
-    on_ok_weaker c.push_piece-in-Part.result (λ e. rw c.in-Part.is (grown_at _ _ _ _ e (pushed-Part _ _ _ _ _ c.args.list.now.items c.piece_of-in-Part.result (rw (c.requires.none, c.in-Part.is) at c.piece_of-in-Part.ensures)))) c.push_piece-in-Part.ensures
+    on_ok_weaker c.push_piece-in-Part.result (λ e. rw c.in-Part.is (grown_at _ _ _ _ e (pushed-Part _ _ _ _ _ c.args.list.now.items c.piece_of-in-Part.result (rw (c.requires.none, c.in-Part.is) at c.piece_of-in-Part.ensures)))) c.push_piece-in-Part.ensures.items
 
 pub add_named_in-returns-in-Unary : goal.add_named_in-returns-in-Unary
 add_named_in-returns-in-Unary t c = on_ok_weaker c.add_named_in-in-Unary.result (λ g. rw c.in-Unary.is (grown-Unary _ _ _ _ _ g)) c.add_named_in-in-Unary.ensures

@@ -13,12 +13,12 @@ pub returns-clause-none : goal.returns-clause-none
 returns-clause-none c =
     let P = writes_at_all (plain_flat c.args.flat.now) (plain_block c.args.block.now) in
     IfOk-weaker c.mark_writes.result _ _
-    (λ r h. none_map _ _ r (set_same true c.args.number (may c.as_slice.result.now) P _ _ (λ b. ap (λ z. may z b) c.as_slice.ensures.value ∙ may_new P _ _ c.new-writes.ensures.items (λ d. c.in_ok-add_assigned.ensures d ∙ ap (λ s. may c.new-writes.result.items d || assigns true s (plain_statement c.args.block.now.body.now) d) c.scope_of-names.ensures) b)) h)
+    (λ r h. none_map _ _ r (set_same true c.args.number (may c.as_slice.result.now) P _ _ (λ b. ap (λ z. may z b) c.as_slice.ensures.value ∙ may_new P _ _ c.new-writes.ensures.items (λ d. c.in_ok-add_assigned_bits.ensures d ∙ ap (λ s. may c.new-writes.result.items d || assigns true s (plain_statement c.args.block.now.body.now) d) c.scope_at-names.ensures.value) b)) h)
     c.mark_writes.ensures.none
 
 pub returns-clause-some : goal.returns-clause-some
 returns-clause-some c =
     let P = writes_at_all (plain_flat c.args.flat.now) (plain_block c.args.block.now) in
     IfOk-weaker c.mark_writes.result _ _
-    (λ r h. some_map _ _ r (λ d. taken_same true c.args.number (may c.as_slice.result.now) P _ _ d (λ b. ap (λ z. may z b) c.as_slice.ensures.value ∙ may_new P _ _ c.new-writes.ensures.items (λ d. c.in_ok-add_assigned.ensures d ∙ ap (λ s. may c.new-writes.result.items d || assigns true s (plain_statement c.args.block.now.body.now) d) c.scope_of-names.ensures) b)) h)
+    (λ r h. some_map _ _ r (λ d. taken_same true c.args.number (may c.as_slice.result.now) P _ _ d (λ b. ap (λ z. may z b) c.as_slice.ensures.value ∙ may_new P _ _ c.new-writes.ensures.items (λ d. c.in_ok-add_assigned_bits.ensures d ∙ ap (λ s. may c.new-writes.result.items d || assigns true s (plain_statement c.args.block.now.body.now) d) c.scope_at-names.ensures.value) b)) h)
     c.mark_writes.ensures.some

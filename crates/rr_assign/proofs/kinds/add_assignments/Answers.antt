@@ -1,7 +1,7 @@
 use Rattle.std.proofs.Common.{◌∙◌, refl}
 use Rattle.rr_flat.specs.View.{plain_flat}
 use Rattle.rr_assign.proofs.Kinding.{targets_more, targets_done}
-use Rattle.rr_assign.proofs.kinds.add_targets.Goals as goal
+use Rattle.rr_assign.proofs.kinds.add_assignments.Goals as goal
 
 pub loop-target-preserved : goal.loop-target-preserved
 loop-target-preserved c =

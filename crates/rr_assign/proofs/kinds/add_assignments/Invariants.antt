@@ -3,7 +3,7 @@ use Rattle.rr_flat.specs.View.{plain_flat}
 use Rattle.rr_parts.specs.View.{plain_target}
 use Rattle.rr_assign.specs.Kinds.{aim_of}
 use Rattle.rr_assign.specs.View.{plain_aim}
-use Rattle.rr_assign.proofs.kinds.add_targets.Given as goal
+use Rattle.rr_assign.proofs.kinds.add_assignments.Given as goal
 
 abbrev pub invariant-loop-target : goal.invariant-loop-target
 invariant-loop-target l =

@@ -1,4 +1,4 @@
--- The drivers and blocks of a flat design, by the parts of its walk.
+-- What names stand for in a flat design.
 use Rattle.std.specs.Prelude.{ℕ, List, Option, Some, None, Bool, true, false, get_or, nat_eq}
 use Rattle.rr_syntax.specs.Tree.{Tree, Name, Literal, Bit as BitSelect, Part, Indexed, Unary, Binary, Cond, Concat, Repeat, Cast, Paren, Identifier}
 use Rattle.rr_expr.specs.declared.types.Entity.{Entity}
@@ -7,22 +7,9 @@ use Rattle.rr_expr.specs.Scopes.{meant}
 use Rattle.rr_flat.specs.declared.signal.Port.{Port}
 use Rattle.rr_flat.specs.declared.signal.Port.TheVariants.{Inner, Input, Output}
 use Rattle.rr_flat.specs.Signals.{Text}
-use Rattle.rr_flat.specs.declared.design.Part as design
-use Rattle.rr_flat.specs.declared.design.Part.TheVariants as part
-use Rattle.rr_flat.specs.Plain.{Driver, Block, Flat}
+use Rattle.rr_flat.specs.Plain.{Flat}
 use Rattle.rr_flat.specs.Targets.{part_name}
-use Rattle.rr_flat.specs.Writers.{scope_at, driver_at, no_driver, block_at, no_block}
-
--- the driver or the block of a part; where it is the other one there is none, which has no text
-abbrev pub driver_of : Flat → design.Part → Driver
-driver_of flat (part.Driver k) = driver_at flat k
-driver_of flat (part.Clocked k) = no_driver
-driver_of flat (part.Combinational k) = no_driver
-
-abbrev pub block_of : Flat → design.Part → Block
-block_of flat (part.Driver k) = no_block
-block_of flat (part.Clocked k) = block_at flat.clocked k
-block_of flat (part.Combinational k) = block_at flat.combinational k
+use Rattle.rr_flat.specs.Writers.{scope_at}
 
 abbrev pub is_input : Port → Bool
 is_input Inner = false

@@ -1,13 +1,12 @@
 -- The bits of the sides of drivers.
-use Rattle.std.proofs.Common.{◌≡◌, ◌∙◌, sym, ap, subst, ℕ, ◌<◌, List, [], length, map, get_or, pos}
-use Rattle.std.specs.Prelude.{All}
-use Rattle.std.proofs.lemmas.List.{get_or-map}
+use Rattle.std.proofs.Common.{◌≡◌, ◌∙◌, sym, ap, subst, ℕ, List, [], pos}
 use Rattle.rr_syntax.specs.declared.tree.Expr.{Expr}
 use Rattle.rr_syntax.specs.View.{plain}
 use Rattle.rr_expr.specs.declared.types.Entity.TheVariants as entity
 use Rattle.rr_expr.specs.Scopes.{Names, env_of}
 use Rattle.rr_flat.specs.declared.signal.Signal.{Signal}
 use Rattle.rr_flat.specs.Signals as plain_head
+use Rattle.rr_flat.specs.Signals.{signal_at}
 use Rattle.rr_flat.specs.View.{plain_signal}
 use Rattle.rr_flat.specs.declared.design.Side as declared_side
 use Rattle.rr_flat.specs.declared.design.Side.TheVariants as side
@@ -19,20 +18,16 @@ use Rattle.rr_target.specs.Pieces.{bits_of}
 use Rattle.rr_target.proofs.Runs.{run_of, signal_run}
 use denote.Ref.{Bor}
 
-pub whole_signal : (d : Design) (id instances : ℕ) (x : Signal) → id < length d.signals → x ≡ get_or d.signals id x → IsSignal instances x
+-- all bits of a signal, as a run
+pub whole_bits : (d : Design) (id instances : ℕ) (x : Signal) → plain_signal x ≡ signal_at (plain_flat d).signals id → IsSignal instances x
     → bits_of (run_of id x.width (pos 0) x.width) ≡ signal_bits (plain_flat d) id
-whole_signal d id instances x l e i =
-    let q : plain_head.signal_at (map plain_signal d.signals) id ≡ plain_signal x = get_or-map plain_signal d.signals id x plain_head.no_signal l ∙ ap plain_signal (sym e) in
+whole_bits d id instances x q i =
     let P : plain_head.Signal → Type 0 = λ z. bits_of (run_of id x.width (pos 0) x.width) ≡ bits_there (entity.Signal id z.range z.signed) (pos 0) z.width in
-    subst P (sym q) (ap (λ w. bits_of (run_of id w (pos 0) x.width)) i.width ∙ signal_run id x.range x.signed (pos 0) (pos 0) x.width x.width)
+    subst P q (ap (λ w. bits_of (run_of id w (pos 0) x.width)) i.width ∙ signal_run id x.range x.signed (pos 0) (pos 0) x.width x.width)
 
-pub whole_signal_at : (d : Design) (id instances : ℕ) (x : Signal) (xs : List Signal) → xs ≡ d.signals → id < length d.signals → x ≡ get_or xs id x → All (IsSignal instances) xs
-    → bits_of (run_of id x.width (pos 0) x.width) ≡ signal_bits (plain_flat d) id
-whole_signal_at d id instances x xs v l e a =
-    let P : List Signal → Type 0 = λ z. x ≡ get_or z id x in
-    let A : List Signal → Type 0 = λ z. All (IsSignal instances) z in
-    let f = subst P v e in
-    whole_signal d id instances x l f (subst (IsSignal instances) (sym f) (subst A v a id x l))
+pub whole_run : (d : Design) (id : ℕ) (x : Signal) → plain_signal x ≡ signal_at (plain_flat d).signals id
+    → run_of id x.width (pos 0) x.width ≡ run_of id (signal_at (plain_flat d).signals id).width (pos 0) (signal_at (plain_flat d).signals id).width
+whole_run d id x q = ap (λ (z : plain_head.Signal). run_of id z.width (pos 0) z.width) q
 
 pub whole_side : (d : Design) (id : ℕ) (x : declared_side.Side) → x ≡ side.Whole id → signal_bits (plain_flat d) id ≡ driven_by (plain_flat d) (plain_side x)
 unfolding driven_by
