@@ -1,4 +1,4 @@
--- targets of statements at nodes of the arena, and the places that they may write
+-- the bits that clocked blocks write, and masks
 use Rattle.std.proofs.Common.{◌≡◌, ◌∙◌, sym, ap, ℕ, zero, suc, ◌+◌, ◌-◌, ◌^◌, ◌<◌, ◌≤◌, Bool, true, false, cond, not, ◌&&◌, ◌||◌, List, [], ◌∷◌, length, map, drop, get_or, set, nat_eq, nat_lt, Option, None, Some, refl, arith, ◌⊎◌, inl, inr}
 use Rattle.std.proofs.lemmas.Bool.{cases_eq, cases_lt, eq-eqb, ne_eqb, lt-ltb, le-ltb}
 use Rattle.std.proofs.lemmas.List.{drop_all, drop_more}
@@ -42,85 +42,6 @@ or_false false = refl
 -- what a statement writes, of both kinds
 abbrev pub both_kinds : Names → Stmt → Bit → Bool
 both_kinds s t b = writes true s (plain_statement t) b || writes false s (plain_statement t) b
-
-abbrev pub both_of_all : Names → List Stmt → Bit → Bool
-both_of_all s ts b = write_any true s (plain_statements ts) b || write_any false s (plain_statements ts) b
-
-abbrev pub both_of_arms : Names → List Branch → Bit → Bool
-both_of_arms s arms b = arms_write true s (plain_arms arms) b || arms_write false s (plain_arms arms) b
-
-pub kinds-Null : (s : Names) (b : Bit) → both_kinds s stmt.Null b ≡ false
-unfolding plain_statement writes
-kinds-Null s b = refl
-
-pub kinds-Block : (s : Names) (label : Option Name) (body : Bor (List Stmt)) (b : Bit) → both_kinds s (stmt.Block label body) b ≡ both_of_all s body.now b
-unfolding writes
-kinds-Block s label body b = ap (λ p. writes true s p b || writes false s p b) (plain_block label body)
-
-pub kinds-If : (s : Names) (t : Bor Expr) (y : Bor Stmt) (b : Bit) → both_kinds s (stmt.If t y None) b ≡ both_kinds s y.now b
-unfolding plain_statement writes
-kinds-If s t y b = refl
-
-four : (p q x y : Bool) → ((p || x) || (q || y)) ≡ ((p || q) || (x || y))
-four true q x y = refl
-four false true true y = refl
-four false true false y = refl
-four false false x y = refl
-
-pub kinds-IfElse : (s : Names) (t : Bor Expr) (y n : Bor Stmt) (b : Bit) → both_kinds s (stmt.If t y (Some n)) b ≡ (both_kinds s y.now b || both_kinds s n.now b)
-unfolding plain_statement writes
-kinds-IfElse s t y n b = four (writes true s (plain_statement y.now) b) (writes false s (plain_statement y.now) b) (writes true s (plain_statement n.now) b) (writes false s (plain_statement n.now) b)
-
-pub kinds-Case : (s : Names) (kind : Keyword) (t : Bor Expr) (arms : Bor (List Branch)) (b : Bit) → both_kinds s (stmt.Case kind t arms) b ≡ both_of_arms s arms.now b
-unfolding writes
-kinds-Case s kind t arms b = ap (λ p. writes true s p b || writes false s p b) (plain_case kind t arms)
-
-pub kinds-Assign : (s : Names) (t : Bor Expr) (now : Bool) (v : Bor Expr) (b : Bit) → both_kinds s (stmt.Assign t now v) b ≡ writes_target s (plain t.now) b
-unfolding plain_statement writes
-kinds-Assign s t true v b = or_false (writes_target s (plain t.now) b)
-kinds-Assign s t false v b = refl
-
--- what was there, and what each statement of a list writes
-kinds_more : (s : Names) (xs : List Stmt) (i : ℕ) (x : Stmt) (b : Bit) → i < length xs → x ≡ get_or xs i x → both_of_all s (drop i xs) b ≡ (both_kinds s x b || both_of_all s (drop (i + 1) xs) b)
-unfolding plain_statements writes
-kinds_more s xs i x b l q =
-    ap (λ ys. both_of_all s ys b) (drop_more xs i x l ∙ ap (λ y. y ∷ drop (i + 1) xs) (sym q))
-    ∙ four (writes true s (plain_statement x) b) (writes false s (plain_statement x) b) (write_any true s (plain_statements (drop (i + 1) xs)) b) (write_any false s (plain_statements (drop (i + 1) xs)) b)
-
-kinds_none : (s : Names) (xs : List Stmt) (i : ℕ) (b : Bit) → length xs ≤ i → both_of_all s (drop i xs) b ≡ false
-unfolding plain_statements writes
-kinds_none s xs i b l = ap (λ ys. both_of_all s ys b) (drop_all i xs l)
-
-arms_more : (s : Names) (xs : List Branch) (i : ℕ) (x : Branch) (b : Bit) → i < length xs → x ≡ get_or xs i x → both_of_arms s (drop i xs) b ≡ (both_kinds s x.body.now b || both_of_arms s (drop (i + 1) xs) b)
-unfolding plain_arms plain_arm writes
-arms_more s xs i x b l q =
-    ap (λ ys. both_of_arms s ys b) (drop_more xs i x l ∙ ap (λ y. y ∷ drop (i + 1) xs) (sym q))
-    ∙ four (writes true s (plain_statement x.body.now) b) (writes false s (plain_statement x.body.now) b) (arms_write true s (plain_arms (drop (i + 1) xs)) b) (arms_write false s (plain_arms (drop (i + 1) xs)) b)
-
-arms_none : (s : Names) (xs : List Branch) (i : ℕ) (b : Bit) → length xs ≤ i → both_of_arms s (drop i xs) b ≡ false
-unfolding plain_arms writes
-arms_none s xs i b l = ap (λ ys. both_of_arms s ys b) (drop_all i xs l)
-
--- the loops over them: `m` is what was there, `f` all of it
-pub targets_more : (s : Names) (xs : List Stmt) (i : ℕ) (x : Stmt) (ms ns : List Write) (f : Bit → Bool) → i < length xs → x ≡ get_or xs i x → ((b : Bit) → (may ms b || both_of_all s (drop i xs) b) ≡ f b) →
-    ((b : Bit) → may ns b ≡ (may ms b || both_kinds s x b)) → (b : Bit) → (may ns b || both_of_all s (drop (i + 1) xs) b) ≡ f b
-targets_more s xs i x ms ns f l q h k b =
-    ap (λ (z : Bool). z || both_of_all s (drop (i + 1) xs) b) (k b)
-    ∙ or_assoc (may ms b) (both_kinds s x b) (both_of_all s (drop (i + 1) xs) b)
-    ∙ ap (λ (z : Bool). may ms b || z) (sym (kinds_more s xs i x b l q)) ∙ h b
-
-pub targets_done : (s : Names) (xs : List Stmt) (i : ℕ) (ms : List Write) (f : Bit → Bool) → length xs ≤ i → ((b : Bit) → (may ms b || both_of_all s (drop i xs) b) ≡ f b) → (b : Bit) → may ms b ≡ f b
-targets_done s xs i ms f l h b = sym (or_false (may ms b)) ∙ ap (λ (z : Bool). may ms b || z) (sym (kinds_none s xs i b l)) ∙ h b
-
-pub branches_more : (s : Names) (xs : List Branch) (i : ℕ) (x : Branch) (ms ns : List Write) (f : Bit → Bool) → i < length xs → x ≡ get_or xs i x → ((b : Bit) → (may ms b || both_of_arms s (drop i xs) b) ≡ f b) →
-    ((b : Bit) → may ns b ≡ (may ms b || both_kinds s x.body.now b)) → (b : Bit) → (may ns b || both_of_arms s (drop (i + 1) xs) b) ≡ f b
-branches_more s xs i x ms ns f l q h k b =
-    ap (λ (z : Bool). z || both_of_arms s (drop (i + 1) xs) b) (k b)
-    ∙ or_assoc (may ms b) (both_kinds s x.body.now b) (both_of_arms s (drop (i + 1) xs) b)
-    ∙ ap (λ (z : Bool). may ms b || z) (sym (arms_more s xs i x b l q)) ∙ h b
-
-pub branches_done : (s : Names) (xs : List Branch) (i : ℕ) (ms : List Write) (f : Bit → Bool) → length xs ≤ i → ((b : Bit) → (may ms b || both_of_arms s (drop i xs) b) ≡ f b) → (b : Bit) → may ms b ≡ f b
-branches_done s xs i ms f l h b = sym (or_false (may ms b)) ∙ ap (λ (z : Bool). may ms b || z) (sym (arms_none s xs i b l)) ∙ h b
 
 -- masks
 
@@ -211,18 +132,8 @@ pub no_writes_yet : (ms : List Write) (x : Bool) (b : Bit) → ms ≡ [] → (ma
 unfolding may
 no_writes_yet ms x b h = rw h refl
 
-pub plus_none : (s : Names) (x : Bool) (b : Bit) → x ≡ (x || both_kinds s stmt.Null b)
-plus_none s x b = sym (ap (λ (z : Bool). x || z) (kinds-Null s b) ∙ or_false x)
-
 pub all_ones : (w i : ℕ) → w ≤ 128 → i < w → get_or (word w (2 ^ 128 - 1)) i false ≡ true
 all_ones w i l m = get_word w (2 ^ 128 - 1) i false m ∙ has_ones 128 i ∙ lt-ltb i 128 (omega arith)
 
--- of two branches
-pub two_more : (s : Names) (t : Bor Expr) (y n : Bor Stmt) (x m o : Bool) (b : Bit) → m ≡ (x || both_kinds s y.now b) → o ≡ (m || both_kinds s n.now b) → o ≡ (x || both_kinds s (stmt.If t y (Some n)) b)
-two_more s t y n x m o b h k =
-    k ∙ ap (λ (z : Bool). z || both_kinds s n.now b) h ∙ or_assoc x (both_kinds s y.now b) (both_kinds s n.now b) ∙ ap (λ (z : Bool). x || z) (sym (kinds-IfElse s t y n b))
-
 pub no_marks : (ws : List Write) (e : Environment) (b : Bit) → e ≡ zeros → (may ws b || e b) ≡ may ws b
 no_marks ws e b h = ap (λ (f : Environment). may ws b || f b) h ∙ or_false (may ws b)
-
-pub ruleset target_nodes = (stmt_lemmas, shaped-If-yes, shaped-IfElse-yes, shaped-IfElse-no, kinds-If, kinds-IfElse, two_more)

@@ -93,14 +93,6 @@ bit_set values b on k part s merge in' = fun_ext (λ c. env_set values b.signal 
 
 -- whole signals
 
-pub whole_run : (d : Design) (id w : ℕ) → IsSound d → id < length d.signals → w ≡ (signal_at (map plain_signal d.signals) id).width → bits_of (record { signal = id; width = w; from = pos 0; count = w }) ≡ signal_bits (plain_flat d) id
-whole_run d id w f l q =
-    let s = signal_at (map plain_signal d.signals) id in
-    let r : w ≡ range_width s.range = q ∙ (wide d id f l).range in
-    ap (λ (v : ℕ). bits_in (run_of id v (pos 0) w) (pos 0) w) r
-    ∙ signal_run id s.range s.signed (pos 0) (pos 0) w w
-    ∙ ap (λ (v : ℕ). bits_there (entity.Signal id s.range s.signed) (pos 0) v) q
-
 there_is : (id : ℕ) (range : Option (ℕ × ℕ)) (signed : Bool) (e : Environment) (from n : ℕ) → from + n ≤ range_width range →
     map (bit_value e) (bits_there (entity.Signal id range signed) (pos from) n) ≡ map (λ (i : ℕ). e (record { signal = id; place = i })) (range_with_len from n)
 unfolding bits_there
@@ -128,8 +120,7 @@ one_piece ps qs p h e = ap all_bits (e ∙ ap (λ (rs : List Piece). rs ++ p ∷
 pub one_fits : (n : ℕ) (ps qs : List Piece) (p : Piece) → Fits n p → qs ≡ [] → ps ≡ qs ++ p ∷ [] → All (Fits n) ps
 one_fits n ps qs p f h e = subst (All (Fits n)) (sym e) (All-push (Fits n) qs p (subst (All (Fits n)) (sym h) (All-nil (Fits n))) f)
 
-pub whole_fits : (d : Design) (id : ℕ) (p : Piece) → IsSound d → id < length d.signals → bits_of p ≡ driven_by (plain_flat d) (Whole id) → Fits (length d.signals) p
-unfolding driven_by
+pub whole_fits : (d : Design) (id : ℕ) (p : Piece) → IsSound d → id < length d.signals → bits_of p ≡ signal_bits (plain_flat d) id → Fits (length d.signals) p
 whole_fits d id p f l q b c =
     let s = signal_at (map plain_signal d.signals) id in
     let w = wide d id f l in

@@ -20,6 +20,7 @@ use rr_bits::Bits;
 use rr_exec::{Machine, apply, execute};
 use rr_expr::Env;
 use rr_flat::{Flat, Order, Step};
+use rr_target::no_values;
 use std::alloc::{AllocError, Global};
 
 /// A machine on an environment, with nothing that waits.
@@ -32,9 +33,7 @@ fn machine_on(alloc: Global, env: Env) -> Machine
         env,
         later: Vec::new(alloc),
         pieces: Vec::new(alloc),
-        none: Env {
-            values: Vec::new(alloc),
-        },
+        none: no_values(alloc),
     }
 }
 

@@ -1,12 +1,9 @@
 //! The bits that clocked blocks write.
-ghost use Rattle.std.specs.Prelude.{◌≡◌, ◌<◌, ◌||◌, [], IfOk, OnOk, true, false, length};
-ghost use Rattle.rr_syntax.specs.View.{plain_arms, plain_statement, plain_statements};
+ghost use Rattle.std.specs.Prelude.{◌≡◌, ◌<◌, ◌||◌, IfOk, true, length};
 ghost use Rattle.rr_expr.specs.Scopes.{env_of};
 ghost use Rattle.rr_expr.specs.declared.types.Bit.{Bit as FlatBit};
 ghost use Rattle.rr_flat.specs.Signals.{signal_at};
-ghost use Rattle.rr_flat.specs.Reads.{writes, write_any, arms_write};
 ghost use Rattle.rr_flat.specs.View.{plain_flat};
-ghost use Rattle.rr_flat.specs.Shapes.{statement_faults, statements_faults, arms_faults};
 ghost use Rattle.rr_target.specs.Lists.{may};
 ghost use Rattle.rr_target.specs.Pieces.{covers};
 ghost use Rattle.rr_cycle.specs.Performing.{any_writes};
@@ -14,72 +11,10 @@ ghost use Rattle.rr_exec.specs.Work.{Fits};
 
 use rr_bits::Bits;
 use rr_exec::merged;
-use rr_expr::Scope;
 use rr_flat::Flat;
-use rr_syntax::{Arm, Stmt};
-use rr_target::{Piece, Write, add_writes};
+use rr_target::{Piece, Write};
+use rr_writers::add_assigned_bits;
 use std::alloc::{AllocError, Global};
-
-/// Adds the targets of a statement, of both kinds.
-#[cycle(targets)]
-#[tactic(auto, using(crate::proofs::Marks::target_nodes))]
-fn add_targets(
-    alloc: Global,
-    list: &mut Vec<Write>,
-    stmt: &Stmt,
-    scope: &Scope,
-) -> Result<(), AllocError>
-    requires { statement_faults scope.now (plain_statement stmt.now) ≡ [] }
-    ensures { OnOk result ((b : FlatBit) → may list.new.items b ≡ (may list.old.items b || (writes true scope.now (plain_statement stmt.now) b || writes false scope.now (plain_statement stmt.now) b))) }
-{
-    match stmt {
-        Stmt::Null => Ok(()),
-        Stmt::Block { body, .. } => add_targets_of_all(alloc, list, body, scope),
-        Stmt::If { yes, no: None, .. } => add_targets(alloc, list, yes, scope),
-        Stmt::If {
-            yes,
-            no: Some(other),
-            ..
-        } => {
-            add_targets(alloc, list, yes, scope)?;
-            add_targets(alloc, list, other, scope)
-        }
-        Stmt::Case { arms, .. } => add_targets_of_arms(alloc, list, arms, scope),
-        Stmt::Assign { target, .. } => add_writes(alloc, list, target, scope),
-    }
-}
-
-#[cycle(targets)]
-fn add_targets_of_all(
-    alloc: Global,
-    list: &mut Vec<Write>,
-    body: &[Stmt],
-    scope: &Scope,
-) -> Result<(), AllocError>
-    requires { statements_faults scope.now (plain_statements body.now) ≡ [] }
-    ensures { OnOk result ((b : FlatBit) → may list.new.items b ≡ (may list.old.items b || (write_any true scope.now (plain_statements body.now) b || write_any false scope.now (plain_statements body.now) b))) }
-{
-    for stmt in body.iter() {
-        add_targets(alloc, list, stmt, scope)?;
-    }
-    Ok(())
-}
-
-#[cycle(targets)]
-fn add_targets_of_arms(
-    alloc: Global,
-    list: &mut Vec<Write>,
-    arms: &[Arm],
-    scope: &Scope,
-) -> Result<(), AllocError>
-    requires { arms_faults scope.now (plain_arms arms.now) ≡ [] }
-    ensures { OnOk result ((b : FlatBit) → may list.new.items b ≡ (may list.old.items b || (arms_write true scope.now (plain_arms arms.now) b || arms_write false scope.now (plain_arms arms.now) b))) }
-{
-    for arm in arms.iter() {
-        add_targets(alloc, list, arm.body, scope)?;
-    }
-    Ok(())
-}
 
 /// The bits of a piece are one.
 fn mark(masks: &mut Vec<u128>, piece: &Piece)
@@ -113,13 +48,9 @@ fn written(alloc: Global, flat: &Flat) -> Result<Vec<Write>, AllocError>
     ensures { IfOk result (λ r. (b : FlatBit) → may r.items b ≡ any_writes (plain_flat flat.now) (plain_flat flat.now).clocked b) }
 {
     let mut list = Vec::new(alloc);
-    for block in flat.clocked.iter() {
-        add_targets(
-            alloc,
-            &mut list,
-            block.body,
-            &flat.scopes[block.scope as usize],
-        )?;
+    for block in flat.clocked_blocks().iter() {
+        let names = flat.scope_at(block.scope);
+        add_assigned_bits(alloc, &mut list, block.body, names, true)?;
     }
     Ok(list)
 }

@@ -1,12 +1,11 @@
 //! The steps of an order (IEEE 1364-2005 sections 6.1, 9.9.2.1 and 12.3.9.2).
-ghost use Rattle.std.specs.Prelude.{◌≡◌, ◌≤◌, ◌<◌, ◌∷◌, ◌++◌, [], All, OnOk, None, false, get_or, length, pos, ◌+ℤ◌};
+ghost use Rattle.std.specs.Prelude.{◌≡◌, ◌≤◌, ◌<◌, ◌∷◌, [], All, OnOk, None, false, get_or, length};
 ghost use Rattle.rr_expr.specs.Scopes.{env_of};
 ghost use Rattle.rr_flat.specs.Ordered.{IsStep};
 ghost use Rattle.rr_flat.specs.View.{plain_driver, plain_flat, plain_side};
-ghost use Rattle.rr_flat.specs.Plain.{Whole};
 ghost use Rattle.rr_flat.specs.Sound.{IsDriver, IsSide};
 ghost use Rattle.rr_flat.specs.Writers.{driven_by};
-ghost use Rattle.rr_target.specs.Pieces.{all_bits, bit_in, bits_of};
+ghost use Rattle.rr_target.specs.Pieces.{all_bits};
 ghost use Rattle.rr_cycle.specs.Cycles.{side_shape as shape_of_side, side_value as value_of_side, signal_value as value_of_signal};
 ghost use Rattle.rr_cycle.specs.Exec.{put, write as write_of};
 ghost use Rattle.rr_cycle.specs.Performing.{act};
@@ -17,23 +16,8 @@ use rr_bits::Bits;
 use rr_exec::{Machine, execute, merged, own_shape, write_pieces};
 use rr_expr::{Bit, Env, Shape, value};
 use rr_flat::{Driver, Flat, Side, Step};
-use rr_target::{Piece, add_pieces};
+use rr_target::{Piece, add_pieces, push_piece};
 use std::alloc::AllocError;
-
-/// All bits of a signal.
-fn whole(flat: &Flat, id: u32) -> Piece
-    requires { id < length flat.now.signals }
-    ensures bits { bits_of result ≡ driven_by (plain_flat flat.now) (Whole id) }
-    ensures count { result.count ≤ 128 }
-{
-    let width = flat.signals[id as usize].width;
-    Piece {
-        signal: id,
-        width,
-        from: 0,
-        count: width,
-    }
-}
 
 fn side_shape(flat: &Flat, side: &Side) -> Shape
     requires { IsSide flat.now.signals flat.now.scopes side.now }
@@ -105,15 +89,8 @@ fn driven_pieces(
         Side::Text { expr, scope } => {
             add_pieces(pieces, expr, &flat.scopes[*scope as usize], none)
         }
-        Side::Whole(id) => push_piece(pieces, whole(flat, *id)),
+        Side::Whole(id) => push_piece(pieces, Piece::whole(flat, *id)),
     }
-}
-
-fn push_piece(pieces: &mut Vec<Piece>, piece: Piece) -> Result<(), AllocError>
-    ensures { OnOk result (pieces.new.items ≡ pieces.old.items ++ piece ∷ []) }
-{
-    pieces.push(piece)?;
-    Ok(())
 }
 
 /// A driver gives its bits their values.
@@ -132,20 +109,6 @@ fn drive(flat: &Flat, driver: &Driver, machine: &mut Machine) -> Result<(), Allo
     Ok(())
 }
 
-/// The bit of a piece at a place counted from its first one; `None` where there is none.
-fn bit_of(piece: &Piece, place: u32) -> Option<Bit>
-    ensures { result ≡ bit_in piece.now (piece.now.from +ℤ pos place) }
-{
-    let at = piece.from as i128 + place as i128;
-    if at < 0 || piece.width as i128 <= at {
-        return None;
-    }
-    Some(Bit {
-        signal: piece.signal,
-        place: at as u32,
-    })
-}
-
 /// The bit at a place of the pieces, the last piece the lowest; `None` where there is none.
 fn bit_at(pieces: &[Piece], place: u32) -> Option<Bit>
     requires few { length (all_bits pieces.now) ≤ 128 }
@@ -157,7 +120,7 @@ fn bit_at(pieces: &[Piece], place: u32) -> Option<Bit>
         left -= 1;
         let piece = &pieces[left];
         if place < from + piece.count {
-            return bit_of(piece, place - from);
+            return piece.bit(place - from);
         }
         from += piece.count;
     }

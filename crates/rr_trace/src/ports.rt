@@ -3,7 +3,7 @@ ghost use Rattle.std.specs.Prelude.{◌≡◌, ◌++◌, List, map, option_map, 
 ghost use Rattle.rr_trace.specs.Names.{Text, numbered};
 ghost use Rattle.rr_trace.specs.Columns.{is_name as is_name_of, is_unread as is_unread_of, column as column_of, place as place_of};
 ghost use Rattle.rr_flat.specs.View.{plain_flat};
-ghost use Rattle.rr_trace.specs.Tops.{is_clock as is_clock_of, name_of as name_of_id, others as others_of, port_of as port_of_id, ports_of};
+ghost use Rattle.rr_trace.specs.Tops.{is_clock as is_clock_of, others as others_of, port_of as port_of_id, ports_of};
 ghost use Rattle.rr_trace.specs.View.{SameNumbers, ArePorts, IsWidth, plain_port, plain_ports};
 
 use crate::names::Numbers;
@@ -37,21 +37,11 @@ fn is_name(found: Option<&[u8]>, name: &[u8]) -> bool
     }
 }
 
-/// The name of a signal.
-fn name_of<'f>(flat: &Flat<'f>, id: u32) -> &'f [u8]
-    ensures { result.now ≡ name_of_id (plain_flat flat.now) id }
-{
-    match flat.signals.get(id as usize) {
-        Some(signal) => signal.name.as_bytes(),
-        None => &[],
-    }
-}
-
 fn port_of<'f>(flat: &Flat<'f>, id: u32) -> Port<'f>
     ensures port { plain_port result ≡ port_of_id (plain_flat flat.now) id }
     ensures width { IsWidth result.width }
 {
-    match flat.signals.get(id as usize) {
+    match flat.signal(id) {
         Some(signal) => Port {
             id,
             name: signal.name.as_bytes(),
@@ -125,7 +115,7 @@ impl<'f> Ports<'f> {
         add_widths(&mut widths, inputs.as_slice())?;
         add_widths(&mut widths, outputs.as_slice())?;
         let clock = match clock {
-            Some(id) => Some(name_of(flat, id)),
+            Some(id) => Some(flat.signal_name(id).as_bytes()),
             None => None,
         };
         Ok(Ports {

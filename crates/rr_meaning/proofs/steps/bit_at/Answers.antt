@@ -17,7 +17,7 @@ pub returns-then-place-from : goal.returns-then-place-from
 returns-then-place-from c =
     let l : c.loop-left.left - 1 < length c.args.pieces.now = omega arith in
     let j : c.loop-left.left ≡ c.loop-left.left - 1 + 1 = omega arith in
-    c.bit_of.ensures
+    c.bit.ensures
     ∙ piece_hit c.args.pieces.now (c.loop-left.left - 1) c.loop-left.left c.loop-left.from c.args.place (get_or c.args.pieces.now (c.loop-left.left - 1) no_piece) no_piece l refl j c.loop-left.invariant.from c.loop-left.invariant.below c.if-place-from.true
 
 pub loop-left-preserved : goal.loop-left-preserved

@@ -41,8 +41,9 @@ returns-in-Text-clause-few c =
     c.add_pieces.ensures
 
 pub returns-in-Whole-clause-bits : goal.returns-in-Whole-clause-bits
+unfolding driven_by
 returns-in-Whole-clause-bits c =
-    on_ok_weaker c.push_piece.result (λ e. rw c.in-Whole.is (one_piece _ _ c.whole.result c.clear.ensures.items e ∙ c.whole.ensures.bits)) c.push_piece.ensures
+    on_ok_weaker c.push_piece.result (λ e. rw c.in-Whole.is (one_piece _ _ c.whole.result c.clear.ensures.items e ∙ c.whole.ensures.bits)) c.push_piece.ensures.items
 
 pub returns-in-Whole-clause-fits : goal.returns-in-Whole-clause-fits
 returns-in-Whole-clause-fits c =
@@ -50,12 +51,13 @@ returns-in-Whole-clause-fits c =
     let r = rw c.in-Whole.is at c.requires.side in
     on_ok_weaker c.push_piece.result
     (λ e. one_fits (length c.args.flat.now.signals) _ _ c.whole.result (whole_fits c.args.flat.now c.in-Whole.id c.whole.result f r c.whole.ensures.bits) c.clear.ensures.items e)
-    c.push_piece.ensures
+    c.push_piece.ensures.items
 
 pub returns-in-Whole-clause-few : goal.returns-in-Whole-clause-few
+unfolding driven_by
 returns-in-Whole-clause-few c =
     let f : IsSound c.args.flat.now = subst IsSound c.flat.view_is c.flat.invariant in
     let r = rw c.in-Whole.is at c.requires.side in
     on_ok_weaker c.push_piece.result
     (λ e. whole_few c.args.flat.now c.in-Whole.id _ f r (one_piece _ _ c.whole.result c.clear.ensures.items e ∙ c.whole.ensures.bits))
-    c.push_piece.ensures
+    c.push_piece.ensures.items
