@@ -1,12 +1,10 @@
 //! The parts of a flat design, and the targets and names of a statement in the order of its text.
 use crate::texts::design_of;
 use bumpalo::Bump;
-use rr_flat::Part;
+use rr_flat::{Part, is_constant};
 use rr_parts::{
-    add_assigned, add_named, add_names, add_parts, add_read, block_of, clocked_of, driver_of,
-    drivers_of, identifier_of, inputs_of, instance_of, is_constant, is_fixed, is_input, is_scalar,
-    is_variable, reached_of, scalar_named, scope_of, signal_count, signal_named, signal_of,
-    signals_of, walk_of,
+    add_assigned_targets, add_names, add_parts, add_read_names, add_statement_names, identifier_of,
+    instance_of, is_fixed, is_input, is_scalar, is_variable, scalar_named, signal_named, signal_of,
 };
 use rr_syntax::{Expr, Number, Stmt};
 use std::test::Fail;
@@ -46,7 +44,7 @@ fn targets(rt: HostRuntime) -> Result<(), Fail> {
     assert!(rt; parts.len() == 2);
     assert!(rt; !parts[1].blocking);
     let mut targets = Vec::new(alloc);
-    add_assigned(&mut targets, &CHOICE)?;
+    add_assigned_targets(&mut targets, &CHOICE)?;
     assert!(rt; targets.len() == 3);
     assert!(rt; targets[0].blocking);
     assert!(rt; targets[1].blocking);
@@ -62,12 +60,12 @@ fn names(rt: HostRuntime) -> Result<(), Fail> {
     assert!(rt; within.len() == 3);
     assert!(rt; within[2].token == 9);
     let mut named = Vec::new(alloc);
-    add_named(&mut named, &CHOICE)?;
+    add_statement_names(&mut named, &CHOICE)?;
     assert!(rt; named.len() == 7);
     assert!(rt; named[0].token == 2);
     assert!(rt; named[6].token == 18);
     let mut read = Vec::new(alloc);
-    add_read(&mut read, &CHOICE)?;
+    add_read_names(&mut read, &CHOICE)?;
     assert!(rt; read.len() == 4);
     assert!(rt; read[1].token == 9);
     assert!(rt; read[3].token == 18);
@@ -95,15 +93,21 @@ fn parts_of_a_design(rt: HostRuntime) {
     assert!(rt; found.is_ok());
     if let Ok(design) = found {
         let flat = &design.flat;
-        assert_eq!(rt; walk_of(flat).len(), 2);
-        assert_eq!(rt; drivers_of(flat).len(), 1);
-        assert_eq!(rt; clocked_of(flat).len(), 1);
-        assert_eq!(rt; inputs_of(flat).len(), 2);
-        assert_eq!(rt; reached_of(flat).len(), 1);
-        assert!(rt; driver_of(flat, Part::Driver(0)).is_some());
-        assert!(rt; driver_of(flat, Part::Clocked(0)).is_none());
-        assert!(rt; block_of(flat, Part::Clocked(0)).is_some());
-        assert!(rt; block_of(flat, Part::Combinational(0)).is_none());
+        assert_eq!(rt; flat.parts().len(), 2);
+        assert_eq!(rt; flat.driver_list().len(), 1);
+        assert_eq!(rt; flat.clocked_blocks().len(), 1);
+        assert_eq!(rt; flat.input_list().len(), 2);
+        assert!(rt; flat.combinational_blocks().is_empty());
+        assert!(rt; flat.driver_of(Part::Driver(0)).is_some());
+        assert!(rt; flat.driver_of(Part::Clocked(0)).is_none());
+        assert!(rt; flat.block_of(Part::Clocked(0)).is_some());
+        assert!(rt; flat.block_of(Part::Combinational(0)).is_none());
+        assert!(rt; flat.driver(0).is_some());
+        assert!(rt; flat.driver(1).is_none());
+        assert!(rt; flat.clocked_block(0).is_some());
+        assert!(rt; flat.combinational_block(0).is_none());
+        assert!(rt; flat.signal(3).is_some());
+        assert!(rt; flat.signal(4).is_none());
     }
 }
 
@@ -114,8 +118,8 @@ fn signals_of_a_design(rt: HostRuntime) {
     assert!(rt; found.is_ok());
     if let Ok(design) = found {
         let flat = &design.flat;
-        assert_eq!(rt; signal_count(flat), 4);
-        assert_eq!(rt; signals_of(flat).len(), 4);
+        assert_eq!(rt; flat.signal_count(), 4);
+        assert_eq!(rt; flat.signal_list().len(), 4);
         assert_eq!(rt; signal_named(flat, 0, "q"), Some(3));
         assert_eq!(rt; signal_named(flat, 0, "t"), None);
         assert_eq!(rt; signal_named(flat, 1, "q"), None);
@@ -139,8 +143,8 @@ fn names_in_a_scope(rt: HostRuntime) {
     assert!(rt; found.is_ok());
     if let Ok(design) = found {
         let flat = &design.flat;
-        assert!(rt; scope_of(flat, 1).is_none());
-        if let Some(scope) = scope_of(flat, 0) {
+        assert!(rt; flat.scope(1).is_none());
+        if let Some(scope) = flat.scope(0) {
             assert_eq!(rt; signal_of(scope.find("y")), Some(2));
             assert!(rt; is_constant(&ONE, scope));
             assert!(rt; !is_constant(&name!(0, "d"), scope));

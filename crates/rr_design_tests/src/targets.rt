@@ -1,7 +1,7 @@
 //! Bits of names and selects, by IEEE 1364-2005 section 5.2.1.
 use rr_expr::{Entity, Env, Scope, shape};
 use rr_syntax::{Expr, Number};
-use rr_target::{Piece, Write, add_named, add_pieces, add_target_reads, add_writes};
+use rr_target::{Piece, Write, add_named_bits, add_pieces, add_target_reads, add_writes};
 use std::alloc::{AllocError, Global};
 use std::test::Fail;
 
@@ -118,7 +118,7 @@ fn texts(alloc: Global, target: &Expr) -> Result<(Vec<Write>, Vec<Piece>, Vec<Pi
     let mut indices = Vec::new(alloc);
     if let Ok(_) = shape(target, &scope) {
         add_writes(alloc, &mut writes, target, &scope)?;
-        add_named(alloc, &mut named, target, &scope)?;
+        add_named_bits(alloc, &mut named, target, &scope)?;
         add_target_reads(alloc, &mut indices, target, &scope)?;
     }
     Ok((writes, named, indices))

@@ -1,15 +1,9 @@
 //! Writers of bits in small flat designs, by the rules of IEEE 1364-2005 sections 6.1, 9 and 12.3.
-ghost use Rattle.std.specs.Prelude.{◌≡◌, ◌<◌, IfSome, length};
-ghost use Rattle.rr_flat.specs.Sound.{IsBlock};
-ghost use Rattle.rr_flat.specs.View.{plain_flat};
-ghost use Rattle.rr_flat.specs.Writers.{scope_at};
-
 use crate::texts::design_of;
 use bumpalo::Bump;
-use rr_expr::Scope;
-use rr_flat::{Bit, Block, Flat};
+use rr_flat::{Bit, Flat};
 use rr_target::Write;
-use rr_writers::{BitTable, TwoDrivers, add_assigned, first_two_drivers};
+use rr_writers::{BitTable, TwoDrivers, add_assigned_bits, first_two_drivers};
 use std::alloc::{AllocError, Global};
 use std::test::Fail;
 
@@ -74,27 +68,12 @@ fn two_drivers(rt: HostRuntime) -> Result<(), Fail> {
     Ok(())
 }
 
-/// The first combinational block of a design.
-fn first_block<'a>(flat: &Flat<'a>) -> Option<Block<'a>>
-    ensures { IfSome result (λ b. IsBlock flat.now.scopes b) }
-{
-    flat.combinational.get(0).copied()
-}
-
-/// The names of an instance.
-fn names_of<'f, 'a>(flat: &'f Flat<'a>, number: u32) -> &'f Scope<'a>
-    requires { number < length flat.now.scopes }
-    ensures { result.now ≡ scope_at (plain_flat flat.now) number }
-{
-    &flat.scopes[number as usize]
-}
-
 /// What the first combinational block of a design assigns.
 fn assigned(alloc: Global, flat: &Flat) -> Result<Vec<Write>, AllocError> {
     let mut writes = Vec::new(alloc);
-    if let Some(block) = first_block(flat) {
-        let names = names_of(flat, block.scope);
-        add_assigned(alloc, &mut writes, block.body, names, false)?;
+    if let Some(block) = flat.combinational_block(0) {
+        let names = flat.scope_at(block.scope);
+        add_assigned_bits(alloc, &mut writes, block.body, names, false)?;
     }
     Ok(writes)
 }

@@ -1,23 +1,16 @@
 -- the bits that clocked blocks write, and masks
-use Rattle.std.proofs.Common.{◌≡◌, ◌∙◌, sym, ap, ℕ, zero, suc, ◌+◌, ◌-◌, ◌^◌, ◌<◌, ◌≤◌, Bool, true, false, cond, not, ◌&&◌, ◌||◌, List, [], ◌∷◌, length, map, drop, get_or, set, nat_eq, nat_lt, Option, None, Some, refl, arith, ◌⊎◌, inl, inr}
+use Rattle.std.proofs.Common.{◌≡◌, ◌∙◌, sym, ap, ℕ, zero, suc, ◌+◌, ◌-◌, ◌^◌, ◌<◌, ◌≤◌, Bool, true, false, cond, not, ◌&&◌, ◌||◌, List, [], ◌∷◌, length, map, drop, get_or, set, nat_eq, nat_lt, refl, arith, ◌⊎◌, inl, inr}
 use Rattle.std.proofs.lemmas.Bool.{cases_eq, cases_lt, eq-eqb, ne_eqb, lt-ltb, le-ltb}
 use Rattle.std.proofs.lemmas.List.{drop_all, drop_more}
 use Rattle.rr_bits.specs.Words.{word}
 use Rattle.rr_bits.proofs.Places.{get_word, has_ones}
-use Rattle.rr_syntax.specs.declared.token.Keyword.{Keyword}
-use Rattle.rr_syntax.specs.declared.tree.Arm.{Arm as Branch}
-use Rattle.rr_syntax.specs.declared.tree.Expr.{Expr}
-use Rattle.rr_syntax.specs.declared.tree.Named.{Named as Name}
-use Rattle.rr_syntax.specs.declared.tree.Stmt.{Stmt, the_lemmas as stmt_lemmas}
-use Rattle.rr_syntax.specs.declared.tree.Stmt.TheVariants as stmt
-use Rattle.rr_syntax.specs.View.{plain, plain_arm, plain_arms, plain_statement, plain_statements}
-use Rattle.rr_syntax.proofs.Rows.{plain_block, plain_case}
+use Rattle.rr_syntax.specs.declared.tree.Stmt.{Stmt}
+use Rattle.rr_syntax.specs.View.{plain_statement}
 use Rattle.rr_expr.specs.declared.types.Bit.{Bit}
 use Rattle.rr_expr.specs.Scopes.{Names, env_of}
 use Rattle.rr_flat.specs.declared.design.Block.{Block}
 use Rattle.rr_flat.specs.Plain.{Flat}
-use Rattle.rr_flat.specs.Reads.{writes, write_any, arms_write}
-use Rattle.rr_flat.specs.Targets.{writes_target}
+use Rattle.rr_flat.specs.Reads.{writes}
 use Rattle.rr_flat.specs.View.{plain_block as block_view}
 use Rattle.rr_flat.specs.Writers.{scope_at}
 use Rattle.rr_cycle.specs.Performing.{any_writes}
@@ -27,9 +20,7 @@ use Rattle.rr_target.specs.Lists.{may}
 use Rattle.rr_target.specs.Pieces.{covers}
 use Rattle.rr_cycle.specs.Cycles.{zeros}
 use Rattle.rr_cycle.specs.Exec.{Environment}
-use Rattle.rr_exec.proofs.Nodes.{shaped-If-yes, shaped-IfElse-no, shaped-IfElse-yes}
 use Rattle.rr_exec.proofs.Pieces.{env_set}
-use denote.Ref.{Bor}
 
 or_assoc : (x y z : Bool) → ((x || y) || z) ≡ (x || (y || z))
 or_assoc true y z = refl

@@ -1,22 +1,18 @@
 -- The bits of the sides of drivers.
-use Rattle.std.proofs.Common.{◌≡◌, ◌∙◌, sym, ap, subst, ℕ, ◌<◌, List, [], ◌∷◌, ◌++◌, length, map, get_or, pos, true, ◌&&◌, not, nat_eq, nat_lt, int_lt, ◌+ℤ◌, arith, append-nil, Option}
-use Rattle.std.proofs.lemmas.List.{get_or-map}
+use Rattle.std.proofs.Common.{◌≡◌, ◌∙◌, sym, ap, subst, ℕ, ◌<◌, List, [], ◌∷◌, ◌++◌, map, pos, true, ◌&&◌, not, nat_eq, nat_lt, int_lt, ◌+ℤ◌, arith, append-nil, Option}
 use Rattle.std.proofs.lemmas.Bool.{and_parts, eqb-true, ltb-true}
 use Rattle.rr_syntax.specs.declared.tree.Expr.{Expr}
 use Rattle.rr_syntax.specs.View.{plain}
 use Rattle.rr_expr.specs.declared.types.Bit.{Bit}
-use Rattle.rr_expr.specs.declared.types.Entity.TheVariants as entity
 use Rattle.rr_expr.specs.Reading.{NamesBit}
-use Rattle.rr_expr.specs.Scopes.{Names, env_of}
+use Rattle.rr_expr.specs.Scopes.{Names}
 use Rattle.rr_flat.specs.declared.signal.Signal.{Signal}
 use Rattle.rr_flat.specs.Signals as plain_head
 use Rattle.rr_flat.specs.View.{plain_signal}
 use Rattle.rr_flat.specs.declared.design.Side as declared_side
 use Rattle.rr_flat.specs.declared.design.Side.TheVariants as side
-use Rattle.rr_flat.specs.Sound.{IsSignal}
-use Rattle.rr_flat.specs.Targets.{bits_there, target_bits}
 use Rattle.rr_flat.specs.View.{Design, plain_flat, plain_side}
-use Rattle.rr_flat.specs.Writers.{scope_at, signal_bits, driven_by, side_taken, taken, SideReads, side_is_wiring, is_wiring, side_signed}
+use Rattle.rr_flat.specs.Writers.{scope_at, signal_bits, side_taken, taken, SideReads, side_is_wiring, is_wiring, side_signed}
 use Rattle.rr_target.specs.declared.piece.Piece.{Piece}
 use Rattle.rr_target.specs.Lists.{Grown}
 use Rattle.rr_target.specs.Pieces.{bits_of, all_bits, covers}
@@ -25,7 +21,7 @@ use Rattle.std.proofs.lemmas.Int.{ints}
 use Rattle.rr_expr.specs.declared.types.Shape.{Shape}
 use Rattle.rr_expr.specs.Values.{form}
 use Rattle.rr_flat.specs.Plain.{Whole}
-use Rattle.rr_target.proofs.Runs.{run_of, signal_run, in_has, covers_in}
+use Rattle.rr_target.proofs.Runs.{run_of, in_has, covers_in}
 use denote.Ref.{Bor}
 
 pub one_piece : (ps : List Piece) (p : Piece) (old bits : List (Option Bit)) → all_bits ps ≡ bits_of p ++ old → old ≡ [] → bits_of p ≡ bits → all_bits ps ≡ bits

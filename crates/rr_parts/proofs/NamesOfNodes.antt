@@ -1,5 +1,5 @@
 -- The names of nodes of the arena, one equation for each form.
-use Rattle.std.proofs.Common.{◌≡◌, ◌∙◌, sym, ap, ℕ, Bool, List, [], ◌∷◌, ◌++◌, map, Option, None, Some, refl, append_assoc, append-nil}
+use Rattle.std.proofs.Common.{◌≡◌, ◌∙◌, sym, ap, ℕ, Bool, List, [], ◌∷◌, ◌++◌, Option, None, Some, refl, append_assoc, append-nil}
 use Rattle.std.specs.Prelude.{flat_map}
 use Rattle.rr_syntax.specs.declared.token.Keyword.{Keyword}
 use Rattle.rr_syntax.specs.declared.token.Mark.{Mark}
@@ -13,7 +13,7 @@ use Rattle.rr_syntax.specs.declared.tree.Stmt.TheVariants as stmt
 use Rattle.rr_syntax.specs.Tree.{Identifier}
 use Rattle.rr_syntax.specs.View.{plain, plain_list, plain_statement, plain_statements, plain_arm, plain_arms}
 use Rattle.rr_syntax.proofs.Rows.{plain_concat, plain_repeat, plain_block, plain_case}
-use Rattle.rr_flat.specs.Reads.{index_names, index_names_in, names_in, names_in_parts, names_of, names_of_all, names_of_arm, names_of_arms, names_read, names_read_by, names_read_by_arm, names_read_by_arms}
+use Rattle.rr_flat.specs.Reads.{index_names, index_names_in, names_in, names_in_parts, names_of, names_of_all, names_of_arms, names_read, names_read_by, names_read_by_arms}
 use denote.Ref.{Bor}
 
 three : (acc xs ys zs : List Identifier) → acc ++ (xs ++ (ys ++ zs)) ≡ ((acc ++ xs) ++ ys) ++ zs

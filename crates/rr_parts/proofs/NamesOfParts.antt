@@ -1,5 +1,5 @@
 -- The names and indices of targets at nodes of the arena, one equation for each form.
-use Rattle.std.proofs.Common.{◌≡◌, ap, ℕ, suc, ◌<◌, ◌+◌, Bool, true, false, cond, List, [], ◌∷◌, length, Option, None, Some, refl, arith}
+use Rattle.std.proofs.Common.{◌≡◌, ap, ℕ, suc, ◌<◌, Bool, true, false, cond, List, [], ◌∷◌, length, Option, Some, refl, arith}
 use Rattle.std.specs.Prelude.{IfSome}
 use Rattle.std.specs.Str.{bytes_eq}
 use Rattle.rr_syntax.specs.declared.token.Mark.{Mark}
