@@ -7,7 +7,7 @@ use Rattle.rr_syntax.specs.declared.tree.Stmt.{Stmt}
 use Rattle.rr_syntax.specs.declared.tree.Stmt.TheVariants as stmt
 use Rattle.rr_syntax.specs.declared.tree.Arm.{Arm as Branch}
 use Rattle.rr_syntax.specs.Words.{Word, words, keyword_begin, keyword_default, keyword_else, keyword_endcase, keyword_if, mark_colon, mark_semicolon, mark_equals, mark_less_or_equal}
-use Rattle.rr_syntax.specs.Tree.{Tree, Trees, End, More, Statement, Statements, Arm, Arms, Null, If, IfElse, Case, Assign, CaseItem, NoArms, MoreArms, bare, bare_parts, bare_statement, bare_arm, bare_arms}
+use Rattle.rr_syntax.specs.Tree.{Tree, Trees, End, More, Statement, Arm, Arms, Null, If, IfElse, Case, Assign, CaseItem, NoArms, MoreArms, bare, bare_parts, bare_statement, bare_arm, bare_arms}
 use Rattle.rr_syntax.specs.Expressions.{spell, spell_more, Numbered, is_target, unary_level}
 use Rattle.rr_syntax.specs.Statements.{spell_labels, spell_statement, spell_arm, spell_arms, is_case, defaults, NumberedLabels, NumberedStatement, NumberedArm, NumberedArms}
 use Rattle.rr_syntax.specs.View.{plain, plain_list, plain_statement, plain_arm, plain_arms}
@@ -23,7 +23,7 @@ use Rattle.rr_parse_stmt.specs.declared.expressions.Placed.{Placed}
 use Rattle.rr_parse_stmt.specs.declared.expressions.LabelList.{LabelList}
 use Rattle.rr_parse_stmt.specs.declared.nodes.Piece.{Piece}
 use Rattle.rr_parse_stmt.specs.declared.nodes.ArmPiece.{ArmPiece}
-use Rattle.rr_parse_stmt.specs.Reading.{keyword, label, snoc_arm, body, block, tested, after_then, conditional, labels, default_arm, labelled_arm, arm_by, arms, cases, sign, assigned, target, assignment, statement_by, below_statement, below_arm}
+use Rattle.rr_parse_stmt.specs.Reading.{keyword, snoc_arm, block, tested, after_then, conditional, labels, default_arm, labelled_arm, arm_by, arms, cases, sign, assigned, target, assignment, statement_by, below_statement, below_arm}
 use Rattle.rr_parse_stmt.specs.Answer.{IsPiece, IsArmPiece, FindsTree, FindsTarget, AnswersTarget, FindsLabels, FindsStatement, FindsArm, FindsArms}
 use Rattle.rr_parse_stmt.specs.Loops.{at_most_one, Armed}
 use Rattle.rr_parse_stmt.proofs.Steps.{statement-below, arm-below, if-then, if-open, then-alone, then-else, then-open, default-colon, default-alone, labelled-some, arm-default, arm-labelled, go_on, arms-step, case-some, assigned-now, assigned-later, target-is, target-not, assignment-some, assignment-none, by-null, by-begin, by-if, by-case, by-assignment}

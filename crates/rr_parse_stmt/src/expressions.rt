@@ -10,7 +10,7 @@ ghost use Rattle.rr_parse_stmt.specs.Answer.{AnswersLabelling, AnswersLabels, An
 use crate::parts::add_label;
 use bumpalo::Bump;
 use bumpalo::collections::into_bump_slice;
-use rr_parse_expr::{ParseFault, expr_within, mark_at, operand_within};
+use rr_parse_expr::{ParseFault, expr_within, is_mark, operand_within};
 use rr_syntax::{Expr, Mark, Token, is_target};
 use std::alloc::AllocError;
 
@@ -76,19 +76,19 @@ pub(crate) fn operand<'a>(
 pub(crate) fn closed<'a>(
     tokens: &'a [Token<'a>],
     from: u32,
-    mark: u8,
+    mark: Mark,
     room: u32,
     arena: &'a Bump,
 ) -> Result<Option<Placed<'a>>, AllocError>
     requires short { length tokens.now < 2 ^ 32 }
     requires shallow { room ≤ 501 }
-    requires is_mark { mark < no_mark }
-    ensures { IfOk result (λ r. AnswersTree tokens.now from 1 (closed_of (below room) mark (drop from (words tokens.now))) r) }
+    requires is_mark { mark.0 < no_mark }
+    ensures { IfOk result (λ r. AnswersTree tokens.now from 1 (closed_of (below room) mark.0 (drop from (words tokens.now))) r) }
 {
     match expression(tokens, from, room, arena)? {
         None => Ok(None),
         Some(inner) => {
-            if mark_at(tokens, inner.next) != mark {
+            if !is_mark(tokens, inner.next, mark) {
                 return Ok(None);
             }
             let next = inner.next + 1;
@@ -111,10 +111,10 @@ pub(crate) fn tested<'a>(
     requires shallow { room ≤ 501 }
     ensures { IfOk result (λ r. AnswersTree tokens.now (from + 1) 1 (tested_of (below room) (drop from (words tokens.now))) r) }
 {
-    if mark_at(tokens, from) != Mark::OPEN_PARENTHESIS.0 {
+    if !is_mark(tokens, from, Mark::OPEN_PARENTHESIS) {
         return Ok(None);
     }
-    closed(tokens, from + 1, Mark::CLOSE_PARENTHESIS.0, room, arena)
+    closed(tokens, from + 1, Mark::CLOSE_PARENTHESIS, room, arena)
 }
 
 /// A target: an operand that may be assigned. It is read as an operand, since `<=` behind it is an
@@ -184,7 +184,7 @@ fn labels_from<'a>(
 {
     add_label(labels, *first.expr)?;
     let mut next = first.next;
-    while mark_at(tokens, next) == Mark::COMMA.0 {
+    while is_mark(tokens, next, Mark::COMMA) {
         match expression(tokens, next + 1, room, arena)? {
             None => return Ok(None),
             Some(label) => {
@@ -193,7 +193,7 @@ fn labels_from<'a>(
             }
         }
     }
-    if mark_at(tokens, next) == Mark::COLON.0 {
+    if is_mark(tokens, next, Mark::COLON) {
         Ok(Some(next + 1))
     } else {
         Ok(None)
