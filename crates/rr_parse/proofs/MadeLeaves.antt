@@ -1,10 +1,9 @@
 -- Names, reserved words, expressions and statements that were read.
-use Rattle.std.proofs.Common.{◌≡◌, ℕ, ◌+◌, ◌≤◌, ◌<◌, List, [], ◌∷◌, length, drop, get_or, true, false, nat_eq, refl, ap, ◌∙◌, arith, Some, None}
+use Rattle.std.proofs.Common.{◌≡◌, ℕ, ◌+◌, ◌≤◌, ◌<◌, List, length, drop, get_or, true, false, nat_eq, refl, ap, ◌∙◌, arith, Some, None}
 use Rattle.rr_syntax.specs.declared.token.Token.{Token}
 use Rattle.rr_syntax.specs.declared.token.Kind.TheVariants as variant
 use Rattle.rr_syntax.specs.declared.tree.Expr.{Expr}
 use Rattle.rr_syntax.specs.declared.tree.Stmt.{Stmt}
-use Rattle.rr_syntax.specs.declared.tree.Named.{Named as Name}
 use Rattle.rr_syntax.specs.Words.{Word, words}
 use Rattle.rr_syntax.specs.Tree.{Statement, bare, bare_identifier}
 use Rattle.rr_syntax.specs.Expressions.{is_target, unary_level}
@@ -17,7 +16,7 @@ use Rattle.rr_parse_expr.specs.declared.expression.ParseFault.{ParseFault}
 use Rattle.rr_parse_expr.specs.declared.expression.ParseFault.TheVariants.{Unsupported, Syntax, Memory}
 use Rattle.rr_parse_expr.proofs.Answered.{not_equal, rest_drop}
 use Rattle.rr_parse_expr.proofs.Exactly.{expressions_read, operands_read}
-use Rattle.rr_parse_stmt.specs.Reading.{keyword, name, statement, target}
+use Rattle.rr_parse_stmt.specs.Reading.{keyword, statement}
 use Rattle.rr_parse_stmt.specs.Exact.{IsStatement, NoneStands}
 use Rattle.rr_parse_stmt.specs.Exact as statements
 use Rattle.rr_parse_stmt.proofs.FromExpressions.{expressions_well, operands_well, longest_read, none_read}
