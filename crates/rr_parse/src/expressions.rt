@@ -9,9 +9,9 @@ ghost use Rattle.rr_grammar.specs.Leaves.{expression as expression_of, range as 
 ghost use Rattle.rr_parse.specs.Answer.{Answers, bounds_of, plain_behind, plain_bounds, statement_behind};
 
 use crate::tokens::{Input, Piece, mark};
-use rr_parse_expr::{ParseFault, expr_within, is_mark, operand_within};
+use rr_parse_expr::{ParseFault, expr_within, is_mark, target_within};
 use rr_parse_stmt::stmt;
-use rr_syntax::{Bounds, Expr, Mark, Stmt, is_target};
+use rr_syntax::{Bounds, Expr, Mark, Stmt};
 
 /// The longest expression of a depth.
 pub(crate) fn expression<'a>(
@@ -61,8 +61,7 @@ pub(crate) fn closed<'a>(
     })
 }
 
-/// A target: an operand that may be assigned. It is read as an operand, since `<=` behind it is an
-/// operator too.
+/// The target of an assignment.
 pub(crate) fn target<'a>(
     input: Input<'a>,
     from: u32,
@@ -72,12 +71,8 @@ pub(crate) fn target<'a>(
     requires shallow { depth ≤ 500 }
     ensures { Answers (target_of depth) plain_behind input.entry.tokens.now from result }
 {
-    let (value, next) = operand_within(input.tokens, from, depth, input.arena)?;
-    if is_target(value) {
-        Ok(Piece { value, next })
-    } else {
-        Err(ParseFault::Syntax(from))
-    }
+    let (value, next) = target_within(input.tokens, from, depth, input.arena)?;
+    Ok(Piece { value, next })
 }
 
 /// A statement of a depth.

@@ -10,6 +10,6 @@ mod nodes;
 mod reader;
 mod tokens;
 
-pub use expression::{ParseFault, expr, expr_within, operand, operand_within};
+pub use expression::{ParseFault, expr, expr_within, operand, operand_within, target_within};
 pub use laws::one_tree;
 pub use tokens::{is_keyword, is_mark, keyword_at, mark_at};

@@ -436,20 +436,6 @@ target_some T begin found o r e h = rw e at h
 pub no_target : (T : List Token) (begin : ℕ) (found : Found Tree) (o : Option Placed) → o ≡ None → AnswersTarget T begin found o → found ≡ None
 no_target T begin found o e h = rw e at h
 
-pub made_target : (T : List Token) (from room : ℕ) (r : Placed) → FindsTree T from 0 (expressions.below room unary_level (drop from (words T))) r → is_target (plain r.expr.now) ≡ true → FindsTarget T from (target (expressions.below room) (drop from (words T))) r
-made_target T from room r f h = record {
-  read = record {
-    found_is = target-is (expressions.below room) (drop from (words T)) (bare (plain r.expr.now), drop r.next (words T)) f.found_is (is_target-bare (plain r.expr.now) ∙ h);
-    within = f.within;
-    taken = f.taken;
-    numbered = f.numbered;
-  };
-  is = h;
-}
-
-pub target_refused : (T : List Token) (from room : ℕ) (r : Placed) → FindsTree T from 0 (expressions.below room unary_level (drop from (words T))) r → is_target (plain r.expr.now) ≡ false → target (expressions.below room) (drop from (words T)) ≡ None
-target_refused T from room r f h = target-not (expressions.below room) (drop from (words T)) (bare (plain r.expr.now), drop r.next (words T)) f.found_is (is_target-bare (plain r.expr.now) ∙ h)
-
 assigned_by : (e : Reader) (t : Tree) (now : Bool) (ws : List Word) (p : Tree × List Word) → mark ws ≡ cond now mark_equals mark_less_or_equal → closed e mark_semicolon (rest ws) ≡ Some p → assigned e t ws ≡ Some (Assign t now p.0, p.1)
 assigned_by e t true ws p m f = assigned-now e t ws p m f
 assigned_by e t false ws p m f = assigned-later e t ws p m f

@@ -8,3 +8,4 @@ pub mod FrontWords
 pub mod Names
 pub mod Sound
 pub mod Steps
+pub mod Targets

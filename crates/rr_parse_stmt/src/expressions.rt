@@ -2,7 +2,6 @@
 
 ghost use Rattle.std.specs.Prelude.{◌≡◌, ◌≤◌, ◌<◌, ◌+◌, ◌^◌, [], length, drop, IfOk};
 ghost use Rattle.rr_syntax.specs.Words.{words};
-ghost use Rattle.rr_syntax.specs.Expressions.{unary_level};
 ghost use Rattle.rr_parse_expr.specs.Reading.{below, closed as closed_of, no_mark};
 ghost use Rattle.rr_parse_stmt.specs.Reading.{labels as labels_of, target as target_of, tested as tested_of};
 ghost use Rattle.rr_parse_stmt.specs.Answer.{AnswersLabelling, AnswersLabels, AnswersTarget, AnswersTree, FindsTree};
@@ -10,8 +9,8 @@ ghost use Rattle.rr_parse_stmt.specs.Answer.{AnswersLabelling, AnswersLabels, An
 use crate::parts::add_label;
 use bumpalo::Bump;
 use bumpalo::collections::into_bump_slice;
-use rr_parse_expr::{ParseFault, expr_within, is_mark, operand_within};
-use rr_syntax::{Expr, Mark, Token, is_target};
+use rr_parse_expr::{ParseFault, expr_within, is_mark, target_within};
+use rr_syntax::{Expr, Mark, Token};
 use std::alloc::AllocError;
 
 /// An expression and the token after what was read.
@@ -43,28 +42,6 @@ pub(crate) fn expression<'a>(
         return Ok(None);
     }
     match expr_within(tokens, from, room - 1, arena) {
-        Ok((expr, next)) => Ok(Some(Placed { expr, next })),
-        Err(ParseFault::Memory) => Err(AllocError),
-        Err(ParseFault::Syntax(_)) => Ok(None),
-        Err(ParseFault::Unsupported(_)) => Ok(None),
-    }
-}
-
-/// An operand of less than a depth.
-pub(crate) fn operand<'a>(
-    tokens: &'a [Token<'a>],
-    from: u32,
-    room: u32,
-    arena: &'a Bump,
-) -> Result<Option<Placed<'a>>, AllocError>
-    requires short { length tokens.now < 2 ^ 32 }
-    requires shallow { room ≤ 501 }
-    ensures { IfOk result (λ r. AnswersTree tokens.now from 0 (below room unary_level (drop from (words tokens.now))) r) }
-{
-    if room == 0 {
-        return Ok(None);
-    }
-    match operand_within(tokens, from, room - 1, arena) {
         Ok((expr, next)) => Ok(Some(Placed { expr, next })),
         Err(ParseFault::Memory) => Err(AllocError),
         Err(ParseFault::Syntax(_)) => Ok(None),
@@ -117,8 +94,7 @@ pub(crate) fn tested<'a>(
     closed(tokens, from + 1, Mark::CLOSE_PARENTHESIS, room, arena)
 }
 
-/// A target: an operand that may be assigned. It is read as an operand, since `<=` behind it is an
-/// operator too.
+/// A target of less than a depth.
 pub(crate) fn target<'a>(
     tokens: &'a [Token<'a>],
     from: u32,
@@ -129,15 +105,14 @@ pub(crate) fn target<'a>(
     requires shallow { room ≤ 501 }
     ensures { IfOk result (λ r. AnswersTarget tokens.now from (target_of (below room) (drop from (words tokens.now))) r) }
 {
-    match operand(tokens, from, room, arena)? {
-        None => Ok(None),
-        Some(found) => {
-            if is_target(found.expr) {
-                Ok(Some(found))
-            } else {
-                Ok(None)
-            }
-        }
+    if room == 0 {
+        return Ok(None);
+    }
+    match target_within(tokens, from, room - 1, arena) {
+        Ok((expr, next)) => Ok(Some(Placed { expr, next })),
+        Err(ParseFault::Memory) => Err(AllocError),
+        Err(ParseFault::Syntax(_)) => Ok(None),
+        Err(ParseFault::Unsupported(_)) => Ok(None),
     }
 }
 

@@ -2,7 +2,9 @@
 
 use crate::texts::{push_times, tokens_of};
 use bumpalo::Bump;
-use rr_parse_expr::{ParseFault, expr, expr_within, is_mark, mark_at, operand, operand_within};
+use rr_parse_expr::{
+    ParseFault, expr, expr_within, is_mark, mark_at, operand, operand_within, target_within,
+};
 use rr_syntax::{Expr, MARKS, Mark};
 use std::alloc::{AllocError, Global};
 use std::test::Fail;
@@ -281,6 +283,25 @@ fn operands_and_depths(rt: HostRuntime) -> Result<(), Fail> {
             Ok((Expr::Name { token: 2, .. }, 3))
         )
     );
+    Ok(())
+}
+
+/// The token after the target at the front, if one stands there.
+fn target_end(alloc: Global, text: &str) -> Result<Option<u32>, Fail> {
+    let arena = Bump::new(alloc);
+    let tokens = tokens_of(text, &arena)?;
+    match target_within(tokens, 0, 500, &arena) {
+        Ok((_, next)) => Ok(Some(next)),
+        Err(_) => Ok(None),
+    }
+}
+
+#[test]
+fn targets(rt: HostRuntime) -> Result<(), Fail> {
+    assert!(rt; target_end(rt.alloc(), "{ a , b [ 2 ] } <= c")? == Some(8));
+    for text in ["", "3 = a", "{ a , 3 } = b", "( a ) = b", "- a"] {
+        assert!(rt; target_end(rt.alloc(), text)? == None, "{text}");
+    }
     Ok(())
 }
 
