@@ -77,6 +77,9 @@ closes_behind R T at c s f r = record { none = λ d n g. subst (λ (i : ℕ). Re
 pub closes_alone : {A : Type 0} (R : Reads A) (T : List Token) (at : ℕ) → FindsNone separator_of T at → Closes R T at
 closes_alone R T at n = record { none = λ c s f. (let e : Some (c, drop s (words T)) ≡ None = sym f.found_is ∙ n.none_is in absurd (cc e)) }
 
+pub list_made : {A : Type 0} (R : Reads A) (T : List Token) (from : ℕ) (xs items : List A) (next : ℕ) → items ≡ xs → Row R T from xs next → (comma_at T next → Refuses R (next + 1)) → next ≤ length T → IsList R T from items next
+list_made R T from xs items next e a k w = rw e (record { row = a; ends = k; within = w })
+
 pub separated_made : {A : Type 0} (R : Reads A) (T : List Token) (from : ℕ) (cs commas : List Bool) (xs items : List A) (next : ℕ) → commas ≡ cs → items ≡ xs → Alternate R T from cs xs next → Closes R T next → next ≤ length T → IsSeparated R T from commas items next
 separated_made R T from cs commas xs items next d e a k w = rw (d, e) (record { parts = a; ends = k; within = w })
 

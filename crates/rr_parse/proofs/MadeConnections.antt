@@ -7,7 +7,7 @@ use Rattle.rr_syntax.specs.declared.tree.Connection.{Connection}
 use Rattle.rr_syntax.specs.declared.tree.Conns.{Conns}
 use Rattle.rr_syntax.specs.declared.tree.Conns.TheVariants as variant
 use Rattle.rr_syntax.specs.Words.{Word, Marked, words, mark_close_parenthesis, mark_dot, mark_hash, mark_open_parenthesis}
-use Rattle.rr_syntax.specs.Tree.{Tree, End, Connections, Positions, Names, bare, bare_identifier, bare_value, bare_connection, bare_connections, bare_overrides, bare_instance}
+use Rattle.rr_syntax.specs.Tree.{Tree, End, Positions, bare, bare_identifier, bare_value, bare_connection, bare_connections, bare_overrides, bare_instance}
 use Rattle.rr_syntax.specs.Expressions.{spell, spell_parts, Numbered, NumberedMore}
 use Rattle.rr_syntax.specs.Items.{spell_identifier, spell_optional, spell_connection, spell_connections, spell_overrides, spell_instance, spell_separated, NumberedIdentifier, NumberedValue, NumberedConnection, NumberedConnections, NumberedOverrides, NumberedInstance, NumberedEach, NumberedSeparated}
 use Rattle.rr_syntax.specs.View.{plain, plain_list, plain_identifier, plain_value, plain_connection, plain_connections, plain_overrides, plain_instance}

@@ -1,5 +1,5 @@
 -- Event controls that were read, from their parts.
-use Rattle.std.proofs.Common.{◌≡◌, ℕ, ◌+◌, List, [], ◌∷◌, ◌++◌, length, drop, map, Bool, true, false, refl, ap, ◌∙◌, sym, arith, Some, None, Result, Ok, Err, ◌==◌, ◌||◌, inl, inr, subst}
+use Rattle.std.proofs.Common.{◌≡◌, ℕ, ◌+◌, List, [], ◌∷◌, ◌++◌, length, drop, map, Bool, true, false, refl, ap, ◌∙◌, sym, arith, Result, Ok, Err, inl, inr, subst}
 use Rattle.rr_syntax.specs.declared.token.Token.{Token}
 use Rattle.rr_syntax.specs.declared.tree.Expr.{Expr}
 use Rattle.rr_syntax.specs.declared.tree.Named.{Named as Name}
@@ -104,6 +104,3 @@ made_bracketed k T from middle e (Ok p) f =
     (inside_words k a ((bracketed_exact k).good (drop middle (words T)) (bare_events a, drop p.next (words T)) f.found_is)) refl (f.numbered from (sym e.0))
     (finds_after_mark e f)
 made_bracketed k T from middle e (Err x) m = passes (in_brackets k) (bracketed k) T from middle x (λ n. record { none_is = mapped_none _ (behind_mark_none from e n) }) m
-
-abbrev pub edge_test : ℕ → Bool
-edge_test k = k == keyword_posedge || k == keyword_negedge

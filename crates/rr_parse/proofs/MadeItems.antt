@@ -1,5 +1,5 @@
 -- Items that were read, from their parts.
-use Rattle.std.proofs.Common.{◌≡◌, ℕ, List, [], ◌∷◌, drop, map, true, false, refl, arith, Option, Some, None, Result, subst}
+use Rattle.std.proofs.Common.{◌≡◌, ℕ, List, drop, map, true, false, refl, arith, Option, Result, subst}
 use Rattle.rr_syntax.specs.declared.token.Token.{Token}
 use Rattle.rr_syntax.specs.declared.tree.Named.{Named as Name}
 use Rattle.rr_syntax.specs.declared.tree.Group.{Group}

@@ -1,28 +1,25 @@
 -- Names, reserved words, expressions and statements that were read.
-use Rattle.std.proofs.Common.{◌≡◌, ℕ, ◌+◌, ◌≤◌, ◌<◌, List, [], ◌∷◌, length, drop, get_or, true, false, nat_eq, refl, ap, ◌∙◌, arith, Some, None}
+use Rattle.std.proofs.Common.{◌≡◌, ℕ, ◌+◌, ◌≤◌, ◌<◌, List, length, drop, get_or, true, false, nat_eq, refl, ap, ◌∙◌, arith, Some, None}
 use Rattle.rr_syntax.specs.declared.token.Token.{Token}
 use Rattle.rr_syntax.specs.declared.token.Kind.TheVariants as variant
 use Rattle.rr_syntax.specs.declared.tree.Expr.{Expr}
 use Rattle.rr_syntax.specs.declared.tree.Stmt.{Stmt}
-use Rattle.rr_syntax.specs.declared.tree.Named.{Named as Name}
 use Rattle.rr_syntax.specs.Words.{Word, words}
 use Rattle.rr_syntax.specs.Tree.{Statement, bare, bare_identifier}
-use Rattle.rr_syntax.specs.Expressions.{is_target, unary_level}
 use Rattle.rr_syntax.specs.Items.{spell_where, spell_identifier, NumberedIdentifier}
 use Rattle.rr_syntax.specs.View.{plain, plain_identifier, plain_statement}
-use Rattle.rr_syntax.proofs.BareExpressions.{is_target-bare}
 use Rattle.rr_parse_expr.specs.Reading.{Found, rest, reads}
-use Rattle.rr_parse_expr.specs.Exact.{IsExpression, IsOperand, IsLongest, Fails}
+use Rattle.rr_parse_expr.specs.Exact.{IsExpression, IsLongest, IsLongestOperand, Fails, FailsTarget}
 use Rattle.rr_parse_expr.specs.declared.expression.ParseFault.{ParseFault}
 use Rattle.rr_parse_expr.specs.declared.expression.ParseFault.TheVariants.{Unsupported, Syntax, Memory}
 use Rattle.rr_parse_expr.proofs.Answered.{not_equal, rest_drop}
-use Rattle.rr_parse_expr.proofs.Exactly.{expressions_read, operands_read}
-use Rattle.rr_parse_stmt.specs.Reading.{keyword, name, statement, target}
+use Rattle.rr_parse_expr.proofs.Exactly.{expressions_read}
+use Rattle.rr_parse_stmt.specs.Reading.{keyword, statement}
 use Rattle.rr_parse_stmt.specs.Exact.{IsStatement, NoneStands}
 use Rattle.rr_parse_stmt.specs.Exact as statements
-use Rattle.rr_parse_stmt.proofs.FromExpressions.{expressions_well, operands_well, longest_read, none_read}
+use Rattle.rr_parse_stmt.proofs.FromExpressions.{expressions_well, longest_read, none_read}
 use Rattle.rr_parse_stmt.proofs.Names.{name_here, name_past, name_other}
-use Rattle.rr_parse_stmt.proofs.Steps.{target-is, target-not, target-none}
+use Rattle.rr_parse_stmt.proofs.Targets.{target_by, no_target_by}
 use Rattle.rr_parse_stmt.proofs.Complete.{reads_statement}
 use Rattle.rr_parse_stmt.proofs.Sound.{statement_sound}
 use Rattle.rr_grammar.specs.Formats.{Finds, FindsNone}
@@ -99,21 +96,16 @@ no_expression k T from (Syntax at) h = record { none_is = none_read IsExpression
 no_expression k T from (Unsupported at) h = h
 no_expression k T from Memory h = h
 
-pub target_found : {k : ℕ} {T : List Token} {from : ℕ} {e : Expr} {next : ℕ} → IsLongest IsOperand k T from e next → is_target (plain e) ≡ true → Finds (target_of k) T from (plain e) next
-target_found {k = k} {T = T} {from = from} {e = e} {next = next} h i = record {
-  found_is = target-is (reads k) (drop from (words T)) (bare (plain e), drop next (words T)) (longest_read IsOperand unary_level operands_read operands_well k T from e next h) (is_target-bare (plain e) ∙ i);
-  within = h.within;
-  taken = h.taken;
-  numbered = h.numbered;
+pub target_found : {k : ℕ} {T : List Token} {from : ℕ} {e : Expr} {next : ℕ} → IsLongestOperand true k T from e next → Finds (target_of k) T from (plain e) next
+target_found {k = k} {T = T} {from = from} {e = e} {next = next} h = record {
+  found_is = target_by (reads k) k T from e next refl h;
+  within = h.operand.within;
+  taken = h.operand.taken;
+  numbered = h.operand.numbered;
 }
 
-pub not_target : {k : ℕ} {T : List Token} {from : ℕ} {e : Expr} {next : ℕ} → IsLongest IsOperand k T from e next → is_target (plain e) ≡ false → FindsNone (target_of k) T from
-not_target {k = k} {T = T} {from = from} {e = e} {next = next} h i = record {
-  none_is = target-not (reads k) (drop from (words T)) (bare (plain e), drop next (words T)) (longest_read IsOperand unary_level operands_read operands_well k T from e next h) (is_target-bare (plain e) ∙ i);
-}
-
-pub no_target : (k : ℕ) (T : List Token) (from : ℕ) (f : ParseFault) → Fails IsOperand k T from f → Misses (target_of k) T from f
-no_target k T from (Syntax at) h = record { none_is = target-none (reads k) (drop from (words T)) (none_read IsOperand unary_level operands_read k T from h.1) }
+pub no_target : (k : ℕ) (T : List Token) (from : ℕ) (f : ParseFault) → FailsTarget k T from f → Misses (target_of k) T from f
+no_target k T from (Syntax at) h = record { none_is = no_target_by (reads k) k T from refl h.1 }
 no_target k T from (Unsupported at) h = h
 no_target k T from Memory h = h
 

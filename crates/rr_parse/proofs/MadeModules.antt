@@ -1,5 +1,5 @@
 -- Modules that were read, from their parts.
-use Rattle.std.proofs.Common.{◌≡◌, ℕ, ◌+◌, ◌≤◌, ◌<◌, List, [], ◌∷◌, ◌++◌, length, drop, map, false, refl, ap, ◌∙◌, sym, arith, Option, Some, None, Result, Ok, Err, inl, inr, subst}
+use Rattle.std.proofs.Common.{◌≡◌, ℕ, ◌≤◌, ◌<◌, List, [], ◌∷◌, ◌++◌, length, drop, map, false, refl, ap, ◌∙◌, sym, arith, Option, Some, None, Result, Ok, Err, inl, inr, subst}
 use Rattle.rr_syntax.specs.declared.token.Token.{Token}
 use Rattle.rr_syntax.specs.declared.tree.Named.{Named as Name}
 use Rattle.rr_syntax.specs.declared.tree.Group.{Group}
@@ -16,7 +16,7 @@ use Rattle.rr_grammar.specs.Formats.{behind_mark, list, repeated, Finds}
 use Rattle.rr_grammar.specs.Leaves.{identifier}
 use Rattle.rr_grammar.specs.Declarations.{port, head_parameter}
 use Rattle.rr_grammar.specs.ItemForms.{item}
-use Rattle.rr_grammar.specs.ModuleForms.{front_hash, as_they_are, IsNil, some_heads, no_heads, heads, PortList, ports_words, ports_inside, bare_ports, ports_numbered, BothNil, AreGroups, AreNames, to_groups, to_names, empty_ports, group_ports, name_ports, ports_in, front_open, same_ports, with_ports, NoPorts, without_ports, port_list, to_module, of_module, one_module}
+use Rattle.rr_grammar.specs.ModuleForms.{front_hash, as_they_are, IsNil, some_heads, no_heads, heads, ports_words, ports_inside, bare_ports, ports_numbered, BothNil, AreGroups, AreNames, to_groups, to_names, empty_ports, group_ports, name_ports, ports_in, front_open, same_ports, with_ports, NoPorts, without_ports, port_list, to_module, of_module, one_module}
 use Rattle.rr_grammar.proofs.ModulesExact.{heads_list_exact, ports_in_exact}
 use Rattle.rr_parse.specs.declared.tokens.Piece.{Piece}
 use Rattle.rr_parse.specs.declared.modules.PortList as code

@@ -1,5 +1,5 @@
 -- Each word that a well-formed source text spells has a rule in the profile.
-use Rattle.std.proofs.Common.{◌≡◌, ℕ, zero, suc, ◌+◌, ◌≤◌, ◌<◌, List, [], ◌∷◌, ◌++◌, length, drop, Bool, true, false, cond, nat_eq, refl, ap, ◌∙◌, sym, arith, Option, Some, None, IsTrue, ◌⊎◌, inl, inr, append_assoc, append-nil, codes, subst}
+use Rattle.std.proofs.Common.{◌≡◌, ℕ, zero, suc, ◌≤◌, ◌<◌, List, [], ◌∷◌, ◌++◌, length, drop, Bool, true, false, cond, nat_eq, refl, ap, ◌∙◌, sym, arith, Option, Some, None, IsTrue, ◌⊎◌, inl, inr, append_assoc, append-nil, codes, subst}
 use Rattle.std.proofs.lemmas.Bool.Decides.{Decides-eqb, nat_tests}
 use Rattle.std.proofs.Math.Seq.{drop-nil}
 use Rattle.std.specs.List.{AllByRecursion}

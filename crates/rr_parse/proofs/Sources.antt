@@ -1,5 +1,5 @@
 -- The source text that was read is the one that the tokens spell, and where none was read, none is spelled.
-use Rattle.std.proofs.Common.{◌≡◌, ℕ, List, [], ◌∷◌, length, drop, map, ap, ◌∙◌, sym, arith, Some, None, append-nil, length-drop, subst}
+use Rattle.std.proofs.Common.{◌≡◌, ℕ, List, [], length, drop, map, ap, ◌∙◌, sym, arith, Some, None, append-nil, length-drop, subst}
 use Rattle.rr_syntax.specs.declared.token.Token.{Token}
 use Rattle.rr_syntax.specs.declared.tree.Source.{Source}
 use Rattle.rr_syntax.specs.Words.{Word, words}

@@ -1,5 +1,5 @@
 -- What the structs of the reader stand for.
-use Rattle.std.specs.Prelude.{ℕ, ◌≡◌, List, [], ◌∷◌, map, Bool, Option, Result, Ok, Err}
+use Rattle.std.specs.Prelude.{ℕ, ◌≡◌, List, ◌∷◌, map, Bool, Option, Result, Ok, Err}
 use Rattle.rr_syntax.specs.declared.token.Token.{Token}
 use Rattle.rr_syntax.specs.Tree.{Range, Identifier, PortDeclaration}
 use Rattle.rr_syntax.specs.View.{plain_range, plain_header, plain_port}

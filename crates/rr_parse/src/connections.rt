@@ -12,7 +12,7 @@ use crate::expressions::{closed, entry};
 use crate::lists::list;
 use crate::tokens::{Input, Piece, mark, name};
 use bumpalo::collections::into_bump_slice;
-use rr_parse_expr::{ParseFault, mark_at};
+use rr_parse_expr::{ParseFault, is_mark};
 use rr_syntax::{Connection, Conns, Expr, Instance, Mark};
 
 /// An expression, if one stands there, and the closing bracket.
@@ -25,13 +25,13 @@ fn optional<'a>(
     requires shallow { depth ≤ 500 }
     ensures { Answers (optional_of depth) plain_value input.entry.tokens.now from result }
 {
-    if mark_at(input.tokens, from) == Mark::CLOSE_PARENTHESIS.0 {
+    if is_mark(input.tokens, from, Mark::CLOSE_PARENTHESIS) {
         return Ok(Piece {
             value: None,
             next: from + 1,
         });
     }
-    let found = closed(input, from, Mark::CLOSE_PARENTHESIS.0, depth)?;
+    let found = closed(input, from, Mark::CLOSE_PARENTHESIS, depth)?;
     Ok(Piece {
         value: Some(found.value),
         next: found.next,
@@ -48,9 +48,9 @@ fn connection<'a>(
     requires shallow { depth ≤ 500 }
     ensures { Answers (connection_of depth) plain_connection input.entry.tokens.now from result }
 {
-    let dot = mark(input.tokens, from, Mark::DOT.0)?;
+    let dot = mark(input.tokens, from, Mark::DOT)?;
     let name = name(input.tokens, dot)?;
-    let inside = mark(input.tokens, name.next, Mark::OPEN_PARENTHESIS.0)?;
+    let inside = mark(input.tokens, name.next, Mark::OPEN_PARENTHESIS)?;
     let value = optional(input, inside, depth)?;
     Ok(Piece {
         value: Connection {
@@ -99,7 +99,7 @@ fn named<'a>(input: Input<'a>, from: u32, depth: u32) -> Result<Piece<Conns<'a>>
     ensures { Answers (named_of depth) plain_connections input.entry.tokens.now from result }
 {
     let list = connection_list(input, from, depth)?;
-    let next = mark(input.tokens, list.next, Mark::CLOSE_PARENTHESIS.0)?;
+    let next = mark(input.tokens, list.next, Mark::CLOSE_PARENTHESIS)?;
     Ok(Piece {
         value: Conns::Names(list.value),
         next,
@@ -113,7 +113,7 @@ fn positions<'a>(input: Input<'a>, from: u32, depth: u32) -> Result<Piece<Conns<
     ensures { Answers (positions_of depth) plain_connections input.entry.tokens.now from result }
 {
     let list = entries(input, from, depth)?;
-    let next = mark(input.tokens, list.next, Mark::CLOSE_PARENTHESIS.0)?;
+    let next = mark(input.tokens, list.next, Mark::CLOSE_PARENTHESIS)?;
     Ok(Piece {
         value: Conns::Positions(list.value),
         next,
@@ -126,13 +126,12 @@ fn connected<'a>(input: Input<'a>, from: u32, depth: u32) -> Result<Piece<Conns<
     requires shallow { depth ≤ 500 }
     ensures { Answers (connected_of depth) plain_connections input.entry.tokens.now from result }
 {
-    let first = mark_at(input.tokens, from);
-    if first == Mark::CLOSE_PARENTHESIS.0 {
+    if is_mark(input.tokens, from, Mark::CLOSE_PARENTHESIS) {
         Ok(Piece {
             value: Conns::Positions(into_bump_slice(Vec::new(input.arena))),
             next: from + 1,
         })
-    } else if first == Mark::DOT.0 {
+    } else if is_mark(input.tokens, from, Mark::DOT) {
         named(input, from, depth)
     } else {
         positions(input, from, depth)
@@ -145,7 +144,7 @@ fn connections<'a>(input: Input<'a>, from: u32, depth: u32) -> Result<Piece<Conn
     requires shallow { depth ≤ 500 }
     ensures { Answers (connections_of depth) plain_connections input.entry.tokens.now from result }
 {
-    let inside = mark(input.tokens, from, Mark::OPEN_PARENTHESIS.0)?;
+    let inside = mark(input.tokens, from, Mark::OPEN_PARENTHESIS)?;
     connected(input, inside, depth)
 }
 
@@ -160,7 +159,7 @@ pub(crate) fn overrides<'a>(
     requires shallow { depth ≤ 500 }
     ensures { Answers (overrides_of depth) plain_overrides input.entry.tokens.now from result }
 {
-    if mark_at(input.tokens, from) != Mark::HASH.0 {
+    if !is_mark(input.tokens, from, Mark::HASH) {
         return Ok(Piece {
             value: None,
             next: from,

@@ -1,12 +1,12 @@
 //! Declarations and continuous assignments (IEEE 1364-2005 sections 6.1 and 12.2, annexes A.2.1 and
 //! A.2.4).
 
-ghost use Rattle.std.specs.Prelude.{◌≡◌, ◌≤◌, ◌<◌, ◌+◌, ◌^◌, length};
+ghost use Rattle.std.specs.Prelude.{◌≡◌, ◌≤◌, ◌<◌, ◌+◌, ◌^◌, drop, length};
 ghost use Rattle.rr_syntax.specs.View.{plain_assignment, plain_identifier, plain_net, plain_pair, plain_parameter, plain_value};
-ghost use Rattle.rr_syntax.specs.Words.{mark_equals};
+ghost use Rattle.rr_syntax.specs.Words.{mark_equals, words};
 ghost use Rattle.rr_grammar.specs.Declarations.{head_parameter as head_of, kind as kind_of, net as net_of, pair as pair_of, parameter as parameter_of, setting as setting_of};
 ghost use Rattle.rr_grammar.specs.Formats.{list as list_of};
-ghost use Rattle.rr_grammar.specs.ItemForms.{begins_parameters};
+ghost use Rattle.rr_grammar.specs.ItemForms.{front_parameters};
 ghost use Rattle.rr_grammar.specs.Leaves.{expression as expression_of, identifier, typed as typed_of, where_mark};
 ghost use Rattle.rr_parse.specs.Answer.{Answers};
 ghost use Rattle.rr_parse.specs.Trees.{plain_kind, plain_list_by, plain_type};
@@ -14,9 +14,8 @@ ghost use Rattle.rr_parse.specs.Trees.{plain_kind, plain_list_by, plain_type};
 use crate::expressions::{expression, range, target};
 use crate::lists::list;
 use crate::tokens::{Input, Piece, choice, flag, mark, name};
-use rr_parse_expr::{ParseFault, mark_at};
-use rr_parse_stmt::keyword_at;
-use rr_syntax::{Bounds, Expr, Keyword, Mark, Named, NetName, Pair, Params, Setting};
+use rr_parse_expr::{ParseFault, is_keyword, is_mark};
+use rr_syntax::{Bounds, Expr, Keyword, Mark, Named, NetName, Pair, Params, Setting, Token};
 
 /// `signed` and a range, where they stand.
 #[derive(Clone, Copy)]
@@ -43,7 +42,7 @@ pub(crate) fn typed<'a>(
     requires shallow { depth ≤ 500 }
     ensures { Answers (typed_of depth) plain_type input.entry.tokens.now from result }
 {
-    let signed = flag(input.tokens, from, Keyword::SIGNED.0);
+    let signed = flag(input.tokens, from, Keyword::SIGNED);
     let range = range(input, signed.next, depth)?;
     Ok(Piece {
         value: Type {
@@ -69,7 +68,7 @@ fn setting<'a>(input: Input<'a>, from: u32, depth: u32) -> Result<Piece<Setting<
     ensures { Answers (setting_of depth) plain_assignment input.entry.tokens.now from result }
 {
     let name = name(input.tokens, from)?;
-    let equals = mark(input.tokens, name.next, Mark::EQUALS.0)?;
+    let equals = mark(input.tokens, name.next, Mark::EQUALS)?;
     let value = expression(input, equals, depth)?;
     Ok(Piece {
         value: Setting {
@@ -109,7 +108,7 @@ fn driver<'a>(
     requires shallow { depth ≤ 500 }
     ensures { Answers (where_mark mark_equals (expression_of depth)) plain_value input.entry.tokens.now from result }
 {
-    if mark_at(input.tokens, from) != Mark::EQUALS.0 {
+    if !is_mark(input.tokens, from, Mark::EQUALS) {
         return Ok(Piece {
             value: None,
             next: from,
@@ -159,7 +158,7 @@ fn pair<'a>(input: Input<'a>, from: u32, depth: u32) -> Result<Piece<Pair<'a>>, 
     ensures { Answers (pair_of depth) plain_pair input.entry.tokens.now from result }
 {
     let target = target(input, from, depth)?;
-    let equals = mark(input.tokens, target.next, Mark::EQUALS.0)?;
+    let equals = mark(input.tokens, target.next, Mark::EQUALS)?;
     let value = expression(input, equals, depth)?;
     Ok(Piece {
         value: Pair {
@@ -189,7 +188,7 @@ fn kind<'a>(input: Input<'a>, from: u32, depth: u32) -> Result<Piece<ParameterTy
     requires shallow { depth ≤ 500 }
     ensures { Answers (kind_of depth) plain_kind input.entry.tokens.now from result }
 {
-    if keyword_at(input.tokens, from) == Keyword::INTEGER.0 {
+    if is_keyword(input.tokens, from, Keyword::INTEGER) {
         let typed = Type {
             signed: false,
             range: None,
@@ -212,12 +211,11 @@ fn kind<'a>(input: Input<'a>, from: u32, depth: u32) -> Result<Piece<ParameterTy
     })
 }
 
-/// Whether a reserved word begins parameters.
-#[tactic(auto, unfolding(rr_grammar::specs::ItemForms::begins_parameters))]
-pub(crate) fn begins_parameter(word: u8) -> bool
-    ensures { result ≡ begins_parameters word }
+/// Whether parameters begin at a token.
+pub(crate) fn begins_parameter(tokens: &[Token], at: u32) -> bool
+    ensures { result ≡ front_parameters (drop at (words tokens.now)) }
 {
-    word == Keyword::LOCALPARAM.0 || word == Keyword::PARAMETER.0
+    is_keyword(tokens, at, Keyword::LOCALPARAM) || is_keyword(tokens, at, Keyword::PARAMETER)
 }
 
 /// Parameters that are declared together (section 12.2, annex A.2.1.1), without a semicolon.
@@ -230,12 +228,7 @@ pub(crate) fn parameters<'a>(
     requires shallow { depth ≤ 500 }
     ensures { Answers (parameter_of depth) plain_parameter input.entry.tokens.now from result }
 {
-    let local = choice(
-        input.tokens,
-        from,
-        Keyword::LOCALPARAM.0,
-        Keyword::PARAMETER.0,
-    )?;
+    let local = choice(input.tokens, from, Keyword::LOCALPARAM, Keyword::PARAMETER)?;
     let kind = kind(input, local.next, depth)?;
     let sets = settings(input, kind.next, depth)?;
     Ok(Piece {

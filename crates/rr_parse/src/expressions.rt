@@ -9,9 +9,9 @@ ghost use Rattle.rr_grammar.specs.Leaves.{expression as expression_of, range as 
 ghost use Rattle.rr_parse.specs.Answer.{Answers, bounds_of, plain_behind, plain_bounds, statement_behind};
 
 use crate::tokens::{Input, Piece, mark};
-use rr_parse_expr::{ParseFault, expr_within, mark_at, operand_within};
+use rr_parse_expr::{ParseFault, expr_within, is_mark, target_within};
 use rr_parse_stmt::stmt;
-use rr_syntax::{Bounds, Expr, Mark, Stmt, is_target};
+use rr_syntax::{Bounds, Expr, Mark, Stmt};
 
 /// The longest expression of a depth.
 pub(crate) fn expression<'a>(
@@ -45,13 +45,13 @@ pub(crate) fn entry<'a>(
 pub(crate) fn closed<'a>(
     input: Input<'a>,
     from: u32,
-    closing: u8,
+    closing: Mark,
     depth: u32,
 ) -> Result<Piece<&'a Expr<'a>>, ParseFault>
     requires short { length input.tokens.now < 2 ^ 32 }
     requires shallow { depth ≤ 500 }
-    requires is_mark { closing < no_mark }
-    ensures { Answers (before_mark (expression_of depth) closing) plain_behind input.entry.tokens.now from result }
+    requires is_mark { closing.0 < no_mark }
+    ensures { Answers (before_mark (expression_of depth) closing.0) plain_behind input.entry.tokens.now from result }
 {
     let inner = expression(input, from, depth)?;
     let next = mark(input.tokens, inner.next, closing)?;
@@ -61,8 +61,7 @@ pub(crate) fn closed<'a>(
     })
 }
 
-/// A target: an operand that may be assigned. It is read as an operand, since `<=` behind it is an
-/// operator too.
+/// The target of an assignment.
 pub(crate) fn target<'a>(
     input: Input<'a>,
     from: u32,
@@ -72,12 +71,8 @@ pub(crate) fn target<'a>(
     requires shallow { depth ≤ 500 }
     ensures { Answers (target_of depth) plain_behind input.entry.tokens.now from result }
 {
-    let (value, next) = operand_within(input.tokens, from, depth, input.arena)?;
-    if is_target(value) {
-        Ok(Piece { value, next })
-    } else {
-        Err(ParseFault::Syntax(from))
-    }
+    let (value, next) = target_within(input.tokens, from, depth, input.arena)?;
+    Ok(Piece { value, next })
 }
 
 /// A statement of a depth.
@@ -100,8 +95,8 @@ fn bounds<'a>(input: Input<'a>, from: u32, depth: u32) -> Result<Piece<Bounds<'a
     requires shallow { depth ≤ 500 }
     ensures { Answers (bounds_of depth) plain_bounds input.entry.tokens.now from result }
 {
-    let left = closed(input, from, Mark::COLON.0, depth)?;
-    let right = closed(input, left.next, Mark::CLOSE_BRACKET.0, depth)?;
+    let left = closed(input, from, Mark::COLON, depth)?;
+    let right = closed(input, left.next, Mark::CLOSE_BRACKET, depth)?;
     Ok(Piece {
         value: Bounds {
             left: left.value,
@@ -122,7 +117,7 @@ pub(crate) fn range<'a>(
     requires shallow { depth ≤ 500 }
     ensures { Answers (range_of depth) plain_range input.entry.tokens.now from result }
 {
-    if mark_at(input.tokens, from) != Mark::OPEN_BRACKET.0 {
+    if !is_mark(input.tokens, from, Mark::OPEN_BRACKET) {
         return Ok(Piece {
             value: None,
             next: from,

@@ -14,8 +14,7 @@ use crate::expressions::statement;
 use crate::lists::all;
 use crate::ports::{begins_port, port};
 use crate::tokens::{Input, Piece, mark, name, word};
-use rr_parse_expr::ParseFault;
-use rr_parse_stmt::keyword_at;
+use rr_parse_expr::{ParseFault, is_keyword};
 use rr_syntax::{Item, Keyword, Mark};
 
 /// Ports that are declared among the items (section 12.3.3).
@@ -25,7 +24,7 @@ fn port_item<'a>(input: Input<'a>, from: u32, depth: u32) -> Result<Piece<Item<'
     ensures { Answers (ports_of depth) plain_item input.entry.tokens.now from result }
 {
     let group = port(input, from, depth)?;
-    let next = mark(input.tokens, group.next, Mark::SEMICOLON.0)?;
+    let next = mark(input.tokens, group.next, Mark::SEMICOLON)?;
     Ok(Piece {
         value: Item::Ports(group.value),
         next,
@@ -38,10 +37,10 @@ fn net_item<'a>(input: Input<'a>, from: u32, depth: u32) -> Result<Piece<Item<'a
     requires shallow { depth ≤ 500 }
     ensures { Answers (nets_of depth) plain_item input.entry.tokens.now from result }
 {
-    let wire = word(input.tokens, from, Keyword::WIRE.0)?;
+    let wire = word(input.tokens, from, Keyword::WIRE)?;
     let typed = typed(input, wire, depth)?;
     let names = nets(input, typed.next, depth)?;
-    let next = mark(input.tokens, names.next, Mark::SEMICOLON.0)?;
+    let next = mark(input.tokens, names.next, Mark::SEMICOLON)?;
     Ok(Piece {
         value: Item::Nets {
             signed: typed.value.signed,
@@ -58,10 +57,10 @@ fn variable_item<'a>(input: Input<'a>, from: u32, depth: u32) -> Result<Piece<It
     requires shallow { depth ≤ 500 }
     ensures { Answers (variables_of depth) plain_item input.entry.tokens.now from result }
 {
-    let reg = word(input.tokens, from, Keyword::REG.0)?;
+    let reg = word(input.tokens, from, Keyword::REG)?;
     let typed = typed(input, reg, depth)?;
     let names = names(input, typed.next)?;
-    let next = mark(input.tokens, names.next, Mark::SEMICOLON.0)?;
+    let next = mark(input.tokens, names.next, Mark::SEMICOLON)?;
     Ok(Piece {
         value: Item::Variables {
             signed: typed.value.signed,
@@ -77,9 +76,9 @@ fn integer_item<'a>(input: Input<'a>, from: u32, depth: u32) -> Result<Piece<Ite
     requires short { length input.tokens.now < 2 ^ 32 }
     ensures { Answers (integers_of depth) plain_item input.entry.tokens.now from result }
 {
-    let integer = word(input.tokens, from, Keyword::INTEGER.0)?;
+    let integer = word(input.tokens, from, Keyword::INTEGER)?;
     let names = names(input, integer)?;
-    let next = mark(input.tokens, names.next, Mark::SEMICOLON.0)?;
+    let next = mark(input.tokens, names.next, Mark::SEMICOLON)?;
     Ok(Piece {
         value: Item::Integers { names: names.value },
         next,
@@ -97,7 +96,7 @@ fn parameter_item<'a>(
     ensures { Answers (parameters_of depth) plain_item input.entry.tokens.now from result }
 {
     let found = parameters(input, from, depth)?;
-    let next = mark(input.tokens, found.next, Mark::SEMICOLON.0)?;
+    let next = mark(input.tokens, found.next, Mark::SEMICOLON)?;
     Ok(Piece {
         value: Item::Parameters(found.value),
         next,
@@ -110,9 +109,9 @@ fn assign_item<'a>(input: Input<'a>, from: u32, depth: u32) -> Result<Piece<Item
     requires shallow { depth ≤ 500 }
     ensures { Answers (assigns_of depth) plain_item input.entry.tokens.now from result }
 {
-    let assign = word(input.tokens, from, Keyword::ASSIGN.0)?;
+    let assign = word(input.tokens, from, Keyword::ASSIGN)?;
     let pairs = pairs(input, assign, depth)?;
-    let next = mark(input.tokens, pairs.next, Mark::SEMICOLON.0)?;
+    let next = mark(input.tokens, pairs.next, Mark::SEMICOLON)?;
     Ok(Piece {
         value: Item::Assigns { pairs: pairs.value },
         next,
@@ -125,8 +124,8 @@ fn always_item<'a>(input: Input<'a>, from: u32, depth: u32) -> Result<Piece<Item
     requires shallow { depth ≤ 500 }
     ensures { Answers (always_of depth) plain_item input.entry.tokens.now from result }
 {
-    let always = word(input.tokens, from, Keyword::ALWAYS.0)?;
-    let at = mark(input.tokens, always, Mark::AT.0)?;
+    let always = word(input.tokens, from, Keyword::ALWAYS)?;
+    let at = mark(input.tokens, always, Mark::AT)?;
     let events = events(input, at, depth)?;
     let body = statement(input, events.next, depth)?;
     Ok(Piece {
@@ -148,7 +147,7 @@ fn instance_item<'a>(input: Input<'a>, from: u32, depth: u32) -> Result<Piece<It
     let module = name(input.tokens, from)?;
     let overrides = overrides(input, module.next, depth)?;
     let list = instances(input, overrides.next, depth)?;
-    let next = mark(input.tokens, list.next, Mark::SEMICOLON.0)?;
+    let next = mark(input.tokens, list.next, Mark::SEMICOLON)?;
     Ok(Piece {
         value: Item::Instances {
             module: module.value.name,
@@ -166,20 +165,20 @@ fn item<'a>(input: Input<'a>, from: u32, depth: u32) -> Result<Piece<Item<'a>>, 
     requires shallow { depth ≤ 500 }
     ensures { Answers (item_of depth) plain_item input.entry.tokens.now from result }
 {
-    let word = keyword_at(input.tokens, from);
-    if begins_port(word) {
+    let tokens = input.tokens;
+    if begins_port(tokens, from) {
         port_item(input, from, depth)
-    } else if word == Keyword::WIRE.0 {
+    } else if is_keyword(tokens, from, Keyword::WIRE) {
         net_item(input, from, depth)
-    } else if word == Keyword::REG.0 {
+    } else if is_keyword(tokens, from, Keyword::REG) {
         variable_item(input, from, depth)
-    } else if word == Keyword::INTEGER.0 {
+    } else if is_keyword(tokens, from, Keyword::INTEGER) {
         integer_item(input, from, depth)
-    } else if begins_parameter(word) {
+    } else if begins_parameter(tokens, from) {
         parameter_item(input, from, depth)
-    } else if word == Keyword::ASSIGN.0 {
+    } else if is_keyword(tokens, from, Keyword::ASSIGN) {
         assign_item(input, from, depth)
-    } else if word == Keyword::ALWAYS.0 {
+    } else if is_keyword(tokens, from, Keyword::ALWAYS) {
         always_item(input, from, depth)
     } else {
         instance_item(input, from, depth)

@@ -9,8 +9,7 @@ ghost use Rattle.rr_parse.specs.Chains.{AnswersAll, AnswersList, AnswersSeparate
 use crate::tokens::Piece;
 use bumpalo::Bump;
 use bumpalo::collections::into_bump_slice;
-use rr_parse_expr::{ParseFault, mark_at};
-use rr_parse_stmt::keyword_at;
+use rr_parse_expr::{ParseFault, is_keyword, is_mark};
 use rr_syntax::{Keyword, Mark, Token};
 use std::alloc::AllocError;
 
@@ -44,7 +43,7 @@ pub(crate) fn list<'a, T: Copy, F: Fn(u32) -> Result<Piece<T>, ParseFault>>(
     let mut items = Vec::new(arena);
     add(&mut items, first.value)?;
     let mut next = first.next;
-    while mark_at(tokens, next) == Mark::COMMA.0 {
+    while is_mark(tokens, next, Mark::COMMA) {
         match read(next + 1) {
             Ok(more) => {
                 add(&mut items, more.value)?;
@@ -96,12 +95,12 @@ fn separator(tokens: &[Token], from: u32) -> Option<Piece<bool>>
     requires short { length tokens.now < 2 ^ 32 }
     ensures { MatchOption result (FindsNone separator_of tokens.now from) (λ p. Finds separator_of tokens.now from p.value p.next) }
 {
-    if mark_at(tokens, from) == Mark::COMMA.0 {
+    if is_mark(tokens, from, Mark::COMMA) {
         Some(Piece {
             value: true,
             next: from + 1,
         })
-    } else if keyword_at(tokens, from) == Keyword::OR.0 {
+    } else if is_keyword(tokens, from, Keyword::OR) {
         Some(Piece {
             value: false,
             next: from + 1,

@@ -13,8 +13,7 @@ use crate::lists::all;
 use crate::ports::{begins_port, ports};
 use crate::tokens::{Input, Piece, mark, name, word};
 use bumpalo::collections::into_bump_slice;
-use rr_parse_expr::{ParseFault, mark_at};
-use rr_parse_stmt::keyword_at;
+use rr_parse_expr::{ParseFault, is_mark};
 use rr_syntax::{Group, Keyword, Mark, Module, Named, Params};
 
 /// The depth of an expression in the brackets of a module: the module is one level, and the node
@@ -37,15 +36,15 @@ fn module_parameters<'a>(input: Input<'a>, from: u32) -> Result<Piece<&'a [Param
     requires inside { from ≤ length input.tokens.now }
     ensures { Answers (heads_of 498) (plain_list_by plain_parameter) input.entry.tokens.now from result }
 {
-    if mark_at(input.tokens, from) != Mark::HASH.0 {
+    if !is_mark(input.tokens, from, Mark::HASH) {
         return Ok(Piece {
             value: into_bump_slice(Vec::new(input.arena)),
             next: from,
         });
     }
-    let inside = mark(input.tokens, from + 1, Mark::OPEN_PARENTHESIS.0)?;
+    let inside = mark(input.tokens, from + 1, Mark::OPEN_PARENTHESIS)?;
     let found = heads(input, inside, HEAD_DEPTH)?;
-    let next = mark(input.tokens, found.next, Mark::CLOSE_PARENTHESIS.0)?;
+    let next = mark(input.tokens, found.next, Mark::CLOSE_PARENTHESIS)?;
     Ok(Piece {
         value: found.value,
         next,
@@ -58,7 +57,7 @@ fn declared_ports<'a>(input: Input<'a>, from: u32) -> Result<Piece<PortList<'a>>
     ensures { Answers (groups_of 498) plain_port_list input.entry.tokens.now from result }
 {
     let groups = ports(input, from, HEAD_DEPTH)?;
-    let next = mark(input.tokens, groups.next, Mark::CLOSE_PARENTHESIS.0)?;
+    let next = mark(input.tokens, groups.next, Mark::CLOSE_PARENTHESIS)?;
     Ok(Piece {
         value: PortList {
             header: Some(into_bump_slice(Vec::new(input.arena))),
@@ -74,7 +73,7 @@ fn named_ports<'a>(input: Input<'a>, from: u32) -> Result<Piece<PortList<'a>>, P
     ensures { Answers names_of plain_port_list input.entry.tokens.now from result }
 {
     let names = names(input, from)?;
-    let next = mark(input.tokens, names.next, Mark::CLOSE_PARENTHESIS.0)?;
+    let next = mark(input.tokens, names.next, Mark::CLOSE_PARENTHESIS)?;
     Ok(Piece {
         value: PortList {
             header: Some(names.value),
@@ -89,8 +88,7 @@ fn bracketed_ports<'a>(input: Input<'a>, from: u32) -> Result<Piece<PortList<'a>
     requires short { length input.tokens.now < 2 ^ 32 }
     ensures { Answers (ports_of 498) plain_port_list input.entry.tokens.now from result }
 {
-    let word = keyword_at(input.tokens, from);
-    if mark_at(input.tokens, from) == Mark::CLOSE_PARENTHESIS.0 {
+    if is_mark(input.tokens, from, Mark::CLOSE_PARENTHESIS) {
         Ok(Piece {
             value: PortList {
                 header: Some(into_bump_slice(Vec::new(input.arena))),
@@ -98,7 +96,7 @@ fn bracketed_ports<'a>(input: Input<'a>, from: u32) -> Result<Piece<PortList<'a>
             },
             next: from + 1,
         })
-    } else if begins_port(word) {
+    } else if begins_port(input.tokens, from) {
         declared_ports(input, from)
     } else {
         named_ports(input, from)
@@ -111,7 +109,7 @@ fn port_list<'a>(input: Input<'a>, from: u32) -> Result<Piece<PortList<'a>>, Par
     requires inside { from ≤ length input.tokens.now }
     ensures { Answers (port_list_of 498) plain_port_list input.entry.tokens.now from result }
 {
-    if mark_at(input.tokens, from) == Mark::OPEN_PARENTHESIS.0 {
+    if is_mark(input.tokens, from, Mark::OPEN_PARENTHESIS) {
         bracketed_ports(input, from + 1)
     } else {
         Ok(Piece {
@@ -129,13 +127,13 @@ fn module<'a>(input: Input<'a>, from: u32) -> Result<Piece<Module<'a>>, ParseFau
     requires short { length input.tokens.now < 2 ^ 32 }
     ensures { Answers (module_of 498 497) plain_module input.entry.tokens.now from result }
 {
-    let module = word(input.tokens, from, Keyword::MODULE.0)?;
+    let module = word(input.tokens, from, Keyword::MODULE)?;
     let name = name(input.tokens, module)?;
     let params = module_parameters(input, name.next)?;
     let ports = port_list(input, params.next)?;
-    let semicolon = mark(input.tokens, ports.next, Mark::SEMICOLON.0)?;
+    let semicolon = mark(input.tokens, ports.next, Mark::SEMICOLON)?;
     let items = items(input, semicolon, ITEM_DEPTH)?;
-    let next = word(input.tokens, items.next, Keyword::ENDMODULE.0)?;
+    let next = word(input.tokens, items.next, Keyword::ENDMODULE)?;
     Ok(Piece {
         value: Module {
             name: name.value.name,

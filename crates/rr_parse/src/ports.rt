@@ -1,10 +1,11 @@
 //! Port declarations (IEEE 1364-2005 section 12.3.3, annex A.2.1.2).
 
-ghost use Rattle.std.specs.Prelude.{◌≡◌, ◌≤◌, ◌<◌, ◌+◌, ◌^◌, length};
+ghost use Rattle.std.specs.Prelude.{◌≡◌, ◌≤◌, ◌<◌, ◌+◌, ◌^◌, drop, length};
+ghost use Rattle.rr_syntax.specs.Words.{words};
 ghost use Rattle.rr_syntax.specs.View.{plain_port};
 ghost use Rattle.rr_grammar.specs.Declarations.{port as port_of};
 ghost use Rattle.rr_grammar.specs.Formats.{list as list_of};
-ghost use Rattle.rr_grammar.specs.ItemForms.{begins_ports};
+ghost use Rattle.rr_grammar.specs.ItemForms.{front_ports};
 ghost use Rattle.rr_grammar.specs.Leaves.{direction as direction_of, of_input, of_output};
 ghost use Rattle.rr_parse.specs.Answer.{Answers, FindsDirection, the_same};
 ghost use Rattle.rr_parse.specs.Trees.{plain_list_by};
@@ -12,16 +13,14 @@ ghost use Rattle.rr_parse.specs.Trees.{plain_list_by};
 use crate::declarations::{names, typed};
 use crate::lists::list;
 use crate::tokens::{Input, Piece};
-use rr_parse_expr::ParseFault;
-use rr_parse_stmt::keyword_at;
+use rr_parse_expr::{ParseFault, is_keyword};
 use rr_syntax::{Dir, Group, Keyword, Token};
 
-/// Whether a reserved word begins port declarations.
-#[tactic(auto, unfolding(rr_grammar::specs::ItemForms::begins_ports))]
-pub(crate) fn begins_port(word: u8) -> bool
-    ensures { result ≡ begins_ports word }
+/// Whether port declarations begin at a token.
+pub(crate) fn begins_port(tokens: &[Token], at: u32) -> bool
+    ensures { result ≡ front_ports (drop at (words tokens.now)) }
 {
-    word == Keyword::INPUT.0 || word == Keyword::OUTPUT.0
+    is_keyword(tokens, at, Keyword::INPUT) || is_keyword(tokens, at, Keyword::OUTPUT)
 }
 
 /// What stands behind `input`.
@@ -30,7 +29,7 @@ fn behind_input(tokens: &[Token], from: u32) -> Piece<Dir>
     requires inside { from ≤ length tokens.now }
     ensures { FindsDirection of_input tokens.now from result }
 {
-    if keyword_at(tokens, from) == Keyword::WIRE.0 {
+    if is_keyword(tokens, from, Keyword::WIRE) {
         Piece {
             value: Dir::InputWire,
             next: from + 1,
@@ -49,13 +48,12 @@ fn behind_output(tokens: &[Token], from: u32) -> Piece<Dir>
     requires inside { from ≤ length tokens.now }
     ensures { FindsDirection of_output tokens.now from result }
 {
-    let word = keyword_at(tokens, from);
-    if word == Keyword::WIRE.0 {
+    if is_keyword(tokens, from, Keyword::WIRE) {
         Piece {
             value: Dir::OutputWire,
             next: from + 1,
         }
-    } else if word == Keyword::REG.0 {
+    } else if is_keyword(tokens, from, Keyword::REG) {
         Piece {
             value: Dir::OutputReg,
             next: from + 1,
@@ -73,10 +71,9 @@ fn direction(tokens: &[Token], from: u32) -> Result<Piece<Dir>, ParseFault>
     requires short { length tokens.now < 2 ^ 32 }
     ensures { Answers direction_of the_same tokens.now from result }
 {
-    let word = keyword_at(tokens, from);
-    if word == Keyword::INPUT.0 {
+    if is_keyword(tokens, from, Keyword::INPUT) {
         Ok(behind_input(tokens, from + 1))
-    } else if word == Keyword::OUTPUT.0 {
+    } else if is_keyword(tokens, from, Keyword::OUTPUT) {
         Ok(behind_output(tokens, from + 1))
     } else {
         Err(ParseFault::Syntax(from))

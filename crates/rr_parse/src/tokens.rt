@@ -10,9 +10,8 @@ ghost use Rattle.rr_grammar.specs.Leaves.{choice as choice_of, flag as flag_of, 
 ghost use Rattle.rr_parse.specs.Answer.{Answers, AnswersMark, AnswersWord, the_same};
 
 use bumpalo::Bump;
-use rr_parse_expr::{ParseFault, mark_at};
-use rr_parse_stmt::keyword_at;
-use rr_syntax::{Kind, Named, Token};
+use rr_parse_expr::{ParseFault, is_keyword, is_mark};
+use rr_syntax::{Keyword, Kind, Mark, Named, Token};
 
 /// The tokens that are read, and where the trees are put.
 #[derive(Clone, Copy)]
@@ -29,12 +28,12 @@ pub(crate) struct Piece<T> {
 }
 
 /// The token after this mark, where it stands at a place.
-pub(crate) fn mark(tokens: &[Token], at: u32, mark: u8) -> Result<u32, ParseFault>
+pub(crate) fn mark(tokens: &[Token], at: u32, mark: Mark) -> Result<u32, ParseFault>
     requires short { length tokens.now < 2 ^ 32 }
-    requires is_mark { mark < no_mark }
-    ensures { AnswersMark tokens.now at mark result }
+    requires is_mark { mark.0 < no_mark }
+    ensures { AnswersMark tokens.now at mark.0 result }
 {
-    if mark_at(tokens, at) == mark {
+    if is_mark(tokens, at, mark) {
         Ok(at + 1)
     } else {
         Err(ParseFault::Syntax(at))
@@ -42,12 +41,12 @@ pub(crate) fn mark(tokens: &[Token], at: u32, mark: u8) -> Result<u32, ParseFaul
 }
 
 /// The token after this reserved word, where it stands at a place.
-pub(crate) fn word(tokens: &[Token], at: u32, word: u8) -> Result<u32, ParseFault>
+pub(crate) fn word(tokens: &[Token], at: u32, word: Keyword) -> Result<u32, ParseFault>
     requires short { length tokens.now < 2 ^ 32 }
-    requires is_word { word < no_word }
-    ensures { AnswersWord tokens.now at word result }
+    requires is_word { word.0 < no_word }
+    ensures { AnswersWord tokens.now at word.0 result }
 {
-    if keyword_at(tokens, at) == word {
+    if is_keyword(tokens, at, word) {
         Ok(at + 1)
     } else {
         Err(ParseFault::Syntax(at))
@@ -55,13 +54,13 @@ pub(crate) fn word(tokens: &[Token], at: u32, word: u8) -> Result<u32, ParseFaul
 }
 
 /// Whether this reserved word stands at a place, and the token after it.
-pub(crate) fn flag(tokens: &[Token], from: u32, word: u8) -> Piece<bool>
+pub(crate) fn flag(tokens: &[Token], from: u32, word: Keyword) -> Piece<bool>
     requires short { length tokens.now < 2 ^ 32 }
     requires inside { from ≤ length tokens.now }
-    requires is_word { word < no_word }
-    ensures { Finds (flag_of word) tokens.now from result.value result.next }
+    requires is_word { word.0 < no_word }
+    ensures { Finds (flag_of word.0) tokens.now from result.value result.next }
 {
-    if keyword_at(tokens, from) == word {
+    if is_keyword(tokens, from, word) {
         Piece {
             value: true,
             next: from + 1,
@@ -78,21 +77,20 @@ pub(crate) fn flag(tokens: &[Token], from: u32, word: u8) -> Piece<bool>
 pub(crate) fn choice(
     tokens: &[Token],
     from: u32,
-    first: u8,
-    second: u8,
+    first: Keyword,
+    second: Keyword,
 ) -> Result<Piece<bool>, ParseFault>
     requires short { length tokens.now < 2 ^ 32 }
-    requires first_word { first < no_word }
-    requires second_word { second < no_word }
-    ensures { Answers (choice_of first second) the_same tokens.now from result }
+    requires first_word { first.0 < no_word }
+    requires second_word { second.0 < no_word }
+    ensures { Answers (choice_of first.0 second.0) the_same tokens.now from result }
 {
-    let word = keyword_at(tokens, from);
-    if word == first {
+    if is_keyword(tokens, from, first) {
         Ok(Piece {
             value: true,
             next: from + 1,
         })
-    } else if word == second {
+    } else if is_keyword(tokens, from, second) {
         Ok(Piece {
             value: false,
             next: from + 1,

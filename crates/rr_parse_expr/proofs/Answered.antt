@@ -62,6 +62,16 @@ if_ok_map P Q (Err e) f h = tt
 pub not_equal : (a b : ℕ) → (a ≡ b → ⊥) → nat_eq a b ≡ false
 not_equal a b h = grind (arith, nat_tests)
 
+pub equal_true : (a b : ℕ) → nat_eq a b ≡ true → a ≡ b
+equal_true a b h = grind (arith, nat_tests)
+
+pub equal_false : (a b : ℕ) → nat_eq a b ≡ false → a ≡ b → ⊥
+equal_false a b h e = grind (arith, nat_tests)
+
+pub by_number : (b : Bool) (n m : ℕ) → (b ≡ true → n ≡ m) → (b ≡ false → n ≡ m → ⊥) → b ≡ nat_eq n m
+by_number true n m f g = let e : n ≡ m = f refl in grind (arith, nat_tests)
+by_number false n m f g = sym (not_equal n m (g refl))
+
 -- ---- marks among the tokens
 
 pub mark_inside : (T : List Token) (i m : ℕ) → mark (drop i (words T)) ≡ m → m < no_mark → i < length T

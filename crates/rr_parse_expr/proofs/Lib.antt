@@ -3,6 +3,7 @@ pub mod Climbs
 pub mod Complete
 pub mod Exactly
 pub mod Facts
+pub mod FrontMarks
 pub mod Longest
 pub mod Selects
 pub mod Sound

@@ -1,9 +1,8 @@
 -- Rules of the table of levels, each from a test that computes over the whole of it.
-use Rattle.std.proofs.Common.{◌≡◌, ℕ, zero, suc, ◌+◌, ◌≤◌, ap, ◌<◌, List, [], ◌∷◌, get_or, refl, arith, Bool, true, false, ◌&&◌, ◌||◌, nat_lt, nat_eq, not}
-use Rattle.std.proofs.lemmas.List.{get_or_past}
+use Rattle.std.proofs.Common.{◌≡◌, ℕ, zero, suc, ◌+◌, ◌<◌, List, [], ◌∷◌, get_or, refl, arith, Bool, true, false, ◌&&◌, ◌||◌, nat_lt, nat_eq, not}
 use Rattle.std.proofs.lemmas.Bool.Decides.{nat_tests}
 use Rattle.rr_syntax.specs.Words.{mark_question}
-use Rattle.rr_syntax.specs.Expressions.{infix_level, is_prefix, levels, prefixes, unary_level}
+use Rattle.rr_syntax.specs.Expressions.{infix_level, levels, unary_level}
 
 abbrev check : (ℕ → ℕ → Bool) → ℕ → List ℕ → Bool
 check f i [] = true

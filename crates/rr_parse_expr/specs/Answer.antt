@@ -1,14 +1,15 @@
 -- What the functions of the reader answer.
-use Rattle.std.specs.Prelude.{ℕ, suc, ◌+◌, ◌≡◌, ◌≤◌, ◌<◌, List, length, drop, Option, Some, None}
+use Rattle.std.specs.Prelude.{ℕ, suc, ◌+◌, ◌≡◌, ◌≤◌, ◌<◌, List, length, drop, Option, Some, None, true}
 use Rattle.rr_syntax.specs.declared.token.Token.{Token}
 use Rattle.rr_syntax.specs.declared.tree.Expr.{Expr}
-use Rattle.rr_syntax.specs.Words.{words}
+use Rattle.rr_syntax.specs.declared.token.Mark.{Mark}
+use Rattle.rr_syntax.specs.Words.{Word, words}
 use Rattle.rr_syntax.specs.Tree.{Tree, Trees, More, bare, bare_parts}
 use Rattle.rr_syntax.specs.Expressions.{spell, spell_more, depth, height, Numbered, NumberedMore}
 use Rattle.rr_syntax.specs.View.{plain, plain_list}
 use Rattle.rr_parse_expr.specs.declared.nodes.Read.{Read}
 use Rattle.rr_parse_expr.specs.declared.nodes.End as ending
-use Rattle.rr_parse_expr.specs.Reading.{Found, Reader, climb}
+use Rattle.rr_parse_expr.specs.Reading.{Found, Reader, climb, goes_on, is_between, mark}
 
 -- the tree of a node with every token number 0
 abbrev pub form : Expr → Tree
@@ -105,3 +106,13 @@ pub record Gathered (tokens : List Token) (from limit : ℕ) (found : Found Tree
 abbrev pub Gathers : List Token → ℕ → ℕ → Found Trees → List Expr → Option ending.End → Type 0
 Gathers tokens from limit found items None = found ≡ None
 Gathers tokens from limit found items (Some end) = Gathered tokens from limit found items end
+
+-- this mark stands at the front and goes on with what was read
+pub record IsOperator (limit low : ℕ) (left : Read) (ws : List Word) (op : Mark) : Type 0 where
+  pub stands : mark ws ≡ op.0
+  pub goes : goes_on limit low (plain left.expr) op.0 ≡ true
+
+-- this mark stands at the front, between the two expressions of a select
+pub record IsBetween (ws : List Word) (between : Mark) : Type 0 where
+  pub stands : mark ws ≡ between.0
+  pub parts : is_between between.0 ≡ true

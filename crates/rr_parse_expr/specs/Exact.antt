@@ -1,10 +1,10 @@
 -- Which expression begins at a token.
-use Rattle.std.specs.Prelude.{ℕ, ◌+◌, ◌≡◌, ◌≤◌, List, ◌++◌, length, drop}
+use Rattle.std.specs.Prelude.{ℕ, ◌+◌, ◌≡◌, ◌≤◌, ◌⊎◌, List, ◌++◌, length, drop, Bool, true, false}
 use Rattle.rr_syntax.specs.declared.token.Token.{Token}
 use Rattle.rr_syntax.specs.declared.tree.Expr.{Expr}
 use Rattle.rr_syntax.specs.Words.{Word, words}
 use Rattle.rr_syntax.specs.Tree.{Tree}
-use Rattle.rr_syntax.specs.Expressions.{spell, depth, level, unary_level, WellFormed, Numbered}
+use Rattle.rr_syntax.specs.Expressions.{spell, depth, level, unary_level, is_target, WellFormed, Numbered}
 use Rattle.rr_syntax.specs.View.{plain}
 use Rattle.rr_parse_expr.specs.declared.expression.ParseFault.{ParseFault}
 use Rattle.rr_parse_expr.specs.declared.expression.ParseFault.TheVariants.{Unsupported, Syntax, Memory}
@@ -47,3 +47,22 @@ abbrev pub Fails : (Tree → Type 0) → ℕ → List Token → ℕ → ParseFau
 Fails Class limit tokens from (Syntax at) = (at ≡ from) × NoneBegins Class limit tokens from
 Fails Class limit tokens from (Unsupported at) = ⊥
 Fails Class limit tokens from Memory = Unit {0}
+
+-- the longest operand at the token `from`, and whether it may be assigned (annex A.8.5)
+pub record IsLongestOperand (assignable : Bool) (limit : ℕ) (tokens : List Token) (from : ℕ) (e : Expr) (next : ℕ) : Type 0 where
+  pub operand : IsLongest IsOperand limit tokens from e next
+  pub assigned : is_target (plain e) ≡ assignable
+
+-- a target: the longest operand at the token, which may be assigned
+abbrev pub IsTarget : ℕ → List Token → ℕ → Expr → ℕ → Type 0
+IsTarget limit tokens from e next = IsLongestOperand true limit tokens from e next
+
+-- no operand begins at the token `from`, or the longest one that does may not be assigned
+abbrev pub NoTarget : ℕ → List Token → ℕ → Type 0
+NoTarget limit tokens from = NoneBegins IsOperand limit tokens from ⊎ ((e : Expr) × (next : ℕ) × IsLongestOperand false limit tokens from e next)
+
+-- the fault is `Syntax` at the token `from`, where no target stands; want of memory is free
+abbrev pub FailsTarget : ℕ → List Token → ℕ → ParseFault → Type 0
+FailsTarget limit tokens from (Syntax at) = (at ≡ from) × NoTarget limit tokens from
+FailsTarget limit tokens from (Unsupported at) = ⊥
+FailsTarget limit tokens from Memory = Unit {0}

@@ -1,5 +1,6 @@
 pub mod Answer
 pub mod Exact
+pub mod Fronts
 pub mod Loops
 pub mod Made
 pub mod Reading

@@ -1,12 +1,12 @@
 //! The longest expression at a token.
 
 ghost use Rattle.std.specs.Prelude.{◌≡◌, ◌≤◌, ◌<◌, ◌+◌, ◌^◌, length, MatchResult};
-ghost use Rattle.rr_parse_expr.specs.Exact.{IsExpression, IsOperand, IsLongest, Fails, max_depth};
+ghost use Rattle.rr_parse_expr.specs.Exact.{IsExpression, IsOperand, IsLongest, IsTarget, Fails, FailsTarget, max_depth};
 
 use crate::marks::UNARY_LEVEL;
 use crate::reader::read_at;
 use bumpalo::Bump;
-use rr_syntax::{Expr, Token};
+use rr_syntax::{Expr, Token, is_target};
 use std::alloc::AllocError;
 
 /// The greatest depth of an expression, its root counted as 0.
@@ -100,5 +100,26 @@ pub fn operand_within<'a>(
             Err(_) => Err(ParseFault::Memory),
             Ok(place) => Ok((place, found.next)),
         },
+    }
+}
+
+/// The target of an assignment (annex A.8.5) of at most a depth that stands at a token, and the token
+/// after it: the longest operand there, where it may be assigned. It is read as an operand, since
+/// `<=` behind it is an operator too. `Syntax(from)` comes where no target stands.
+pub fn target_within<'a>(
+    tokens: &'a [Token<'a>],
+    from: u32,
+    depth: u32,
+    arena: &'a Bump,
+) -> Result<(&'a Expr<'a>, u32), ParseFault>
+    requires short { length tokens.now < 2 ^ 32 }
+    requires shallow { depth ≤ max_depth }
+    ensures { MatchResult result (λ r. IsTarget depth tokens.now from r.0.now r.1) (λ fault. FailsTarget depth tokens.now from fault) }
+{
+    let (value, next) = operand_within(tokens, from, depth, arena)?;
+    if is_target(value) {
+        Ok((value, next))
+    } else {
+        Err(ParseFault::Syntax(from))
     }
 }

@@ -8,7 +8,8 @@ mod laws;
 mod marks;
 mod nodes;
 mod reader;
+mod tokens;
 
-pub use expression::{ParseFault, expr, expr_within, operand, operand_within};
+pub use expression::{ParseFault, expr, expr_within, operand, operand_within, target_within};
 pub use laws::one_tree;
-pub use marks::mark_at;
+pub use tokens::{is_keyword, is_mark, keyword_at, mark_at};

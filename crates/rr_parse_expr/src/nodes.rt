@@ -91,20 +91,20 @@ pub(crate) fn bit<'a>(
 pub(crate) fn part<'a>(
     token: u32,
     name: &'a str,
-    mark: u8,
+    between: Mark,
     first: Read<'a>,
     second: Read<'a>,
     arena: &'a Bump,
 ) -> Result<Read<'a>, AllocError>
     requires first_shallow { first.depth < 1000 }
     requires second_shallow { second.depth < 1000 }
-    ensures { IfOk result (λ r. IsNode (select_of token name.now mark (plain first.entry.expr) (plain second.entry.expr)) second.entry.next (max first.entry.depth second.entry.depth + 1) r) }
+    ensures { IfOk result (λ r. IsNode (select_of token name.now between.0 (plain first.entry.expr) (plain second.entry.expr)) second.entry.next (max first.entry.depth second.entry.depth + 1) r) }
 {
     let left = arena.try_alloc(first.expr)?;
     let right = arena.try_alloc(second.expr)?;
     let depth = first.depth.max(second.depth) + 1;
     let next = second.next;
-    if mark == Mark::COLON.0 {
+    if between == Mark::COLON {
         let expr = Expr::Part {
             token,
             name,
@@ -113,7 +113,7 @@ pub(crate) fn part<'a>(
         };
         Ok(Read { expr, next, depth })
     } else {
-        let up = mark == Mark::PART_UP.0;
+        let up = between == Mark::PART_UP;
         let expr = Expr::Indexed {
             token,
             name,
@@ -160,20 +160,20 @@ pub(crate) fn repeat<'a>(
 
 /// An operator between two operands.
 pub(crate) fn binary<'a>(
-    op: u8,
+    op: Mark,
     left: Read<'a>,
     right: Read<'a>,
     arena: &'a Bump,
 ) -> Result<Read<'a>, AllocError>
     requires left_shallow { left.depth < 1000 }
     requires right_shallow { right.depth < 1000 }
-    ensures { IfOk result (λ r. IsNode (Binary op (plain left.entry.expr) (plain right.entry.expr)) right.entry.next (max left.entry.depth right.entry.depth + 1) r) }
+    ensures { IfOk result (λ r. IsNode (Binary op.0 (plain left.entry.expr) (plain right.entry.expr)) right.entry.next (max left.entry.depth right.entry.depth + 1) r) }
 {
     let first = arena.try_alloc(left.expr)?;
     let second = arena.try_alloc(right.expr)?;
     Ok(Read {
         expr: Expr::Binary {
-            op: Mark(op),
+            op,
             left: first,
             right: second,
         },

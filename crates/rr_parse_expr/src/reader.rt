@@ -6,10 +6,11 @@ ghost use Rattle.rr_syntax.specs.Expressions.{infix_level as infix_of};
 ghost use Rattle.rr_parse_expr.specs.Reading.{mark as mark_of, after_index as after_index_of, after_mark as after_mark_of, below, braces as braces_of, closed as closed_of, named as named_of, no_mark, operand as operand_of, parts_from as parts_from_of, repeated as repeated_of, select as select_of, system as system_of, turn as turn_of};
 ghost use Rattle.rr_parse_expr.specs.Answer.{form, Answers, AnswersBelow, AnswersClosed, Gathers, IsBelow, ReadAs, Steps};
 
-use crate::marks::{UNARY_LEVEL, cast_sign, goes_on, is_between, mark_at};
+use crate::marks::{UNARY_LEVEL, between_at, cast_sign, operator_at};
 use crate::nodes::{
     End, Read, add_part, binary, bit, cast, concat, cond, paren, part, repeat, unary,
 };
+use crate::tokens::is_mark;
 use bumpalo::Bump;
 use bumpalo::collections::into_bump_slice;
 use rr_syntax::{Expr, Kind, Mark, Token, infix_level, is_prefix};
@@ -49,19 +50,19 @@ pub(crate) fn read_at<'a>(
 fn closed<'a>(
     tokens: &'a [Token<'a>],
     from: u32,
-    mark: u8,
+    mark: Mark,
     limit: u32,
     arena: &'a Bump,
 ) -> Result<Option<Read<'a>>, AllocError>
     requires short { length tokens.now < 2 ^ 32 }
     requires shallow { limit ≤ 500 }
-    requires is_mark { mark < no_mark }
-    ensures { IfOk result (λ r. AnswersClosed tokens.now from limit (closed_of (below limit) mark (drop from (words tokens.now))) r) }
+    requires is_mark { mark.0 < no_mark }
+    ensures { IfOk result (λ r. AnswersClosed tokens.now from limit (closed_of (below limit) mark.0 (drop from (words tokens.now))) r) }
 {
     match read_at(tokens, from, 1, limit, arena)? {
         None => Ok(None),
         Some(inner) => {
-            if mark_at(tokens, inner.next) != mark {
+            if !is_mark(tokens, inner.next, mark) {
                 return Ok(None);
             }
             let next = inner.next + 1;
@@ -126,12 +127,12 @@ fn after_mark<'a>(
             None => Ok(None),
             Some(inner) => Ok(Some(unary(mark, inner, arena)?)),
         }
-    } else if mark.0 == Mark::OPEN_PARENTHESIS.0 {
-        match closed(tokens, from + 1, Mark::CLOSE_PARENTHESIS.0, limit, arena)? {
+    } else if mark == Mark::OPEN_PARENTHESIS {
+        match closed(tokens, from + 1, Mark::CLOSE_PARENTHESIS, limit, arena)? {
             None => Ok(None),
             Some(inner) => Ok(Some(paren(inner, arena)?)),
         }
-    } else if mark.0 == Mark::OPEN_BRACE.0 {
+    } else if mark == Mark::OPEN_BRACE {
         braces(tokens, from, limit, arena)
     } else {
         Ok(None)
@@ -179,7 +180,7 @@ fn select<'a>(
     requires shallow { limit ≤ 500 }
     ensures { IfOk result (λ r. Answers tokens.now from limit (select_of (below limit) name.now (drop (from + 1) (words tokens.now))) r) }
 {
-    if mark_at(tokens, from + 1) != Mark::OPEN_BRACKET.0 {
+    if !is_mark(tokens, from + 1, Mark::OPEN_BRACKET) {
         return Ok(None);
     }
     match read_at(tokens, from + 2, 1, limit, arena)? {
@@ -203,16 +204,15 @@ fn after_index<'a>(
     requires first_read { IsBelow tokens.now (from + 2) limit first }
     ensures { IfOk result (λ r. Answers tokens.now from limit (after_index_of (below limit) name.now (form first.entry.expr) (mark_of (drop first.entry.next (words tokens.now))) (drop (first.entry.next + 1) (words tokens.now))) r) }
 {
-    let between = mark_at(tokens, first.next);
-    if between == Mark::CLOSE_BRACKET.0 {
+    if is_mark(tokens, first.next, Mark::CLOSE_BRACKET) {
         return Ok(Some(bit(from, name, first, arena)?));
     }
-    if !is_between(between) {
-        return Ok(None);
-    }
-    match closed(tokens, first.next + 1, Mark::CLOSE_BRACKET.0, limit, arena)? {
+    match between_at(tokens, first.next) {
         None => Ok(None),
-        Some(second) => Ok(Some(part(from, name, between, first, second, arena)?)),
+        Some(between) => match closed(tokens, first.next + 1, Mark::CLOSE_BRACKET, limit, arena)? {
+            None => Ok(None),
+            Some(second) => Ok(Some(part(from, name, between, first, second, arena)?)),
+        },
     }
 }
 
@@ -233,10 +233,10 @@ fn system<'a>(
     match cast_sign(name) {
         None => Ok(None),
         Some(signed) => {
-            if mark_at(tokens, from + 1) != Mark::OPEN_PARENTHESIS.0 {
+            if !is_mark(tokens, from + 1, Mark::OPEN_PARENTHESIS) {
                 return Ok(None);
             }
-            match closed(tokens, from + 2, Mark::CLOSE_PARENTHESIS.0, limit, arena)? {
+            match closed(tokens, from + 2, Mark::CLOSE_PARENTHESIS, limit, arena)? {
                 None => Ok(None),
                 Some(inner) => Ok(Some(cast(signed, inner, arena)?)),
             }
@@ -260,7 +260,7 @@ fn braces<'a>(
     match read_at(tokens, from + 1, 1, limit, arena)? {
         None => Ok(None),
         Some(first) => {
-            if mark_at(tokens, first.next) == Mark::OPEN_BRACE.0 {
+            if is_mark(tokens, first.next, Mark::OPEN_BRACE) {
                 return repeated(tokens, from, first, limit, arena);
             }
             let mut parts = Vec::new(arena);
@@ -294,7 +294,7 @@ fn repeated<'a>(
             match parts_from(tokens, count.next, first, &mut parts, limit, arena)? {
                 None => Ok(None),
                 Some(end) => {
-                    if mark_at(tokens, end.next) != Mark::CLOSE_BRACE.0 {
+                    if !is_mark(tokens, end.next, Mark::CLOSE_BRACE) {
                         return Ok(None);
                     }
                     Ok(Some(repeat(count, into_bump_slice(parts), end, arena)?))
@@ -324,7 +324,7 @@ fn parts_from<'a>(
     add_part(parts, first.expr)?;
     let mut next = first.next;
     let mut depth = first.depth + 1;
-    while mark_at(tokens, next) == Mark::COMMA.0 {
+    while is_mark(tokens, next, Mark::COMMA) {
         match read_at(tokens, next + 1, 1, limit, arena)? {
             None => return Ok(None),
             Some(part) => {
@@ -334,7 +334,7 @@ fn parts_from<'a>(
             }
         }
     }
-    if mark_at(tokens, next) == Mark::CLOSE_BRACE.0 {
+    if is_mark(tokens, next, Mark::CLOSE_BRACE) {
         Ok(Some(End {
             next: next + 1,
             depth,
@@ -360,14 +360,15 @@ fn step<'a>(
     requires left_read { ReadAs tokens.now from limit left }
     ensures { IfOk result (λ r. Steps tokens.now from (below limit) limit low left.entry r) }
 {
-    let op = mark_at(tokens, left.next);
-    if !goes_on(&left, op, low, limit) {
-        return Ok(None);
-    }
-    if op == Mark::QUESTION.0 {
-        conditional(tokens, from, left, limit, arena)
-    } else {
-        operation(tokens, from, left, op, limit, arena)
+    match operator_at(tokens, &left, low, limit) {
+        None => Ok(None),
+        Some(op) => {
+            if op == Mark::QUESTION {
+                conditional(tokens, from, left, limit, arena)
+            } else {
+                operation(tokens, from, left, op, limit, arena)
+            }
+        }
     }
 }
 
@@ -377,7 +378,7 @@ fn operation<'a>(
     tokens: &'a [Token<'a>],
     from: u32,
     left: Read<'a>,
-    op: u8,
+    op: Mark,
     limit: u32,
     arena: &'a Bump,
 ) -> Result<Option<Read<'a>>, AllocError>
@@ -386,16 +387,10 @@ fn operation<'a>(
     requires left_read { ReadAs tokens.now from limit left }
     requires room { left.depth < limit }
     requires there { left.next < length tokens.now }
-    requires is_operator { (1 ≤ infix_of op) × (op ≢ mark_question) }
-    ensures { IfOk result (λ r. Answers tokens.now from limit (turn_of (below limit) (form left.entry.expr) op (drop (left.entry.next + 1) (words tokens.now))) r) }
+    requires is_operator { (1 ≤ infix_of op.0) × (op.0 ≢ mark_question) }
+    ensures { IfOk result (λ r. Answers tokens.now from limit (turn_of (below limit) (form left.entry.expr) op.0 (drop (left.entry.next + 1) (words tokens.now))) r) }
 {
-    match read_at(
-        tokens,
-        left.next + 1,
-        infix_level(Mark(op)) + 1,
-        limit,
-        arena,
-    )? {
+    match read_at(tokens, left.next + 1, infix_level(op) + 1, limit, arena)? {
         None => Ok(None),
         Some(right) => Ok(Some(binary(op, left, right, arena)?)),
     }
@@ -417,7 +412,7 @@ fn conditional<'a>(
     requires there { left.next < length tokens.now }
     ensures { IfOk result (λ r. Answers tokens.now from limit (turn_of (below limit) (form left.entry.expr) mark_question (drop (left.entry.next + 1) (words tokens.now))) r) }
 {
-    match closed(tokens, left.next + 1, Mark::COLON.0, limit, arena)? {
+    match closed(tokens, left.next + 1, Mark::COLON, limit, arena)? {
         None => Ok(None),
         Some(middle) => match read_at(tokens, middle.next, 1, limit, arena)? {
             None => Ok(None),

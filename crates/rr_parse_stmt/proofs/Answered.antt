@@ -1,5 +1,5 @@
 -- What the functions that read marks, labels, names and bodies answer, over plain values.
-use Rattle.std.proofs.Common.{◌≡◌, ℕ, zero, suc, ◌+◌, ◌-◌, ◌≤◌, ◌<◌, List, [], ◌∷◌, ◌++◌, length, drop, refl, ap, ◌∙◌, sym, arith, Bool, Option, Some, None, length-append, length-drop, subst}
+use Rattle.std.proofs.Common.{◌≡◌, ℕ, zero, suc, ◌+◌, ◌≤◌, ◌<◌, List, [], ◌∷◌, ◌++◌, length, drop, refl, ap, ◌∙◌, sym, arith, Option, Some, None, length-append, length-drop, subst}
 use Rattle.std.proofs.Math.Seq.{drop-nil}
 use Rattle.rr_syntax.specs.declared.token.Token.{Token}
 use Rattle.rr_syntax.specs.declared.tree.Expr.{Expr}
@@ -9,8 +9,8 @@ use Rattle.rr_syntax.specs.declared.tree.Arm.{Arm as Branch}
 use Rattle.rr_syntax.specs.declared.tree.Named.{Named as NamedToken}
 use Rattle.rr_syntax.specs.Words.{Word, words, keyword_end, mark_open_parenthesis, mark_close_parenthesis, mark_comma, mark_colon}
 use Rattle.rr_syntax.specs.Tree.{Tree, Trees, End, More, Identifier, Statement, Statements, Arm, Arms, Block, Done, Then, bare, bare_parts, bare_identifier, bare_label, bare_statement, bare_statements}
-use Rattle.rr_syntax.specs.Expressions.{spell, spell_more, Numbered, NumberedMore, is_target}
-use Rattle.rr_syntax.specs.Statements.{spell_label, spell_statement, spell_statements, spell_arm, NumberedLabel, NumberedLabels, NumberedStatement, NumberedStatements}
+use Rattle.rr_syntax.specs.Expressions.{spell, spell_more, Numbered, NumberedMore}
+use Rattle.rr_syntax.specs.Statements.{spell_label, spell_statement, spell_statements, NumberedLabel, NumberedLabels, NumberedStatement, NumberedStatements}
 use Rattle.rr_syntax.specs.View.{plain, plain_list, plain_identifier, plain_label, plain_statement, plain_statements}
 use Rattle.rr_syntax.proofs.Equations.{spellings, statement_spellings, more-End}
 use Rattle.rr_syntax.proofs.Nonempty.{spell_statement-some}
@@ -25,7 +25,7 @@ use Rattle.rr_parse_stmt.specs.declared.expressions.LabelList.{LabelList}
 use Rattle.rr_parse_stmt.specs.declared.nodes.Piece.{Piece}
 use Rattle.rr_parse_stmt.specs.declared.nodes.ArmPiece.{ArmPiece}
 use Rattle.rr_parse_stmt.specs.declared.nodes.LabelPiece.{LabelPiece}
-use Rattle.rr_parse_stmt.specs.Reading.{keyword, no_word, name, label, snoc_statement, body, block, tested, labels_after, labels, arms, assigned, target, assignment, below_statement}
+use Rattle.rr_parse_stmt.specs.Reading.{keyword, no_word, name, label, snoc_statement, body, block, tested, labels_after, labels, below_statement}
 use Rattle.rr_parse_stmt.specs.Answer.{FindsTree, AnswersTree, GathersLabels, AnswersLabelling, FindsLabels, AnswersLabels, FindsStatement, AnswersStatement, FindsArm, AnswersArm, FindsLabel, AnswersLabel, FindsBody, AnswersBody, FindsArms, AnswersArms, AnswersName}
 use Rattle.rr_parse_stmt.specs.Loops.{Labelling, Bodied}
 use Rattle.rr_parse_stmt.proofs.Steps.{body-end, body-next, body-none, label-none, label-some, label-fail, block-some, block-open, tested-some, tested-open, tested-other, labels-end, labels-comma, labels-first}

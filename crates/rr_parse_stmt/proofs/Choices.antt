@@ -7,7 +7,7 @@ use Rattle.rr_syntax.specs.declared.tree.Stmt.{Stmt}
 use Rattle.rr_syntax.specs.declared.tree.Stmt.TheVariants as stmt
 use Rattle.rr_syntax.specs.declared.tree.Arm.{Arm as Branch}
 use Rattle.rr_syntax.specs.Words.{Word, words, keyword_begin, keyword_default, keyword_else, keyword_endcase, keyword_if, mark_colon, mark_semicolon, mark_equals, mark_less_or_equal}
-use Rattle.rr_syntax.specs.Tree.{Tree, Trees, End, More, Statement, Statements, Arm, Arms, Null, If, IfElse, Case, Assign, CaseItem, NoArms, MoreArms, bare, bare_parts, bare_statement, bare_arm, bare_arms}
+use Rattle.rr_syntax.specs.Tree.{Tree, Trees, End, More, Statement, Arm, Arms, Null, If, IfElse, Case, Assign, CaseItem, NoArms, MoreArms, bare, bare_parts, bare_statement, bare_arm, bare_arms}
 use Rattle.rr_syntax.specs.Expressions.{spell, spell_more, Numbered, is_target, unary_level}
 use Rattle.rr_syntax.specs.Statements.{spell_labels, spell_statement, spell_arm, spell_arms, is_case, defaults, NumberedLabels, NumberedStatement, NumberedArm, NumberedArms}
 use Rattle.rr_syntax.specs.View.{plain, plain_list, plain_statement, plain_arm, plain_arms}
@@ -23,7 +23,7 @@ use Rattle.rr_parse_stmt.specs.declared.expressions.Placed.{Placed}
 use Rattle.rr_parse_stmt.specs.declared.expressions.LabelList.{LabelList}
 use Rattle.rr_parse_stmt.specs.declared.nodes.Piece.{Piece}
 use Rattle.rr_parse_stmt.specs.declared.nodes.ArmPiece.{ArmPiece}
-use Rattle.rr_parse_stmt.specs.Reading.{keyword, label, snoc_arm, body, block, tested, after_then, conditional, labels, default_arm, labelled_arm, arm_by, arms, cases, sign, assigned, target, assignment, statement_by, below_statement, below_arm}
+use Rattle.rr_parse_stmt.specs.Reading.{keyword, snoc_arm, block, tested, after_then, conditional, labels, default_arm, labelled_arm, arm_by, arms, cases, sign, assigned, target, assignment, statement_by, below_statement, below_arm}
 use Rattle.rr_parse_stmt.specs.Answer.{IsPiece, IsArmPiece, FindsTree, FindsTarget, AnswersTarget, FindsLabels, FindsStatement, FindsArm, FindsArms}
 use Rattle.rr_parse_stmt.specs.Loops.{at_most_one, Armed}
 use Rattle.rr_parse_stmt.proofs.Steps.{statement-below, arm-below, if-then, if-open, then-alone, then-else, then-open, default-colon, default-alone, labelled-some, arm-default, arm-labelled, go_on, arms-step, case-some, assigned-now, assigned-later, target-is, target-not, assignment-some, assignment-none, by-null, by-begin, by-if, by-case, by-assignment}
@@ -435,20 +435,6 @@ target_some T begin found o r e h = rw e at h
 
 pub no_target : (T : List Token) (begin : ℕ) (found : Found Tree) (o : Option Placed) → o ≡ None → AnswersTarget T begin found o → found ≡ None
 no_target T begin found o e h = rw e at h
-
-pub made_target : (T : List Token) (from room : ℕ) (r : Placed) → FindsTree T from 0 (expressions.below room unary_level (drop from (words T))) r → is_target (plain r.expr.now) ≡ true → FindsTarget T from (target (expressions.below room) (drop from (words T))) r
-made_target T from room r f h = record {
-  read = record {
-    found_is = target-is (expressions.below room) (drop from (words T)) (bare (plain r.expr.now), drop r.next (words T)) f.found_is (is_target-bare (plain r.expr.now) ∙ h);
-    within = f.within;
-    taken = f.taken;
-    numbered = f.numbered;
-  };
-  is = h;
-}
-
-pub target_refused : (T : List Token) (from room : ℕ) (r : Placed) → FindsTree T from 0 (expressions.below room unary_level (drop from (words T))) r → is_target (plain r.expr.now) ≡ false → target (expressions.below room) (drop from (words T)) ≡ None
-target_refused T from room r f h = target-not (expressions.below room) (drop from (words T)) (bare (plain r.expr.now), drop r.next (words T)) f.found_is (is_target-bare (plain r.expr.now) ∙ h)
 
 assigned_by : (e : Reader) (t : Tree) (now : Bool) (ws : List Word) (p : Tree × List Word) → mark ws ≡ cond now mark_equals mark_less_or_equal → closed e mark_semicolon (rest ws) ≡ Some p → assigned e t ws ≡ Some (Assign t now p.0, p.1)
 assigned_by e t true ws p m f = assigned-now e t ws p m f

@@ -4,6 +4,8 @@ pub mod Choices
 pub mod Complete
 pub mod Exactly
 pub mod FromExpressions
+pub mod FrontWords
 pub mod Names
 pub mod Sound
 pub mod Steps
+pub mod Targets

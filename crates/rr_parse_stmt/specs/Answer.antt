@@ -1,14 +1,15 @@
 -- What the functions of the reader answer.
 use Rattle.std.specs.Prelude.{ℕ, ◌+◌, ◌≡◌, ◌≤◌, ◌<◌, List, length, drop, Option, Some, None, true}
+use Rattle.rr_syntax.specs.declared.token.Keyword.{Keyword}
 use Rattle.rr_syntax.specs.declared.token.Token.{Token}
 use Rattle.rr_syntax.specs.declared.tree.Expr.{Expr}
 use Rattle.rr_syntax.specs.declared.tree.Stmt.{Stmt}
 use Rattle.rr_syntax.specs.declared.tree.Arm.{Arm as Branch}
 use Rattle.rr_syntax.specs.declared.tree.Named.{Named as NamedToken}
-use Rattle.rr_syntax.specs.Words.{words}
+use Rattle.rr_syntax.specs.Words.{Word, words}
 use Rattle.rr_syntax.specs.Tree.{Tree, Trees, More, Identifier, Statement, Statements, Arm, Arms, bare, bare_parts, bare_statement, bare_statements, bare_arm, bare_arms, bare_label}
 use Rattle.rr_syntax.specs.Expressions.{spell, spell_more, is_target, Numbered}
-use Rattle.rr_syntax.specs.Statements.{spell_label, spell_statement, spell_statements, spell_arm, spell_arms, NumberedLabel, NumberedLabels, NumberedStatement, NumberedStatements, NumberedArm, NumberedArms}
+use Rattle.rr_syntax.specs.Statements.{is_case, spell_label, spell_statement, spell_statements, spell_arm, spell_arms, NumberedLabel, NumberedLabels, NumberedStatement, NumberedStatements, NumberedArm, NumberedArms}
 use Rattle.rr_syntax.specs.View.{plain, plain_list, plain_label, plain_statement, plain_statements, plain_arm, plain_arms}
 use Rattle.rr_parse_expr.specs.Reading.{Found}
 use Rattle.rr_parse_stmt.specs.declared.expressions.Placed.{Placed}
@@ -16,7 +17,12 @@ use Rattle.rr_parse_stmt.specs.declared.expressions.LabelList as labelling
 use Rattle.rr_parse_stmt.specs.declared.nodes.Piece.{Piece}
 use Rattle.rr_parse_stmt.specs.declared.nodes.ArmPiece.{ArmPiece}
 use Rattle.rr_parse_stmt.specs.declared.nodes.LabelPiece.{LabelPiece}
-use Rattle.rr_parse_stmt.specs.Reading.{name}
+use Rattle.rr_parse_stmt.specs.Reading.{keyword, name}
+
+-- this reserved word stands at the front, and begins a `case`
+pub record IsCaseWord (ws : List Word) (kind : Keyword) : Type 0 where
+  pub stands : keyword ws ≡ kind.0
+  pub begins : is_case kind.0 ≡ true
 
 -- a name stands at the token `at`, or none does
 abbrev pub AnswersName : List Token → ℕ → Option NamedToken → Type 0

@@ -2,7 +2,6 @@
 
 ghost use Rattle.std.specs.Prelude.{◌≡◌, ◌≤◌, ◌<◌, ◌+◌, ◌^◌, [], length, drop, IfOk};
 ghost use Rattle.rr_syntax.specs.Words.{words};
-ghost use Rattle.rr_syntax.specs.Expressions.{unary_level};
 ghost use Rattle.rr_parse_expr.specs.Reading.{below, closed as closed_of, no_mark};
 ghost use Rattle.rr_parse_stmt.specs.Reading.{labels as labels_of, target as target_of, tested as tested_of};
 ghost use Rattle.rr_parse_stmt.specs.Answer.{AnswersLabelling, AnswersLabels, AnswersTarget, AnswersTree, FindsTree};
@@ -10,8 +9,8 @@ ghost use Rattle.rr_parse_stmt.specs.Answer.{AnswersLabelling, AnswersLabels, An
 use crate::parts::add_label;
 use bumpalo::Bump;
 use bumpalo::collections::into_bump_slice;
-use rr_parse_expr::{ParseFault, expr_within, mark_at, operand_within};
-use rr_syntax::{Expr, Mark, Token, is_target};
+use rr_parse_expr::{ParseFault, expr_within, is_mark, target_within};
+use rr_syntax::{Expr, Mark, Token};
 use std::alloc::AllocError;
 
 /// An expression and the token after what was read.
@@ -50,45 +49,23 @@ pub(crate) fn expression<'a>(
     }
 }
 
-/// An operand of less than a depth.
-pub(crate) fn operand<'a>(
-    tokens: &'a [Token<'a>],
-    from: u32,
-    room: u32,
-    arena: &'a Bump,
-) -> Result<Option<Placed<'a>>, AllocError>
-    requires short { length tokens.now < 2 ^ 32 }
-    requires shallow { room ≤ 501 }
-    ensures { IfOk result (λ r. AnswersTree tokens.now from 0 (below room unary_level (drop from (words tokens.now))) r) }
-{
-    if room == 0 {
-        return Ok(None);
-    }
-    match operand_within(tokens, from, room - 1, arena) {
-        Ok((expr, next)) => Ok(Some(Placed { expr, next })),
-        Err(ParseFault::Memory) => Err(AllocError),
-        Err(ParseFault::Syntax(_)) => Ok(None),
-        Err(ParseFault::Unsupported(_)) => Ok(None),
-    }
-}
-
 /// An expression and this mark behind it, which is taken too.
 pub(crate) fn closed<'a>(
     tokens: &'a [Token<'a>],
     from: u32,
-    mark: u8,
+    mark: Mark,
     room: u32,
     arena: &'a Bump,
 ) -> Result<Option<Placed<'a>>, AllocError>
     requires short { length tokens.now < 2 ^ 32 }
     requires shallow { room ≤ 501 }
-    requires is_mark { mark < no_mark }
-    ensures { IfOk result (λ r. AnswersTree tokens.now from 1 (closed_of (below room) mark (drop from (words tokens.now))) r) }
+    requires is_mark { mark.0 < no_mark }
+    ensures { IfOk result (λ r. AnswersTree tokens.now from 1 (closed_of (below room) mark.0 (drop from (words tokens.now))) r) }
 {
     match expression(tokens, from, room, arena)? {
         None => Ok(None),
         Some(inner) => {
-            if mark_at(tokens, inner.next) != mark {
+            if !is_mark(tokens, inner.next, mark) {
                 return Ok(None);
             }
             let next = inner.next + 1;
@@ -111,14 +88,13 @@ pub(crate) fn tested<'a>(
     requires shallow { room ≤ 501 }
     ensures { IfOk result (λ r. AnswersTree tokens.now (from + 1) 1 (tested_of (below room) (drop from (words tokens.now))) r) }
 {
-    if mark_at(tokens, from) != Mark::OPEN_PARENTHESIS.0 {
+    if !is_mark(tokens, from, Mark::OPEN_PARENTHESIS) {
         return Ok(None);
     }
-    closed(tokens, from + 1, Mark::CLOSE_PARENTHESIS.0, room, arena)
+    closed(tokens, from + 1, Mark::CLOSE_PARENTHESIS, room, arena)
 }
 
-/// A target: an operand that may be assigned. It is read as an operand, since `<=` behind it is an
-/// operator too.
+/// A target of less than a depth.
 pub(crate) fn target<'a>(
     tokens: &'a [Token<'a>],
     from: u32,
@@ -129,15 +105,14 @@ pub(crate) fn target<'a>(
     requires shallow { room ≤ 501 }
     ensures { IfOk result (λ r. AnswersTarget tokens.now from (target_of (below room) (drop from (words tokens.now))) r) }
 {
-    match operand(tokens, from, room, arena)? {
-        None => Ok(None),
-        Some(found) => {
-            if is_target(found.expr) {
-                Ok(Some(found))
-            } else {
-                Ok(None)
-            }
-        }
+    if room == 0 {
+        return Ok(None);
+    }
+    match target_within(tokens, from, room - 1, arena) {
+        Ok((expr, next)) => Ok(Some(Placed { expr, next })),
+        Err(ParseFault::Memory) => Err(AllocError),
+        Err(ParseFault::Syntax(_)) => Ok(None),
+        Err(ParseFault::Unsupported(_)) => Ok(None),
     }
 }
 
@@ -184,7 +159,7 @@ fn labels_from<'a>(
 {
     add_label(labels, *first.expr)?;
     let mut next = first.next;
-    while mark_at(tokens, next) == Mark::COMMA.0 {
+    while is_mark(tokens, next, Mark::COMMA) {
         match expression(tokens, next + 1, room, arena)? {
             None => return Ok(None),
             Some(label) => {
@@ -193,7 +168,7 @@ fn labels_from<'a>(
             }
         }
     }
-    if mark_at(tokens, next) == Mark::COLON.0 {
+    if is_mark(tokens, next, Mark::COLON) {
         Ok(Some(next + 1))
     } else {
         Ok(None)

@@ -11,5 +11,4 @@ mod reader;
 mod statement;
 
 pub use laws::one_statement;
-pub use parts::keyword_at;
 pub use statement::stmt;

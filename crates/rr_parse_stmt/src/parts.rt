@@ -1,49 +1,48 @@
 //! What stands at a token: marks, reserved words and names.
 
-ghost use Rattle.std.specs.Prelude.{◌≡◌, ◌≤◌, ◌<◌, ◌+◌, [], ◌∷◌, ◌++◌, drop, IfOk};
+ghost use Rattle.std.specs.Prelude.{◌≡◌, ◌≤◌, ◌<◌, ◌+◌, [], ◌∷◌, ◌++◌, false, drop, IfOk, MatchOption};
 ghost use Rattle.rr_syntax.specs.Words.{words};
-ghost use Rattle.rr_syntax.specs.Statements.{defaults as defaults_of};
+ghost use Rattle.rr_syntax.specs.Statements.{defaults as defaults_of, is_case as case_of};
 ghost use Rattle.rr_syntax.specs.Tree.{MoreArms, NoArms};
 ghost use Rattle.rr_syntax.specs.View.{plain_arm};
-ghost use Rattle.rr_parse_expr.specs.Reading.{mark};
 ghost use Rattle.rr_parse_stmt.specs.Reading.{keyword, sign};
-ghost use Rattle.rr_parse_stmt.specs.Answer.{AnswersName};
+ghost use Rattle.rr_parse_stmt.specs.Answer.{AnswersName, IsCaseWord};
 ghost use Rattle.rr_parse_stmt.specs.Loops.{at_most_one};
 
 use bumpalo::Bump;
-use rr_parse_expr::mark_at;
-use rr_syntax::{Arm, Expr, Kind, Mark, Named, Stmt, Token};
+use rr_parse_expr::{is_mark, keyword_at};
+use rr_syntax::{Arm, Expr, Keyword, Kind, Mark, Named, Stmt, Token};
 use std::alloc::AllocError;
-
-/// What stands for the mark or the reserved word where none stands.
-pub(crate) const NONE: u8 = 255;
-
-/// The reserved word that stands at a place, by its number in the table of words; 255 where none does.
-#[tactic(auto, using(rr_parse_expr::proofs::TokenWords::words_at, rr_parse_expr::proofs::TokenWords::words_past), unfolding(crate::specs::Reading::keyword))]
-pub fn keyword_at(tokens: &[Token], at: u32) -> u8
-    ensures { result ≡ keyword (drop at (words tokens.now)) }
-{
-    match tokens.get(at as usize) {
-        Some(token) => match token.kind {
-            Kind::Keyword(found) => found.0,
-            _ => NONE,
-        },
-        None => NONE,
-    }
-}
 
 /// Whether the mark at a place is `=`, where it is `=` or `<=`.
 #[tactic(auto, unfolding(crate::specs::Reading::sign))]
 pub(crate) fn sign_at(tokens: &[Token], at: u32) -> Option<bool>
     ensures { result ≡ sign (drop at (words tokens.now)) }
 {
-    let mark = mark_at(tokens, at);
-    if mark == Mark::EQUALS.0 {
+    if is_mark(tokens, at, Mark::EQUALS) {
         Some(true)
-    } else if mark == Mark::LESS_OR_EQUAL.0 {
+    } else if is_mark(tokens, at, Mark::LESS_OR_EQUAL) {
         Some(false)
     } else {
         None
+    }
+}
+
+/// Whether a reserved word begins a `case`.
+#[tactic(auto, unfolding(rr_syntax::specs::Statements::is_case))]
+fn is_case(word: Keyword) -> bool
+    ensures { result ≡ case_of word.0 }
+{
+    word == Keyword::CASE || word == Keyword::CASEZ || word == Keyword::CASEX
+}
+
+/// The reserved word of a `case`, if one stands at a place.
+pub(crate) fn case_at(tokens: &[Token], at: u32) -> Option<Keyword>
+    ensures { MatchOption result (case_of (keyword (drop at (words tokens.now))) ≡ false) (λ kind. IsCaseWord (drop at (words tokens.now)) kind) }
+{
+    match keyword_at(tokens, at) {
+        None => None,
+        Some(word) => { if is_case(word) { Some(word) } else { None } }
     }
 }
 

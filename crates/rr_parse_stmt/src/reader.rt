@@ -2,7 +2,6 @@
 
 ghost use Rattle.std.specs.Prelude.{◌≡◌, ◌≤◌, ◌<◌, ◌+◌, ◌^◌, [], suc, length, drop, cond, nat_eq, IfOk, Some};
 ghost use Rattle.rr_syntax.specs.Words.{words, keyword_else, mark_colon};
-ghost use Rattle.rr_syntax.specs.Statements.{is_case as case_of};
 ghost use Rattle.rr_parse_expr.specs.Reading.{below, mark as mark_of};
 ghost use Rattle.rr_parse_stmt.specs.Reading.{arms as arms_of, assignment as assignment_of, below_arm, below_statement, block as block_of, body as body_of, cases as cases_of, conditional as conditional_of, default_arm as default_of, keyword as keyword_of, label as label_of, labelled_arm as labelled_of, labels as labels_of, sign, target as target_of, tested as tested_of};
 ghost use Rattle.rr_syntax.specs.Tree.{Done, NoArms};
@@ -10,20 +9,12 @@ ghost use Rattle.rr_parse_stmt.specs.Answer.{AnswersArm, AnswersArms, AnswersBod
 
 use crate::expressions::{LabelList, Placed, closed, labels, target, tested};
 use crate::nodes::{ArmPiece, LabelPiece, Piece, case_item, if_alone, if_else, no_labels};
-use crate::parts::{add_arm, add_statement, counted, keyword_at, name_at, sign_at};
+use crate::parts::{add_arm, add_statement, case_at, counted, name_at, sign_at};
 use bumpalo::Bump;
 use bumpalo::collections::into_bump_slice;
-use rr_parse_expr::mark_at;
+use rr_parse_expr::{is_keyword, is_mark};
 use rr_syntax::{Arm, Keyword, Mark, Stmt, Token};
 use std::alloc::AllocError;
-
-/// Whether a reserved word begins a `case`.
-#[tactic(auto, unfolding(rr_syntax::specs::Statements::is_case))]
-fn is_case(word: u8) -> bool
-    ensures { result ≡ case_of word }
-{
-    word == Keyword::CASE.0 || word == Keyword::CASEZ.0 || word == Keyword::CASEX.0
-}
 
 /// The token after `default`, which stands at `from`, and after its colon, if that stands behind it.
 fn after_default(from: u32, colon: bool) -> u32
@@ -48,21 +39,21 @@ pub(crate) fn statement<'a>(
     if room == 0 {
         return Ok(None);
     }
-    let word = keyword_at(tokens, from);
-    if mark_at(tokens, from) == Mark::SEMICOLON.0 {
+    if is_mark(tokens, from, Mark::SEMICOLON) {
         let next = from + 1;
         Ok(Some(Piece {
             stmt: Stmt::Null,
             next,
         }))
-    } else if word == Keyword::BEGIN.0 {
+    } else if is_keyword(tokens, from, Keyword::BEGIN) {
         block(tokens, from, room - 1, arena)
-    } else if word == Keyword::IF.0 {
+    } else if is_keyword(tokens, from, Keyword::IF) {
         conditional(tokens, from, room - 1, arena)
-    } else if is_case(word) {
-        cases(tokens, from, word, room - 1, arena)
     } else {
-        assignment(tokens, from, room - 1, arena)
+        match case_at(tokens, from) {
+            Some(kind) => cases(tokens, from, kind, room - 1, arena),
+            None => assignment(tokens, from, room - 1, arena),
+        }
     }
 }
 
@@ -72,7 +63,7 @@ fn label<'a>(tokens: &'a [Token<'a>], from: u32) -> Option<LabelPiece<'a>>
     requires inside { from ≤ length tokens.now }
     ensures { AnswersLabel tokens.now from (label_of (drop from (words tokens.now))) result }
 {
-    if mark_at(tokens, from) != Mark::COLON.0 {
+    if !is_mark(tokens, from, Mark::COLON) {
         return Some(LabelPiece {
             label: None,
             next: from,
@@ -134,7 +125,7 @@ fn statements<'a>(
     ensures { IfOk result (λ r. AnswersBody tokens.now from (body_of (below_statement limit) (suc (length (drop from (words tokens.now)))) Done (drop from (words tokens.now))) body.new.items r) }
 {
     let mut next = from;
-    while keyword_at(tokens, next) != Keyword::END.0 {
+    while !is_keyword(tokens, next, Keyword::END) {
         match statement(tokens, next, limit, arena)? {
             None => return Ok(None),
             Some(piece) => {
@@ -182,7 +173,7 @@ fn branches<'a>(
     match statement(tokens, test.next, limit, arena)? {
         None => Ok(None),
         Some(first) => {
-            if keyword_at(tokens, first.next) == Keyword::ELSE.0 {
+            if is_keyword(tokens, first.next, Keyword::ELSE) {
                 otherwise(tokens, from, test, first, limit, arena)
             } else {
                 Ok(Some(if_alone(test, first, arena)?))
@@ -219,14 +210,14 @@ fn otherwise<'a>(
 fn cases<'a>(
     tokens: &'a [Token<'a>],
     from: u32,
-    kind: u8,
+    kind: Keyword,
     limit: u32,
     arena: &'a Bump,
 ) -> Result<Option<Piece<'a>>, AllocError>
     requires short { length tokens.now < 2 ^ 32 }
     requires inside { from < length tokens.now }
     requires shallow { limit ≤ 500 }
-    ensures { IfOk result (λ r. AnswersStatement tokens.now from (cases_of (below limit) (below_arm limit) kind (drop (from + 1) (words tokens.now))) r) }
+    ensures { IfOk result (λ r. AnswersStatement tokens.now from (cases_of (below limit) (below_arm limit) kind.0 (drop (from + 1) (words tokens.now))) r) }
 {
     match tested(tokens, from + 1, limit, arena)? {
         None => Ok(None),
@@ -236,7 +227,7 @@ fn cases<'a>(
                 None => Ok(None),
                 Some(next) => Ok(Some(Piece {
                     stmt: Stmt::Case {
-                        kind: Keyword(kind),
+                        kind,
                         on: on.expr,
                         arms: into_bump_slice(arms),
                     },
@@ -271,7 +262,7 @@ fn arms_from<'a>(
         }
         add_arm(arms, piece.arm)?;
         next = piece.next;
-        if keyword_at(tokens, next) == Keyword::ENDCASE.0 {
+        if is_keyword(tokens, next, Keyword::ENDCASE) {
             return Ok(Some(next + 1));
         }
     }
@@ -293,7 +284,7 @@ fn arm<'a>(
     if room == 0 {
         return Ok(None);
     }
-    if keyword_at(tokens, from) == Keyword::DEFAULT.0 {
+    if is_keyword(tokens, from, Keyword::DEFAULT) {
         default_arm(tokens, from, room - 1, arena)
     } else {
         labelled_arm(tokens, from, room - 1, arena)
@@ -313,7 +304,7 @@ fn default_arm<'a>(
     requires shallow { limit ≤ 500 }
     ensures { IfOk result (λ r. AnswersArm tokens.now from (default_of (below_statement limit) (drop (from + 1) (words tokens.now))) r) }
 {
-    let colon = mark_at(tokens, from + 1) == Mark::COLON.0;
+    let colon = is_mark(tokens, from + 1, Mark::COLON);
     default_body(tokens, from, colon, limit, arena)
 }
 
@@ -411,7 +402,7 @@ fn assigned<'a>(
     requires mark_read { sign (drop left.next (words tokens.now)) ≡ Some now }
     ensures { IfOk result (λ r. AnswersStatement tokens.now from (assignment_of (below limit) (drop from (words tokens.now))) r) }
 {
-    match closed(tokens, left.next + 1, Mark::SEMICOLON.0, limit, arena)? {
+    match closed(tokens, left.next + 1, Mark::SEMICOLON, limit, arena)? {
         None => Ok(None),
         Some(value) => {
             let stmt = Stmt::Assign {

@@ -1,9 +1,13 @@
 -- The words at a token, and those of the tokens that were seen.
-use Rattle.std.proofs.Common.{◌≡◌, ℕ, zero, suc, ◌+◌, ◌⊎◌, inl, inr, ◌≤◌, ◌<◌, List, [], ◌∷◌, length, drop, get_or, refl, ap, ◌∙◌, not, arith, Bool, true, false, IsTrue}
+use Rattle.std.proofs.Common.{◌≡◌, ℕ, zero, suc, ◌+◌, ◌⊎◌, inl, inr, ◌≤◌, ◌<◌, lit<, List, [], ◌∷◌, length, drop, get_or, nat_eq, refl, ap, sym, ◌∙◌, not, arith, Bool, false, IsTrue, Some}
+use Rattle.std.specs.Prelude.{◌↔◌}
 use Rattle.rr_syntax.specs.declared.token.Token.{Token}
 use Rattle.rr_syntax.specs.declared.token.Kind.{Kind}
-use Rattle.rr_syntax.specs.Words.{Word, Marked, word, words, mark_hash}
+use Rattle.rr_syntax.specs.Words.{Word, Named, System, Digits, Reserved, Marked, word, words, mark_hash, mark_open_parenthesis}
+use Rattle.rr_parse_expr.specs.Fronts.{front_mark}
+use Rattle.rr_parse_expr.specs.Reading.{mark}
 use Rattle.rr_parse_expr.proofs.Answered.{not_equal}
+use Rattle.rr_parse_expr.proofs.FrontMarks.{mark_equals}
 use Rattle.rr_parse_expr.proofs.TokenWords.{words_at, words_past}
 use Rattle.rr_profile.specs.Profile.{is_outside, has_no_rule, opens, IsOutside, NoneOutside}
 
@@ -19,6 +23,19 @@ hash_before m ws e = rw e refl
 
 pub no_hash : (m : ℕ) (ws : List Word) → (m ≡ mark_hash → ⊥) → has_no_rule (Marked m) ws ≡ false
 no_hash m ws h = let e = not_equal m mark_hash h in rw e refl
+
+opens_mark : (ws : List Word) → opens ws ≡ nat_eq (mark ws) mark_open_parenthesis
+unfolding opens mark
+opens_mark [] = refl
+opens_mark (Marked m ∷ ws) = refl
+opens_mark (Named s ∷ ws) = refl
+opens_mark (System s ∷ ws) = refl
+opens_mark (Digits n ∷ ws) = refl
+opens_mark (Reserved k ∷ ws) = refl
+
+-- whether the mark stands there tells whether a bracket does
+pub opens_is : (ws : List Word) {b : Bool} → (IsTrue b ↔ (front_mark ws ≡ Some (record { 0 = mark_open_parenthesis }))) → b ≡ opens ws
+opens_is ws h = mark_equals ws h (lit< tt) ∙ sym (opens_mark ws)
 
 no_words : is_outside [] ≡ false
 unfolding is_outside

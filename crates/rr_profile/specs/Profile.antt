@@ -1,5 +1,5 @@
 -- The words that the profile of Verilog has no rule for.
-use Rattle.std.specs.Prelude.{ℕ, ◌<◌, List, [], ◌∷◌, codes, length, drop, Bool, true, false, not, ◌==◌, ◌&&◌, ◌||◌, IsTrue}
+use Rattle.std.specs.Prelude.{ℕ, ◌<◌, List, [], ◌∷◌, codes, length, drop, Bool, false, not, ◌==◌, ◌&&◌, ◌||◌, IsTrue}
 use Rattle.std.specs.List.{list_any}
 use Rattle.std.specs.Str.{bytes_eq}
 use Rattle.rr_syntax.specs.declared.token.Token.{Token}

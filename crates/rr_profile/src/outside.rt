@@ -2,8 +2,9 @@
 
 ghost use Rattle.std.specs.Prelude.{◌≡◌, ◌<◌, ◌^◌, length, drop, MatchOption};
 ghost use Rattle.rr_syntax.specs.Words.{words};
-ghost use Rattle.rr_profile.specs.Profile.{is_cast as cast_of, is_outside as outside_of, is_used as used_of, opens as opens_of, IsFirstOutside, NoneOutside};
+ghost use Rattle.rr_profile.specs.Profile.{is_cast as cast_of, is_outside as outside_of, is_used as used_of, IsFirstOutside, NoneOutside};
 
+use rr_parse_expr::is_mark;
 use rr_syntax::{Keyword, Kind, Mark, Token};
 
 /// The reserved words that the grammar uses (IEEE 1364-2005 annexes A and B).
@@ -64,7 +65,9 @@ fn is_outside(tokens: &[Token], at: u32) -> bool
             Kind::Number(_) => false,
             Kind::System(name) => !is_cast(name),
             Kind::Keyword(word) => !is_used(word.0),
-            Kind::Mark(mark) => mark.0 == Mark::HASH.0 && !opens(tokens, at + 1),
+            Kind::Mark(mark) => {
+                mark.0 == Mark::HASH.0 && !is_mark(tokens, at + 1, Mark::OPEN_PARENTHESIS)
+            }
         },
     }
 }
@@ -83,18 +86,4 @@ fn is_used(word: u8) -> bool
     ensures { result ≡ used_of word }
 {
     USED.contains(&word)
-}
-
-/// Whether an opening bracket stands at a token.
-#[tactic(auto, using(rr_parse_expr::proofs::TokenWords::words_at, rr_parse_expr::proofs::TokenWords::words_past), unfolding(crate::specs::Profile::opens))]
-fn opens(tokens: &[Token], at: u32) -> bool
-    ensures { result ≡ opens_of (drop at (words tokens.now)) }
-{
-    match tokens.get(at as usize) {
-        Some(token) => match token.kind {
-            Kind::Mark(mark) => mark.0 == Mark::OPEN_PARENTHESIS.0,
-            _ => false,
-        },
-        None => false,
-    }
 }

@@ -1,59 +1,39 @@
 //! A place in the tokens, and the words that may be taken there.
 
-ghost use Rattle.std.specs.Prelude.{IfSome, true, ◌≡◌};
+ghost use Rattle.std.specs.Prelude.{IfSome, IsTrue, Some, true, drop, ◌≡◌, ◌↔◌};
+ghost use Rattle.rr_syntax.specs.Words.{words};
+ghost use Rattle.rr_parse_expr.specs.Fronts.{front_keyword, front_mark};
 ghost use Rattle.rr_stop.specs.Going.{Goes, Takes};
 
+use rr_parse_expr::{is_keyword, is_mark};
 use rr_syntax::{Keyword, Kind, Mark, Token};
 
-/// The token that comes next; those before it are taken.
+/// The token that comes next, of those before `end`; those before it are taken.
 #[derive(Drop)]
 pub(crate) struct Cursor<'a> {
     pub(crate) tokens: &'a [Token<'a>],
-    pub(crate) at: usize,
+    pub(crate) end: u32,
+    pub(crate) at: u32,
 }
 
 impl<'a> Cursor<'a> {
-    /// The mark that comes next, if one does.
-    pub(crate) fn mark(&self) -> Option<Mark> {
-        match self.tokens.get(self.at) {
-            Some(token) => match token.kind {
-                Kind::Mark(mark) => Some(mark),
-                _ => None,
-            },
-            None => None,
-        }
-    }
-
-    /// The reserved word that comes next, if one does.
-    pub(crate) fn keyword(&self) -> Option<Keyword> {
-        match self.tokens.get(self.at) {
-            Some(token) => match token.kind {
-                Kind::Keyword(word) => Some(word),
-                _ => None,
-            },
-            None => None,
-        }
-    }
-
     /// Whether a mark comes next.
-    pub(crate) fn is_mark(&self, mark: Mark) -> bool {
-        match self.mark() {
-            Some(found) => found.0 == mark.0,
-            None => false,
-        }
+    pub(crate) fn is_mark(&self, mark: Mark) -> bool
+        ensures { IsTrue result ↔ (front_mark (drop self.now.at (words self.now.tokens.now)) ≡ Some mark) }
+    {
+        is_mark(self.tokens, self.at, mark)
     }
 
     /// Whether a reserved word comes next.
-    pub(crate) fn is_keyword(&self, word: Keyword) -> bool {
-        match self.keyword() {
-            Some(found) => found.0 == word.0,
-            None => false,
-        }
+    pub(crate) fn is_keyword(&self, word: Keyword) -> bool
+        ensures { IsTrue result ↔ (front_keyword (drop self.now.at (words self.now.tokens.now)) ≡ Some word) }
+    {
+        is_keyword(self.tokens, self.at, word)
     }
 
     /// Whether a name comes next.
     pub(crate) fn is_name(&self) -> bool {
-        match self.tokens.get(self.at) {
+        match self.tokens.get(self.at as usize) {
             Some(token) => matches!(token.kind, Kind::Name(_)),
             None => false,
         }
@@ -64,7 +44,7 @@ impl<'a> Cursor<'a> {
         ensures goes { Goes self.old self.new }
         ensures takes { result ≡ true → Takes self.old self.new }
     {
-        if may && self.at < self.tokens.len() {
+        if may && self.at < self.end {
             self.at += 1;
             true
         } else {

@@ -5,14 +5,15 @@ ghost use Rattle.std.specs.Prelude.{◌<◌, IfSome};
 ghost use Rattle.rr_stop.specs.Going.{Goes};
 
 use crate::cursor::Cursor;
+use rr_parse_expr::mark_at;
 use rr_syntax::{Kind, Mark, infix_level, is_prefix};
 
 /// The level of the operator between two operands that comes next, 0 where none does.
 fn next_level(cursor: &Cursor) -> u8 {
-    match cursor.mark() {
+    match mark_at(cursor.tokens, cursor.at) {
         None => 0,
         Some(mark) => {
-            if mark.0 == Mark::QUESTION.0 {
+            if mark == Mark::QUESTION {
                 0
             } else {
                 infix_level(mark)
@@ -23,14 +24,14 @@ fn next_level(cursor: &Cursor) -> u8 {
 
 /// Whether an operator of one operand comes next.
 fn is_prefix_next(cursor: &Cursor) -> bool {
-    match cursor.mark() {
+    match mark_at(cursor.tokens, cursor.at) {
         Some(mark) => is_prefix(mark),
         None => false,
     }
 }
 
 fn is_number(cursor: &Cursor) -> bool {
-    match cursor.tokens.get(cursor.at) {
+    match cursor.tokens.get(cursor.at as usize) {
         Some(token) => matches!(token.kind, Kind::Number(_)),
         None => false,
     }
@@ -38,7 +39,7 @@ fn is_number(cursor: &Cursor) -> bool {
 
 /// Whether `$signed` or `$unsigned` comes next.
 fn is_cast(cursor: &Cursor) -> bool {
-    match cursor.tokens.get(cursor.at) {
+    match cursor.tokens.get(cursor.at as usize) {
         Some(token) => matches!(token.kind, Kind::System(_)),
         None => false,
     }

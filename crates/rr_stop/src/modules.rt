@@ -1,14 +1,14 @@
 //! Modules and their items (IEEE 1364-2005 annexes A.1.2 to A.4.1).
 
 ghost use Rattle.std.specs.Prelude.{◌≡◌, ◌≤◌, ◌<◌, ◌^◌, IfSome, false, length, true};
-ghost use Rattle.rr_syntax.specs.Words.{word};
-ghost use Rattle.rr_stop.specs.Beginning.{begins_module, is_module as is_module_word};
+ghost use Rattle.rr_stop.specs.Beginning.{begins_module};
 ghost use Rattle.rr_stop.specs.Going.{Goes, Takes};
 
 use crate::cursor::Cursor;
 use crate::expressions::{expression, list, range, target};
 use crate::statements::statement;
-use rr_syntax::{Keyword, Kind, Mark, Token};
+use rr_parse_expr::is_keyword;
+use rr_syntax::{Keyword, Mark, Token};
 
 /// The room of an expression in the brackets of a module, which lies below the source and the module,
 /// where the whole has at most the depth 500.
@@ -17,24 +17,11 @@ const BRACKETS: u32 = 499;
 /// The room of an expression or a statement in an item, which lies one deeper.
 const ITEM: u32 = 498;
 
-/// Whether a word is `module`.
-fn is_module(kind: Kind) -> bool
-    ensures { result ≡ is_module_word (word kind.entry) }
-{
-    match kind {
-        Kind::Keyword(found) => found.0 == Keyword::MODULE.0,
-        Kind::Name(_) | Kind::System(_) | Kind::Number(_) | Kind::Mark(_) => false,
-    }
-}
-
 /// Whether the first word is `module`.
 fn begins(tokens: &[Token]) -> bool
     ensures { result ≡ begins_module tokens.now }
 {
-    match tokens.first() {
-        Some(token) => is_module(token.kind),
-        None => false,
-    }
+    is_keyword(tokens, 0, Keyword::MODULE)
 }
 
 /// The first token that no module in progress can take, or the number of tokens where the text ends
@@ -50,13 +37,10 @@ pub fn stop(tokens: &[Token]) -> u32
     if !begins(tokens) {
         return 0;
     }
-    let mut cursor = Cursor { tokens, at: 1 };
+    let end = tokens.len() as u32;
+    let mut cursor = Cursor { tokens, end, at: 1 };
     modules(&mut cursor);
-    if cursor.at < tokens.len() {
-        cursor.at as u32
-    } else {
-        tokens.len() as u32
-    }
+    if cursor.at < end { cursor.at } else { end }
 }
 
 /// Modules up to the end, from behind the word `module` of the first one.

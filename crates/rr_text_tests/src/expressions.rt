@@ -2,7 +2,9 @@
 
 use crate::texts::{push_times, tokens_of};
 use bumpalo::Bump;
-use rr_parse_expr::{ParseFault, expr, expr_within, mark_at, operand, operand_within};
+use rr_parse_expr::{
+    ParseFault, expr, expr_within, is_mark, mark_at, operand, operand_within, target_within,
+};
 use rr_syntax::{Expr, MARKS, Mark};
 use std::alloc::{AllocError, Global};
 use std::test::Fail;
@@ -284,6 +286,25 @@ fn operands_and_depths(rt: HostRuntime) -> Result<(), Fail> {
     Ok(())
 }
 
+/// The token after the target at the front, if one stands there.
+fn target_end(alloc: Global, text: &str) -> Result<Option<u32>, Fail> {
+    let arena = Bump::new(alloc);
+    let tokens = tokens_of(text, &arena)?;
+    match target_within(tokens, 0, 500, &arena) {
+        Ok((_, next)) => Ok(Some(next)),
+        Err(_) => Ok(None),
+    }
+}
+
+#[test]
+fn targets(rt: HostRuntime) -> Result<(), Fail> {
+    assert!(rt; target_end(rt.alloc(), "{ a , b [ 2 ] } <= c")? == Some(8));
+    for text in ["", "3 = a", "{ a , 3 } = b", "( a ) = b", "- a"] {
+        assert!(rt; target_end(rt.alloc(), text)? == None, "{text}");
+    }
+    Ok(())
+}
+
 /// Where the expression at the front of a text ends.
 fn end_of(alloc: Global, text: &str) -> Result<Option<u32>, Fail> {
     let arena = Bump::new(alloc);
@@ -333,15 +354,17 @@ fn many_operands(rt: HostRuntime) -> Result<(), Fail> {
     Ok(())
 }
 
-/// A mark is told by its place in the table, and 255 where none stands.
+/// A mark is told where one stands, and no other token is taken for one.
 #[test]
 fn marks(rt: HostRuntime) -> Result<(), Fail> {
     let arena = Bump::new(rt.alloc());
     let tokens = tokens_of("a <<< begin 3 (", &arena)?;
-    assert_eq!(rt; mark_at(tokens, 1), Mark::SIGNED_SHIFT_LEFT.0);
-    assert_eq!(rt; mark_at(tokens, 4), Mark::OPEN_PARENTHESIS.0);
+    assert_eq!(rt; mark_at(tokens, 1), Some(Mark::SIGNED_SHIFT_LEFT));
+    assert_eq!(rt; mark_at(tokens, 4), Some(Mark::OPEN_PARENTHESIS));
+    assert!(rt; is_mark(tokens, 4, Mark::OPEN_PARENTHESIS));
+    assert!(rt; !is_mark(tokens, 1, Mark::SHIFT_LEFT));
     for at in [0, 2, 3, 5, u32::MAX] {
-        assert_eq!(rt; mark_at(tokens, at), 255);
+        assert_eq!(rt; mark_at(tokens, at), None);
     }
     Ok(())
 }

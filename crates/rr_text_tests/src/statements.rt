@@ -8,8 +8,8 @@ ghost use Rattle.rr_syntax.specs.View.{plain_source, plain_statement};
 use crate::texts::{push_times, tokens_of};
 use bumpalo::Bump;
 use bumpalo::collections::into_bump_slice;
-use rr_parse_expr::ParseFault;
-use rr_parse_stmt::{keyword_at, stmt};
+use rr_parse_expr::{ParseFault, is_keyword, keyword_at};
+use rr_parse_stmt::stmt;
 use rr_syntax::{Arm, Events, Expr, Item, Keyword, Module, Source, Stmt, depth, spell_len};
 use std::alloc::{AllocError, Global};
 use std::test::Fail;
@@ -349,15 +349,17 @@ fn whole_source(rt: HostRuntime) -> Result<(), Fail> {
     Ok(())
 }
 
-/// A reserved word is told by its place in the table, and 255 where none stands.
+/// A reserved word is told where one stands, and no other token is taken for one.
 #[test]
 fn reserved_words(rt: HostRuntime) -> Result<(), Fail> {
     let arena = Bump::new(rt.alloc());
     let tokens = tokens_of("a begin <= 3 endcase", &arena)?;
-    assert_eq!(rt; keyword_at(tokens, 1), Keyword::BEGIN.0);
-    assert_eq!(rt; keyword_at(tokens, 4), Keyword::ENDCASE.0);
+    assert_eq!(rt; keyword_at(tokens, 1), Some(Keyword::BEGIN));
+    assert_eq!(rt; keyword_at(tokens, 4), Some(Keyword::ENDCASE));
+    assert!(rt; is_keyword(tokens, 4, Keyword::ENDCASE));
+    assert!(rt; !is_keyword(tokens, 1, Keyword::END));
     for at in [0, 2, 3, 5, u32::MAX] {
-        assert_eq!(rt; keyword_at(tokens, at), 255);
+        assert_eq!(rt; keyword_at(tokens, at), None);
     }
     Ok(())
 }

@@ -1,4 +1,4 @@
-use Rattle.std.proofs.Common.{rules, arith, Ok, ◌∷◌, []}
+use Rattle.std.proofs.Common.{rules, arith, Ok}
 use Rattle.rr_parse.proofs.Chained.{run_start, run_more}
 use Rattle.rr_parse.proofs.lists.all.Goals as goal
 

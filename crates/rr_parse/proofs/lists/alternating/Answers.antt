@@ -1,4 +1,4 @@
-use Rattle.std.proofs.Common.{rules, arith, Ok, ◌+◌, ◌≡◌, ◌∷◌, []}
+use Rattle.std.proofs.Common.{rules, arith, Ok, ◌≡◌, ◌∷◌, []}
 use Rattle.rr_grammar.specs.Formats.{Finds, FindsNone}
 use Rattle.rr_grammar.specs.Parts.{separator_of}
 use Rattle.rr_parse.specs.Chains.{Refuses}

@@ -1,17 +1,30 @@
-use Rattle.std.proofs.Common.{◌∙◌, drop, sym}
+use Rattle.std.proofs.Common.{◌<◌, ◌-◌, drop, arith}
 use Rattle.rr_syntax.specs.Words.{words}
 use Rattle.rr_syntax.specs.Expressions.{unary_level}
 use Rattle.rr_parse_expr.specs.Reading.{below}
+use Rattle.rr_parse_expr.proofs.Exactly.{below_zero, below_is}
+use Rattle.rr_parse_stmt.proofs.FromExpressions.{syntax_memory}
 use Rattle.rr_parse_stmt.proofs.Steps.{target-none}
-use Rattle.rr_parse_stmt.proofs.Answered.{tree_some, tree_none}
-use Rattle.rr_parse_stmt.proofs.Choices.{made_target, target_refused}
+use Rattle.rr_parse_stmt.proofs.Targets.{target_by, no_target_by, fails_target}
 use Rattle.rr_parse_stmt.proofs.expressions.target.Goals as goal
 
-pub returns-in-None : goal.returns-in-None
-returns-in-None c = target-none (below c.args.room) (drop c.args.from (words c.args.tokens.now)) (tree_none c.args.tokens.now c.args.from 0 (below c.args.room unary_level (drop c.args.from (words c.args.tokens.now))) c.in_ok-operand.field-0 c.in-None.is c.in_ok-operand.ensures)
+pub returns-then-room-eq0 : goal.returns-then-room-eq0
+returns-then-room-eq0 c = target-none (below c.args.room) (drop c.args.from (words c.args.tokens.now)) (below_zero c.args.room unary_level (drop c.args.from (words c.args.tokens.now)) c.if-room-eq0.true)
 
-pub returns-then-is_target : goal.returns-then-is_target
-returns-then-is_target c = made_target c.args.tokens.now c.args.from c.args.room c.in-Some.found (tree_some c.args.tokens.now c.args.from 0 (below c.args.room unary_level (drop c.args.from (words c.args.tokens.now))) c.in_ok-operand.field-0 c.in-Some.found c.in-Some.is c.in_ok-operand.ensures) (sym c.is_target.ensures ∙ c.if-is_target.true)
+pub returns-in-Ok : goal.returns-in-Ok
+returns-in-Ok c =
+    let p : 0 < c.args.room = omega arith in
+    record {
+      read = record {
+        found_is = target_by (below c.args.room) (c.args.room - 1) c.args.tokens.now c.args.from c.in-Ok.expr.now c.in-Ok.next (below_is c.args.room unary_level (drop c.args.from (words c.args.tokens.now)) p) c.in-Ok.ensures;
+        within = c.in-Ok.ensures.operand.within;
+        taken = omega (arith, c.in-Ok.ensures.operand.taken);
+        numbered = c.in-Ok.ensures.operand.numbered;
+      };
+      is = c.in-Ok.ensures.assigned;
+    }
 
-pub returns-else-is_target : goal.returns-else-is_target
-returns-else-is_target c = target_refused c.args.tokens.now c.args.from c.args.room c.in-Some.found (tree_some c.args.tokens.now c.args.from 0 (below c.args.room unary_level (drop c.args.from (words c.args.tokens.now))) c.in_ok-operand.field-0 c.in-Some.found c.in-Some.is c.in_ok-operand.ensures) (sym c.is_target.ensures ∙ c.if-is_target.false)
+pub returns-in-Err-Syntax : goal.returns-in-Err-Syntax
+returns-in-Err-Syntax c =
+    let p : 0 < c.args.room = omega arith in
+    no_target_by (below c.args.room) (c.args.room - 1) c.args.tokens.now c.args.from (below_is c.args.room unary_level (drop c.args.from (words c.args.tokens.now)) p) (fails_target (c.args.room - 1) c.args.tokens.now c.args.from c.in-Err-Syntax.field-0 (λ e. syntax_memory c.in-Err-Syntax.field-0 c.in-Err-Syntax.field-0-0 c.in-Err-Syntax.field-0-is e) c.in-Err-Syntax.ensures)

@@ -1,29 +1,31 @@
-use Rattle.std.proofs.Common.{◌<◌, suc, ◌+◌, length, drop, refl, sym, ap, ◌∙◌, arith}
-use Rattle.rr_syntax.specs.Words.{words, keyword_begin, keyword_default, keyword_else, keyword_end, keyword_endcase, keyword_if, mark_semicolon}
+use Rattle.std.proofs.Common.{◌≡◌, lit<, nat_eq, ◌<◌, suc, ◌+◌, length, drop, sym, ap, ◌∙◌, arith}
+use Rattle.rr_syntax.specs.Words.{words, keyword_begin, keyword_default, keyword_else, keyword_end, keyword_endcase, keyword_if, mark_colon, mark_semicolon}
 use Rattle.rr_syntax.specs.Tree.{Done, NoArms, MoreArms}
 use Rattle.rr_syntax.specs.Statements.{is_case, defaults}
 use Rattle.rr_syntax.specs.View.{plain_statement, plain_arm}
 use Rattle.rr_syntax.proofs.Nonempty.{spell_statement-some, spell_arm-some}
-use Rattle.rr_parse_expr.specs.Reading.{below}
+use Rattle.rr_parse_expr.specs.Reading.{below, mark}
 use Rattle.rr_parse_expr.proofs.Answered.{mark_inside}
-use Rattle.rr_parse_stmt.specs.Reading.{keyword, label, body, tested, labels, arms, below_statement, below_arm}
+use Rattle.rr_parse_stmt.specs.Reading.{label, body, tested, labels, arms, below_statement, below_arm}
 use Rattle.rr_parse_stmt.proofs.Steps.{block-none, if-none}
 use Rattle.rr_parse_stmt.proofs.Sound.{case_less}
 use Rattle.rr_parse_stmt.proofs.Answered.{keyword_inside, tree_some, tree_none, stmt_some, stmt_none, arm_some, arm_none, labels_some, labels_nothing, label_is, label_fails, body_is, body_fails, arms_is, arms_fails, bodied_start, bodied_more, bodied_fail, bodied_end, made_block, block_fails}
 use Rattle.rr_parse_stmt.proofs.Choices.{made_if, made_else, else_fails, then_fails, armed_start, arm_added, armed_end, armed_next, armed_fail, armed_twice, at_most_is, at_most_none, made_case, case_test_fails, case_arms_fail, made_default, default_none, default_fits, made_arm, labels_fails, labelled_fails, no_room, is_null, no_arm_room, is_default, is_labelled, is_block, is_if, is_case_at, is_assignment}
+use Rattle.rr_parse_expr.proofs.FrontMarks.{mark_differs, mark_equals, mark_stands}
+use Rattle.rr_parse_stmt.proofs.FrontWords.{keyword_differs, keyword_stands}
 use Rattle.rr_parse_stmt.proofs.reader.+statements.Goals as goal
 
 pub arm-returns-then-room-eq0 : goal.arm-returns-then-room-eq0
 arm-returns-then-room-eq0 t c = no_arm_room c.args.room (drop c.args.from (words c.args.tokens.now)) c.if-room-eq0.true
 
-pub arm-returns-then-keyword_at : goal.arm-returns-then-keyword_at
-arm-returns-then-keyword_at t c = rw (is_default c.args.room c.args.from c.args.tokens.now (let p : 0 < c.args.room = omega arith in p) (sym c.keyword_at.ensures ∙ c.if-keyword_at.true)) c.default_arm.ensures
+pub arm-returns-then-is_keyword : goal.arm-returns-then-is_keyword
+arm-returns-then-is_keyword t c = rw (is_default c.args.room c.args.from c.args.tokens.now (let p : 0 < c.args.room = omega arith in p) (keyword_stands _ c.is_keyword.ensures c.if-is_keyword.true)) c.default_arm.ensures
 
-pub arm-returns-else-keyword_at : goal.arm-returns-else-keyword_at
-arm-returns-else-keyword_at t c = rw (is_labelled c.args.room c.args.from c.args.tokens.now (let p : 0 < c.args.room = omega arith in p) (λ e. c.if-keyword_at.false (c.keyword_at.ensures ∙ e))) c.labelled_arm.ensures
+pub arm-returns-else-is_keyword : goal.arm-returns-else-is_keyword
+arm-returns-else-is_keyword t c = rw (is_labelled c.args.room c.args.from c.args.tokens.now (let p : 0 < c.args.room = omega arith in p) (keyword_differs _ c.is_keyword.ensures c.if-is_keyword.false (lit< tt))) c.labelled_arm.ensures
 
 pub arm-default_arm-requires : goal.arm-default_arm-requires
-arm-default_arm-requires t c = let h = keyword_inside c.args.tokens.now c.args.from keyword_default (sym c.keyword_at.ensures ∙ c.if-keyword_at.true) (omega arith) in grind arith
+arm-default_arm-requires t c = let h = keyword_inside c.args.tokens.now c.args.from keyword_default (keyword_stands _ c.is_keyword.ensures c.if-is_keyword.true) (omega arith) in grind arith
 
 pub arms_from-loop-piece-init : goal.arms_from-loop-piece-init
 arms_from-loop-piece-init t c = armed_start c.args.tokens.now c.args.from c.args.limit c.args.arms.now.items c.requires.inside c.requires.empty
@@ -35,12 +37,12 @@ pub arms_from-counted-requires : goal.arms_from-counted-requires
 arms_from-counted-requires t c = record { once = c.loop-piece.invariant.once }
 
 pub arms_from-overflow_add-result : goal.arms_from-overflow_add-result
-arms_from-overflow_add-result t c = let h = keyword_inside c.args.tokens.now c.in-Some.piece.next keyword_endcase (sym c.keyword_at.ensures ∙ c.if-keyword_at.true) (omega arith) in omega arith
+arms_from-overflow_add-result t c = let h = keyword_inside c.args.tokens.now c.in-Some.piece.next keyword_endcase (keyword_stands _ c.is_keyword.ensures c.if-is_keyword.true) (omega arith) in omega arith
 
-pub arms_from-returns-then-keyword_at : goal.arms_from-returns-then-keyword_at
-arms_from-returns-then-keyword_at t c =
+pub arms_from-returns-then-is_keyword : goal.arms_from-returns-then-is_keyword
+arms_from-returns-then-is_keyword t c =
     let k = at_most_is (c.loop-piece.defaults + defaults (MoreArms (plain_arm c.in-Some.piece.arm) NoArms)) c.in-Some-counted.more (sym c.counted.ensures ∙ c.in-Some-counted.is) in
-    armed_end c.args.tokens.now c.args.from c.args.limit (arms (below_arm c.args.limit) (suc (length (drop c.args.from (words c.args.tokens.now)))) NoArms (drop c.args.from (words c.args.tokens.now))) c.add_arm.new.arms.items c.in-Some.piece.next c.in-Some-counted.more (arm_added c.args.tokens.now c.args.from c.args.limit (arms (below_arm c.args.limit) (suc (length (drop c.args.from (words c.args.tokens.now)))) NoArms (drop c.args.from (words c.args.tokens.now))) c.loop-piece.arms.items c.add_arm.new.arms.items c.loop-piece.next c.loop-piece.defaults c.in-Some-counted.more c.in-Some.piece c.loop-piece.invariant (arm_some c.args.tokens.now c.loop-piece.next (below_arm c.args.limit (drop c.loop-piece.next (words c.args.tokens.now))) c.in_ok-piece.field-0 c.in-Some.piece c.in-Some.is c.in_ok-piece.ensures) c.in_ok-add_arm.ensures k.0 (omega (arith, k.0, k.1))) (sym c.keyword_at.ensures ∙ c.if-keyword_at.true)
+    armed_end c.args.tokens.now c.args.from c.args.limit (arms (below_arm c.args.limit) (suc (length (drop c.args.from (words c.args.tokens.now)))) NoArms (drop c.args.from (words c.args.tokens.now))) c.add_arm.new.arms.items c.in-Some.piece.next c.in-Some-counted.more (arm_added c.args.tokens.now c.args.from c.args.limit (arms (below_arm c.args.limit) (suc (length (drop c.args.from (words c.args.tokens.now)))) NoArms (drop c.args.from (words c.args.tokens.now))) c.loop-piece.arms.items c.add_arm.new.arms.items c.loop-piece.next c.loop-piece.defaults c.in-Some-counted.more c.in-Some.piece c.loop-piece.invariant (arm_some c.args.tokens.now c.loop-piece.next (below_arm c.args.limit (drop c.loop-piece.next (words c.args.tokens.now))) c.in_ok-piece.field-0 c.in-Some.piece c.in-Some.is c.in_ok-piece.ensures) c.in_ok-add_arm.ensures k.0 (omega (arith, k.0, k.1))) (keyword_stands _ c.is_keyword.ensures c.if-is_keyword.true)
 
 pub arms_from-loop-piece-smaller : goal.arms_from-loop-piece-smaller
 arms_from-loop-piece-smaller t c = let f = (arm_some c.args.tokens.now c.loop-piece.next (below_arm c.args.limit (drop c.loop-piece.next (words c.args.tokens.now))) c.in_ok-piece.field-0 c.in-Some.piece c.in-Some.is c.in_ok-piece.ensures) in omega (arith, f.taken, f.within, spell_arm-some (plain_arm c.in-Some.piece.arm))
@@ -48,7 +50,7 @@ arms_from-loop-piece-smaller t c = let f = (arm_some c.args.tokens.now c.loop-pi
 pub arms_from-loop-piece-preserved : goal.arms_from-loop-piece-preserved
 arms_from-loop-piece-preserved t c =
     let k = at_most_is (c.loop-piece.defaults + defaults (MoreArms (plain_arm c.in-Some.piece.arm) NoArms)) c.in-Some-counted.more (sym c.counted.ensures ∙ c.in-Some-counted.is) in
-    armed_next c.args.tokens.now c.args.from c.args.limit (arms (below_arm c.args.limit) (suc (length (drop c.args.from (words c.args.tokens.now)))) NoArms (drop c.args.from (words c.args.tokens.now))) c.add_arm.new.arms.items c.in-Some.piece.next c.in-Some-counted.more (arm_added c.args.tokens.now c.args.from c.args.limit (arms (below_arm c.args.limit) (suc (length (drop c.args.from (words c.args.tokens.now)))) NoArms (drop c.args.from (words c.args.tokens.now))) c.loop-piece.arms.items c.add_arm.new.arms.items c.loop-piece.next c.loop-piece.defaults c.in-Some-counted.more c.in-Some.piece c.loop-piece.invariant (arm_some c.args.tokens.now c.loop-piece.next (below_arm c.args.limit (drop c.loop-piece.next (words c.args.tokens.now))) c.in_ok-piece.field-0 c.in-Some.piece c.in-Some.is c.in_ok-piece.ensures) c.in_ok-add_arm.ensures k.0 (omega (arith, k.0, k.1))) (λ e. c.if-keyword_at.false (c.keyword_at.ensures ∙ e))
+    armed_next c.args.tokens.now c.args.from c.args.limit (arms (below_arm c.args.limit) (suc (length (drop c.args.from (words c.args.tokens.now)))) NoArms (drop c.args.from (words c.args.tokens.now))) c.add_arm.new.arms.items c.in-Some.piece.next c.in-Some-counted.more (arm_added c.args.tokens.now c.args.from c.args.limit (arms (below_arm c.args.limit) (suc (length (drop c.args.from (words c.args.tokens.now)))) NoArms (drop c.args.from (words c.args.tokens.now))) c.loop-piece.arms.items c.add_arm.new.arms.items c.loop-piece.next c.loop-piece.defaults c.in-Some-counted.more c.in-Some.piece c.loop-piece.invariant (arm_some c.args.tokens.now c.loop-piece.next (below_arm c.args.limit (drop c.loop-piece.next (words c.args.tokens.now))) c.in_ok-piece.field-0 c.in-Some.piece c.in-Some.is c.in_ok-piece.ensures) c.in_ok-add_arm.ensures k.0 (omega (arith, k.0, k.1))) (keyword_differs _ c.is_keyword.ensures c.if-is_keyword.false (lit< tt))
 
 pub arms_from-returns : goal.arms_from-returns
 arms_from-returns t c = armed_fail c.args.tokens.now c.args.from c.args.limit (arms (below_arm c.args.limit) (suc (length (drop c.args.from (words c.args.tokens.now)))) NoArms (drop c.args.from (words c.args.tokens.now))) c.loop-piece.arms.items c.loop-piece.next c.loop-piece.defaults c.loop-piece.invariant (arm_none c.args.tokens.now c.loop-piece.next (below_arm c.args.limit (drop c.loop-piece.next (words c.args.tokens.now))) c.in_ok-piece.field-0 c.in_default.is c.in_ok-piece.ensures)
@@ -66,16 +68,16 @@ pub block-returns : goal.block-returns
 block-returns t c = made_block c.args.tokens.now c.args.from c.args.limit c.in-Some.name c.into_bump_slice.result c.statements.new.body.items c.in-Some-2.next c.into_bump_slice.ensures (label_is c.args.tokens.now (c.args.from + 1) (label (drop (c.args.from + 1) (words c.args.tokens.now))) c.label.result c.in-Some.name c.in-Some.is c.label.ensures) (body_is c.args.tokens.now c.in-Some.name.next (body (below_statement c.args.limit) (suc (length (drop c.in-Some.name.next (words c.args.tokens.now)))) Done (drop c.in-Some.name.next (words c.args.tokens.now))) c.statements.new.body.items c.in_ok-statements-in-Some.field-0 c.in-Some-2.next c.in-Some-2.is c.in_ok-statements-in-Some.ensures)
 
 pub cases-returns-in-None : goal.cases-returns-in-None
-cases-returns-in-None t c = case_test_fails c.args.tokens.now c.args.from c.args.limit c.args.kind (tree_none c.args.tokens.now (c.args.from + 1 + 1) 1 (tested (below c.args.limit) (drop (c.args.from + 1) (words c.args.tokens.now))) c.in_ok-tested.field-0 c.in-None.is c.in_ok-tested.ensures)
+cases-returns-in-None t c = case_test_fails c.args.tokens.now c.args.from c.args.limit c.args.kind.0 (tree_none c.args.tokens.now (c.args.from + 1 + 1) 1 (tested (below c.args.limit) (drop (c.args.from + 1) (words c.args.tokens.now))) c.in_ok-tested.field-0 c.in-None.is c.in_ok-tested.ensures)
 
 pub cases-arms_from-requires : goal.cases-arms_from-requires
 cases-arms_from-requires t c = let f = (tree_some c.args.tokens.now (c.args.from + 1 + 1) 1 (tested (below c.args.limit) (drop (c.args.from + 1) (words c.args.tokens.now))) c.in_ok-tested.field-0 c.in-Some.on c.in-Some.is c.in_ok-tested.ensures) in grind (arith, f.within)
 
 pub cases-returns-in-None-2 : goal.cases-returns-in-None-2
-cases-returns-in-None-2 t c = case_arms_fail c.args.tokens.now c.args.from c.args.limit c.args.kind c.in-Some.on (tree_some c.args.tokens.now (c.args.from + 1 + 1) 1 (tested (below c.args.limit) (drop (c.args.from + 1) (words c.args.tokens.now))) c.in_ok-tested.field-0 c.in-Some.on c.in-Some.is c.in_ok-tested.ensures) (arms_fails c.args.tokens.now c.in-Some.on.next (arms (below_arm c.args.limit) (suc (length (drop c.in-Some.on.next (words c.args.tokens.now)))) NoArms (drop c.in-Some.on.next (words c.args.tokens.now))) c.arms_from.new.arms.items c.in_ok-arms_from-in-Some.field-0 c.in-None-2.is c.in_ok-arms_from-in-Some.ensures)
+cases-returns-in-None-2 t c = case_arms_fail c.args.tokens.now c.args.from c.args.limit c.args.kind.0 c.in-Some.on (tree_some c.args.tokens.now (c.args.from + 1 + 1) 1 (tested (below c.args.limit) (drop (c.args.from + 1) (words c.args.tokens.now))) c.in_ok-tested.field-0 c.in-Some.on c.in-Some.is c.in_ok-tested.ensures) (arms_fails c.args.tokens.now c.in-Some.on.next (arms (below_arm c.args.limit) (suc (length (drop c.in-Some.on.next (words c.args.tokens.now)))) NoArms (drop c.in-Some.on.next (words c.args.tokens.now))) c.arms_from.new.arms.items c.in_ok-arms_from-in-Some.field-0 c.in-None-2.is c.in_ok-arms_from-in-Some.ensures)
 
 pub cases-returns : goal.cases-returns
-cases-returns t c = made_case c.args.tokens.now c.args.from c.args.limit c.args.kind c.in-Some.on c.into_bump_slice.result c.arms_from.new.arms.items c.in-Some-2.next c.into_bump_slice.ensures (tree_some c.args.tokens.now (c.args.from + 1 + 1) 1 (tested (below c.args.limit) (drop (c.args.from + 1) (words c.args.tokens.now))) c.in_ok-tested.field-0 c.in-Some.on c.in-Some.is c.in_ok-tested.ensures) (arms_is c.args.tokens.now c.in-Some.on.next (arms (below_arm c.args.limit) (suc (length (drop c.in-Some.on.next (words c.args.tokens.now)))) NoArms (drop c.in-Some.on.next (words c.args.tokens.now))) c.arms_from.new.arms.items c.in_ok-arms_from-in-Some.field-0 c.in-Some-2.next c.in-Some-2.is c.in_ok-arms_from-in-Some.ensures)
+cases-returns t c = made_case c.args.tokens.now c.args.from c.args.limit c.args.kind.0 c.in-Some.on c.into_bump_slice.result c.arms_from.new.arms.items c.in-Some-2.next c.into_bump_slice.ensures (tree_some c.args.tokens.now (c.args.from + 1 + 1) 1 (tested (below c.args.limit) (drop (c.args.from + 1) (words c.args.tokens.now))) c.in_ok-tested.field-0 c.in-Some.on c.in-Some.is c.in_ok-tested.ensures) (arms_is c.args.tokens.now c.in-Some.on.next (arms (below_arm c.args.limit) (suc (length (drop c.in-Some.on.next (words c.args.tokens.now)))) NoArms (drop c.in-Some.on.next (words c.args.tokens.now))) c.arms_from.new.arms.items c.in_ok-arms_from-in-Some.field-0 c.in-Some-2.next c.in-Some-2.is c.in_ok-arms_from-in-Some.ensures)
 
 pub conditional-returns-in-None : goal.conditional-returns-in-None
 conditional-returns-in-None t c = if-none (below c.args.limit) (below_statement c.args.limit) (drop (c.args.from + 1) (words c.args.tokens.now)) (tree_none c.args.tokens.now (c.args.from + 1 + 1) 1 (tested (below c.args.limit) (drop (c.args.from + 1) (words c.args.tokens.now))) c.in_ok-tested.field-0 c.in-None.is c.in_ok-tested.ensures)
@@ -87,10 +89,10 @@ pub branches-returns-in-None : goal.branches-returns-in-None
 branches-returns-in-None t c = then_fails c.args.tokens.now c.args.from c.args.limit c.args.test c.requires.test_read (stmt_none c.args.tokens.now c.args.test.next (below_statement c.args.limit (drop c.args.test.next (words c.args.tokens.now))) c.in_ok-statement.field-0 c.in-None.is c.in_ok-statement.ensures)
 
 pub branches-otherwise-requires : goal.branches-otherwise-requires
-branches-otherwise-requires t c = let f = (stmt_some c.args.tokens.now c.args.test.next (below_statement c.args.limit (drop c.args.test.next (words c.args.tokens.now))) c.in_ok-statement.field-0 c.in-Some.first c.in-Some.is c.in_ok-statement.ensures) in let k = (sym c.keyword_at.ensures ∙ c.if-keyword_at.true) in grind (arith, f, k, c.requires.test_read)
+branches-otherwise-requires t c = let f = (stmt_some c.args.tokens.now c.args.test.next (below_statement c.args.limit (drop c.args.test.next (words c.args.tokens.now))) c.in_ok-statement.field-0 c.in-Some.first c.in-Some.is c.in_ok-statement.ensures) in let k = (keyword_stands _ c.is_keyword.ensures c.if-is_keyword.true) in grind (arith, f, k, c.requires.test_read)
 
 pub branches-returns-in_ok-if_alone-in-Some : goal.branches-returns-in_ok-if_alone-in-Some
-branches-returns-in_ok-if_alone-in-Some t c = made_if c.args.tokens.now c.args.from c.args.limit c.args.test c.in-Some.first c.in_ok-if_alone-in-Some.field-0 c.in_ok-if_alone-in-Some.ensures c.requires.test_read (stmt_some c.args.tokens.now c.args.test.next (below_statement c.args.limit (drop c.args.test.next (words c.args.tokens.now))) c.in_ok-statement.field-0 c.in-Some.first c.in-Some.is c.in_ok-statement.ensures) (λ e. c.if-keyword_at.false (c.keyword_at.ensures ∙ e))
+branches-returns-in_ok-if_alone-in-Some t c = made_if c.args.tokens.now c.args.from c.args.limit c.args.test c.in-Some.first c.in_ok-if_alone-in-Some.field-0 c.in_ok-if_alone-in-Some.ensures c.requires.test_read (stmt_some c.args.tokens.now c.args.test.next (below_statement c.args.limit (drop c.args.test.next (words c.args.tokens.now))) c.in_ok-statement.field-0 c.in-Some.first c.in-Some.is c.in_ok-statement.ensures) (keyword_differs _ c.is_keyword.ensures c.if-is_keyword.false (lit< tt))
 
 pub otherwise-overflow_add-first : goal.otherwise-overflow_add-first
 otherwise-overflow_add-first t c = let h = keyword_inside c.args.tokens.now c.args.first.next keyword_else c.requires.there (omega arith) in omega arith
@@ -100,6 +102,11 @@ otherwise-returns-in-None t c = else_fails c.args.tokens.now c.args.from c.args.
 
 pub otherwise-returns-in_ok-if_else-in-Some : goal.otherwise-returns-in_ok-if_else-in-Some
 otherwise-returns-in_ok-if_else-in-Some t c = made_else c.args.tokens.now c.args.from c.args.limit c.args.test c.args.first c.in-Some.second c.in_ok-if_else-in-Some.field-0 c.in_ok-if_else-in-Some.ensures c.requires.test_read c.requires.first_read c.requires.there (stmt_some c.args.tokens.now (c.args.first.next + 1) (below_statement c.args.limit (drop (c.args.first.next + 1) (words c.args.tokens.now))) c.in_ok-statement.field-0 c.in-Some.second c.in-Some.is c.in_ok-statement.ensures)
+
+pub default_arm-default_body-requires : goal.default_arm-default_body-requires
+default_arm-default_body-requires t c =
+    let k : c.is_mark-colon.result ≡ nat_eq (mark (drop (c.args.from + 1) (words c.args.tokens.now))) mark_colon = mark_equals _ c.is_mark-colon.ensures (lit< tt) in
+    grind (arith, k)
 
 pub default_body-after_default-requires : goal.default_body-after_default-requires
 default_body-after_default-requires t c = record { fits = default_fits c.args.tokens.now c.args.from c.args.colon c.requires.inside c.requires.short c.requires.colon_read }
@@ -126,46 +133,46 @@ pub statement-returns-then-room-eq0 : goal.statement-returns-then-room-eq0
 statement-returns-then-room-eq0 t c = no_room c.args.room (drop c.args.from (words c.args.tokens.now)) c.if-room-eq0.true
 
 pub statement-overflow_add-next : goal.statement-overflow_add-next
-statement-overflow_add-next t c = let h = mark_inside c.args.tokens.now c.args.from mark_semicolon (sym c.mark_at.ensures ∙ c.if-mark_at.true) (omega arith) in omega arith
+statement-overflow_add-next t c = let h = mark_inside c.args.tokens.now c.args.from mark_semicolon (mark_stands _ c.is_mark.ensures c.if-is_mark.true) (omega arith) in omega arith
 
-pub statement-returns-then-mark_at : goal.statement-returns-then-mark_at
-statement-returns-then-mark_at t c = is_null c.args.room c.args.from c.args.tokens.now (let p : 0 < c.args.room = omega arith in p) (sym c.mark_at.ensures ∙ c.if-mark_at.true)
+pub statement-returns-then-is_mark : goal.statement-returns-then-is_mark
+statement-returns-then-is_mark t c = is_null c.args.room c.args.from c.args.tokens.now (let p : 0 < c.args.room = omega arith in p) (mark_stands _ c.is_mark.ensures c.if-is_mark.true)
 
 pub statement-block-requires : goal.statement-block-requires
-statement-block-requires t c = let h = keyword_inside c.args.tokens.now c.args.from keyword_begin (sym c.keyword_at-word.ensures ∙ c.if-word.true) (omega arith) in grind arith
+statement-block-requires t c = let h = keyword_inside c.args.tokens.now c.args.from keyword_begin (keyword_stands _ c.is_keyword.ensures c.if-is_keyword.true) (omega arith) in grind arith
 
-pub statement-returns-then-word : goal.statement-returns-then-word
-statement-returns-then-word t c = rw (is_block c.args.room c.args.from c.args.tokens.now (let p : 0 < c.args.room = omega arith in p) (λ e. c.if-mark_at.false (c.mark_at.ensures ∙ e)) (sym c.keyword_at-word.ensures ∙ c.if-word.true)) c.block.ensures
+pub statement-returns-then-is_keyword : goal.statement-returns-then-is_keyword
+statement-returns-then-is_keyword t c = rw (is_block c.args.room c.args.from c.args.tokens.now (let p : 0 < c.args.room = omega arith in p) (mark_differs _ c.is_mark.ensures c.if-is_mark.false (lit< tt)) (keyword_stands _ c.is_keyword.ensures c.if-is_keyword.true)) c.block.ensures
 
 pub statement-conditional-requires : goal.statement-conditional-requires
-statement-conditional-requires t c = let h = keyword_inside c.args.tokens.now c.args.from keyword_if (sym c.keyword_at-word.ensures ∙ c.if-word-2.true) (omega arith) in grind arith
+statement-conditional-requires t c = let h = keyword_inside c.args.tokens.now c.args.from keyword_if (keyword_stands _ c.is_keyword-else-is_keyword.ensures c.if-is_keyword-2.true) (omega arith) in grind arith
 
-pub statement-returns-then-word-2 : goal.statement-returns-then-word-2
-statement-returns-then-word-2 t c = rw (is_if c.args.room c.args.from c.args.tokens.now (let p : 0 < c.args.room = omega arith in p) (λ e. c.if-mark_at.false (c.mark_at.ensures ∙ e)) (sym c.keyword_at-word.ensures ∙ c.if-word-2.true)) c.conditional.ensures
+pub statement-returns-then-is_keyword-2 : goal.statement-returns-then-is_keyword-2
+statement-returns-then-is_keyword-2 t c = rw (is_if c.args.room c.args.from c.args.tokens.now (let p : 0 < c.args.room = omega arith in p) (mark_differs _ c.is_mark.ensures c.if-is_mark.false (lit< tt)) (keyword_stands _ c.is_keyword-else-is_keyword.ensures c.if-is_keyword-2.true)) c.conditional.ensures
 
 pub statement-cases-requires : goal.statement-cases-requires
-statement-cases-requires t c = let h = keyword_inside c.args.tokens.now c.args.from (keyword (drop c.args.from (words c.args.tokens.now))) refl (case_less (keyword (drop c.args.from (words c.args.tokens.now))) (ap is_case (sym c.keyword_at-word.ensures) ∙ sym c.is_case.ensures ∙ c.if-is_case.true)) in grind arith
+statement-cases-requires t c = let h = keyword_inside c.args.tokens.now c.args.from c.in-Some.kind.0 c.in-Some.ensures.stands (case_less c.in-Some.kind.0 c.in-Some.ensures.begins) in grind arith
 
-pub statement-returns-then-is_case : goal.statement-returns-then-is_case
-statement-returns-then-is_case t c = rw (is_case_at c.args.room c.args.from c.args.tokens.now (let p : 0 < c.args.room = omega arith in p) (λ e. c.if-mark_at.false (c.mark_at.ensures ∙ e)) (ap is_case (sym c.keyword_at-word.ensures) ∙ sym c.is_case.ensures ∙ c.if-is_case.true)) (rw c.keyword_at-word.ensures at c.cases.ensures)
+pub statement-returns-in-Some : goal.statement-returns-in-Some
+statement-returns-in-Some t c = rw (is_case_at c.args.room c.args.from c.args.tokens.now (let p : 0 < c.args.room = omega arith in p) (mark_differs _ c.is_mark.ensures c.if-is_mark.false (lit< tt)) (ap is_case c.in-Some.ensures.stands ∙ c.in-Some.ensures.begins)) (rw (← c.in-Some.ensures.stands) at c.cases.ensures)
 
-pub statement-returns-else-is_case : goal.statement-returns-else-is_case
-statement-returns-else-is_case t c = rw (is_assignment c.args.room c.args.from c.args.tokens.now (let p : 0 < c.args.room = omega arith in p) (λ e. c.if-mark_at.false (c.mark_at.ensures ∙ e)) (λ e. c.if-word.false (c.keyword_at-word.ensures ∙ e)) (λ e. c.if-word-2.false (c.keyword_at-word.ensures ∙ e)) (ap is_case (sym c.keyword_at-word.ensures) ∙ sym c.is_case.ensures ∙ c.if-is_case.false)) c.assignment.ensures
+pub statement-returns-in-None : goal.statement-returns-in-None
+statement-returns-in-None t c = rw (is_assignment c.args.room c.args.from c.args.tokens.now (let p : 0 < c.args.room = omega arith in p) (mark_differs _ c.is_mark.ensures c.if-is_mark.false (lit< tt)) (keyword_differs _ c.is_keyword.ensures c.if-is_keyword.false (lit< tt)) (keyword_differs _ c.is_keyword-else-is_keyword.ensures c.if-is_keyword-2.false (lit< tt)) c.in-None.ensures) c.assignment.ensures
 
 pub statements-loop-from-init : goal.statements-loop-from-init
 statements-loop-from-init t c = bodied_start c.args.tokens.now c.args.from c.args.limit c.args.body.now.items c.requires.inside c.requires.empty
 
 pub statements-returns-in-None : goal.statements-returns-in-None
-statements-returns-in-None t c = bodied_fail c.args.tokens.now c.args.from c.args.limit (body (below_statement c.args.limit) (suc (length (drop c.args.from (words c.args.tokens.now)))) Done (drop c.args.from (words c.args.tokens.now))) c.loop-from.body.items c.loop-from.next c.loop-from.invariant (λ e. c.loop-from-test.true (c.keyword_at.ensures ∙ e)) (stmt_none c.args.tokens.now c.loop-from.next (below_statement c.args.limit (drop c.loop-from.next (words c.args.tokens.now))) c.in_ok-statement.field-0 c.in-None.is c.in_ok-statement.ensures)
+statements-returns-in-None t c = bodied_fail c.args.tokens.now c.args.from c.args.limit (body (below_statement c.args.limit) (suc (length (drop c.args.from (words c.args.tokens.now)))) Done (drop c.args.from (words c.args.tokens.now))) c.loop-from.body.items c.loop-from.next c.loop-from.invariant (keyword_differs _ c.is_keyword.ensures c.loop-from-test.true (lit< tt)) (stmt_none c.args.tokens.now c.loop-from.next (below_statement c.args.limit (drop c.loop-from.next (words c.args.tokens.now))) c.in_ok-statement.field-0 c.in-None.is c.in_ok-statement.ensures)
 
 pub statements-loop-from-smaller : goal.statements-loop-from-smaller
 statements-loop-from-smaller t c = let f = (stmt_some c.args.tokens.now c.loop-from.next (below_statement c.args.limit (drop c.loop-from.next (words c.args.tokens.now))) c.in_ok-statement.field-0 c.in-Some.piece c.in-Some.is c.in_ok-statement.ensures) in omega (arith, f.taken, f.within, spell_statement-some (plain_statement c.in-Some.piece.stmt))
 
 pub statements-loop-from-preserved : goal.statements-loop-from-preserved
-statements-loop-from-preserved t c = bodied_more c.args.tokens.now c.args.from c.args.limit (body (below_statement c.args.limit) (suc (length (drop c.args.from (words c.args.tokens.now)))) Done (drop c.args.from (words c.args.tokens.now))) c.loop-from.body.items c.add_statement.new.body.items c.loop-from.next c.in-Some.piece c.loop-from.invariant (λ e. c.loop-from-test.true (c.keyword_at.ensures ∙ e)) (stmt_some c.args.tokens.now c.loop-from.next (below_statement c.args.limit (drop c.loop-from.next (words c.args.tokens.now))) c.in_ok-statement.field-0 c.in-Some.piece c.in-Some.is c.in_ok-statement.ensures) c.in_ok-add_statement-in-Some.ensures
+statements-loop-from-preserved t c = bodied_more c.args.tokens.now c.args.from c.args.limit (body (below_statement c.args.limit) (suc (length (drop c.args.from (words c.args.tokens.now)))) Done (drop c.args.from (words c.args.tokens.now))) c.loop-from.body.items c.add_statement.new.body.items c.loop-from.next c.in-Some.piece c.loop-from.invariant (keyword_differs _ c.is_keyword.ensures c.loop-from-test.true (lit< tt)) (stmt_some c.args.tokens.now c.loop-from.next (below_statement c.args.limit (drop c.loop-from.next (words c.args.tokens.now))) c.in_ok-statement.field-0 c.in-Some.piece c.in-Some.is c.in_ok-statement.ensures) c.in_ok-add_statement-in-Some.ensures
 
 pub statements-overflow_add-result : goal.statements-overflow_add-result
-statements-overflow_add-result t c = let h = keyword_inside c.args.tokens.now c.loop-from.next keyword_end (sym c.keyword_at.ensures ∙ c.loop-from-test.false) (omega arith) in omega arith
+statements-overflow_add-result t c = let h = keyword_inside c.args.tokens.now c.loop-from.next keyword_end (keyword_stands _ c.is_keyword.ensures c.loop-from-test.false) (omega arith) in omega arith
 
 pub statements-returns : goal.statements-returns
-statements-returns t c = bodied_end c.args.tokens.now c.args.from c.args.limit (body (below_statement c.args.limit) (suc (length (drop c.args.from (words c.args.tokens.now)))) Done (drop c.args.from (words c.args.tokens.now))) c.loop-from.body.items c.loop-from.next c.loop-from.invariant (sym c.keyword_at.ensures ∙ c.loop-from-test.false)
+statements-returns t c = bodied_end c.args.tokens.now c.args.from c.args.limit (body (below_statement c.args.limit) (suc (length (drop c.args.from (words c.args.tokens.now)))) Done (drop c.args.from (words c.args.tokens.now))) c.loop-from.body.items c.loop-from.next c.loop-from.invariant (keyword_stands _ c.is_keyword.ensures c.loop-from-test.false)

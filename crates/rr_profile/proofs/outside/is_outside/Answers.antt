@@ -1,7 +1,7 @@
-use Rattle.std.proofs.Common.{◌+◌, drop, ap, sym, ◌∙◌, not, refl}
+use Rattle.std.proofs.Common.{◌+◌, drop, ap, sym, ◌∙◌, not}
 use Rattle.rr_syntax.specs.Words.{words}
 use Rattle.rr_parse_expr.proofs.Answered.{not_equal}
-use Rattle.rr_profile.proofs.Outsides.{outside_kind, hash_before, no_hash}
+use Rattle.rr_profile.proofs.Outsides.{opens_is, outside_kind, hash_before, no_hash}
 use Rattle.rr_profile.proofs.outside.is_outside.Goals as goal
 
 pub returns-in-Name : goal.returns-in-Name
@@ -17,7 +17,7 @@ pub returns-in-Keyword : goal.returns-in-Keyword
 returns-in-Keyword c = ap not c.is_used.ensures ∙ sym (outside_kind c.args.tokens.now c.args.at c.in-Some.token.now _ c.in-Some.ensures.lookup.3.0 c.in-Some.ensures.lookup.1 c.in-Keyword.is)
 
 pub returns-then-mark : goal.returns-then-mark
-returns-then-mark c = ap not c.opens.ensures ∙ sym (outside_kind c.args.tokens.now c.args.at c.in-Some.token.now _ c.in-Some.ensures.lookup.3.0 c.in-Some.ensures.lookup.1 c.in-Mark.is ∙ hash_before c.in-Mark.mark.0 (drop (c.args.at + 1) (words c.args.tokens.now)) c.if-mark.true)
+returns-then-mark c = ap not (opens_is _ c.is_mark.ensures) ∙ sym (outside_kind c.args.tokens.now c.args.at c.in-Some.token.now _ c.in-Some.ensures.lookup.3.0 c.in-Some.ensures.lookup.1 c.in-Mark.is ∙ hash_before c.in-Mark.mark.0 (drop (c.args.at + 1) (words c.args.tokens.now)) c.if-mark.true)
 
 pub returns-else-mark : goal.returns-else-mark
 returns-else-mark c = not_equal c.in-Mark.mark.0 10 c.if-mark.false ∙ sym (outside_kind c.args.tokens.now c.args.at c.in-Some.token.now _ c.in-Some.ensures.lookup.3.0 c.in-Some.ensures.lookup.1 c.in-Mark.is ∙ no_hash c.in-Mark.mark.0 (drop (c.args.at + 1) (words c.args.tokens.now)) c.if-mark.false)

@@ -1,4 +1,4 @@
-use Rattle.std.proofs.Common.{◌<◌, ◌+◌, ◌*◌, ◌-◌, length}
+use Rattle.std.proofs.Common.{◌<◌, ◌+◌, ◌*◌, ◌-◌}
 use Rattle.rr_stop.specs.Going.{Goes}
 use Rattle.rr_stop.proofs.expressions.+expressions.Given as goal
 
@@ -30,10 +30,10 @@ abbrev pub invariant-climb-loop-found : goal.invariant-climb-loop-found
 invariant-climb-loop-found l = Goes l.fn.cursor l.cursor × (l.depth < l.room)
 
 abbrev pub decreases-climb-loop-found : goal.decreases-climb-loop-found
-decreases-climb-loop-found l = length l.cursor.tokens.now - l.cursor.at
+decreases-climb-loop-found l = l.cursor.end - l.cursor.at
 
 abbrev pub invariant-list-loop-cursor : goal.invariant-list-loop-cursor
 invariant-list-loop-cursor l = Goes l.fn.cursor l.cursor × (l.depth < l.room)
 
 abbrev pub decreases-list-loop-cursor : goal.decreases-list-loop-cursor
-decreases-list-loop-cursor l = length l.cursor.tokens.now - l.cursor.at
+decreases-list-loop-cursor l = l.cursor.end - l.cursor.at

@@ -1,4 +1,4 @@
-use Rattle.std.proofs.Common.{◌-◌, length}
+use Rattle.std.proofs.Common.{◌-◌}
 use Rattle.rr_stop.specs.Going.{Goes}
 use Rattle.rr_stop.proofs.modules.names.Given as goal
 
@@ -6,4 +6,4 @@ abbrev pub invariant-loop-cursor : goal.invariant-loop-cursor
 invariant-loop-cursor l = Goes l.fn.cursor l.cursor
 
 abbrev pub decreases-loop-cursor : goal.decreases-loop-cursor
-decreases-loop-cursor l = length l.cursor.tokens.now - l.cursor.at
+decreases-loop-cursor l = l.cursor.end - l.cursor.at

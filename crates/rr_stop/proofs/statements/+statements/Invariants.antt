@@ -1,4 +1,4 @@
-use Rattle.std.proofs.Common.{◌+◌, ◌*◌, ◌-◌, length}
+use Rattle.std.proofs.Common.{◌+◌, ◌*◌, ◌-◌}
 use Rattle.rr_stop.specs.Going.{Goes}
 use Rattle.rr_stop.proofs.statements.+statements.Given as goal
 
@@ -21,10 +21,10 @@ abbrev pub invariant-block-loop-room : goal.invariant-block-loop-room
 invariant-block-loop-room l = Goes l.fn.cursor l.cursor
 
 abbrev pub decreases-block-loop-room : goal.decreases-block-loop-room
-decreases-block-loop-room l = length l.cursor.tokens.now - l.cursor.at
+decreases-block-loop-room l = l.cursor.end - l.cursor.at
 
 abbrev pub invariant-cases-loop-cursor : goal.invariant-cases-loop-cursor
 invariant-cases-loop-cursor l = Goes l.fn.cursor l.cursor
 
 abbrev pub decreases-cases-loop-cursor : goal.decreases-cases-loop-cursor
-decreases-cases-loop-cursor l = length l.cursor.tokens.now - l.cursor.at
+decreases-cases-loop-cursor l = l.cursor.end - l.cursor.at
