@@ -1,8 +1,8 @@
 -- What an answer says of the steps before it.
-use Rattle.std.proofs.Common.{◌≡◌, Bool, true, false, List, [], ◌∷◌, ◌++◌, Option, Some, None, Result, Ok, Err, refl, subst}
+use Rattle.std.proofs.Common.{◌≡◌, Bool, true, false, List, [], ◌∷◌, ◌++◌, Option, Some, None, Result, Ok, refl, subst}
 use Rattle.std.specs.List.{AllByRecursion}
 use Rattle.rr_flat.specs.declared.fault.FlatFault.{FlatFault}
-use Rattle.rr_flat.specs.Faults.{fault_or, first_of, settle, fault_if, and_then, each}
+use Rattle.rr_flat.specs.Faults.{fault_or, first_of, settle, fault_if, each}
 use Rattle.rr_walk.proofs.Clears.{none_here}
 use Rattle.rr_walk.proofs.HeadOf.{ok_is, not_ok, first_ok}
 

@@ -1,5 +1,5 @@
 -- The parameters of a module are constants (IEEE 1364-2005 section 12.2).
-use Rattle.std.proofs.Common.{◌≡◌, ℕ, Bool, true, false, List, [], ◌++◌, Option, Some, None, Result, Ok, subst, if◌then◌else◌}
+use Rattle.std.proofs.Common.{◌≡◌, ℕ, Bool, true, false, List, [], ◌++◌, Option, Some, None, Ok, subst, if◌then◌else◌}
 use Rattle.std.specs.Prelude.{is_some}
 use Rattle.rr_bits.specs.Words.{extend}
 use Rattle.rr_syntax.specs.Tree.{ParamAssignment, ParameterDeclaration, ModuleItem, Ports, Nets, Variables, Integers, Parameters, Assigns, Always, Instances, ModuleDeclaration}
@@ -7,7 +7,7 @@ use Rattle.rr_expr.specs.Scopes.{Names, lookup}
 use Rattle.rr_expr.specs.declared.types.Entity.{Entity}
 use Rattle.rr_expr.specs.declared.types.Entity.TheVariants as entity
 use Rattle.rr_flat.specs.declared.fault.FlatFault.TheVariants.{NameTwice}
-use Rattle.rr_flat.specs.Faults.{among, fault_if, and_then, each}
+use Rattle.rr_flat.specs.Faults.{among, fault_if, each}
 use Rattle.rr_flat.specs.Signals.{with_name}
 use Rattle.rr_head.specs.Parameters.{parameter, typed, add_parameter, add_parameters, add_item_parameters, parameters, given_or, override_of, width_faults}
 use Rattle.rr_head.specs.Values.{constant, range_in}

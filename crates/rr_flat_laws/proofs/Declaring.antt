@@ -1,14 +1,14 @@
 -- What declarations make known: each name is one signal of the list.
-use Rattle.std.proofs.Common.{◌≡◌, ◌∙◌, sym, ap, ◌⊎◌, inl, inr, ℕ, zero, suc, ◌+◌, ◌-◌, ◌<◌, ◌≤◌, Bool, true, false, not, ◌&&◌, ◌||◌, List, [], ◌∷◌, ◌++◌, length, map, get_or, Option, Some, None, Result, Ok, refl, arith, subst, is_some, is_none, if◌then◌else◌, nat_lt, length-append}
+use Rattle.std.proofs.Common.{◌≡◌, ◌∙◌, sym, ap, ◌⊎◌, inl, inr, ℕ, ◌+◌, ◌-◌, ◌<◌, ◌≤◌, Bool, true, false, not, ◌&&◌, List, [], ◌∷◌, ◌++◌, length, map, get_or, Option, Some, None, Result, Ok, refl, arith, subst, is_some, is_none, if◌then◌else◌, nat_lt, length-append}
 use Rattle.std.specs.Prelude.{slice_set}
 use Rattle.std.specs.List.{Contains, flat_map, AllByRecursion}
 use Rattle.std.proofs.lemmas.Bool.{cases_lt, cases_eq, both_ways}
 use Rattle.std.proofs.lemmas.List.{get_or_append_left, get_or-append_right, length-set, get_or-set_same, get_or-set_other}
 use Rattle.std.proofs.lemmas.List.Concat.{flat_map_single}
-use Rattle.std.proofs.lemmas.List.Elements.{Contains-append_left, Contains-append_right, Contains-append_cases}
+use Rattle.std.proofs.lemmas.List.Elements.{Contains-append_cases}
 use Rattle.rr_syntax.specs.declared.tree.Dir.{Dir}
 use Rattle.rr_syntax.specs.declared.tree.Dir.TheVariants as dir
-use Rattle.rr_syntax.specs.Tree.{Identifier, NetIdentifier, PortDeclaration, Range, ModuleItem, Ports, Nets, Variables, Integers, Parameters, Assigns, Always, Instances, ModuleDeclaration}
+use Rattle.rr_syntax.specs.Tree.{Identifier, NetIdentifier, PortDeclaration, ModuleItem, Ports, Nets, Variables, Integers, Parameters, Assigns, Always, Instances}
 use Rattle.rr_expr.specs.Scopes.{Names, lookup, range_width}
 use Rattle.rr_expr.specs.declared.types.Entity.{Entity}
 use Rattle.rr_expr.specs.declared.types.Entity.TheVariants as entity
@@ -16,15 +16,15 @@ use Rattle.rr_flat.specs.declared.fault.FlatFault.{FlatFault}
 use Rattle.rr_flat.specs.declared.fault.FlatFault.TheVariants.{NameTwice, UnknownName, BadRange, TooMany}
 use Rattle.rr_flat.specs.declared.fault.Limit.TheVariants.{FlatBits}
 use Rattle.rr_flat.specs.declared.signal.Port.{Port}
-use Rattle.rr_flat.specs.Faults.{fault_if, settle, and_then, each}
+use Rattle.rr_flat.specs.Faults.{fault_if, settle, each}
 use Rattle.rr_flat.specs.Signals.{Text, with_name}
 use Rattle.rr_head.specs.Declarations.{Declared, Declarations, is_port, signal_of, with_signal, counted, declare_new, no_declared, declared_at, is_same_range, redeclared, declare_again, again_place, repeated_place, declare_at, declare, declare_identifier, declare_net, port_of, port_declaration, inner_declaration, integer_declaration, declare_ports, declare_nets, declare_variables, declare_item}
 use Rattle.rr_head.specs.Parameters.{width_faults}
 use Rattle.rr_head.specs.Values.{range_in}
 use Rattle.rr_walk.proofs.HeadOf.{ok_is, first_ok}
-use Rattle.rr_flat_laws.specs.Declared.{texts_of, ports_by, declared_by}
+use Rattle.rr_flat_laws.specs.Declared.{ports_by, declared_by}
 use Rattle.rr_flat_laws.proofs.Answers.{nil_left, nil_right, not_if, settled}
-use Rattle.rr_flat_laws.proofs.Texts.{some_is, none_some, nowhere, there_cases, here, later, Distinct, distinct_append, found_stays, with_stays, with_new, with_cases, none_before, is_none_of, there_of, flat_none, no_texts}
+use Rattle.rr_flat_laws.proofs.Texts.{some_is, none_some, nowhere, there_cases, here, later, Distinct, distinct_append, with_stays, with_new, with_cases, is_none_of, there_of, flat_none, none_of}
 
 -- The list
 
@@ -350,7 +350,7 @@ module _ (bracketed params : Names) (P : Text → Type 0) where
   done_inners : {X : Type 0} (f : X → Text) (step : X → Declarations → Result Declarations FlatFault) → ((x : X) (d t : Declarations) → Lists d → P (f x) → step x d ≡ Ok t → Done (f x ∷ []) [] d t) →
       (xs : List X) (d t : Declarations) → Lists d → ((n : Text) → Contains (map f xs) n → P n) → each step xs d ≡ Ok t → Done (map f xs) [] d t
   done_inners f step k xs d t l h e =
-      let o = each_done (λ x. f x ∷ []) (λ x. no_texts) step (λ x s u m q g. k x s u m (q (f x) (here (f x) [])) g) xs d t l (each_of f xs h) e in
+      let o = each_done (λ x. f x ∷ []) (λ x. none_of Text) step (λ x s u m q g. k x s u m (q (f x) (here (f x) [])) g) xs d t l (each_of f xs h) e in
       subst (λ ns. Done ns [] d t) (flat_map_single f xs) (subst (λ ps. Done (flat_map (λ x. f x ∷ []) xs) ps d t) (flat_none xs) o)
 
   port_is : (way : Dir) → is_port (port_of way) ≡ true

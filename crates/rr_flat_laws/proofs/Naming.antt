@@ -1,5 +1,5 @@
 -- Names and signals of the instances of a walk.
-use Rattle.std.proofs.Common.{◌≡◌, ◌∙◌, sym, ap, ◌⊎◌, inl, inr, ℕ, zero, suc, ◌+◌, ◌-◌, ◌<◌, ◌≤◌, Bool, true, false, List, [], ◌∷◌, ◌++◌, length, get_or, Option, Some, None, Result, Ok, refl, subst, arith, length-append}
+use Rattle.std.proofs.Common.{◌≡◌, ◌∙◌, sym, ap, inl, inr, ℕ, zero, suc, ◌+◌, ◌-◌, ◌<◌, Bool, true, false, List, [], ◌∷◌, ◌++◌, length, get_or, Option, Some, None, Ok, refl, subst, arith, length-append}
 use Rattle.std.specs.Prelude.{slice_set}
 use Rattle.std.specs.List.{Contains}
 use Rattle.std.proofs.lemmas.Bool.{cases_lt, cases_eq}
@@ -15,15 +15,15 @@ use Rattle.rr_flat.specs.Plain.{Flat}
 use Rattle.rr_flat.specs.Signals.{Text, Signal, signal_at, no_signal, with_name}
 use Rattle.rr_flat.proofs.Lists.{all_index}
 use Rattle.rr_head.specs.Declarations.{is_port}
-use Rattle.rr_head.specs.Heads.{Head, head}
+use Rattle.rr_head.specs.Heads.{Head}
 use Rattle.rr_walk.specs.Tables.{place_of, add_module}
-use Rattle.rr_walk.specs.Walk.{Walked, Enter, scope_at, module_at, net, assign, with_instance, joined, instance_of, item, opened, begin, enter_by, enter, nothing, finished, top_place, enter_top, flat_of}
+use Rattle.rr_walk.specs.Walk.{Walked, Enter, scope_at, module_at, net, assign, with_instance, joined, instance_of, item, opened, enter_by, enter, nothing, finished, top_place, enter_top, flat_of}
 use Rattle.rr_walk.proofs.HeadOf.{ok_is, not_ok, first_ok, each_keeps}
 use Rattle.rr_flat_laws.specs.Declared.{Declares, ports_of}
-use Rattle.rr_flat_laws.specs.Names.{IsPort, IsSignal, IsOneSignal, IsNamed, IsPortNamed, NamesAre}
+use Rattle.rr_flat_laws.specs.Names.{IsSignal, NamesAre}
 use Rattle.rr_flat_laws.proofs.Growing.{Same, each_same, assign_same, net_same, always_same, joined_same, began, inside, entered}
 use Rattle.rr_flat_laws.proofs.Opening.{Opened, opened_head}
-use Rattle.rr_flat_laws.proofs.Texts.{some_is, Distinct, with_stays}
+use Rattle.rr_flat_laws.proofs.Texts.{Distinct, with_stays}
 
 module _ (ms : List ModuleDeclaration) where
   -- a signal by its number is one of an instance, where its name stands for it
@@ -48,11 +48,17 @@ module _ (ms : List ModuleDeclaration) where
     pub one : (id : ℕ) → id < length ss → Placed ss ns os id (signal_at ss id)
     pub filled : (i : ℕ) → i < length ns → Filled ss i (module_at ms (get_or os i 0))
 
-  abbrev FineWalk : Walked → Type 0
+  abbrev pub FineWalk : Walked → Type 0
   FineWalk w = Fine w.flat.signals w.flat.scopes w.flat.owners
 
-  fine_same : (w v : Walked) → Same w v → FineWalk w → FineWalk v
+  pub fine_same : (w v : Walked) → Same w v → FineWalk w → FineWalk v
   fine_same w v s f = subst (Fine v.flat.signals v.flat.scopes) s.owners (subst (λ ns. Fine v.flat.signals ns w.flat.owners) s.scopes (subst (λ ss. Fine ss w.flat.scopes w.flat.owners) s.signals f))
+
+  -- what a name of an instance stands for
+  pub named_found : (ss : List Signal) (ns : List Names) (os : List ℕ) (i : ℕ) (n : Text) (id : ℕ) → Fine ss ns os → Is ss i n id → lookup n (get_or ns i []) ≡ Some (entity.Signal id (signal_at ss id).range (signal_at ss id).signed)
+  named_found ss ns os i n id f (l, (a, b)) =
+      subst (λ (z : Text). lookup z (get_or ns i []) ≡ Some (entity.Signal id (signal_at ss id).range (signal_at ss id).signed)) b
+      (subst (λ (k : ℕ). lookup (signal_at ss id).name (get_or ns k []) ≡ Some (entity.Signal id (signal_at ss id).range (signal_at ss id).signed)) a (f.one id l).found)
 
   -- one more instance
 
@@ -90,7 +96,7 @@ module _ (ms : List ModuleDeclaration) where
       )
 
   -- what an entry is after one more
-  last_entry : {X : Type 0} (xs : List X) (x d : X) (i : ℕ) → i ≡ length xs → get_or (xs ++ x ∷ []) i d ≡ x
+  pub last_entry : {X : Type 0} (xs : List X) (x d : X) (i : ℕ) → i ≡ length xs → get_or (xs ++ x ∷ []) i d ≡ x
   last_entry xs x d i e =
       let z : i - length xs ≡ 0 = omega (arith, e) in
       get_or-append_right xs (x ∷ []) (length xs) i d refl (omega (arith, e)) ∙ ap (λ (k : ℕ). get_or (x ∷ []) k d) z
@@ -121,7 +127,7 @@ module _ (ms : List ModuleDeclaration) where
         listed = subst (λ (z : ℕ). is_port s.port ≡ true → Contains (ports_of (module_at ms z)) s.name) (sym b) (o.listed j l);
       }
 
-  fine_opened : (k : ℕ) (h : Head) (w : Walked) → FineWalk w → Opened (module_at ms k) (length w.flat.scopes) (length w.flat.signals) h → FineWalk (opened k h w)
+  pub fine_opened : (k : ℕ) (h : Head) (w : Walked) → FineWalk w → Opened (module_at ms k) (length w.flat.scopes) (length w.flat.signals) h → FineWalk (opened k h w)
   fine_opened k h w f o =
       let ss = w.flat.signals in
       let ns = w.flat.scopes in
@@ -160,7 +166,7 @@ module _ (ms : List ModuleDeclaration) where
     | inr differs ↦ ap (λ (z : Names). lookup n z) (get_or-set_other ns i k (with_name (get_or ns i []) name entity.Instance) [] differs) ∙ h
   ]
 
-  fine_named : (i : ℕ) (name : Text) (w : Walked) → FineWalk w → FineWalk (with_instance i name w)
+  pub fine_named : (i : ℕ) (name : Text) (w : Walked) → FineWalk w → FineWalk (with_instance i name w)
   fine_named i name w f =
       let e = length-set w.flat.scopes i (with_name (scope_at w i) name entity.Instance) in
       record {
@@ -174,10 +180,10 @@ module _ (ms : List ModuleDeclaration) where
 
   -- The walk
 
-  abbrev Enters : Enter → Type 0
+  abbrev pub Enters : Enter → Type 0
   Enters sub = (k : ℕ) (given : Names) (w t : Walked) → FineWalk w → sub k given w ≡ Ok t → FineWalk t
 
-  after_instance : (above : List ℕ) (i : ℕ) (sub : Enter) (at : ℕ) (over : Option Connections) (o : Option ℕ) → Enters sub → (x : ModuleInstance) (w t : Walked) → FineWalk w → instance_of ms above i sub at over o x w ≡ Ok t → FineWalk t
+  pub after_instance : (above : List ℕ) (i : ℕ) (sub : Enter) (at : ℕ) (over : Option Connections) (o : Option ℕ) → Enters sub → (x : ModuleInstance) (w t : Walked) → FineWalk w → instance_of ms above i sub at over o x w ≡ Ok t → FineWalk t
   unfolding instance_of
   after_instance above i sub at over None s x w t f e = absurd (not_ok _ t e)
   after_instance above i sub at over (Some k) s x w t f e =
@@ -185,7 +191,7 @@ module _ (ms : List ModuleDeclaration) where
       let j = joined_same i (length w.flat.scopes) (module_at ms k) x.connections r.mid in
       subst FineWalk r.is (fine_same r.mid (joined i (length w.flat.scopes) (module_at ms k) x.connections r.mid) j (s k r.given (with_instance i x.text w) r.mid (fine_named i x.text w f) r.walked))
 
-  after_item : (table : Names) (above : List ℕ) (i : ℕ) (sub : Enter) → Enters sub → (x : ModuleItem) (w t : Walked) → FineWalk w → item ms table above i sub x w ≡ Ok t → FineWalk t
+  pub after_item : (table : Names) (above : List ℕ) (i : ℕ) (sub : Enter) → Enters sub → (x : ModuleItem) (w t : Walked) → FineWalk w → item ms table above i sub x w ≡ Ok t → FineWalk t
   unfolding item
   after_item table above i sub s (Ports p) w t f e = subst FineWalk (ok_is w t e) f
   after_item table above i sub s (Nets signed range list) w t f e = fine_same w t (each_same (net i) (net_same i) list w t e) f
@@ -205,15 +211,15 @@ module _ (ms : List ModuleDeclaration) where
       each_keeps FineWalk (item ms table (above ++ k ∷ []) (length w.flat.scopes) (sub (above ++ k ∷ []))) (λ x a c h q. after_item table (above ++ k ∷ []) (length w.flat.scopes) (sub (above ++ k ∷ [])) (s (above ++ k ∷ [])) x a c h q)
       (module_at ms k).items r.mid t (subst FineWalk b.is (fine_opened k b.top w f o)) r.walked
 
-  after_enter : (table : Names) (levels : ℕ) (above : List ℕ) → Enters (enter ms table levels above)
+  pub after_enter : (table : Names) (levels : ℕ) (above : List ℕ) → Enters (enter ms table levels above)
   unfolding enter
   after_enter table zero above k given w t f e = absurd (not_ok _ t e)
   after_enter table (suc levels) above k given w t f e = after_enter_by table (enter ms table levels) (after_enter table levels) above k given w t f e
 
-  fine_nothing : (at : ℕ) → FineWalk (nothing at)
+  pub fine_nothing : (at : ℕ) → FineWalk (nothing at)
   fine_nothing at = record { even = refl; one = λ id l. absurd (omega (arith, l)); filled = λ i l. absurd (omega (arith, l)) }
 
-  after_top : (table : Names) (o : Option ℕ) (w : Walked) → enter_top ms table o ≡ Ok w → FineWalk w
+  pub after_top : (table : Names) (o : Option ℕ) (w : Walked) → enter_top ms table o ≡ Ok w → FineWalk w
   after_top table None w e = absurd (not_ok _ w e)
   after_top table (Some k) w e = after_enter table 16 [] k [] (nothing (module_at ms k).token) w (fine_nothing (module_at ms k).token) e
 
@@ -258,8 +264,7 @@ names_of_design source top flat e =
       one = λ i n l c.
           let h = (f.filled i (omega (arith, l, ev))).has n c in
           let own : (id : ℕ) → IsSignal flat i n id → lookup n (get_or flat.scopes i []) ≡ Some (entity.Signal id (signal_at ss id).range (signal_at ss id).signed) =
-          λ id s. subst (λ (z : Text). lookup z (get_or flat.scopes i []) ≡ Some (entity.Signal id (signal_at ss id).range (signal_at ss id).signed)) s.named
-          (subst (λ (k : ℕ). lookup (signal_at ss id).name (get_or flat.scopes k []) ≡ Some (entity.Signal id (signal_at ss id).range (signal_at ss id).signed)) s.instance (f.one id s.there).found) in
+          λ id s. named_found source.modules ss flat.scopes flat.owners i n id f (s.there, (s.instance, s.named)) in
           let is : IsSignal flat i n h.0 = record { there = h.1.0; instance = h.1.1.0; named = h.1.1.1 } in
           record {
             id = h.0;

@@ -1,6 +1,6 @@
 -- The signals and the names of an instance that opens.
-use Rattle.std.proofs.Common.{◌≡◌, ◌∙◌, sym, ap, ◌⊎◌, inl, inr, ℕ, zero, suc, ◌+◌, ◌-◌, ◌<◌, ◌≤◌, Bool, true, false, List, [], ◌∷◌, ◌++◌, length, map, get_or, fold, Option, Some, None, Result, Ok, refl, arith, subst, is_some, is_none, if◌then◌else◌, nat_lt, length-append}
-use Rattle.std.specs.Prelude.{option_map, option_to_list, slice_get}
+use Rattle.std.proofs.Common.{◌≡◌, ◌∙◌, sym, ap, ◌⊎◌, inl, inr, ℕ, zero, suc, ◌+◌, ◌<◌, Bool, true, false, List, [], ◌∷◌, ◌++◌, length, map, fold, Option, Some, None, Ok, refl, arith, subst, is_some, is_none, if◌then◌else◌, nat_lt, length-append}
+use Rattle.std.specs.Prelude.{option_to_list}
 use Rattle.std.specs.List.{Contains, flat_map, AllByRecursion}
 use Rattle.std.proofs.lemmas.Bool.{both_ways}
 use Rattle.std.proofs.lemmas.List.{append-nil, append_assoc, map-append, get_or-map, get_or_append_left, length-map}
@@ -24,8 +24,8 @@ use Rattle.rr_walk.proofs.HeadOf.{ok_is, first_ok, NoSignal, Entries, head_of}
 use Rattle.rr_flat_laws.specs.Declared.{texts_of, ports_by, declared_by, Declares, plain_ports, ports_of}
 use Rattle.rr_flat_laws.proofs.Answers.{nil_left, nil_right, not_if, settled}
 use Rattle.rr_flat_laws.proofs.Constants.{constants}
-use Rattle.rr_flat_laws.proofs.Declaring.{Has, HasPort, Lists, Done, done_twice, each_done, item_ports, done_ports, done_item}
-use Rattle.rr_flat_laws.proofs.Texts.{some_is, none_some, nowhere, there_cases, here, later, all_in, in_map, in_flat, Distinct, distinct_append, distinct_left, distinct_apart, distinct_places, with_stays, with_new, with_cases, none_before, is_none_of, there_of, found_of, found_some, found_entry, some_with, known_from}
+use Rattle.rr_flat_laws.proofs.Declaring.{Has, HasPort, Lists, done_twice, each_done, item_ports, done_ports, done_item}
+use Rattle.rr_flat_laws.proofs.Texts.{some_is, none_some, nowhere, there_cases, here, later, all_in, in_flat, Distinct, distinct_append, distinct_left, distinct_apart, distinct_places, with_stays, with_new, with_cases, none_before, is_none_of, there_of, found_entry, some_with, known_from}
 
 -- The port brackets
 

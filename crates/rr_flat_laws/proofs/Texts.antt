@@ -1,14 +1,12 @@
 -- Names in lists and in scopes.
-use Rattle.std.proofs.Common.{◌≡◌, ◌∙◌, sym, ap, ◌⊎◌, inl, inr, ℕ, zero, suc, ◌+◌, ◌<◌, Bool, true, false, cond, List, [], ◌∷◌, ◌++◌, length, map, fold, get_or, Option, Some, None, refl, arith, subst, is_some, is_none, if◌then◌else◌}
+use Rattle.std.proofs.Common.{◌≡◌, ◌∙◌, sym, ◌⊎◌, inl, inr, ℕ, zero, suc, ◌<◌, Bool, true, false, cond, List, [], ◌∷◌, ◌++◌, length, map, fold, get_or, Option, Some, None, refl, arith, subst, is_some, is_none, if◌then◌else◌}
 use Rattle.std.specs.List.{Contains, flat_map, AllByRecursion}
 use Rattle.std.specs.Str.{bytes_eq}
-use Rattle.std.proofs.lemmas.List.{get_or_append_left, get_or-map, append-nil, append_assoc, map-append, length-map}
-use Rattle.std.proofs.lemmas.List.Elements.{Contains-append_left, Contains-append_right, Contains-append_cases, Contains-get_or}
+use Rattle.std.proofs.lemmas.List.Elements.{Contains-append_left, Contains-append_right, Contains-append_cases}
 use Rattle.std.proofs.lemmas.Bool.{both_ways}
 use Rattle.std.proofs.lemmas.Slice.Eq.{bytes_eq-Decides}
 use Rattle.rr_expr.specs.Scopes.{Names, lookup}
 use Rattle.rr_expr.specs.declared.types.Entity.{Entity}
-use Rattle.rr_expr.specs.declared.types.Entity.TheVariants as entity
 use Rattle.rr_flat.specs.Signals.{Text, with_name}
 
 -- Elements
@@ -63,8 +61,8 @@ in_flat f (z ∷ zs) x y c d = elim (there_cases z zs x c) [
   | inr k ↦ Contains-append_right (f z) (flat_map f zs) y (in_flat f zs x y k d)
 ]
 
-abbrev pub no_texts : List Text
-no_texts = []
+abbrev pub none_of : (Y : Type 0) → List Y
+none_of Y = []
 
 -- no text stands twice
 abbrev pub Distinct : List Text → Type 0
@@ -197,7 +195,7 @@ known_from f step k (x ∷ xs) names n h = elim (known_from f step k xs (step na
   | inr b ↦ inr (Contains-append_right (f x) (flat_map f xs) n b)
 ]
 
-pub flat_none : {X : Type 0} (xs : List X) → flat_map (λ (x : X). no_texts) xs ≡ []
+pub flat_none : {X Y : Type 0} (xs : List X) → flat_map (λ (x : X). none_of Y) xs ≡ []
 flat_none [] = refl
 flat_none (x ∷ xs) = flat_none xs
 

@@ -5,4 +5,6 @@
 
 mod laws;
 
-pub use laws::names_are_signals;
+pub use laws::{
+    assignments_are_drivers, connections_are_drivers, names_are_signals, no_other_drivers,
+};
