@@ -1,22 +1,24 @@
 -- Connections without a fault name ports alone, and each once.
-use Rattle.std.proofs.Common.{◌≡◌, ◌∙◌, sym, ap, ◌⊎◌, inl, inr, true, false, List, [], ◌∷◌, ◌++◌, map, fold, Option, Some, None, refl, subst, is_some, is_none}
+use Rattle.std.proofs.Common.{◌≡◌, ◌∙◌, sym, ap, ◌⊎◌, inl, inr, true, false, not, List, [], ◌∷◌, ◌++◌, map, fold, Option, Some, None, refl, subst, is_some, is_none}
 use Rattle.std.specs.List.{Contains, flat_map}
 use Rattle.std.proofs.lemmas.Bool.{both_ways}
 use Rattle.std.proofs.lemmas.List.{append-nil, append_assoc}
 use Rattle.rr_syntax.specs.Tree.{Tree, Trees, End, More, Identifier, PortDeclaration, NamedConnection, Connections, Positions, ModuleDeclaration}
 use Rattle.rr_syntax.specs.Tree.{Names as Named}
+use Rattle.rr_expr.specs.Faults.{first}
 use Rattle.rr_expr.specs.Scopes.{Names, lookup}
 use Rattle.rr_expr.specs.declared.types.Entity.TheVariants as entity
 use Rattle.rr_flat.specs.declared.fault.FlatFault.{FlatFault}
 use Rattle.rr_flat.specs.declared.fault.FlatFault.TheVariants.{PortMismatch}
 use Rattle.rr_flat.specs.Faults.{fault_if}
+use Rattle.rr_flat.specs.Shapes.{shape_faults}
 use Rattle.rr_flat.specs.Signals.{Text}
 use Rattle.rr_head.specs.Declarations.{plain_names}
 use Rattle.rr_walk.specs.Tables.{add_port_name, add_port_names, port_names, add_text, name_set}
-use Rattle.rr_walk.specs.Walk.{noted, twice_faults, value_faults, Connected, check_connection, connections}
+use Rattle.rr_walk.specs.Walk.{noted, twice_faults, value_faults, fold_trees, Joining, place_port, check_port, Connected, check_connection, connections}
 use Rattle.rr_walk.proofs.Clears.{none_before, none_here}
 use Rattle.rr_flat_laws.specs.Declared.{texts_of, ports_by, plain_ports, ports_of}
-use Rattle.rr_flat_laws.specs.Drivers.{connected_in_order, connected_value, connected_name, connected}
+use Rattle.rr_flat_laws.specs.Drivers.{connected_in_order, HavePorts, Fits, connected_value, connected_name, connected}
 use Rattle.rr_flat_laws.proofs.Answers.{not_if}
 use Rattle.rr_flat_laws.proofs.Texts.{none_some, nowhere, there_cases, here, later, Distinct, with_new, is_none_of, there_of, some_with, known_from}
 use Rattle.rr_flat_laws.proofs.Texts as texts
@@ -101,6 +103,7 @@ port_of c = c.0
 pub record Connects (m : ModuleDeclaration) (c : Connections) : Type 0 where
   pub known : (n : Text) → Contains (map (λ (x : Text × Tree). x.0) (connected m c)) n → Contains (ports_of m) n
   pub apart : Distinct (map (λ (x : Text × Tree). x.0) (connected m c))
+  pub fits : Fits m c
 
 in_order : (left : List Text) (ts : Trees) (n : Text) → Contains (map port_of (connected_in_order left ts)) n → Contains left n
 unfolding connected_in_order
@@ -113,6 +116,25 @@ unfolding connected_in_order
 order_apart left End d = tt
 order_apart [] (More t ts) d = tt
 order_apart (p ∷ ps) (More t ts) d = (λ c. d.0 (in_order ps ts p c), order_apart ps ts d.1)
+
+-- the first expression that is too many is a fault
+
+position_before : (names : Names) (left : List Text) (j : Joining) (t : Tree) → (place_port names left j t).found ≡ None → j.found ≡ None
+position_before names [] j t e = none_before j.found (shape_faults names t) (none_before (noted j.found (shape_faults names t)) (fault_if (not j.over) (PortMismatch (first t))) e)
+position_before names (n ∷ ns) j t e = none_before j.found (shape_faults names t) e
+
+positions_before : (names : Names) (ts : Trees) (j : Joining) → (fold_trees (check_port names) j ts).found ≡ None → j.found ≡ None
+unfolding fold_trees check_port
+positions_before names End j e = e
+positions_before names (More t ts) j e = position_before names j.left j t (positions_before names ts (place_port names j.left j t) e)
+
+have_ports : (names : Names) (left : List Text) (ts : Trees) (found : Option FlatFault) → (fold_trees (check_port names) (record { left = left; over = false; found = found }) ts).found ≡ None → HavePorts left ts
+unfolding fold_trees check_port HavePorts
+have_ports names left End found e = tt
+have_ports names [] (More t ts) found e =
+    let j : Joining = place_port names [] (record { left = []; over = false; found = found }) t in
+    absurd (both_ways true (not_if true (PortMismatch (first t)) (none_here (noted found (shape_faults names t)) (fault_if true (PortMismatch (first t))) (positions_before names ts j e))) refl)
+have_ports names (p ∷ ps) (More t ts) found e = have_ports names ps ts (noted found (shape_faults names t)) e
 
 values_among : (list : List NamedConnection) (n : Text) → Contains (map port_of (flat_map connected_name list)) n → Contains (map text_of list) n
 values_among [] n c = c
@@ -132,10 +154,11 @@ values_apart (x ∷ xs) d = by x.value (values_apart xs d.1)
 
 pub connects : (m : ModuleDeclaration) (names : Names) (found : Option FlatFault) (c : Connections) → Distinct (ports_of m) → connections m names found c ≡ None → Connects m c
 unfolding connections
-connects m names found (Positions ts) d e = record { known = in_order (ports_of m) ts; apart = order_apart (ports_of m) ts d }
+connects m names found (Positions ts) d e = record { known = in_order (ports_of m) ts; apart = order_apart (ports_of m) ts d; fits = subst (λ ns. HavePorts ns ts) (ports_are m) (have_ports names (port_names m) ts found e) }
 connects m names found (Named list) d e =
     let b = by_name (name_set (port_names m)) names list (record { found = found; seen = [] }) e in
     record {
       known = λ n c. subst (λ ns. Contains ns n) (ports_are m) (set_has (port_names m) n (b.known n (values_among list n c)));
       apart = values_apart list b.apart;
+      fits = tt;
     }

@@ -112,6 +112,7 @@ module _ (source : SourceText) (F : Flat) (whole : Fine source.modules F.signals
     pub named : (module_of source F k).text ≡ c.module_name
     pub ports : filter (is_connection F k) ds ≡ flat_map (connection_driver F c.parent k) (connected (module_of source F k) c.text.connections)
     pub connects : Connects (module_of source F k) c.text.connections
+    pub owned : get_or F.owners k 0 < length source.modules
 
   -- what a step in instance i makes: its assignments and its children, and all of the instances that are new
   pub record Made (i : ℕ) (w t : Walked) (assigned : List Driver) (kids : List Child) : Type 0 where
@@ -167,7 +168,7 @@ module _ (source : SourceText) (F : Flat) (whole : Fine source.modules F.signals
       made_ports n c = flat_map (connection_driver F c.parent n) (connected (module_of source F n) c.text.connections)
 
       with_more : {es : List Driver} (n : ℕ) (c : Child) (ds : List Driver) → ChildIn es n c → filter (is_connection F n) ds ≡ flat_map (connection_driver F c.parent n) (connected (module_of source F n) c.text.connections) → ChildIn ds n c
-      with_more n c ds p e = record { later = p.later; named = p.named; ports = e; connects = p.connects }
+      with_more n c ds p e = record { later = p.later; named = p.named; ports = e; connects = p.connects; owned = p.owned }
 
   -- One driver
 
@@ -434,7 +435,7 @@ module _ (source : SourceText) (F : Flat) (whole : Fine source.modules F.signals
       (made : Made n mid last (flat_map (assigned_by F n) (module_at source.modules k).items) (flat_map (children_by n) (module_at source.modules k).items))
       (count : length t.flat.scopes ≡ length last.flat.scopes) (is : t.flat.drivers ≡ last.flat.drivers ++ flat_map (connection_driver F i n) (connected (module_at source.modules k) x.connections))
       (conns : AllByRecursion (Conn n) (flat_map (connection_driver F i n) (connected (module_at source.modules k) x.connections))) (module_at_end : module_of source F n ≡ module_at source.modules k)
-      (named : (module_at source.modules k).text ≡ name) (joins : Connects (module_at source.modules k) x.connections) (inside_end : n < length F.owners) where
+      (named : (module_at source.modules k).text ≡ name) (joins : Connects (module_at source.modules k) x.connections) (inside_end : n < length F.owners) (owned : get_or F.owners n 0 < length source.modules) where
     abbrev child : Child
     child = record { parent = i; module_name = name; text = x }
 
@@ -497,6 +498,7 @@ module _ (source : SourceText) (F : Flat) (whole : Fine source.modules F.signals
       ports = filter_both (is_connection F n) made.drivers links [] links (made.before n (omega (arith, one))) all_links
           ∙ ap (λ (z : ModuleDeclaration). flat_map (connection_driver F i n) (connected z x.connections)) (sym module_at_end);
       connects = subst (λ z. Connects z x.connections) (sym module_at_end) joins;
+      owned = owned;
     }
 
     with_links : (j : ℕ) (c : Child) → length mid.flat.scopes ≤ j → ChildIn made.drivers j c → ChildIn (made.drivers ++ links) j c
@@ -506,6 +508,7 @@ module _ (source : SourceText) (F : Flat) (whole : Fine source.modules F.signals
       ports = filter_both (is_connection F j) made.drivers links (flat_map (connection_driver F c.parent j) (connected (module_of source F j) c.text.connections)) [] p.ports (no_links j (λ e. omega (arith, e, l, one)))
           ∙ append-nil (flat_map (connection_driver F c.parent j) (connected (module_of source F j) c.text.connections));
       connects = p.connects;
+      owned = p.owned;
     }
 
     made_child : Made i w t [] (child ∷ [])
@@ -553,9 +556,11 @@ module _ (source : SourceText) (F : Flat) (whole : Fine source.modules F.signals
       let apart : Distinct (ports_of (module_at ms kk)) = subst (λ (z : ℕ). Distinct (ports_of (module_at ms z))) en.owner (en.fine.filled n there).apart in
       let joins = checked_connects above (scope_at w i) (module_at ms kk) kk at over x r.given apart r.settings in
       let l = h.there in
+      let ae = at_end n kk r.mid hn gm in
       subst (λ (z : Walked). Made i w z [] (record { parent = i; module_name = m; text = x } ∷ [])) r.is
       (made_child i kk n m x w en.mid r.mid u h.there refl en.same en.one en.made (ap (λ (ns : List Names). length ns) (sym js.scopes)) (joined_drivers i n kk x.connections r.mid hn gm joins)
-      (conn_all i n kk r.mid (connected (module_at ms kk) x.connections) (λ z. omega (arith, z, l)) hn gm joins.known) (module_is n kk r.mid hn gm) (placed ms table m kk tabled q).1 joins (at_end n kk r.mid hn gm).0)
+      (conn_all i n kk r.mid (connected (module_at ms kk) x.connections) (λ z. omega (arith, z, l)) hn gm joins.known) (module_is n kk r.mid hn gm) (placed ms table m kk tabled q).1 joins ae.0
+      (subst (λ (z : ℕ). z < length source.modules) (sym ae.1) (placed ms table m kk tabled q).0))
 
   -- Items
 

@@ -1,5 +1,5 @@
 -- The table of a source's modules: a name stands for the place of its module.
-use Rattle.std.proofs.Common.{◌≡◌, ◌∙◌, sym, ap, inl, inr, ℕ, ◌+◌, ◌-◌, ◌<◌, Bool, false, List, [], ◌∷◌, ◌++◌, length, get_or, Option, Some, None, Ok, refl, subst, arith, length-append, is_some}
+use Rattle.std.proofs.Common.{◌≡◌, ◌∙◌, sym, ap, inl, inr, ℕ, ◌+◌, ◌-◌, ◌<◌, Bool, true, false, fold, if◌then◌else◌, List, [], ◌∷◌, ◌++◌, length, get_or, Option, Some, None, Ok, refl, subst, arith, length-append, is_some}
 use Rattle.std.proofs.lemmas.List.{get_or_append_left, get_or-append_right, append-nil, append_assoc}
 use Rattle.rr_syntax.specs.Tree.{ModuleDeclaration}
 use Rattle.rr_expr.specs.Scopes.{Names, lookup}
@@ -8,8 +8,8 @@ use Rattle.rr_expr.specs.declared.types.Entity.TheVariants as entity
 use Rattle.rr_flat.specs.declared.fault.FlatFault.TheVariants.{NameTwice}
 use Rattle.rr_flat.specs.Faults.{fault_if, each}
 use Rattle.rr_flat.specs.Signals.{Text}
-use Rattle.rr_walk.specs.Tables.{place_of, at_place, add_module}
-use Rattle.rr_walk.specs.Walk.{module_at, no_module}
+use Rattle.rr_walk.specs.Tables.{place_of, at_place, add_module, instantiated_by, last_free}
+use Rattle.rr_walk.specs.Walk.{module_at, no_module, top_place}
 use Rattle.rr_walk.proofs.HeadOf.{ok_is, first_ok}
 use Rattle.rr_walk.proofs.TableLemmas.{grown_by_one}
 use Rattle.rr_flat_laws.proofs.Answers.{not_if, settled}
@@ -66,3 +66,20 @@ placed ms t n k h e = by (lookup n t) refl e
     by (Some (entity.Constant bits signed)) q f = absurd (none_some k f)
     by (Some (entity.Signal id range signed)) q f = subst (λ (z : ℕ). (z < length ms) × ((module_at ms z).text ≡ n)) (some_is id k f) (h.named n id range signed q)
     by (Some entity.Instance) q f = absurd (none_some k f)
+
+-- the last module that is free is one of the source
+free_there : (names : Names) (at : ℕ) (rest : List ModuleDeclaration) (found : Option ℕ) (k : ℕ) → ((j : ℕ) → found ≡ Some j → j < at) → last_free names at rest found ≡ Some k → k < at + length rest
+unfolding last_free
+free_there names at [] found k h e = let l = h k e in omega (arith, l)
+free_there names at (m ∷ ms) found k h e =
+    let l = free_there names (at + 1) ms (if is_some (lookup m.text names) then found else Some at) k (λ j q. by (is_some (lookup m.text names)) j q) e in
+    omega (arith, l)
+  where
+    by : (b : Bool) (j : ℕ) → (if b then found else Some at) ≡ Some j → j < at + 1
+    by true j q = let l = h j q in omega (arith, l)
+    by false j q = let s : at ≡ j = some_is at j q in omega (arith, s)
+
+-- the top is a module of the source
+pub top_there : (ms : List ModuleDeclaration) (t : Names) (top : Option Text) (k : ℕ) → Table ms t → top_place ms t top ≡ Some k → k < length ms
+top_there ms t None k h e = let l = free_there (fold instantiated_by [] ms) 0 ms None k (λ j q. absurd (none_some j q)) e in omega (arith, l)
+top_there ms t (Some name) k h e = (placed ms t name k h e).0

@@ -92,6 +92,12 @@ connected_in_order ports End = []
 connected_in_order [] (More t ts) = []
 connected_in_order (p ∷ ps) (More t ts) = (p, t) ∷ connected_in_order ps ts
 
+-- each expression stands at the place of a port
+unfoldable pub HavePorts : List Text → Trees → Type 0
+HavePorts ports End = Unit {0}
+HavePorts [] (More t ts) = ⊥
+HavePorts (p ∷ ps) (More t ts) = HavePorts ps ts
+
 abbrev pub connected_value : Text → Option Tree → List (Text × Tree)
 connected_value name None = []
 connected_value name (Some t) = (name, t) ∷ []
@@ -103,6 +109,11 @@ connected_name n = connected_value n.text n.value
 abbrev pub connected : ModuleDeclaration → Connections → List (Text × Tree)
 connected m (Positions ts) = connected_in_order (ports_of m) ts
 connected m (Named list) = flat_map connected_name list
+
+-- no expression is too many
+abbrev pub Fits : ModuleDeclaration → Connections → Type 0
+Fits m (Positions ts) = HavePorts (ports_of m) ts
+Fits m (Named list) = Unit {0}
 
 -- from an expression of instance i to an input, from an output to the expression (section 12.3.9.2)
 abbrev pub port_driver : Port → ℕ → ℕ → Tree → List Driver

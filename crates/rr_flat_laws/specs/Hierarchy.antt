@@ -4,10 +4,10 @@ use Rattle.std.specs.Prelude.{◌≡◌, ◌⊎◌, ℕ, ◌+◌, ◌<◌, ◌�
 use Rattle.std.specs.List.{Contains, filter, flat_map}
 use Rattle.rr_syntax.specs.Tree.{Tree, ModuleDeclaration, SourceText}
 use Rattle.rr_flat.specs.Plain.{Driver, Flat}
-use Rattle.rr_flat.specs.Signals.{Text}
+use Rattle.rr_flat.specs.Signals.{Text, signal_at}
 use Rattle.rr_flat_laws.specs.Declared.{ports_of}
-use Rattle.rr_flat_laws.specs.Drivers.{signal_named, Child, children_by, is_child_of, assigned_by, is_assignment, connected, connection_driver, is_connection, expression_of, driver_of_port, joins}
-use Rattle.rr_flat_laws.specs.Names.{module_of}
+use Rattle.rr_flat_laws.specs.Drivers.{signal_named, Child, children_by, is_child_of, assigned_by, is_assignment, connected, Fits, connection_driver, is_connection, expression_of, driver_of_port, joins}
+use Rattle.rr_flat_laws.specs.Names.{module_of, IsPort}
 
 -- the drivers within an instance are its continuous assignments, in the order of the text
 abbrev pub AreAssignments : SourceText → Flat → ℕ → Type 0
@@ -22,18 +22,21 @@ abbrev pub connected_to : ModuleDeclaration → Child → List (Text × Tree)
 connected_to m c = connected m c.text.connections
 
 -- instance k of module m is this child: a later one than its parent, of the module that its text names; only ports are
--- connected; the drivers between it and other instances are its connections, in the order of the text; so a port that has
--- an expression has exactly one, and a port that has none has none
+-- connected, which are inputs and outputs; the drivers between it and other instances are its connections, in the order of
+-- the text; so a port that has an expression has exactly one, and a port that has none has none
 pub record IsChild (m : ModuleDeclaration) (flat : Flat) (k : ℕ) (c : Child) : Type 0 where
   pub later : c.parent < k
   pub named : m.text ≡ c.module_name
   pub only : (x : Text × Tree) → Contains (connected_to m c) x → Contains (ports_of m) x.0
+  pub fits : Fits m c.text.connections
+  pub ways : (p : Text) → Contains (ports_of m) p → IsPort (signal_at flat.signals (signal_named flat k p))
   pub all : filter (is_connection flat k) flat.drivers ≡ flat_map (connection_driver flat c.parent k) (connected_to m c)
   pub port : (p : Text) → Contains (ports_of m) p → filter (joins flat (signal_named flat k p)) flat.drivers ≡ driver_of_port flat c.parent k p (expression_of p (connected_to m c))
 
--- the instances below the top in the order of their numbers, which begin at 1, are the children of all instances; the top
--- has no connections
+-- each instance is one of a module of the source; those below the top in the order of their numbers, which begin at 1, are
+-- the children of all instances; the top has no connections
 pub record AreConnections (source : SourceText) (flat : Flat) : Type 0 where
+  pub owned : (i : ℕ) → i < length flat.owners → get_or flat.owners i 0 < length source.modules
   pub children : List Child
   pub count : length flat.owners ≡ length children + 1
   pub each : (i : ℕ) → i < length flat.owners → AreChildren source flat children i

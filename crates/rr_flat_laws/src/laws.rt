@@ -21,7 +21,6 @@ pub fn assignments_are_drivers()
 /// (section 12.1.2). Each port of one has exactly one driver where an expression is connected to it,
 /// from the expression in the parent to an input and from an output to the expression, and none
 /// where none is (section 12.3.9.2). The ports of the top have none.
-#[tactic(auto, using(crate::proofs::Whole::connections_of_design))]
 pub fn connections_are_drivers()
     ensures { ConnectionsAreDrivers }
 {}
