@@ -22,7 +22,7 @@ use Rattle.rr_head.specs.Declarations.{Declared, Declarations, is_port, signal_o
 use Rattle.rr_head.specs.Parameters.{width_faults}
 use Rattle.rr_head.specs.Values.{range_in}
 use Rattle.rr_walk.proofs.HeadOf.{ok_is, first_ok}
-use Rattle.rr_flat_laws.specs.Declared.{ports_by, declared_by}
+use Rattle.rr_flat_laws.specs.Declared.{texts_of, ports_by, declared_by}
 use Rattle.rr_flat_laws.proofs.Answers.{nil_left, nil_right, not_if, settled}
 use Rattle.rr_flat_laws.proofs.Texts.{some_is, none_some, nowhere, there_cases, here, later, Distinct, distinct_append, with_stays, with_new, with_cases, is_none_of, there_of, flat_none, none_of}
 
@@ -56,11 +56,11 @@ one_set Q xs i x h q p l = by (cases_eq p i)
         subst (λ (j : ℕ). Q j (declared_at (slice_set xs i x) j)) (sym e) (subst (Q i) (sym (get_or-set_same xs i x no_declared k)) (q k))
     by (inr n) = subst (Q p) (sym (get_or-set_other xs i p x no_declared n)) (h p m)
 
--- what is found stays, and a port stays a port
+-- what is found stays, and a port stays as it is
 pub record Longer (d t : Declarations) : Type 0 where
   pub found : (n : Text) (x : Entity) → lookup n d.names ≡ Some x → lookup n t.names ≡ Some x
   pub long : length d.list ≤ length t.list
-  pub port : (p : ℕ) → p < length d.list → is_port (declared_at d.list p).signal.port ≡ true → is_port (declared_at t.list p).signal.port ≡ true
+  pub port : (p : ℕ) → p < length d.list → (declared_at t.list p).signal.port ≡ (declared_at d.list p).signal.port
 
 -- a name is a signal of the list, and one is a port
 pub record Has (d : Declarations) (n : Text) : Type 0 where
@@ -73,21 +73,31 @@ pub record HasPort (d : Declarations) (n : Text) : Type 0 where
   pub found : lookup n d.names ≡ Some (entity.Signal place None false)
   pub port : is_port (declared_at d.list place).signal.port ≡ true
 
+-- with its way
+pub record HasWay (d : Declarations) (n : Text) (way : Port) : Type 0 where
+  pub place : ℕ
+  pub there : place < length d.list
+  pub found : lookup n d.names ≡ Some (entity.Signal place None false)
+  pub goes : (declared_at d.list place).signal.port ≡ way
+
 longer_none : (d : Declarations) → Longer d d
-longer_none d = record { found = λ n x h. h; long = omega arith; port = λ p l h. h }
+longer_none d = record { found = λ n x h. h; long = omega arith; port = λ p l. refl }
 
 longer_twice : (d u t : Declarations) → Longer d u → Longer u t → Longer d t
 longer_twice d u t a b = record {
   found = λ n x h. b.found n x (a.found n x h);
   long = omega (arith, a.long, b.long);
-  port = λ p l h. b.port p (omega (arith, l, a.long)) (a.port p l h);
+  port = λ p l. b.port p (omega (arith, l, a.long)) ∙ a.port p l;
 }
 
 has_later : (d t : Declarations) (n : Text) → Longer d t → Has d n → Has t n
 has_later d t n l h = record { place = h.place; found = l.found n (entity.Signal h.place None false) h.found }
 
 port_later : (d t : Declarations) (n : Text) → Longer d t → HasPort d n → HasPort t n
-port_later d t n l h = record { place = h.place; there = omega (arith, h.there, l.long); found = l.found n (entity.Signal h.place None false) h.found; port = l.port h.place h.there h.port }
+port_later d t n l h = record { place = h.place; there = omega (arith, h.there, l.long); found = l.found n (entity.Signal h.place None false) h.found; port = ap is_port (l.port h.place h.there) ∙ h.port }
+
+way_later : (d t : Declarations) (n : Text) (way : Port) → Longer d t → HasWay d n way → HasWay t n way
+way_later d t n way l h = record { place = h.place; there = omega (arith, h.there, l.long); found = l.found n (entity.Signal h.place None false) h.found; goes = l.port h.place h.there ∙ h.goes }
 
 new_before : (d u : Declarations) (n : Text) → Longer d u → lookup n u.names ≡ None → lookup n d.names ≡ None
 new_before d u n l h = by (lookup n d.names) refl
@@ -107,6 +117,23 @@ item_ports (Assigns pairs) = []
 item_ports (Always events body token) = []
 item_ports (Instances m token overrides list) = []
 
+-- with their ways
+abbrev pub with_way : Port → Text → Text × Port
+with_way way n = (n, way)
+
+abbrev pub ways_by : PortDeclaration → List (Text × Port)
+ways_by p = map (with_way (port_of p.dir)) (ports_by p)
+
+abbrev pub item_ways : ModuleItem → List (Text × Port)
+item_ways (Ports p) = ways_by p
+item_ways (Nets signed range list) = []
+item_ways (Variables signed range list) = []
+item_ways (Integers list) = []
+item_ways (Parameters p) = []
+item_ways (Assigns pairs) = []
+item_ways (Always events body token) = []
+item_ways (Instances m token overrides list) = []
+
 -- over the names of the parameters; P is what is true of each name that is declared
 module _ (bracketed params : Names) (P : Text → Type 0) where
   pub record Lists (d : Declarations) : Type 0 where
@@ -117,23 +144,25 @@ module _ (bracketed params : Names) (P : Text → Type 0) where
     pub ported : (p : ℕ) → p < length d.list → is_port (declared_at d.list p).signal.port ≡ true → is_some (lookup (declared_at d.list p).signal.name bracketed) ≡ true
 
   -- names were declared, of which some are ports that are new
-  pub record Done (all ports : List Text) (d t : Declarations) : Type 0 where
+  pub record Done (all ports : List Text) (ways : List (Text × Port)) (d t : Declarations) : Type 0 where
     pub lists : Lists t
     pub longer : Longer d t
     pub has : (n : Text) → Contains all n → Has t n
     pub port : (n : Text) → Contains ports n → HasPort t n
+    pub way : (n : Text) (w : Port) → Contains ways (n, w) → HasWay t n w
     pub new : (n : Text) → Contains ports n → lookup n d.names ≡ None
     pub apart : Distinct ports
 
-  done_none : (d : Declarations) → Lists d → Done [] [] d d
-  done_none d l = record { lists = l; longer = longer_none d; has = λ n c. absurd (nowhere n c); port = λ n c. absurd (nowhere n c); new = λ n c. absurd (nowhere n c); apart = tt }
+  done_none : (d : Declarations) → Lists d → Done [] [] [] d d
+  done_none d l = record { lists = l; longer = longer_none d; has = λ n c. absurd (nowhere n c); port = λ n c. absurd (nowhere n c); way = λ n w c. absurd (nowhere (n, w) c); new = λ n c. absurd (nowhere n c); apart = tt }
 
-  pub done_twice : (a b p q : List Text) (d u t : Declarations) → Done a p d u → Done b q u t → Done (a ++ b) (p ++ q) d t
-  done_twice a b p q d u t x y = record {
+  pub done_twice : (a b p q : List Text) (v z : List (Text × Port)) (d u t : Declarations) → Done a p v d u → Done b q z u t → Done (a ++ b) (p ++ q) (v ++ z) d t
+  done_twice a b p q v z d u t x y = record {
     lists = y.lists;
     longer = longer_twice d u t x.longer y.longer;
     has = λ n c. has_by n (Contains-append_cases a b n c);
     port = λ n c. port_by n (Contains-append_cases p q n c);
+    way = λ n w c. elim (Contains-append_cases v z (n, w) c) [ inl k ↦ way_later u t n w y.longer (x.way n w k) | inr k ↦ y.way n w k ];
     new = λ n c. new_by n (Contains-append_cases p q n c);
     apart = distinct_append p q x.apart y.apart (λ n c e. let f = (x.port n c).found in none_some (entity.Signal (x.port n c).place None false) (sym (y.new n e) ∙ f));
   }
@@ -185,15 +214,16 @@ module _ (bracketed params : Names) (P : Text → Type 0) where
   longer_more k at name d = record {
     found = λ n y h. with_stays d.names name n y (entity.Signal (length d.list) None false) h;
     long = omega (arith, length-append d.list (record { signal = signal_of d.instance k at name; again = is_port k.port && not k.variable } ∷ []));
-    port = λ p m h. subst (λ (y : Declared). is_port y.signal.port ≡ true) (sym (get_or_append_left d.list (record { signal = signal_of d.instance k at name; again = is_port k.port && not k.variable } ∷ []) no_declared p m)) h;
+    port = λ p m. ap (λ (y : Declared). y.signal.port) (get_or_append_left d.list (record { signal = signal_of d.instance k at name; again = is_port k.port && not k.variable } ∷ []) no_declared p m);
   }
 
   -- what a step says of its name
-  pub record One (repeats : Bool) (way : Port) (name : Text) (d t : Declarations) : Type 0 where
+  pub record One (repeats : Bool) (goes : Port) (name : Text) (d t : Declarations) : Type 0 where
     pub lists : Lists t
     pub longer : Longer d t
     pub has : Has t name
-    pub port : repeats ≡ false → is_port way ≡ true → HasPort t name
+    pub port : repeats ≡ false → is_port goes ≡ true → HasPort t name
+    pub way : repeats ≡ false → HasWay t name goes
     pub new : repeats ≡ false → lookup name d.names ≡ None
 
   port_checked : (b c : Bool) → (b && c) ≡ false → b ≡ true → c ≡ false
@@ -228,6 +258,12 @@ module _ (bracketed params : Names) (P : Text → Type 0) where
               found = f;
               port = subst (λ (y : Declared). is_port y.signal.port ≡ true) (sym (last_there d.list x (length d.list) refl)) h;
             };
+            way = λ r. record {
+              place = length d.list;
+              there = omega (arith, length-append d.list (x ∷ []));
+              found = f;
+              goes = ap (λ (y : Declared). y.signal.port) (last_there d.list x (length d.list) refl);
+            };
             new = λ r. new;
           }
 
@@ -256,11 +292,11 @@ module _ (bracketed params : Names) (P : Text → Type 0) where
         longer = record {
           found = λ n y h. h;
           long = omega (arith, length-set d.list place x);
-          port = λ p m h.
-              one_set (λ i y. is_port (declared_at d.list i).signal.port ≡ true → is_port y.signal.port ≡ true) d.list place x (λ i a b. b) (λ a b. b) p (omega (arith, m, length-set d.list place x)) h;
+          port = λ p m. one_set (λ i y. y.signal.port ≡ (declared_at d.list i).signal.port) d.list place x (λ i a. refl) (λ a. refl) p (omega (arith, m, length-set d.list place x));
         };
         has = record { place = place; found = f };
         port = λ no. absurd (both_ways k.repeats no r);
+        way = λ no. absurd (both_ways k.repeats no r);
         new = λ no. absurd (both_ways k.repeats no r);
       }
 
@@ -293,7 +329,7 @@ module _ (bracketed params : Names) (P : Text → Type 0) where
   one k at name d t l p e = one_at k at name d t l p (repeated_place k.repeats (again_place (lookup name d.names) d.list)) e refl
 
   -- a net or a variable, and a port
-  done_inner : (k : _) (at : ℕ) (name : Text) (d t : Declarations) → Lists d → P name → declare bracketed k at name d ≡ Ok t → Done (name ∷ []) [] d t
+  done_inner : (k : _) (at : ℕ) (name : Text) (d t : Declarations) → Lists d → P name → declare bracketed k at name d ≡ Ok t → Done (name ∷ []) [] [] d t
   done_inner k at name d t l p e =
       let o = one k at name d t l p e in
       record {
@@ -301,6 +337,7 @@ module _ (bracketed params : Names) (P : Text → Type 0) where
         longer = o.longer;
         has = λ n c. by n (there_cases name [] n c) o.has;
         port = λ n c. absurd (nowhere n c);
+        way = λ n w c. absurd (nowhere (n, w) c);
         new = λ n c. absurd (nowhere n c);
         apart = tt;
       }
@@ -309,7 +346,7 @@ module _ (bracketed params : Names) (P : Text → Type 0) where
       by n (inl q) h = subst (Has t) q h
       by n (inr c) h = absurd (nowhere n c)
 
-  done_port : (k : _) (at : ℕ) (name : Text) (d t : Declarations) → Lists d → P name → declare bracketed k at name d ≡ Ok t → k.repeats ≡ false → is_port k.port ≡ true → Done (name ∷ []) (name ∷ []) d t
+  done_port : (k : _) (at : ℕ) (name : Text) (d t : Declarations) → Lists d → P name → declare bracketed k at name d ≡ Ok t → k.repeats ≡ false → is_port k.port ≡ true → Done (name ∷ []) (name ∷ []) ((name, k.port) ∷ []) d t
   done_port k at name d t l p e r i =
       let o = one k at name d t l p e in
       record {
@@ -317,6 +354,7 @@ module _ (bracketed params : Names) (P : Text → Type 0) where
         longer = o.longer;
         has = λ n c. by (Has t) n (there_cases name [] n c) o.has;
         port = λ n c. by (HasPort t) n (there_cases name [] n c) (o.port r i);
+        way = λ n w c. elim (there_cases (name, k.port) [] (n, w) c) [ inl q ↦ subst (λ (z : Text × Port). HasWay t z.0 z.1) q (o.way r) | inr z ↦ absurd (nowhere (n, w) z) ];
         new = λ n c. by (λ m. lookup m d.names ≡ None) n (there_cases name [] n c) (o.new r);
         apart = (λ c. nowhere name c, tt);
       }
@@ -327,15 +365,15 @@ module _ (bracketed params : Names) (P : Text → Type 0) where
 
   -- Lists of declarations
 
-  pub each_done : {X : Type 0} (alls ports : X → List Text) (step : X → Declarations → Result Declarations FlatFault) →
-      ((x : X) (d t : Declarations) → Lists d → ((n : Text) → Contains (alls x) n → P n) → step x d ≡ Ok t → Done (alls x) (ports x) d t) →
-      (xs : List X) (d t : Declarations) → Lists d → AllByRecursion (λ x. (n : Text) → Contains (alls x) n → P n) xs → each step xs d ≡ Ok t → Done (flat_map alls xs) (flat_map ports xs) d t
+  pub each_done : {X : Type 0} (alls ports : X → List Text) (ways : X → List (Text × Port)) (step : X → Declarations → Result Declarations FlatFault) →
+      ((x : X) (d t : Declarations) → Lists d → ((n : Text) → Contains (alls x) n → P n) → step x d ≡ Ok t → Done (alls x) (ports x) (ways x) d t) →
+      (xs : List X) (d t : Declarations) → Lists d → AllByRecursion (λ x. (n : Text) → Contains (alls x) n → P n) xs → each step xs d ≡ Ok t → Done (flat_map alls xs) (flat_map ports xs) (flat_map ways xs) d t
   unfolding each
-  each_done alls ports step k [] d t l b e = subst (Done [] [] d) (ok_is d t e) (done_none d l)
-  each_done alls ports step k (x ∷ xs) d t l b e =
+  each_done alls ports ways step k [] d t l b e = subst (Done [] [] [] d) (ok_is d t e) (done_none d l)
+  each_done alls ports ways step k (x ∷ xs) d t l b e =
       let r = first_ok (step x d) (each step xs) t e in
       let o = k x d r.0 l b.0 r.1.0 in
-      done_twice (alls x) (flat_map alls xs) (ports x) (flat_map ports xs) d r.0 t o (each_done alls ports step k xs r.0 t o.lists b.1 r.1.1)
+      done_twice (alls x) (flat_map alls xs) (ports x) (flat_map ports xs) (ways x) (flat_map ways xs) d r.0 t o (each_done alls ports ways step k xs r.0 t o.lists b.1 r.1.1)
 
   -- each of the names has what the names of the list have
   each_of : {X : Type 0} (f : X → Text) (xs : List X) → ((n : Text) → Contains (map f xs) n → P n) → AllByRecursion (λ x. (n : Text) → Contains (f x ∷ []) n → P n) xs
@@ -347,11 +385,12 @@ module _ (bracketed params : Names) (P : Text → Type 0) where
       by n (inr c) = absurd (nowhere n c)
 
   -- nets and variables
-  done_inners : {X : Type 0} (f : X → Text) (step : X → Declarations → Result Declarations FlatFault) → ((x : X) (d t : Declarations) → Lists d → P (f x) → step x d ≡ Ok t → Done (f x ∷ []) [] d t) →
-      (xs : List X) (d t : Declarations) → Lists d → ((n : Text) → Contains (map f xs) n → P n) → each step xs d ≡ Ok t → Done (map f xs) [] d t
+  done_inners : {X : Type 0} (f : X → Text) (step : X → Declarations → Result Declarations FlatFault) → ((x : X) (d t : Declarations) → Lists d → P (f x) → step x d ≡ Ok t → Done (f x ∷ []) [] [] d t) →
+      (xs : List X) (d t : Declarations) → Lists d → ((n : Text) → Contains (map f xs) n → P n) → each step xs d ≡ Ok t → Done (map f xs) [] [] d t
   done_inners f step k xs d t l h e =
-      let o = each_done (λ x. f x ∷ []) (λ x. none_of Text) step (λ x s u m q g. k x s u m (q (f x) (here (f x) [])) g) xs d t l (each_of f xs h) e in
-      subst (λ ns. Done ns [] d t) (flat_map_single f xs) (subst (λ ps. Done (flat_map (λ x. f x ∷ []) xs) ps d t) (flat_none xs) o)
+      let o = each_done (λ x. f x ∷ []) (λ x. none_of Text) (λ x. none_of (Text × Port)) step (λ x s u m q g. k x s u m (q (f x) (here (f x) [])) g) xs d t l (each_of f xs h) e in
+      subst (λ ns. Done ns [] [] d t) (flat_map_single f xs)
+      (subst (λ ps. Done (flat_map (λ x. f x ∷ []) xs) ps [] d t) (flat_none xs) (subst (λ ws. Done (flat_map (λ x. f x ∷ []) xs) (flat_map (λ x. none_of Text) xs) ws d t) (flat_none xs) o))
 
   port_is : (way : Dir) → is_port (port_of way) ≡ true
   port_is dir.Input = refl
@@ -360,16 +399,21 @@ module _ (bracketed params : Names) (P : Text → Type 0) where
   port_is dir.OutputWire = refl
   port_is dir.OutputReg = refl
 
-  pub done_ports : (seen : Names) (p : PortDeclaration) (d t : Declarations) → Lists d → ((n : Text) → Contains (ports_by p) n → P n) → declare_ports bracketed seen p d ≡ Ok t → Done (ports_by p) (ports_by p) d t
+  ways_are : (way : Port) (list : List Identifier) → map (λ (i : Identifier). with_way way i.text) list ≡ map (with_way way) (texts_of list)
+  ways_are way [] = refl
+  ways_are way (i ∷ is) = ap (λ (z : List (Text × Port)). (i.text, way) ∷ z) (ways_are way is)
+
+  pub done_ports : (seen : Names) (p : PortDeclaration) (d t : Declarations) → Lists d → ((n : Text) → Contains (ports_by p) n → P n) → declare_ports bracketed seen p d ≡ Ok t → Done (ports_by p) (ports_by p) (ways_by p) d t
   unfolding declare_ports
   done_ports seen p d t l h e =
       let r = first_ok (range_in seen p.range) (λ range. each (declare_identifier bracketed (port_declaration p range)) p.names d) t e in
       let k = port_declaration p r.0 in
-      let o = each_done (λ i. i.text ∷ []) (λ i. i.text ∷ []) (declare_identifier bracketed k) (λ i s u m q g. done_port k i.token i.text s u m (q i.text (here i.text [])) g refl (port_is p.dir)) p.names d t l
+      let o = each_done (λ i. i.text ∷ []) (λ i. i.text ∷ []) (λ i. with_way (port_of p.dir) i.text ∷ []) (declare_identifier bracketed k) (λ i s u m q g. done_port k i.token i.text s u m (q i.text (here i.text [])) g refl (port_is p.dir)) p.names d t l
       (each_of (λ (i : Identifier). i.text) p.names h) r.1.1 in
-      subst (λ ns. Done ns ns d t) (flat_map_single (λ (i : Identifier). i.text) p.names) o
+      subst (λ ws. Done (ports_by p) (ports_by p) ws d t) (flat_map_single (λ (i : Identifier). with_way (port_of p.dir) i.text) p.names ∙ ways_are (port_of p.dir) p.names)
+      (subst (λ ns. Done ns ns (flat_map (λ (i : Identifier). with_way (port_of p.dir) i.text ∷ []) p.names) d t) (flat_map_single (λ (i : Identifier). i.text) p.names) o)
 
-  pub done_item : (seen : Names) (x : ModuleItem) (d t : Declarations) → Lists d → ((n : Text) → Contains (declared_by x) n → P n) → declare_item bracketed seen x d ≡ Ok t → Done (declared_by x) (item_ports x) d t
+  pub done_item : (seen : Names) (x : ModuleItem) (d t : Declarations) → Lists d → ((n : Text) → Contains (declared_by x) n → P n) → declare_item bracketed seen x d ≡ Ok t → Done (declared_by x) (item_ports x) (item_ways x) d t
   unfolding declare_item declare_nets declare_variables
   done_item seen (Ports p) d t l h e = done_ports seen p d t l h e
   done_item seen (Nets signed range list) d t l h e =
@@ -380,7 +424,7 @@ module _ (bracketed params : Names) (P : Text → Type 0) where
       done_inners (λ (n : Identifier). n.text) (declare_identifier bracketed (inner_declaration true signed r.0)) (λ n s u m q g. done_inner (inner_declaration true signed r.0) n.token n.text s u m q g) list d t l h r.1.1
   done_item seen (Integers list) d t l h e =
       done_inners (λ (n : Identifier). n.text) (declare_identifier bracketed integer_declaration) (λ n s u m q g. done_inner integer_declaration n.token n.text s u m q g) list d t l h e
-  done_item seen (Parameters p) d t l h e = subst (Done [] [] d) (ok_is d t e) (done_none d l)
-  done_item seen (Assigns pairs) d t l h e = subst (Done [] [] d) (ok_is d t e) (done_none d l)
-  done_item seen (Always events body token) d t l h e = subst (Done [] [] d) (ok_is d t e) (done_none d l)
-  done_item seen (Instances m token overrides list) d t l h e = subst (Done [] [] d) (ok_is d t e) (done_none d l)
+  done_item seen (Parameters p) d t l h e = subst (Done [] [] [] d) (ok_is d t e) (done_none d l)
+  done_item seen (Assigns pairs) d t l h e = subst (Done [] [] [] d) (ok_is d t e) (done_none d l)
+  done_item seen (Always events body token) d t l h e = subst (Done [] [] [] d) (ok_is d t e) (done_none d l)
+  done_item seen (Instances m token overrides list) d t l h e = subst (Done [] [] [] d) (ok_is d t e) (done_none d l)

@@ -4,7 +4,7 @@ use Rattle.std.specs.Prelude.{slice_set}
 use Rattle.std.specs.List.{Contains}
 use Rattle.std.proofs.lemmas.Bool.{cases_lt, cases_eq}
 use Rattle.std.proofs.lemmas.List.{get_or_append_left, get_or-append_right, length-set, get_or-set_same, get_or-set_other}
-use Rattle.rr_syntax.specs.Tree.{Connections, ModuleInstance, ModuleItem, Ports, Nets, Variables, Integers, Parameters, Assigns, Always, Instances, ModuleDeclaration, SourceText}
+use Rattle.rr_syntax.specs.Tree.{PortDeclaration, Connections, ModuleInstance, ModuleItem, Ports, Nets, Variables, Integers, Parameters, Assigns, Always, Instances, ModuleDeclaration, SourceText}
 use Rattle.rr_expr.specs.Scopes.{Names, lookup}
 use Rattle.rr_expr.specs.declared.types.Entity.{Entity}
 use Rattle.rr_expr.specs.declared.types.Entity.TheVariants as entity
@@ -19,7 +19,7 @@ use Rattle.rr_head.specs.Heads.{Head}
 use Rattle.rr_walk.specs.Tables.{place_of, add_module}
 use Rattle.rr_walk.specs.Walk.{Walked, Enter, scope_at, module_at, net, assign, with_instance, joined, instance_of, item, opened, enter_by, enter, nothing, finished, top_place, enter_top, flat_of}
 use Rattle.rr_walk.proofs.HeadOf.{ok_is, not_ok, first_ok, each_keeps}
-use Rattle.rr_flat_laws.specs.Declared.{Declares, ports_of}
+use Rattle.rr_flat_laws.specs.Declared.{ports_by, HasDeclaration, way_of, Declares, ports_of}
 use Rattle.rr_flat_laws.specs.Names.{IsSignal, NamesAre}
 use Rattle.rr_flat_laws.proofs.Growing.{Same, each_same, assign_same, net_same, always_same, joined_same, began, inside, entered}
 use Rattle.rr_flat_laws.proofs.Opening.{Opened, opened_head}
@@ -41,6 +41,7 @@ module _ (ms : List ModuleDeclaration) where
   pub record Filled (ss : List Signal) (i : ℕ) (m : ModuleDeclaration) : Type 0 where
     pub has : (n : Text) → Declares m n → (id : ℕ) × Is ss i n id
     pub port : (n : Text) → Contains (ports_of m) n → (id : ℕ) × (Is ss i n id × (is_port (signal_at ss id).port ≡ true))
+    pub way : (p : PortDeclaration) (n : Text) → HasDeclaration m p → Contains (ports_by p) n → (id : ℕ) × (Is ss i n id × ((signal_at ss id).port ≡ way_of p.dir))
     pub apart : Distinct (ports_of m)
 
   pub record Fine (ss : List Signal) (ns : List Names) (os : List ℕ) : Type 0 where
@@ -66,6 +67,7 @@ module _ (ms : List ModuleDeclaration) where
   filled_more ss more i m f = record {
     has = λ n c. let h = f.has n c in (h.0, later n h.0 h.1);
     port = λ n c. let h = f.port n c in (h.0, (later n h.0 h.1.0, ap (λ (s : Signal). is_port s.port) (get_or_append_left ss more no_signal h.0 h.1.0.0) ∙ h.1.1));
+    way = λ p n c k. let h = f.way p n c k in (h.0, (later n h.0 h.1.0, ap (λ (s : Signal). s.port) (get_or_append_left ss more no_signal h.0 h.1.0.0) ∙ h.1.1));
     apart = f.apart;
   }
     where
@@ -78,6 +80,7 @@ module _ (ms : List ModuleDeclaration) where
   filled_new ss i m h o = record {
     has = λ n c. let q = o.has n c in (length ss + q.0, at n q.0 q.1.0 q.1.1);
     port = λ n c. let q = o.port n c in (length ss + q.0, (at n q.0 q.1.0 q.1.1.0, ap (λ (s : Signal). is_port s.port) (new q.0) ∙ q.1.1.1));
+    way = λ p n c k. let q = o.way p n c k in (length ss + q.0, (at n q.0 q.1.0 q.1.1.0, ap (λ (s : Signal). s.port) (new q.0) ∙ q.1.1.1));
     apart = o.apart;
   }
     where
@@ -276,5 +279,8 @@ names_of_design source top flat e =
       ports = λ i n l c.
           let h = (f.filled i (omega (arith, l, ev))).port n c in
           record { id = h.0; is = record { there = h.1.0.0; instance = h.1.0.1.0; named = h.1.0.1.1 }; port = way_is (signal_at ss h.0).port h.1.1 };
+      ways = λ i p n l c k.
+          let h = (f.filled i (omega (arith, l, ev))).way p n c k in
+          record { id = h.0; is = record { there = h.1.0.0; instance = h.1.0.1.0; named = h.1.0.1.1 }; goes = h.1.1 };
       listed = λ id l p. (f.one id l).listed (is_way (signal_at ss id).port p);
     }

@@ -7,6 +7,8 @@ use Rattle.std.proofs.lemmas.List.{append-nil, append_assoc, map-append, get_or-
 use Rattle.std.proofs.lemmas.List.Concat.{flat_map-append, flat_map_single}
 use Rattle.std.proofs.lemmas.List.Elements.{Contains-append_left, Contains-append_right, Contains-append_cases}
 use Rattle.std.proofs.lemmas.Option.{slice_get-get_or}
+use Rattle.rr_syntax.specs.declared.tree.Dir.{Dir}
+use Rattle.rr_syntax.specs.declared.tree.Dir.TheVariants as dir
 use Rattle.rr_syntax.specs.Tree.{Identifier, PortDeclaration, ModuleItem, Ports, Nets, Variables, Integers, Parameters, Assigns, Always, Instances, ModuleDeclaration}
 use Rattle.rr_expr.specs.Scopes.{Names, lookup}
 use Rattle.rr_expr.specs.declared.types.Entity.{Entity}
@@ -14,18 +16,18 @@ use Rattle.rr_expr.specs.declared.types.Entity.TheVariants as entity
 use Rattle.rr_flat.specs.declared.fault.FlatFault.{FlatFault}
 use Rattle.rr_flat.specs.declared.fault.FlatFault.TheVariants.{NameTwice, UnknownName, TooMany}
 use Rattle.rr_flat.specs.declared.fault.Limit.TheVariants.{FlatBits}
+use Rattle.rr_flat.specs.declared.signal.Port.{Port}
 use Rattle.rr_flat.specs.Faults.{fault_if, settle, and_then, each}
 use Rattle.rr_flat.specs.Signals.{Text, Signal, signal_at, no_signal, with_name}
 use Rattle.rr_flat.proofs.Lists.{all_index}
-use Rattle.rr_head.specs.Declarations.{Declared, Declarations, is_port, know, know_identifier, know_ports, know_port_item, known, plain_names, add_plain_name, brackets, no_declared, declared_at, declare_ports, declare_item, declarations}
+use Rattle.rr_head.specs.Declarations.{Declared, Declarations, is_port, port_of, know, know_identifier, know_ports, know_port_item, known, plain_names, add_plain_name, brackets, no_declared, declared_at, declare_ports, declare_item, declarations}
 use Rattle.rr_head.specs.Heads.{Head, named_signal, with_port, with_ports, with_inner, signals_in_order, with_signals, numbered, declared, head}
 use Rattle.rr_head.specs.Parameters.{parameters}
-use Rattle.rr_walk.proofs.HeadOf.{ok_is, first_ok, NoSignal, Entries, head_of}
-use Rattle.rr_flat_laws.specs.Declared.{texts_of, ports_by, declared_by, Declares, plain_ports, ports_of}
+use Rattle.rr_walk.proofs.HeadOf.{ok_is, first_ok, NoSignal, Entries, constants, head_of}
+use Rattle.rr_flat_laws.specs.Declared.{texts_of, ports_by, HasDeclaration, way_of, declared_by, Declares, plain_ports, ports_of}
 use Rattle.rr_flat_laws.proofs.Answers.{nil_left, nil_right, not_if, settled}
-use Rattle.rr_flat_laws.proofs.Constants.{constants}
-use Rattle.rr_flat_laws.proofs.Declaring.{Has, HasPort, Lists, done_twice, each_done, item_ports, done_ports, done_item}
-use Rattle.rr_flat_laws.proofs.Texts.{some_is, none_some, nowhere, there_cases, here, later, all_in, in_flat, Distinct, distinct_append, distinct_left, distinct_apart, distinct_places, with_stays, with_new, with_cases, none_before, is_none_of, there_of, found_entry, some_with, known_from}
+use Rattle.rr_flat_laws.proofs.Declaring.{Has, HasPort, HasWay, Lists, done_twice, each_done, item_ports, with_way, ways_by, item_ways, done_ports, done_item}
+use Rattle.rr_flat_laws.proofs.Texts.{some_is, none_some, nowhere, there_cases, here, later, all_in, in_map, in_flat, Distinct, distinct_append, distinct_left, distinct_apart, distinct_places, with_stays, with_new, with_cases, none_before, is_none_of, there_of, found_entry, some_with, known_from}
 
 -- The port brackets
 
@@ -109,12 +111,20 @@ nothing_known n h = both_ways false refl h
 
 -- The declarations of a module
 
+goes_way : (way : Dir) → port_of way ≡ way_of way
+goes_way dir.Input = refl
+goes_way dir.InputWire = refl
+goes_way dir.Output = refl
+goes_way dir.OutputWire = refl
+goes_way dir.OutputReg = refl
+
 record Facts (m : ModuleDeclaration) (params : Names) (d : Declarations) : Type 0 where
   bracketed : Names
   constants : (n : Text) (place : ℕ) → lookup n params ≡ Some (entity.Signal place None false) → ⊥
   lists : Lists bracketed params (Declares m) d
   has : (n : Text) → Declares m n → Has d n
   port : (n : Text) → Contains (ports_of m) n → HasPort d n
+  way : (p : PortDeclaration) (n : Text) → HasDeclaration m p → Contains (ports_by p) n → HasWay d n (way_of p.dir)
   apart : Distinct (ports_of m)
   listed : (p : ℕ) → p < length d.list → is_port (declared_at d.list p).signal.port ≡ true → Contains (ports_of m) (declared_at d.list p).signal.name
 
@@ -139,11 +149,11 @@ facts i bits m params d h e =
     let groups : List Text = flat_map ports_by m.groups in
     let b = first_ok (and_then (each (add_plain_name directed) (plain_names m.header) []) (λ names. Ok (fold know_ports names m.groups))) (λ bracketed. declarations bracketed seen m start) d e in
     let g = first_ok (each (declare_ports b.0 seen) m.groups start) (each (declare_item b.0 seen) m.items) d b.1.1 in
-    let x = each_done b.0 params (Declares m) ports_by ports_by (declare_ports b.0 seen) (done_ports b.0 params (Declares m) seen) m.groups start g.0 (no_list b.0 params (Declares m) i bits h)
+    let x = each_done b.0 params (Declares m) ports_by ports_by ways_by (declare_ports b.0 seen) (done_ports b.0 params (Declares m) seen) m.groups start g.0 (no_list b.0 params (Declares m) i bits h)
     (all_in (λ p. (n : Text) → Contains (ports_by p) n → Declares m n) m.groups (λ p c n k. inl (p, (c, k)))) g.1.0 in
-    let y = each_done b.0 params (Declares m) declared_by item_ports (declare_item b.0 seen) (done_item b.0 params (Declares m) seen) m.items g.0 d x.lists
+    let y = each_done b.0 params (Declares m) declared_by item_ports item_ways (declare_item b.0 seen) (done_item b.0 params (Declares m) seen) m.items g.0 d x.lists
     (all_in (λ z. (n : Text) → Contains (declared_by z) n → Declares m n) m.items (λ z c n k. inr (z, (c, k)))) g.1.1 in
-    let z = done_twice b.0 params (Declares m) groups (flat_map declared_by m.items) groups (flat_map item_ports m.items) start g.0 d x y in
+    let z = done_twice b.0 params (Declares m) groups (flat_map declared_by m.items) groups (flat_map item_ports m.items) (flat_map ways_by m.groups) (flat_map item_ways m.items) start g.0 d x y in
     let k = first_ok (each (add_plain_name directed) (plain_names m.header) []) (λ names. Ok (fold know_ports names m.groups)) b.0 b.1.0 in
     let p = plain_known directed (plain_names m.header) [] k.0 k.1.0 in
     let same : fold know_ports k.0 m.groups ≡ b.0 = ok_is (fold know_ports k.0 m.groups) b.0 k.1.1 in
@@ -162,6 +172,10 @@ facts i bits m params d h e =
         | inl a ↦ z.port n (Contains-append_right groups (flat_map item_ports m.items) n (of_item n a))
         | inr a ↦ z.port n (Contains-append_left groups (flat_map item_ports m.items) n a)
       ];
+      way = λ q n c k. subst (HasWay d n) (goes_way q.dir) (elim c [
+        | inl a ↦ z.way n (port_of q.dir) (Contains-append_left (flat_map ways_by m.groups) (flat_map item_ways m.items) (n, port_of q.dir) (in_flat ways_by m.groups q (n, port_of q.dir) a (in_map (with_way (port_of q.dir)) (ports_by q) n k)))
+        | inr a ↦ z.way n (port_of q.dir) (Contains-append_right (flat_map ways_by m.groups) (flat_map item_ways m.items) (n, port_of q.dir) (in_flat item_ways m.items (Ports q) (n, port_of q.dir) a (in_map (with_way (port_of q.dir)) (ports_by q) n k)))
+      ]);
       apart = distinct_append (plain_ports m.header) groups (subst Distinct pp p.apart) (distinct_left groups (flat_map item_ports m.items) z.apart)
           (λ n a c. distinct_apart groups (flat_map item_ports m.items) n z.apart c (of_item n a));
       listed = λ q l c. by p pp (declared_at d.list q).signal.name
@@ -226,19 +240,27 @@ name_of s = s.name
 one_port_is : (d : Declarations) (n : Text) (h : HasPort d n) → one_port d n ≡ (declared_at d.list h.place).signal ∷ []
 one_port_is d n h = rw (h.found, slice_get-get_or d.list h.place no_declared h.there) refl
 
-record AsPorts (ns : List Text) (ss : List Signal) : Type 0 where
+-- a signal is one of the list
+record Listed (d : Declarations) (s : Signal) : Type 0 where
+  place : ℕ
+  there : place < length d.list
+  is : s ≡ (declared_at d.list place).signal
+
+record AsPorts (d : Declarations) (ns : List Text) (ss : List Signal) : Type 0 where
   names : map name_of ss ≡ ns
   ports : AllByRecursion (λ s. is_port s.port ≡ true) ss
+  listed : AllByRecursion (Listed d) ss
 
-as_ports : (bracketed params : Names) (P : Text → Type 0) (d : Declarations) → Lists bracketed params P d → (ns : List Text) → AllByRecursion (HasPort d) ns → AsPorts ns (flat_map (one_port d) ns)
-as_ports bracketed params P d l [] h = record { names = refl; ports = tt }
+as_ports : (bracketed params : Names) (P : Text → Type 0) (d : Declarations) → Lists bracketed params P d → (ns : List Text) → AllByRecursion (HasPort d) ns → AsPorts d ns (flat_map (one_port d) ns)
+as_ports bracketed params P d l [] h = record { names = refl; ports = tt; listed = tt }
 as_ports bracketed params P d l (n ∷ ns) h =
     let s : Signal = (declared_at d.list h.0.place).signal in
     let rest = as_ports bracketed params P d l ns h.1 in
     let e : s ∷ flat_map (one_port d) ns ≡ one_port d n ++ flat_map (one_port d) ns = ap (λ (z : List Signal). z ++ flat_map (one_port d) ns) (sym (one_port_is d n h.0)) in
-    subst (AsPorts (n ∷ ns)) e (record {
+    subst (AsPorts d (n ∷ ns)) e (record {
       names = (ap (λ (z : Text). z ∷ map name_of (flat_map (one_port d) ns)) (l.named n h.0.place None false h.0.found).1) ∙ ap (λ zs. n ∷ zs) rest.names;
       ports = (h.0.port, rest.ports);
+      listed = (record { place = h.0.place; there = h.0.there; is = refl }, rest.listed);
     })
 
 -- the others
@@ -337,6 +359,7 @@ pub record Opened (m : ModuleDeclaration) (i base : ℕ) (h : Head) : Type 0 whe
   pub listed : (j : ℕ) → j < length h.signals → is_port (signal_at h.signals j).port ≡ true → Contains (ports_of m) (signal_at h.signals j).name
   pub has : (n : Text) → Declares m n → (j : ℕ) × ((j < length h.signals) × ((signal_at h.signals j).name ≡ n))
   pub port : (n : Text) → Contains (ports_of m) n → (j : ℕ) × ((j < length h.signals) × (((signal_at h.signals j).name ≡ n) × (is_port (signal_at h.signals j).port ≡ true)))
+  pub way : (p : PortDeclaration) (n : Text) → HasDeclaration m p → Contains (ports_by p) n → (j : ℕ) × ((j < length h.signals) × (((signal_at h.signals j).name ≡ n) × ((signal_at h.signals j).port ≡ way_of p.dir)))
   pub apart : Distinct (ports_of m)
 
 -- the place of a name
@@ -361,6 +384,14 @@ inner_ports (x ∷ xs) = by (is_port x.signal.port) refl (inner_ports xs)
     by true q h = h
     by false q h = (q, h)
 
+inner_listed : (Q : Signal → Type 0) (list : List Declared) → ((s : Signal) → (place : ℕ) × ((place < length list) × (s ≡ (declared_at list place).signal)) → Q s) → AllByRecursion Q (flat_map one_inner list)
+inner_listed Q [] h = tt
+inner_listed Q (x ∷ xs) h = by (is_port x.signal.port) (inner_listed Q xs (λ s q. h s (suc q.0, (let l = q.1.0 in omega (arith, l), q.1.1))))
+  where
+    by : (b : Bool) → AllByRecursion Q (flat_map one_inner xs) → AllByRecursion Q ((if b then [] else x.signal ∷ []) ++ flat_map one_inner xs)
+    by true r = r
+    by false r = (h x.signal (0, (omega arith, refl)), r)
+
 weaker : (Q R : Signal → Type 0) (xs : List Signal) → ((s : Signal) → Contains (map name_of xs) s.name → Q s → R s) → AllByRecursion Q xs → AllByRecursion R xs
 weaker Q R [] h q = tt
 weaker Q R (x ∷ xs) h q = (h x (here x.name (map name_of xs)) q.0, weaker Q R xs (λ s c. h s (later x.name (map name_of xs) s.name c)) q.1)
@@ -372,9 +403,10 @@ record Numbered (m : ModuleDeclaration) (params : Names) (ss : List Signal) : Ty
   declared : AllByRecursion (λ (s : Signal). Declares m s.name × (is_port s.port ≡ true → Contains (ports_of m) s.name)) ss
   has : (n : Text) → Declares m n → Contains (map name_of ss) n
   port : (n : Text) → Contains (ports_of m) n → (j : ℕ) × ((j < length ss) × (((signal_at ss j).name ≡ n) × (is_port (signal_at ss j).port ≡ true)))
+  way : (p : PortDeclaration) (n : Text) → HasDeclaration m p → Contains (ports_by p) n → (j : ℕ) × ((j < length ss) × (((signal_at ss j).name ≡ n) × ((signal_at ss j).port ≡ way_of p.dir)))
 
 -- of the ports in their order, then the others
-module _ (m : ModuleDeclaration) (params : Names) (d : Declarations) (f : Facts m params d) (first : AsPorts (ports_of m) (flat_map (one_port d) (ports_of m))) where
+module _ (m : ModuleDeclaration) (params : Names) (d : Declarations) (f : Facts m params d) (first : AsPorts d (ports_of m) (flat_map (one_port d) (ports_of m))) where
   abbrev ports : List Signal
   ports = flat_map (one_port d) (ports_of m)
 
@@ -424,6 +456,17 @@ module _ (m : ModuleDeclaration) (params : Names) (d : Declarations) (f : Facts 
       let k = f.lists.named n h.place None false h.found in
       subst (Contains (ports_of m ++ inner_names)) k.1 (by_port h.place k.0 (is_port (declared_at d.list h.place).signal.port) refl)
 
+  all_listed : AllByRecursion (Listed d) (ports ++ inners)
+  all_listed = both_lists (Listed d) ports inners first.listed (inner_listed (Listed d) d.list (λ s l. record { place = l.0; there = l.1.0; is = l.1.1 }))
+
+  -- a signal that has a name goes its way
+  goes : (n : Text) (w : Port) → HasWay d n w → (j : ℕ) → j < length (ports ++ inners) → (signal_at (ports ++ inners) j).name ≡ n → (signal_at (ports ++ inners) j).port ≡ w
+  goes n w h j l e =
+      let q = all_index (Listed d) (ports ++ inners) j no_signal all_listed l in
+      let f : lookup n d.names ≡ Some (entity.Signal q.place None false) = ap (λ (z : Text). lookup z d.names) (sym e ∙ ap name_of q.is) ∙ f.lists.placed q.place q.there in
+      let s : q.place ≡ h.place = same_place q.place h.place (sym f ∙ h.found) in
+      ap (λ (z : Signal). z.port) q.is ∙ (ap (λ (i : ℕ). (declared_at d.list i).signal.port) s ∙ h.goes)
+
   abbrev IsOne : Signal → Type 0
   IsOne s = Declares m s.name × (is_port s.port ≡ true → Contains (ports_of m) s.name)
 
@@ -436,6 +479,10 @@ module _ (m : ModuleDeclaration) (params : Names) (d : Declarations) (f : Facts 
         (weaker (λ (s : Signal). is_port s.port ≡ false) IsOne inners
         (λ s c q. let k = inner_from d.list s.name c in (subst (Declares m) k.name (f.lists.true_of k.place k.there), λ r. absurd (both_ways (is_port s.port) q r))) (inner_ports d.list));
     has = λ n c. subst (λ ns. Contains ns n) (sym names_are) (either n (f.has n c));
+    way = λ p n c k.
+        let h = f.way p n c k in
+        let q = name_place (ports ++ inners) n (subst (λ ns. Contains ns n) (sym names_are) (either n (record { place = h.place; found = h.found }))) in
+        (q.0, (q.1.0, (q.1.1, goes n (way_of p.dir) h q.0 q.1.0 q.1.1)));
     port = λ n c.
         let p = name_place ports n (subst (λ ns. Contains ns n) (sym first.names) c) in
         let e : signal_at (ports ++ inners) p.0 ≡ signal_at ports p.0 = get_or_append_left ports inners no_signal p.0 p.1.0 in (
@@ -466,5 +513,6 @@ opened_head i base bits given m h e =
       listed = λ j l. (all_index (λ (z : Signal). Declares m z.name × (is_port z.port ≡ true → Contains (ports_of m) z.name)) ss j no_signal n.declared l).1;
       has = λ t c. name_place ss t (n.has t c);
       port = n.port;
+      way = n.way;
       apart = f.apart;
     })

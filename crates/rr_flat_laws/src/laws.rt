@@ -3,7 +3,8 @@ ghost use Rattle.rr_flat_laws.specs.Laws.{NamesAreSignals, AssignmentsAreDrivers
 
 /// In the flat design of a source each name that an instance declares as a net or a variable is
 /// exactly one signal, which the name stands for there, each signal is such a name, and the ports of
-/// an instance are its inputs and outputs (IEEE 1364-2005 sections 3.2, 3.3 and 12.3).
+/// an instance are its inputs and outputs, each as it is declared (IEEE 1364-2005 sections 3.2, 3.3
+/// and 12.3).
 #[tactic(auto, using(crate::proofs::Naming::names_of_design))]
 pub fn names_are_signals()
     ensures { NamesAreSignals }
