@@ -131,7 +131,7 @@ added_item given (Assigns pairs) names out h e = subst (Entries NoSignal) (ok_is
 added_item given (Always events body token) names out h e = subst (Entries NoSignal) (ok_is names out e) h
 added_item given (Instances m token overrides list) names out h e = subst (Entries NoSignal) (ok_is names out e) h
 
-constants : (given : Names) (m : ModuleDeclaration) (out : Names) → parameters given m ≡ Ok out → Entries NoSignal out
+pub constants : (given : Names) (m : ModuleDeclaration) (out : Names) → parameters given m ≡ Ok out → Entries NoSignal out
 unfolding parameters
 constants given m out e =
     let r = first_ok (each (add_parameters given) m.params []) (each (add_item_parameters given) m.items) out e in

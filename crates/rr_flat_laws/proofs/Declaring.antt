@@ -1,0 +1,430 @@
+-- What declarations make known: each name is one signal of the list.
+use Rattle.std.proofs.Common.{◌≡◌, ◌∙◌, sym, ap, ◌⊎◌, inl, inr, ℕ, ◌+◌, ◌-◌, ◌<◌, ◌≤◌, Bool, true, false, not, ◌&&◌, List, [], ◌∷◌, ◌++◌, length, map, get_or, Option, Some, None, Result, Ok, refl, arith, subst, is_some, is_none, if◌then◌else◌, nat_lt, length-append}
+use Rattle.std.specs.Prelude.{slice_set}
+use Rattle.std.specs.List.{Contains, flat_map, AllByRecursion}
+use Rattle.std.proofs.lemmas.Bool.{cases_lt, cases_eq, both_ways}
+use Rattle.std.proofs.lemmas.List.{get_or_append_left, get_or-append_right, length-set, get_or-set_same, get_or-set_other}
+use Rattle.std.proofs.lemmas.List.Concat.{flat_map_single}
+use Rattle.std.proofs.lemmas.List.Elements.{Contains-append_cases}
+use Rattle.rr_syntax.specs.declared.tree.Dir.{Dir}
+use Rattle.rr_syntax.specs.declared.tree.Dir.TheVariants as dir
+use Rattle.rr_syntax.specs.Tree.{Identifier, NetIdentifier, PortDeclaration, ModuleItem, Ports, Nets, Variables, Integers, Parameters, Assigns, Always, Instances}
+use Rattle.rr_expr.specs.Scopes.{Names, lookup, range_width}
+use Rattle.rr_expr.specs.declared.types.Entity.{Entity}
+use Rattle.rr_expr.specs.declared.types.Entity.TheVariants as entity
+use Rattle.rr_flat.specs.declared.fault.FlatFault.{FlatFault}
+use Rattle.rr_flat.specs.declared.fault.FlatFault.TheVariants.{NameTwice, UnknownName, BadRange, TooMany}
+use Rattle.rr_flat.specs.declared.fault.Limit.TheVariants.{FlatBits}
+use Rattle.rr_flat.specs.declared.signal.Port.{Port}
+use Rattle.rr_flat.specs.Faults.{fault_if, settle, each}
+use Rattle.rr_flat.specs.Signals.{Text, with_name}
+use Rattle.rr_head.specs.Declarations.{Declared, Declarations, is_port, signal_of, with_signal, counted, declare_new, no_declared, declared_at, is_same_range, redeclared, declare_again, again_place, repeated_place, declare_at, declare, declare_identifier, declare_net, port_of, port_declaration, inner_declaration, integer_declaration, declare_ports, declare_nets, declare_variables, declare_item}
+use Rattle.rr_head.specs.Parameters.{width_faults}
+use Rattle.rr_head.specs.Values.{range_in}
+use Rattle.rr_walk.proofs.HeadOf.{ok_is, first_ok}
+use Rattle.rr_flat_laws.specs.Declared.{texts_of, ports_by, declared_by}
+use Rattle.rr_flat_laws.proofs.Answers.{nil_left, nil_right, not_if, settled}
+use Rattle.rr_flat_laws.proofs.Texts.{some_is, none_some, nowhere, there_cases, here, later, Distinct, distinct_append, with_stays, with_new, with_cases, is_none_of, there_of, flat_none, none_of}
+
+-- The list
+
+last_there : (xs : List Declared) (x : Declared) (p : ℕ) → p ≡ length xs → declared_at (xs ++ x ∷ []) p ≡ x
+last_there xs x p e =
+    let z : p - length xs ≡ 0 = omega (arith, e) in
+    get_or-append_right xs (x ∷ []) (length xs) p no_declared refl (omega (arith, e)) ∙ ap (λ (i : ℕ). get_or (x ∷ []) i no_declared) z
+
+-- of one more
+one_more : (Q : ℕ → Declared → Type 0) (xs : List Declared) (x : Declared) → ((p : ℕ) → p < length xs → Q p (declared_at xs p)) → Q (length xs) x → (p : ℕ) → p < length (xs ++ x ∷ []) → Q p (declared_at (xs ++ x ∷ []) p)
+one_more Q xs x h q p l = by (cases_lt p (length xs))
+  where
+    by : (p < length xs) ⊎ (length xs ≤ p) → Q p (declared_at (xs ++ x ∷ []) p)
+    by (inl m) = subst (Q p) (sym (get_or_append_left xs (x ∷ []) no_declared p m)) (h p m)
+    by (inr m) =
+        let e : p ≡ length xs = omega (arith, l, m, length-append xs (x ∷ [])) in
+        subst (Q p) (sym (last_there xs x p e)) (subst (λ (i : ℕ). Q i x) (sym e) q)
+
+-- of one that changed
+one_set : (Q : ℕ → Declared → Type 0) (xs : List Declared) (i : ℕ) (x : Declared) → ((p : ℕ) → p < length xs → Q p (declared_at xs p)) → (i < length xs → Q i x) → (p : ℕ) → p < length (slice_set xs i x) → Q p (declared_at (slice_set xs i x) p)
+one_set Q xs i x h q p l = by (cases_eq p i)
+  where
+    m : p < length xs
+    m = omega (arith, l, length-set xs i x)
+
+    by : (p ≡ i) ⊎ (p ≡ i → ⊥) → Q p (declared_at (slice_set xs i x) p)
+    by (inl e) =
+        let k : i < length xs = omega (arith, m, e) in
+        subst (λ (j : ℕ). Q j (declared_at (slice_set xs i x) j)) (sym e) (subst (Q i) (sym (get_or-set_same xs i x no_declared k)) (q k))
+    by (inr n) = subst (Q p) (sym (get_or-set_other xs i p x no_declared n)) (h p m)
+
+-- what is found stays, and a port stays as it is
+pub record Longer (d t : Declarations) : Type 0 where
+  pub found : (n : Text) (x : Entity) → lookup n d.names ≡ Some x → lookup n t.names ≡ Some x
+  pub long : length d.list ≤ length t.list
+  pub port : (p : ℕ) → p < length d.list → (declared_at t.list p).signal.port ≡ (declared_at d.list p).signal.port
+
+-- a name is a signal of the list, and one is a port
+pub record Has (d : Declarations) (n : Text) : Type 0 where
+  pub place : ℕ
+  pub found : lookup n d.names ≡ Some (entity.Signal place None false)
+
+pub record HasPort (d : Declarations) (n : Text) : Type 0 where
+  pub place : ℕ
+  pub there : place < length d.list
+  pub found : lookup n d.names ≡ Some (entity.Signal place None false)
+  pub port : is_port (declared_at d.list place).signal.port ≡ true
+
+-- with its way
+pub record HasWay (d : Declarations) (n : Text) (way : Port) : Type 0 where
+  pub place : ℕ
+  pub there : place < length d.list
+  pub found : lookup n d.names ≡ Some (entity.Signal place None false)
+  pub goes : (declared_at d.list place).signal.port ≡ way
+
+longer_none : (d : Declarations) → Longer d d
+longer_none d = record { found = λ n x h. h; long = omega arith; port = λ p l. refl }
+
+longer_twice : (d u t : Declarations) → Longer d u → Longer u t → Longer d t
+longer_twice d u t a b = record {
+  found = λ n x h. b.found n x (a.found n x h);
+  long = omega (arith, a.long, b.long);
+  port = λ p l. b.port p (omega (arith, l, a.long)) ∙ a.port p l;
+}
+
+has_later : (d t : Declarations) (n : Text) → Longer d t → Has d n → Has t n
+has_later d t n l h = record { place = h.place; found = l.found n (entity.Signal h.place None false) h.found }
+
+port_later : (d t : Declarations) (n : Text) → Longer d t → HasPort d n → HasPort t n
+port_later d t n l h = record { place = h.place; there = omega (arith, h.there, l.long); found = l.found n (entity.Signal h.place None false) h.found; port = ap is_port (l.port h.place h.there) ∙ h.port }
+
+way_later : (d t : Declarations) (n : Text) (way : Port) → Longer d t → HasWay d n way → HasWay t n way
+way_later d t n way l h = record { place = h.place; there = omega (arith, h.there, l.long); found = l.found n (entity.Signal h.place None false) h.found; goes = l.port h.place h.there ∙ h.goes }
+
+new_before : (d u : Declarations) (n : Text) → Longer d u → lookup n u.names ≡ None → lookup n d.names ≡ None
+new_before d u n l h = by (lookup n d.names) refl
+  where
+    by : (o : Option Entity) → lookup n d.names ≡ o → o ≡ None
+    by None q = refl
+    by (Some x) q = absurd (none_some x (sym h ∙ l.found n x q))
+
+-- the ports that an item declares
+abbrev pub item_ports : ModuleItem → List Text
+item_ports (Ports p) = ports_by p
+item_ports (Nets signed range list) = []
+item_ports (Variables signed range list) = []
+item_ports (Integers list) = []
+item_ports (Parameters p) = []
+item_ports (Assigns pairs) = []
+item_ports (Always events body token) = []
+item_ports (Instances m token overrides list) = []
+
+-- with their ways
+abbrev pub with_way : Port → Text → Text × Port
+with_way way n = (n, way)
+
+abbrev pub ways_by : PortDeclaration → List (Text × Port)
+ways_by p = map (with_way (port_of p.dir)) (ports_by p)
+
+abbrev pub item_ways : ModuleItem → List (Text × Port)
+item_ways (Ports p) = ways_by p
+item_ways (Nets signed range list) = []
+item_ways (Variables signed range list) = []
+item_ways (Integers list) = []
+item_ways (Parameters p) = []
+item_ways (Assigns pairs) = []
+item_ways (Always events body token) = []
+item_ways (Instances m token overrides list) = []
+
+-- over the names of the parameters; P is what is true of each name that is declared
+module _ (bracketed params : Names) (P : Text → Type 0) where
+  pub record Lists (d : Declarations) : Type 0 where
+    pub kept : (n : Text) (x : Entity) → lookup n params ≡ Some x → lookup n d.names ≡ Some x
+    pub placed : (p : ℕ) → p < length d.list → lookup (declared_at d.list p).signal.name d.names ≡ Some (entity.Signal p None false)
+    pub named : (n : Text) (id : ℕ) (range : Option (ℕ × ℕ)) (signed : Bool) → lookup n d.names ≡ Some (entity.Signal id range signed) → (id < length d.list) × ((declared_at d.list id).signal.name ≡ n)
+    pub true_of : (p : ℕ) → p < length d.list → P (declared_at d.list p).signal.name
+    pub ported : (p : ℕ) → p < length d.list → is_port (declared_at d.list p).signal.port ≡ true → is_some (lookup (declared_at d.list p).signal.name bracketed) ≡ true
+
+  -- names were declared, of which some are ports that are new
+  pub record Done (all ports : List Text) (ways : List (Text × Port)) (d t : Declarations) : Type 0 where
+    pub lists : Lists t
+    pub longer : Longer d t
+    pub has : (n : Text) → Contains all n → Has t n
+    pub port : (n : Text) → Contains ports n → HasPort t n
+    pub way : (n : Text) (w : Port) → Contains ways (n, w) → HasWay t n w
+    pub new : (n : Text) → Contains ports n → lookup n d.names ≡ None
+    pub apart : Distinct ports
+
+  done_none : (d : Declarations) → Lists d → Done [] [] [] d d
+  done_none d l = record { lists = l; longer = longer_none d; has = λ n c. absurd (nowhere n c); port = λ n c. absurd (nowhere n c); way = λ n w c. absurd (nowhere (n, w) c); new = λ n c. absurd (nowhere n c); apart = tt }
+
+  pub done_twice : (a b p q : List Text) (v z : List (Text × Port)) (d u t : Declarations) → Done a p v d u → Done b q z u t → Done (a ++ b) (p ++ q) (v ++ z) d t
+  done_twice a b p q v z d u t x y = record {
+    lists = y.lists;
+    longer = longer_twice d u t x.longer y.longer;
+    has = λ n c. has_by n (Contains-append_cases a b n c);
+    port = λ n c. port_by n (Contains-append_cases p q n c);
+    way = λ n w c. elim (Contains-append_cases v z (n, w) c) [ inl k ↦ way_later u t n w y.longer (x.way n w k) | inr k ↦ y.way n w k ];
+    new = λ n c. new_by n (Contains-append_cases p q n c);
+    apart = distinct_append p q x.apart y.apart (λ n c e. let f = (x.port n c).found in none_some (entity.Signal (x.port n c).place None false) (sym (y.new n e) ∙ f));
+  }
+    where
+      has_by : (n : Text) → Contains a n ⊎ Contains b n → Has t n
+      has_by n (inl c) = has_later u t n y.longer (x.has n c)
+      has_by n (inr c) = y.has n c
+
+      port_by : (n : Text) → Contains p n ⊎ Contains q n → HasPort t n
+      port_by n (inl c) = port_later u t n y.longer (x.port n c)
+      port_by n (inr c) = y.port n c
+
+      new_by : (n : Text) → Contains p n ⊎ Contains q n → lookup n d.names ≡ None
+      new_by n (inl c) = x.new n c
+      new_by n (inr c) = new_before d u n x.longer (y.new n c)
+
+  -- One declaration
+
+  -- the last one, if it is new
+  lists_more : (k : _) (at : ℕ) (name : Text) (d : Declarations) → Lists d → P name → lookup name d.names ≡ None → (is_port (signal_of d.instance k at name).port ≡ true → is_some (lookup name bracketed) ≡ true) → Lists (with_signal k at name d)
+  lists_more k at name d l p new b =
+      let e : Entity = entity.Signal (length d.list) None false in
+      let x : Declared = record { signal = signal_of d.instance k at name; again = is_port k.port && not k.variable } in
+      record {
+        kept = λ n y h. with_stays d.names name n y e (l.kept n y h);
+        placed = one_more (λ i y. lookup y.signal.name (with_name d.names name e) ≡ Some (entity.Signal i None false)) d.list x
+            (λ i m. with_stays d.names name (declared_at d.list i).signal.name (entity.Signal i None false) e (l.placed i m)) (with_new d.names name e new);
+        named = λ n id range signed h. named_by n id range signed (with_cases d.names n name (entity.Signal id range signed) e h);
+        true_of = one_more (λ i y. P y.signal.name) d.list x l.true_of p;
+        ported = one_more (λ i y. is_port y.signal.port ≡ true → is_some (lookup y.signal.name bracketed) ≡ true) d.list x l.ported b;
+      }
+    where
+      x : Declared
+      x = record { signal = signal_of d.instance k at name; again = is_port k.port && not k.variable }
+
+      same_id : (id place : ℕ) (range : Option (ℕ × ℕ)) (signed : Bool) → entity.Signal id range signed ≡ entity.Signal place None false → id ≡ place
+      same_id id place range signed e = cc
+
+      named_by : (n : Text) (id : ℕ) (range : Option (ℕ × ℕ)) (signed : Bool) → (lookup n d.names ≡ Some (entity.Signal id range signed)) ⊎ ((n ≡ name) × (entity.Signal id range signed ≡ entity.Signal (length d.list) None false)) →
+          (id < length (d.list ++ x ∷ [])) × ((declared_at (d.list ++ x ∷ []) id).signal.name ≡ n)
+      named_by n id range signed (inl a) =
+          let q = l.named n id range signed a in
+          (omega (arith, q.0, length-append d.list (x ∷ [])), ap (λ (y : Declared). y.signal.name) (get_or_append_left d.list (x ∷ []) no_declared id q.0) ∙ q.1)
+      named_by n id range signed (inr c) =
+          let s : id ≡ length d.list = same_id id (length d.list) range signed c.1 in
+          (omega (arith, s, length-append d.list (x ∷ [])), ap (λ (y : Declared). y.signal.name) (last_there d.list x id s) ∙ sym c.0)
+
+  longer_more : (k : _) (at : ℕ) (name : Text) (d : Declarations) → Longer d (with_signal k at name d)
+  longer_more k at name d = record {
+    found = λ n y h. with_stays d.names name n y (entity.Signal (length d.list) None false) h;
+    long = omega (arith, length-append d.list (record { signal = signal_of d.instance k at name; again = is_port k.port && not k.variable } ∷ []));
+    port = λ p m. ap (λ (y : Declared). y.signal.port) (get_or_append_left d.list (record { signal = signal_of d.instance k at name; again = is_port k.port && not k.variable } ∷ []) no_declared p m);
+  }
+
+  -- what a step says of its name
+  pub record One (repeats : Bool) (goes : Port) (name : Text) (d t : Declarations) : Type 0 where
+    pub lists : Lists t
+    pub longer : Longer d t
+    pub has : Has t name
+    pub port : repeats ≡ false → is_port goes ≡ true → HasPort t name
+    pub way : repeats ≡ false → HasWay t name goes
+    pub new : repeats ≡ false → lookup name d.names ≡ None
+
+  port_checked : (b c : Bool) → (b && c) ≡ false → b ≡ true → c ≡ false
+  port_checked true c h e = h
+  port_checked false c h e = absurd (both_ways false refl e)
+
+  one_new : (k : _) (at : ℕ) (name : Text) (d t : Declarations) → Lists d → P name → declare_new bracketed k at name d ≡ Ok t → One k.repeats k.port name d t
+  unfolding declare_new
+  one_new k at name d t l p e =
+      let fs : List FlatFault = fault_if (is_some (lookup name d.names)) (NameTwice at) in
+      let gs : List FlatFault = fault_if (is_port k.port && is_none (lookup name bracketed)) (UnknownName at) in
+      let r = first_ok (settle (fs ++ (gs ++ width_faults at k.range)) d) (counted k at name) t e in
+      let s = settled (fs ++ (gs ++ width_faults at k.range)) d r.0 r.1.0 in
+      let c : counted k at name d ≡ Ok t = subst (λ (z : Declarations). counted k at name z ≡ Ok t) (sym s.1) r.1.1 in
+      let u = settled (fault_if (nat_lt 65536 (d.bits + range_width k.range)) (TooMany FlatBits (d.bits + range_width k.range))) (with_signal k at name d) t c in
+      let new : lookup name d.names ≡ None = is_none_of (lookup name d.names) (not_if (is_some (lookup name d.names)) (NameTwice at) (nil_left fs (gs ++ width_faults at k.range) s.0)) in
+      let b : is_port k.port ≡ true → is_some (lookup name bracketed) ≡ true =
+      λ h. there_of (lookup name bracketed) (port_checked (is_port k.port) (is_none (lookup name bracketed)) (not_if (is_port k.port && is_none (lookup name bracketed)) (UnknownName at) (nil_left gs (width_faults at k.range) (nil_right fs (gs ++ width_faults at k.range) s.0))) h) in
+      subst (One k.repeats k.port name d) u.1 (made new b)
+    where
+      made : lookup name d.names ≡ None → (is_port k.port ≡ true → is_some (lookup name bracketed) ≡ true) → One k.repeats k.port name d (with_signal k at name d)
+      made new b =
+          let x : Declared = record { signal = signal_of d.instance k at name; again = is_port k.port && not k.variable } in
+          let f : lookup name (with_name d.names name (entity.Signal (length d.list) None false)) ≡ Some (entity.Signal (length d.list) None false) = with_new d.names name (entity.Signal (length d.list) None false) new in
+          record {
+            lists = lists_more k at name d l p new b;
+            longer = longer_more k at name d;
+            has = record { place = length d.list; found = f };
+            port = λ r h. record {
+              place = length d.list;
+              there = omega (arith, length-append d.list (x ∷ []));
+              found = f;
+              port = subst (λ (y : Declared). is_port y.signal.port ≡ true) (sym (last_there d.list x (length d.list) refl)) h;
+            };
+            way = λ r. record {
+              place = length d.list;
+              there = omega (arith, length-append d.list (x ∷ []));
+              found = f;
+              goes = ap (λ (y : Declared). y.signal.port) (last_there d.list x (length d.list) refl);
+            };
+            new = λ r. new;
+          }
+
+  one_again : (k : _) (at place : ℕ) (name : Text) (d t : Declarations) → Lists d → declare_again k at place d ≡ Ok t → k.repeats ≡ true → lookup name d.names ≡ Some (entity.Signal place None false) → One k.repeats k.port name d t
+  unfolding declare_again
+  one_again k at place name d t l e r f =
+      subst (One k.repeats k.port name d) (settled (fault_if (not (is_same_range (declared_at d.list place).signal.range k.range)) (BadRange at)) (record d { list = slice_set d.list place (redeclared k (declared_at d.list place)) }) t e).1 made
+    where
+      x : Declared
+      x = redeclared k (declared_at d.list place)
+
+      made : One k.repeats k.port name d (record d { list = slice_set d.list place (redeclared k (declared_at d.list place)) })
+      made = record {
+        lists = record {
+          kept = l.kept;
+          placed = one_set (λ i y. lookup y.signal.name d.names ≡ Some (entity.Signal i None false)) d.list place x l.placed (λ m. l.placed place m);
+          named = λ n id range signed h.
+              let q = l.named n id range signed h in (
+                omega (arith, q.0, length-set d.list place x),
+                one_set (λ i y. lookup n d.names ≡ Some (entity.Signal i range signed) → y.signal.name ≡ n) d.list place x (λ i m g. (l.named n i range signed g).1) (λ m g. (l.named n place range signed g).1) id
+                    (omega (arith, q.0, length-set d.list place x)) h,
+              );
+          true_of = one_set (λ i y. P y.signal.name) d.list place x l.true_of (λ m. l.true_of place m);
+          ported = one_set (λ i y. is_port y.signal.port ≡ true → is_some (lookup y.signal.name bracketed) ≡ true) d.list place x l.ported (λ m. l.ported place m);
+        };
+        longer = record {
+          found = λ n y h. h;
+          long = omega (arith, length-set d.list place x);
+          port = λ p m. one_set (λ i y. y.signal.port ≡ (declared_at d.list i).signal.port) d.list place x (λ i a. refl) (λ a. refl) p (omega (arith, m, length-set d.list place x));
+        };
+        has = record { place = place; found = f };
+        port = λ no. absurd (both_ways k.repeats no r);
+        way = λ no. absurd (both_ways k.repeats no r);
+        new = λ no. absurd (both_ways k.repeats no r);
+      }
+
+  -- a place comes only from a signal that may be declared once more
+  from_place : (repeats : Bool) (o : Option Entity) (list : List Declared) (place : ℕ) → repeated_place repeats (again_place o list) ≡ Some place → (repeats ≡ true) × ((range : Option (ℕ × ℕ)) × ((signed : Bool) × (o ≡ Some (entity.Signal place range signed))))
+  from_place false o list place h = absurd (none_some place h)
+  from_place true None list place h = absurd (none_some place h)
+  from_place true (Some (entity.Constant bits signed)) list place h = absurd (none_some place h)
+  from_place true (Some (entity.Signal id range signed)) list place h = by (declared_at list id).again h
+    where
+      by : (b : Bool) → (if b then Some id else None) ≡ Some place → (true ≡ true) × ((r : Option (ℕ × ℕ)) × ((s : Bool) × (Some (entity.Signal id range signed) ≡ Some (entity.Signal place r s))))
+      by true q = (refl, (range, (signed, ap (λ (i : ℕ). Some (entity.Signal i range signed)) (some_is id place q))))
+      by false q = absurd (none_some place q)
+  from_place true (Some entity.Instance) list place h = absurd (none_some place h)
+
+  -- signals among the names have no range yet
+  plain_found : (d : Declarations) (name : Text) (place : ℕ) (range : Option (ℕ × ℕ)) (signed : Bool) → Lists d → lookup name d.names ≡ Some (entity.Signal place range signed) → lookup name d.names ≡ Some (entity.Signal place None false)
+  plain_found d name place range signed l h =
+      let q = l.named name place range signed h in
+      subst (λ (n : Text). lookup n d.names ≡ Some (entity.Signal place None false)) q.1 (l.placed place q.0)
+
+  one_at : (k : _) (at : ℕ) (name : Text) (d t : Declarations) → Lists d → P name → (o : Option ℕ) → declare_at bracketed k at name d o ≡ Ok t → repeated_place k.repeats (again_place (lookup name d.names) d.list) ≡ o → One k.repeats k.port name d t
+  one_at k at name d t l p None e q = one_new k at name d t l p e
+  one_at k at name d t l p (Some place) e q =
+      let f = from_place k.repeats (lookup name d.names) d.list place q in
+      one_again k at place name d t l e f.0 (plain_found d name place f.1.0 f.1.1.0 l f.1.1.1)
+
+  one : (k : _) (at : ℕ) (name : Text) (d t : Declarations) → Lists d → P name → declare bracketed k at name d ≡ Ok t → One k.repeats k.port name d t
+  unfolding declare
+  one k at name d t l p e = one_at k at name d t l p (repeated_place k.repeats (again_place (lookup name d.names) d.list)) e refl
+
+  -- a net or a variable, and a port
+  done_inner : (k : _) (at : ℕ) (name : Text) (d t : Declarations) → Lists d → P name → declare bracketed k at name d ≡ Ok t → Done (name ∷ []) [] [] d t
+  done_inner k at name d t l p e =
+      let o = one k at name d t l p e in
+      record {
+        lists = o.lists;
+        longer = o.longer;
+        has = λ n c. by n (there_cases name [] n c) o.has;
+        port = λ n c. absurd (nowhere n c);
+        way = λ n w c. absurd (nowhere (n, w) c);
+        new = λ n c. absurd (nowhere n c);
+        apart = tt;
+      }
+    where
+      by : (n : Text) → (name ≡ n) ⊎ Contains [] n → Has t name → Has t n
+      by n (inl q) h = subst (Has t) q h
+      by n (inr c) h = absurd (nowhere n c)
+
+  done_port : (k : _) (at : ℕ) (name : Text) (d t : Declarations) → Lists d → P name → declare bracketed k at name d ≡ Ok t → k.repeats ≡ false → is_port k.port ≡ true → Done (name ∷ []) (name ∷ []) ((name, k.port) ∷ []) d t
+  done_port k at name d t l p e r i =
+      let o = one k at name d t l p e in
+      record {
+        lists = o.lists;
+        longer = o.longer;
+        has = λ n c. by (Has t) n (there_cases name [] n c) o.has;
+        port = λ n c. by (HasPort t) n (there_cases name [] n c) (o.port r i);
+        way = λ n w c. elim (there_cases (name, k.port) [] (n, w) c) [ inl q ↦ subst (λ (z : Text × Port). HasWay t z.0 z.1) q (o.way r) | inr z ↦ absurd (nowhere (n, w) z) ];
+        new = λ n c. by (λ m. lookup m d.names ≡ None) n (there_cases name [] n c) (o.new r);
+        apart = (λ c. nowhere name c, tt);
+      }
+    where
+      by : (Q : Text → Type 0) (n : Text) → (name ≡ n) ⊎ Contains [] n → Q name → Q n
+      by Q n (inl q) h = subst Q q h
+      by Q n (inr c) h = absurd (nowhere n c)
+
+  -- Lists of declarations
+
+  pub each_done : {X : Type 0} (alls ports : X → List Text) (ways : X → List (Text × Port)) (step : X → Declarations → Result Declarations FlatFault) →
+      ((x : X) (d t : Declarations) → Lists d → ((n : Text) → Contains (alls x) n → P n) → step x d ≡ Ok t → Done (alls x) (ports x) (ways x) d t) →
+      (xs : List X) (d t : Declarations) → Lists d → AllByRecursion (λ x. (n : Text) → Contains (alls x) n → P n) xs → each step xs d ≡ Ok t → Done (flat_map alls xs) (flat_map ports xs) (flat_map ways xs) d t
+  unfolding each
+  each_done alls ports ways step k [] d t l b e = subst (Done [] [] [] d) (ok_is d t e) (done_none d l)
+  each_done alls ports ways step k (x ∷ xs) d t l b e =
+      let r = first_ok (step x d) (each step xs) t e in
+      let o = k x d r.0 l b.0 r.1.0 in
+      done_twice (alls x) (flat_map alls xs) (ports x) (flat_map ports xs) (ways x) (flat_map ways xs) d r.0 t o (each_done alls ports ways step k xs r.0 t o.lists b.1 r.1.1)
+
+  -- each of the names has what the names of the list have
+  each_of : {X : Type 0} (f : X → Text) (xs : List X) → ((n : Text) → Contains (map f xs) n → P n) → AllByRecursion (λ x. (n : Text) → Contains (f x ∷ []) n → P n) xs
+  each_of f [] h = tt
+  each_of f (x ∷ xs) h = (λ n c. by n (there_cases (f x) [] n c), each_of f xs (λ n c. h n (later (f x) (map f xs) n c)))
+    where
+      by : (n : Text) → (f x ≡ n) ⊎ Contains [] n → P n
+      by n (inl q) = subst P q (h (f x) (here (f x) (map f xs)))
+      by n (inr c) = absurd (nowhere n c)
+
+  -- nets and variables
+  done_inners : {X : Type 0} (f : X → Text) (step : X → Declarations → Result Declarations FlatFault) → ((x : X) (d t : Declarations) → Lists d → P (f x) → step x d ≡ Ok t → Done (f x ∷ []) [] [] d t) →
+      (xs : List X) (d t : Declarations) → Lists d → ((n : Text) → Contains (map f xs) n → P n) → each step xs d ≡ Ok t → Done (map f xs) [] [] d t
+  done_inners f step k xs d t l h e =
+      let o = each_done (λ x. f x ∷ []) (λ x. none_of Text) (λ x. none_of (Text × Port)) step (λ x s u m q g. k x s u m (q (f x) (here (f x) [])) g) xs d t l (each_of f xs h) e in
+      subst (λ ns. Done ns [] [] d t) (flat_map_single f xs)
+      (subst (λ ps. Done (flat_map (λ x. f x ∷ []) xs) ps [] d t) (flat_none xs) (subst (λ ws. Done (flat_map (λ x. f x ∷ []) xs) (flat_map (λ x. none_of Text) xs) ws d t) (flat_none xs) o))
+
+  port_is : (way : Dir) → is_port (port_of way) ≡ true
+  port_is dir.Input = refl
+  port_is dir.InputWire = refl
+  port_is dir.Output = refl
+  port_is dir.OutputWire = refl
+  port_is dir.OutputReg = refl
+
+  ways_are : (way : Port) (list : List Identifier) → map (λ (i : Identifier). with_way way i.text) list ≡ map (with_way way) (texts_of list)
+  ways_are way [] = refl
+  ways_are way (i ∷ is) = ap (λ (z : List (Text × Port)). (i.text, way) ∷ z) (ways_are way is)
+
+  pub done_ports : (seen : Names) (p : PortDeclaration) (d t : Declarations) → Lists d → ((n : Text) → Contains (ports_by p) n → P n) → declare_ports bracketed seen p d ≡ Ok t → Done (ports_by p) (ports_by p) (ways_by p) d t
+  unfolding declare_ports
+  done_ports seen p d t l h e =
+      let r = first_ok (range_in seen p.range) (λ range. each (declare_identifier bracketed (port_declaration p range)) p.names d) t e in
+      let k = port_declaration p r.0 in
+      let o = each_done (λ i. i.text ∷ []) (λ i. i.text ∷ []) (λ i. with_way (port_of p.dir) i.text ∷ []) (declare_identifier bracketed k) (λ i s u m q g. done_port k i.token i.text s u m (q i.text (here i.text [])) g refl (port_is p.dir)) p.names d t l
+      (each_of (λ (i : Identifier). i.text) p.names h) r.1.1 in
+      subst (λ ws. Done (ports_by p) (ports_by p) ws d t) (flat_map_single (λ (i : Identifier). with_way (port_of p.dir) i.text) p.names ∙ ways_are (port_of p.dir) p.names)
+      (subst (λ ns. Done ns ns (flat_map (λ (i : Identifier). with_way (port_of p.dir) i.text ∷ []) p.names) d t) (flat_map_single (λ (i : Identifier). i.text) p.names) o)
+
+  pub done_item : (seen : Names) (x : ModuleItem) (d t : Declarations) → Lists d → ((n : Text) → Contains (declared_by x) n → P n) → declare_item bracketed seen x d ≡ Ok t → Done (declared_by x) (item_ports x) (item_ways x) d t
+  unfolding declare_item declare_nets declare_variables
+  done_item seen (Ports p) d t l h e = done_ports seen p d t l h e
+  done_item seen (Nets signed range list) d t l h e =
+      let r = first_ok (range_in seen range) (λ q. each (declare_net bracketed (inner_declaration false signed q)) list d) t e in
+      done_inners (λ (n : NetIdentifier). n.text) (declare_net bracketed (inner_declaration false signed r.0)) (λ n s u m q g. done_inner (inner_declaration false signed r.0) n.token n.text s u m q g) list d t l h r.1.1
+  done_item seen (Variables signed range list) d t l h e =
+      let r = first_ok (range_in seen range) (λ q. each (declare_identifier bracketed (inner_declaration true signed q)) list d) t e in
+      done_inners (λ (n : Identifier). n.text) (declare_identifier bracketed (inner_declaration true signed r.0)) (λ n s u m q g. done_inner (inner_declaration true signed r.0) n.token n.text s u m q g) list d t l h r.1.1
+  done_item seen (Integers list) d t l h e =
+      done_inners (λ (n : Identifier). n.text) (declare_identifier bracketed integer_declaration) (λ n s u m q g. done_inner integer_declaration n.token n.text s u m q g) list d t l h e
+  done_item seen (Parameters p) d t l h e = subst (Done [] [] [] d) (ok_is d t e) (done_none d l)
+  done_item seen (Assigns pairs) d t l h e = subst (Done [] [] [] d) (ok_is d t e) (done_none d l)
+  done_item seen (Always events body token) d t l h e = subst (Done [] [] [] d) (ok_is d t e) (done_none d l)
+  done_item seen (Instances m token overrides list) d t l h e = subst (Done [] [] [] d) (ok_is d t e) (done_none d l)

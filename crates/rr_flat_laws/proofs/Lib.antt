@@ -1,0 +1,12 @@
+pub mod Texts
+pub mod Answers
+pub mod Declaring
+pub mod Opening
+pub mod Growing
+pub mod Naming
+pub mod Shares
+pub mod Tabling
+pub mod Connecting
+pub mod Driving
+pub mod Porting
+pub mod Whole

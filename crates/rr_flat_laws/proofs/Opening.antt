@@ -1,0 +1,518 @@
+-- The signals and the names of an instance that opens.
+use Rattle.std.proofs.Common.{◌≡◌, ◌∙◌, sym, ap, ◌⊎◌, inl, inr, ℕ, zero, suc, ◌+◌, ◌<◌, Bool, true, false, List, [], ◌∷◌, ◌++◌, length, map, fold, Option, Some, None, Ok, refl, arith, subst, is_some, is_none, if◌then◌else◌, nat_lt, length-append}
+use Rattle.std.specs.Prelude.{option_to_list}
+use Rattle.std.specs.List.{Contains, flat_map, AllByRecursion}
+use Rattle.std.proofs.lemmas.Bool.{both_ways}
+use Rattle.std.proofs.lemmas.List.{append-nil, append_assoc, map-append, get_or-map, get_or_append_left, length-map}
+use Rattle.std.proofs.lemmas.List.Concat.{flat_map-append, flat_map_single}
+use Rattle.std.proofs.lemmas.List.Elements.{Contains-append_left, Contains-append_right, Contains-append_cases}
+use Rattle.std.proofs.lemmas.Option.{slice_get-get_or}
+use Rattle.rr_syntax.specs.declared.tree.Dir.{Dir}
+use Rattle.rr_syntax.specs.declared.tree.Dir.TheVariants as dir
+use Rattle.rr_syntax.specs.Tree.{Identifier, PortDeclaration, ModuleItem, Ports, Nets, Variables, Integers, Parameters, Assigns, Always, Instances, ModuleDeclaration}
+use Rattle.rr_expr.specs.Scopes.{Names, lookup}
+use Rattle.rr_expr.specs.declared.types.Entity.{Entity}
+use Rattle.rr_expr.specs.declared.types.Entity.TheVariants as entity
+use Rattle.rr_flat.specs.declared.fault.FlatFault.{FlatFault}
+use Rattle.rr_flat.specs.declared.fault.FlatFault.TheVariants.{NameTwice, UnknownName, TooMany}
+use Rattle.rr_flat.specs.declared.fault.Limit.TheVariants.{FlatBits}
+use Rattle.rr_flat.specs.declared.signal.Port.{Port}
+use Rattle.rr_flat.specs.Faults.{fault_if, settle, and_then, each}
+use Rattle.rr_flat.specs.Signals.{Text, Signal, signal_at, no_signal, with_name}
+use Rattle.rr_flat.proofs.Lists.{all_index}
+use Rattle.rr_head.specs.Declarations.{Declared, Declarations, is_port, port_of, know, know_identifier, know_ports, know_port_item, known, plain_names, add_plain_name, brackets, no_declared, declared_at, declare_ports, declare_item, declarations}
+use Rattle.rr_head.specs.Heads.{Head, named_signal, with_port, with_ports, with_inner, signals_in_order, with_signals, numbered, declared, head}
+use Rattle.rr_head.specs.Parameters.{parameters}
+use Rattle.rr_walk.proofs.HeadOf.{ok_is, first_ok, NoSignal, Entries, constants, head_of}
+use Rattle.rr_flat_laws.specs.Declared.{texts_of, ports_by, HasDeclaration, way_of, declared_by, Declares, plain_ports, ports_of}
+use Rattle.rr_flat_laws.proofs.Answers.{nil_left, nil_right, not_if, settled}
+use Rattle.rr_flat_laws.proofs.Declaring.{Has, HasPort, HasWay, Lists, done_twice, each_done, item_ports, with_way, ways_by, item_ways, done_ports, done_item}
+use Rattle.rr_flat_laws.proofs.Texts.{some_is, none_some, nowhere, there_cases, here, later, all_in, in_map, in_flat, Distinct, distinct_append, distinct_left, distinct_apart, distinct_places, with_stays, with_new, with_cases, none_before, is_none_of, there_of, found_entry, some_with, known_from}
+
+-- The port brackets
+
+plain_is : (header : Option (List Identifier)) → texts_of (plain_names header) ≡ plain_ports header
+plain_is None = refl
+plain_is (Some list) = refl
+
+-- plain names are new, each once, and directed by an item
+record Plain (directed : Names) (list : List Identifier) (names t : Names) : Type 0 where
+  apart : Distinct (texts_of list)
+  way : (n : Text) → Contains (texts_of list) n → is_some (lookup n directed) ≡ true
+  new : (n : Text) → Contains (texts_of list) n → lookup n names ≡ None
+  from : (n : Text) → is_some (lookup n t) ≡ true → (is_some (lookup n names) ≡ true) ⊎ Contains (texts_of list) n
+
+plain_known : (directed : Names) (list : List Identifier) (names t : Names) → each (add_plain_name directed) list names ≡ Ok t → Plain directed list names t
+unfolding each add_plain_name
+plain_known directed [] names t e = record {
+  apart = tt;
+  way = λ n c. absurd (nowhere n c);
+  new = λ n c. absurd (nowhere n c);
+  from = λ n h. inl (subst (λ (z : Names). is_some (lookup n z) ≡ true) (sym (ok_is names t e)) h);
+}
+plain_known directed (i ∷ is) names t e =
+    let y : Entity = entity.Signal 0 None false in
+    let fs : List FlatFault = fault_if (is_some (lookup i.text names)) (NameTwice i.token) in
+    let gs : List FlatFault = fault_if (is_none (lookup i.text directed)) (UnknownName i.token) in
+    let r = first_ok (settle (fs ++ gs) (know names i.text)) (each (add_plain_name directed) is) t e in
+    let s = settled (fs ++ gs) (know names i.text) r.0 r.1.0 in
+    let new : lookup i.text names ≡ None = is_none_of (lookup i.text names) (not_if (is_some (lookup i.text names)) (NameTwice i.token) (nil_left fs gs s.0)) in
+    let way : is_some (lookup i.text directed) ≡ true = there_of (lookup i.text directed) (not_if (is_none (lookup i.text directed)) (UnknownName i.token) (nil_right fs gs s.0)) in
+    let rest = plain_known directed is r.0 t r.1.1 in
+    let free : (n : Text) → Contains (texts_of is) n → lookup n (with_name names i.text y) ≡ None = λ n c. subst (λ (z : Names). lookup n z ≡ None) (sym s.1) (rest.new n c) in
+    record {
+      apart = (λ c. none_some y (sym (free i.text c) ∙ with_new names i.text y new), rest.apart);
+      way = λ n c. elim (there_cases i.text (texts_of is) n c) [
+        | inl q ↦ subst (λ m. is_some (lookup m directed) ≡ true) q way
+        | inr k ↦ rest.way n k
+      ];
+      new = λ n c. elim (there_cases i.text (texts_of is) n c) [
+        | inl q ↦ subst (λ m. lookup m names ≡ None) q new
+        | inr k ↦ none_before names i.text n y (free n k)
+      ];
+      from = λ n h. elim (rest.from n h) [
+        | inl a ↦ elim (some_with names n i.text y (subst (λ (z : Names). is_some (lookup n z) ≡ true) (sym s.1) a)) [
+          | inl b ↦ inl b
+          | inr q ↦ inr (subst (λ m. Contains (i.text ∷ texts_of is) m) (sym q) (here i.text (texts_of is)))
+        ]
+        | inr k ↦ inr (later i.text (texts_of is) n k)
+      ];
+    }
+
+-- what the port brackets and the items make known
+
+from_identifier : (names : Names) (i : Identifier) (n : Text) → is_some (lookup n (know_identifier names i)) ≡ true → (is_some (lookup n names) ≡ true) ⊎ Contains (i.text ∷ []) n
+from_identifier names i n h = elim (some_with names n i.text (entity.Signal 0 None false) h) [
+  | inl a ↦ inl a
+  | inr q ↦ inr (subst (λ m. Contains (i.text ∷ []) m) (sym q) (here i.text []))
+]
+
+from_ports : (names : Names) (p : PortDeclaration) (n : Text) → is_some (lookup n (know_ports names p)) ≡ true → (is_some (lookup n names) ≡ true) ⊎ Contains (ports_by p) n
+unfolding know_ports
+from_ports names p n h = elim (known_from (λ (i : Identifier). i.text ∷ []) know_identifier from_identifier p.names names n h) [
+  | inl a ↦ inl a
+  | inr k ↦ inr (subst (λ ns. Contains ns n) (flat_map_single (λ (i : Identifier). i.text) p.names) k)
+]
+
+from_item : (names : Names) (x : ModuleItem) (n : Text) → is_some (lookup n (know_port_item names x)) ≡ true → (is_some (lookup n names) ≡ true) ⊎ Contains (item_ports x) n
+unfolding know_port_item
+from_item names (Ports p) n h = from_ports names p n h
+from_item names (Nets signed range list) n h = inl h
+from_item names (Variables signed range list) n h = inl h
+from_item names (Integers list) n h = inl h
+from_item names (Parameters p) n h = inl h
+from_item names (Assigns pairs) n h = inl h
+from_item names (Always events body token) n h = inl h
+from_item names (Instances m token overrides list) n h = inl h
+
+nothing_known : (n : Text) → is_some (lookup n []) ≡ true → ⊥
+unfolding lookup
+nothing_known n h = both_ways false refl h
+
+-- The declarations of a module
+
+goes_way : (way : Dir) → port_of way ≡ way_of way
+goes_way dir.Input = refl
+goes_way dir.InputWire = refl
+goes_way dir.Output = refl
+goes_way dir.OutputWire = refl
+goes_way dir.OutputReg = refl
+
+record Facts (m : ModuleDeclaration) (params : Names) (d : Declarations) : Type 0 where
+  bracketed : Names
+  constants : (n : Text) (place : ℕ) → lookup n params ≡ Some (entity.Signal place None false) → ⊥
+  lists : Lists bracketed params (Declares m) d
+  has : (n : Text) → Declares m n → Has d n
+  port : (n : Text) → Contains (ports_of m) n → HasPort d n
+  way : (p : PortDeclaration) (n : Text) → HasDeclaration m p → Contains (ports_by p) n → HasWay d n (way_of p.dir)
+  apart : Distinct (ports_of m)
+  listed : (p : ℕ) → p < length d.list → is_port (declared_at d.list p).signal.port ≡ true → Contains (ports_of m) (declared_at d.list p).signal.name
+
+no_signal_found : (params : Names) (n : Text) (id : ℕ) (range : Option (ℕ × ℕ)) (signed : Bool) → Entries NoSignal params → lookup n params ≡ Some (entity.Signal id range signed) → ⊥
+no_signal_found params n id range signed h e = found_entry NoSignal params n (entity.Signal id range signed) h e
+
+no_list : (bracketed params : Names) (P : Text → Type 0) (i bits : ℕ) → Entries NoSignal params → Lists bracketed params P (record { instance = i; names = params; list = []; bits = bits })
+no_list bracketed params P i bits h = record {
+  kept = λ n x e. e;
+  placed = λ p l. absurd (omega (arith, l));
+  named = λ n id range signed e. absurd (no_signal_found params n id range signed h e);
+  true_of = λ p l. absurd (omega (arith, l));
+  ported = λ p l. absurd (omega (arith, l));
+}
+
+facts : (i bits : ℕ) (m : ModuleDeclaration) (params : Names) (d : Declarations) → Entries NoSignal params → declared i bits m params ≡ Ok d → Facts m params d
+unfolding declared declarations brackets
+facts i bits m params d h e =
+    let start : Declarations = record { instance = i; names = params; list = []; bits = bits } in
+    let seen : Names = known m params in
+    let directed : Names = fold know_port_item [] m.items in
+    let groups : List Text = flat_map ports_by m.groups in
+    let b = first_ok (and_then (each (add_plain_name directed) (plain_names m.header) []) (λ names. Ok (fold know_ports names m.groups))) (λ bracketed. declarations bracketed seen m start) d e in
+    let g = first_ok (each (declare_ports b.0 seen) m.groups start) (each (declare_item b.0 seen) m.items) d b.1.1 in
+    let x = each_done b.0 params (Declares m) ports_by ports_by ways_by (declare_ports b.0 seen) (done_ports b.0 params (Declares m) seen) m.groups start g.0 (no_list b.0 params (Declares m) i bits h)
+    (all_in (λ p. (n : Text) → Contains (ports_by p) n → Declares m n) m.groups (λ p c n k. inl (p, (c, k)))) g.1.0 in
+    let y = each_done b.0 params (Declares m) declared_by item_ports item_ways (declare_item b.0 seen) (done_item b.0 params (Declares m) seen) m.items g.0 d x.lists
+    (all_in (λ z. (n : Text) → Contains (declared_by z) n → Declares m n) m.items (λ z c n k. inr (z, (c, k)))) g.1.1 in
+    let z = done_twice b.0 params (Declares m) groups (flat_map declared_by m.items) groups (flat_map item_ports m.items) (flat_map ways_by m.groups) (flat_map item_ways m.items) start g.0 d x y in
+    let k = first_ok (each (add_plain_name directed) (plain_names m.header) []) (λ names. Ok (fold know_ports names m.groups)) b.0 b.1.0 in
+    let p = plain_known directed (plain_names m.header) [] k.0 k.1.0 in
+    let same : fold know_ports k.0 m.groups ≡ b.0 = ok_is (fold know_ports k.0 m.groups) b.0 k.1.1 in
+    let pp = plain_is m.header in
+    let of_item : (n : Text) → Contains (plain_ports m.header) n → Contains (flat_map item_ports m.items) n =
+    λ n c. elim (known_from item_ports know_port_item from_item m.items [] n (p.way n (subst (λ ns. Contains ns n) (sym pp) c))) [ inl a ↦ absurd (nothing_known n a) | inr q ↦ q ] in
+    record {
+      bracketed = b.0;
+      constants = λ n place q. no_signal_found params n place None false h q;
+      lists = y.lists;
+      has = λ n c. elim c [
+        | inl a ↦ z.has n (Contains-append_left groups (flat_map declared_by m.items) n (in_flat ports_by m.groups a.0 n a.1.0 a.1.1))
+        | inr a ↦ z.has n (Contains-append_right groups (flat_map declared_by m.items) n (in_flat declared_by m.items a.0 n a.1.0 a.1.1))
+      ];
+      port = λ n c. elim (Contains-append_cases (plain_ports m.header) groups n c) [
+        | inl a ↦ z.port n (Contains-append_right groups (flat_map item_ports m.items) n (of_item n a))
+        | inr a ↦ z.port n (Contains-append_left groups (flat_map item_ports m.items) n a)
+      ];
+      way = λ q n c k. subst (HasWay d n) (goes_way q.dir) (elim c [
+        | inl a ↦ z.way n (port_of q.dir) (Contains-append_left (flat_map ways_by m.groups) (flat_map item_ways m.items) (n, port_of q.dir) (in_flat ways_by m.groups q (n, port_of q.dir) a (in_map (with_way (port_of q.dir)) (ports_by q) n k)))
+        | inr a ↦ z.way n (port_of q.dir) (Contains-append_right (flat_map ways_by m.groups) (flat_map item_ways m.items) (n, port_of q.dir) (in_flat item_ways m.items (Ports q) (n, port_of q.dir) a (in_map (with_way (port_of q.dir)) (ports_by q) n k)))
+      ]);
+      apart = distinct_append (plain_ports m.header) groups (subst Distinct pp p.apart) (distinct_left groups (flat_map item_ports m.items) z.apart)
+          (λ n a c. distinct_apart groups (flat_map item_ports m.items) n z.apart c (of_item n a));
+      listed = λ q l c. by p pp (declared_at d.list q).signal.name
+          (known_from ports_by know_ports from_ports m.groups k.0 (declared_at d.list q).signal.name (subst (λ (w : Names). is_some (lookup (declared_at d.list q).signal.name w) ≡ true) (sym same) (y.lists.ported q l c)));
+    }
+  where
+    by : {directed t : Names} → Plain directed (plain_names m.header) [] t → texts_of (plain_names m.header) ≡ plain_ports m.header → (n : Text) → (is_some (lookup n t) ≡ true) ⊎ Contains (flat_map ports_by m.groups) n →
+        Contains (ports_of m) n
+    by p pp n (inl a) = elim (p.from n a) [
+      | inl b ↦ absurd (nothing_known n b)
+      | inr k ↦ Contains-append_left (plain_ports m.header) (flat_map ports_by m.groups) n (subst (λ ns. Contains ns n) pp k)
+    ]
+    by p pp n (inr k) = Contains-append_right (plain_ports m.header) (flat_map ports_by m.groups) n k
+
+-- The signals in order
+
+abbrev one_port : Declarations → Text → List Signal
+one_port d n = option_to_list (named_signal d.list (lookup n d.names))
+
+abbrev one_inner : Declared → List Signal
+one_inner x = if is_port x.signal.port then [] else x.signal ∷ []
+
+fold_port : (d : Declarations) (list : List Identifier) (acc : List Signal) → fold (with_port d) acc list ≡ acc ++ flat_map (one_port d) (texts_of list)
+unfolding with_port
+fold_port d [] acc = sym (append-nil acc)
+fold_port d (i ∷ is) acc = fold_port d is (acc ++ one_port d i.text) ∙ append_assoc acc (one_port d i.text) (flat_map (one_port d) (texts_of is))
+
+fold_groups : (d : Declarations) (groups : List PortDeclaration) (acc : List Signal) → fold (with_ports d) acc groups ≡ acc ++ flat_map (one_port d) (flat_map ports_by groups)
+unfolding with_ports
+fold_groups d [] acc = sym (append-nil acc)
+fold_groups d (p ∷ ps) acc =
+    fold_groups d ps (fold (with_port d) acc p.names)
+    ∙ (ap (λ (z : List Signal). z ++ flat_map (one_port d) (flat_map ports_by ps)) (fold_port d p.names acc)
+    ∙ (append_assoc acc (flat_map (one_port d) (ports_by p)) (flat_map (one_port d) (flat_map ports_by ps))
+    ∙ ap (λ (z : List Signal). acc ++ z) (sym (flat_map-append (one_port d) (ports_by p) (flat_map ports_by ps)))))
+
+inner_is : (b : Bool) (acc : List Signal) (s : Signal) → (if b then acc else acc ++ s ∷ []) ≡ acc ++ (if b then [] else s ∷ [])
+inner_is true acc s = sym (append-nil acc)
+inner_is false acc s = refl
+
+fold_inner : (list : List Declared) (acc : List Signal) → fold with_inner acc list ≡ acc ++ flat_map one_inner list
+unfolding with_inner
+fold_inner [] acc = sym (append-nil acc)
+fold_inner (x ∷ xs) acc =
+    fold_inner xs (if is_port x.signal.port then acc else acc ++ x.signal ∷ [])
+    ∙ (ap (λ (z : List Signal). z ++ flat_map one_inner xs) (inner_is (is_port x.signal.port) acc x.signal) ∙ append_assoc acc (one_inner x) (flat_map one_inner xs))
+
+signals_are : (m : ModuleDeclaration) (d : Declarations) → signals_in_order m d ≡ flat_map (one_port d) (ports_of m) ++ flat_map one_inner d.list
+unfolding signals_in_order
+signals_are m d =
+    fold_inner d.list (fold (with_ports d) (fold (with_port d) [] (plain_names m.header)) m.groups)
+    ∙ ap (λ (z : List Signal). z ++ flat_map one_inner d.list)
+    (fold_groups d m.groups (fold (with_port d) [] (plain_names m.header))
+    ∙ (ap (λ (z : List Signal). z ++ flat_map (one_port d) (flat_map ports_by m.groups)) (fold_port d (plain_names m.header) [] ∙ ap (λ ns. flat_map (one_port d) ns) (plain_is m.header))
+    ∙ sym (flat_map-append (one_port d) (plain_ports m.header) (flat_map ports_by m.groups))))
+
+abbrev name_of : Signal → Text
+name_of s = s.name
+
+-- the ports
+
+one_port_is : (d : Declarations) (n : Text) (h : HasPort d n) → one_port d n ≡ (declared_at d.list h.place).signal ∷ []
+one_port_is d n h = rw (h.found, slice_get-get_or d.list h.place no_declared h.there) refl
+
+-- a signal is one of the list
+record Listed (d : Declarations) (s : Signal) : Type 0 where
+  place : ℕ
+  there : place < length d.list
+  is : s ≡ (declared_at d.list place).signal
+
+record AsPorts (d : Declarations) (ns : List Text) (ss : List Signal) : Type 0 where
+  names : map name_of ss ≡ ns
+  ports : AllByRecursion (λ s. is_port s.port ≡ true) ss
+  listed : AllByRecursion (Listed d) ss
+
+as_ports : (bracketed params : Names) (P : Text → Type 0) (d : Declarations) → Lists bracketed params P d → (ns : List Text) → AllByRecursion (HasPort d) ns → AsPorts d ns (flat_map (one_port d) ns)
+as_ports bracketed params P d l [] h = record { names = refl; ports = tt; listed = tt }
+as_ports bracketed params P d l (n ∷ ns) h =
+    let s : Signal = (declared_at d.list h.0.place).signal in
+    let rest = as_ports bracketed params P d l ns h.1 in
+    let e : s ∷ flat_map (one_port d) ns ≡ one_port d n ++ flat_map (one_port d) ns = ap (λ (z : List Signal). z ++ flat_map (one_port d) ns) (sym (one_port_is d n h.0)) in
+    subst (AsPorts d (n ∷ ns)) e (record {
+      names = (ap (λ (z : Text). z ∷ map name_of (flat_map (one_port d) ns)) (l.named n h.0.place None false h.0.found).1) ∙ ap (λ zs. n ∷ zs) rest.names;
+      ports = (h.0.port, rest.ports);
+      listed = (record { place = h.0.place; there = h.0.there; is = refl }, rest.listed);
+    })
+
+-- the others
+
+record Inner (list : List Declared) (n : Text) : Type 0 where
+  place : ℕ
+  there : place < length list
+  name : (declared_at list place).signal.name ≡ n
+  port : is_port (declared_at list place).signal.port ≡ false
+
+inner_later : (x : Declared) (xs : List Declared) (n : Text) → Inner xs n → Inner (x ∷ xs) n
+inner_later x xs n h = record { place = suc h.place; there = (let l = h.there in omega (arith, l)); name = h.name; port = h.port }
+
+inner_from : (list : List Declared) (n : Text) → Contains (map name_of (flat_map one_inner list)) n → Inner list n
+inner_from [] n c = absurd (nowhere n c)
+inner_from (x ∷ xs) n c = by (is_port x.signal.port) refl c (inner_from xs n)
+  where
+    by : (b : Bool) → is_port x.signal.port ≡ b → Contains (map name_of ((if b then [] else x.signal ∷ []) ++ flat_map one_inner xs)) n → (Contains (map name_of (flat_map one_inner xs)) n → Inner xs n) → Inner (x ∷ xs) n
+    by true q k more = inner_later x xs n (more k)
+    by false q k more = elim (there_cases x.signal.name (map name_of (flat_map one_inner xs)) n k) [
+      | inl e ↦ record { place = 0; there = omega arith; name = e; port = q }
+      | inr r ↦ inner_later x xs n (more r)
+    ]
+
+inner_to : (list : List Declared) (p : ℕ) → p < length list → is_port (declared_at list p).signal.port ≡ false → Contains (map name_of (flat_map one_inner list)) (declared_at list p).signal.name
+inner_to [] p l h = absurd (omega (arith, l))
+inner_to (x ∷ xs) zero l h = rw h (here x.signal.name (map name_of (flat_map one_inner xs)))
+inner_to (x ∷ xs) (suc p) l h = by (is_port x.signal.port) (inner_to xs p (omega (arith, l)) h)
+  where
+    n : Text
+    n = (declared_at xs p).signal.name
+
+    by : (b : Bool) → Contains (map name_of (flat_map one_inner xs)) n → Contains (map name_of ((if b then [] else x.signal ∷ []) ++ flat_map one_inner xs)) n
+    by true c = c
+    by false c = later x.signal.name (map name_of (flat_map one_inner xs)) n c
+
+inner_among : (list : List Declared) (n : Text) → Contains (map name_of (flat_map one_inner list)) n → Contains (map (λ (x : Declared). x.signal.name) list) n
+inner_among list n c =
+    let h = inner_from list n c in
+    let l = h.there in
+    let e = h.name in
+    (h.place, omega (arith, l, length-map list (λ (x : Declared). x.signal.name)), get_or-map (λ (x : Declared). x.signal.name) list h.place no_declared n l ∙ e)
+
+inner_apart : (list : List Declared) → Distinct (map (λ (x : Declared). x.signal.name) list) → Distinct (map name_of (flat_map one_inner list))
+inner_apart [] h = tt
+inner_apart (x ∷ xs) h = by (is_port x.signal.port) (inner_apart xs h.1)
+  where
+    by : (b : Bool) → Distinct (map name_of (flat_map one_inner xs)) → Distinct (map name_of ((if b then [] else x.signal ∷ []) ++ flat_map one_inner xs))
+    by true d = d
+    by false d = (λ c. h.0 (inner_among xs x.signal.name c), d)
+
+same_place : (p q : ℕ) → Some (entity.Signal p None false) ≡ Some (entity.Signal q None false) → p ≡ q
+same_place p q e = cc
+
+list_apart : (bracketed params : Names) (P : Text → Type 0) (d : Declarations) → Lists bracketed params P d → Distinct (map (λ (x : Declared). x.signal.name) d.list)
+list_apart bracketed params P d l = distinct_places (map (λ (x : Declared). x.signal.name) d.list) (λ p q m n e.
+    let k = length-map d.list (λ (x : Declared). x.signal.name) in
+    let a : p < length d.list = omega (arith, m, k) in
+    let b : q < length d.list = omega (arith, n, k) in
+    let s : (declared_at d.list p).signal.name ≡ (declared_at d.list q).signal.name =
+    sym (get_or-map (λ (x : Declared). x.signal.name) d.list p no_declared [] a) ∙ (e ∙ get_or-map (λ (x : Declared). x.signal.name) d.list q no_declared [] b) in
+    same_place p q (sym (l.placed p a) ∙ (ap (λ (z : Text). lookup z d.names) s ∙ l.placed q b)))
+
+-- The head
+
+stays : (k : ℕ) (ss : List Signal) (names : Names) (n : Text) (x : Entity) → lookup n names ≡ Some x → lookup n (with_signals k ss names) ≡ Some x
+unfolding with_signals
+stays k [] names n x h = h
+stays k (s ∷ ss) names n x h = stays (k + 1) ss (with_name names s.name (entity.Signal k s.range s.signed)) n x (with_stays names s.name n x (entity.Signal k s.range s.signed) h)
+
+-- each signal is what its name stands for, where no name was there before and none stands twice
+signals_found : (k : ℕ) (ss : List Signal) (names : Names) → Distinct (map name_of ss) → ((n : Text) → Contains (map name_of ss) n → lookup n names ≡ None) → (j : ℕ) → j < length ss →
+    lookup (signal_at ss j).name (with_signals k ss names) ≡ Some (entity.Signal (k + j) (signal_at ss j).range (signal_at ss j).signed)
+unfolding with_signals
+signals_found k [] names d new j l = absurd (omega (arith, l))
+signals_found k (s ∷ ss) names d new zero l =
+    let e : Entity = entity.Signal k s.range s.signed in
+    let z : k ≡ k + 0 = omega arith in
+    subst (λ (i : ℕ). lookup s.name (with_signals (k + 1) ss (with_name names s.name e)) ≡ Some (entity.Signal i s.range s.signed)) z
+    (stays (k + 1) ss (with_name names s.name e) s.name e (with_new names s.name e (new s.name (here s.name (map name_of ss)))))
+signals_found k (s ∷ ss) names d new (suc j) l =
+    let e : Entity = entity.Signal k s.range s.signed in
+    let z : k + 1 + j ≡ k + suc j = omega arith in
+    subst (λ (i : ℕ). lookup (signal_at ss j).name (with_signals (k + 1) ss (with_name names s.name e)) ≡ Some (entity.Signal i (signal_at ss j).range (signal_at ss j).signed)) z
+    (signals_found (k + 1) ss (with_name names s.name e) d.1 (λ n c. still n e (lookup n (with_name names s.name e)) refl (λ q. d.0 (subst (Contains (map name_of ss)) q c)) (new n (later s.name (map name_of ss) n c))) j (omega (arith, l)))
+  where
+    still : (n : Text) (e : Entity) (o : Option Entity) → lookup n (with_name names s.name e) ≡ o → (n ≡ s.name → ⊥) → lookup n names ≡ None → o ≡ None
+    still n e None q differs h = refl
+    still n e (Some x) q differs h = elim (with_cases names n s.name x e q) [ inl a ↦ absurd (none_some x (sym h ∙ a)) | inr b ↦ absurd (differs b.0) ]
+
+-- an instance that opened: its signals, from number base on, are the names that its module declares, and its ports
+pub record Opened (m : ModuleDeclaration) (i base : ℕ) (h : Head) : Type 0 where
+  pub own : AllByRecursion (λ (s : Signal). s.instance ≡ i) h.signals
+  pub found : (j : ℕ) → j < length h.signals → lookup (signal_at h.signals j).name h.scope ≡ Some (entity.Signal (base + j) (signal_at h.signals j).range (signal_at h.signals j).signed)
+  pub declared : (j : ℕ) → j < length h.signals → Declares m (signal_at h.signals j).name
+  pub listed : (j : ℕ) → j < length h.signals → is_port (signal_at h.signals j).port ≡ true → Contains (ports_of m) (signal_at h.signals j).name
+  pub has : (n : Text) → Declares m n → (j : ℕ) × ((j < length h.signals) × ((signal_at h.signals j).name ≡ n))
+  pub port : (n : Text) → Contains (ports_of m) n → (j : ℕ) × ((j < length h.signals) × (((signal_at h.signals j).name ≡ n) × (is_port (signal_at h.signals j).port ≡ true)))
+  pub way : (p : PortDeclaration) (n : Text) → HasDeclaration m p → Contains (ports_by p) n → (j : ℕ) × ((j < length h.signals) × (((signal_at h.signals j).name ≡ n) × ((signal_at h.signals j).port ≡ way_of p.dir)))
+  pub apart : Distinct (ports_of m)
+
+-- the place of a name
+name_place : (ss : List Signal) (n : Text) → Contains (map name_of ss) n → (j : ℕ) × ((j < length ss) × ((signal_at ss j).name ≡ n))
+name_place ss n (j, l, e) =
+    let m : j < length ss = omega (arith, l, length-map ss name_of) in
+    (j, (m, sym (get_or-map name_of ss j no_signal n m) ∙ e))
+
+name_there : (ss : List Signal) (j : ℕ) → j < length ss → Contains (map name_of ss) (signal_at ss j).name
+name_there ss j l = (j, omega (arith, l, length-map ss name_of), get_or-map name_of ss j no_signal (signal_at ss j).name l)
+
+-- a property of the signals of two lists
+both_lists : (Q : Signal → Type 0) (xs ys : List Signal) → AllByRecursion Q xs → AllByRecursion Q ys → AllByRecursion Q (xs ++ ys)
+both_lists Q [] ys p q = q
+both_lists Q (x ∷ xs) ys p q = (p.0, both_lists Q xs ys p.1 q)
+
+inner_ports : (list : List Declared) → AllByRecursion (λ (s : Signal). is_port s.port ≡ false) (flat_map one_inner list)
+inner_ports [] = tt
+inner_ports (x ∷ xs) = by (is_port x.signal.port) refl (inner_ports xs)
+  where
+    by : (b : Bool) → is_port x.signal.port ≡ b → AllByRecursion (λ (s : Signal). is_port s.port ≡ false) (flat_map one_inner xs) → AllByRecursion (λ (s : Signal). is_port s.port ≡ false) ((if b then [] else x.signal ∷ []) ++ flat_map one_inner xs)
+    by true q h = h
+    by false q h = (q, h)
+
+inner_listed : (Q : Signal → Type 0) (list : List Declared) → ((s : Signal) → (place : ℕ) × ((place < length list) × (s ≡ (declared_at list place).signal)) → Q s) → AllByRecursion Q (flat_map one_inner list)
+inner_listed Q [] h = tt
+inner_listed Q (x ∷ xs) h = by (is_port x.signal.port) (inner_listed Q xs (λ s q. h s (suc q.0, (let l = q.1.0 in omega (arith, l), q.1.1))))
+  where
+    by : (b : Bool) → AllByRecursion Q (flat_map one_inner xs) → AllByRecursion Q ((if b then [] else x.signal ∷ []) ++ flat_map one_inner xs)
+    by true r = r
+    by false r = (h x.signal (0, (omega arith, refl)), r)
+
+weaker : (Q R : Signal → Type 0) (xs : List Signal) → ((s : Signal) → Contains (map name_of xs) s.name → Q s → R s) → AllByRecursion Q xs → AllByRecursion R xs
+weaker Q R [] h q = tt
+weaker Q R (x ∷ xs) h q = (h x (here x.name (map name_of xs)) q.0, weaker Q R xs (λ s c. h s (later x.name (map name_of xs) s.name c)) q.1)
+
+-- all signals have names of their own, which no parameter has
+record Numbered (m : ModuleDeclaration) (params : Names) (ss : List Signal) : Type 0 where
+  apart : Distinct (map name_of ss)
+  new : (n : Text) → Contains (map name_of ss) n → lookup n params ≡ None
+  declared : AllByRecursion (λ (s : Signal). Declares m s.name × (is_port s.port ≡ true → Contains (ports_of m) s.name)) ss
+  has : (n : Text) → Declares m n → Contains (map name_of ss) n
+  port : (n : Text) → Contains (ports_of m) n → (j : ℕ) × ((j < length ss) × (((signal_at ss j).name ≡ n) × (is_port (signal_at ss j).port ≡ true)))
+  way : (p : PortDeclaration) (n : Text) → HasDeclaration m p → Contains (ports_by p) n → (j : ℕ) × ((j < length ss) × (((signal_at ss j).name ≡ n) × ((signal_at ss j).port ≡ way_of p.dir)))
+
+-- of the ports in their order, then the others
+module _ (m : ModuleDeclaration) (params : Names) (d : Declarations) (f : Facts m params d) (first : AsPorts d (ports_of m) (flat_map (one_port d) (ports_of m))) where
+  abbrev ports : List Signal
+  ports = flat_map (one_port d) (ports_of m)
+
+  abbrev inners : List Signal
+  inners = flat_map one_inner d.list
+
+  abbrev inner_names : List Text
+  inner_names = map name_of (flat_map one_inner d.list)
+
+  names_are : map name_of (ports ++ inners) ≡ ports_of m ++ inner_names
+  names_are = map-append name_of ports inners ∙ ap (λ ns. ns ++ inner_names) first.names
+
+  inner_found : (n : Text) (k : Inner d.list n) → lookup n d.names ≡ Some (entity.Signal k.place None false)
+  inner_found n k = ap (λ (z : Text). lookup z d.names) (sym k.name) ∙ f.lists.placed k.place k.there
+
+  cross : (n : Text) → Contains (ports_of m) n → Contains inner_names n → ⊥
+  cross n a b =
+      let p = f.port n a in
+      let k = inner_from d.list n b in
+      let e : p.place ≡ k.place = same_place p.place k.place (sym p.found ∙ inner_found n k) in
+      both_ways (is_port (declared_at d.list k.place).signal.port) k.port (subst (λ (i : ℕ). is_port (declared_at d.list i).signal.port ≡ true) e p.port)
+
+  in_list : (n : Text) → Contains (map name_of (ports ++ inners)) n → Has d n
+  in_list n c = elim (Contains-append_cases (ports_of m) inner_names n (subst (λ ns. Contains ns n) names_are c)) [
+    | inl a ↦ let p = f.port n a in record { place = p.place; found = p.found }
+    | inr b ↦ let k = inner_from d.list n b in record { place = k.place; found = inner_found n k }
+  ]
+
+  -- a name of a parameter would stand for a constant
+  unparameter : (n : Text) (h : Has d n) (o : Option Entity) → lookup n params ≡ o → o ≡ None
+  unparameter n h None q = refl
+  unparameter n h (Some x) q =
+      let e : x ≡ entity.Signal h.place None false = some_is x (entity.Signal h.place None false) (sym (f.lists.kept n x q) ∙ h.found) in
+      absurd (f.constants n h.place (subst (λ (z : Entity). lookup n params ≡ Some z) e q))
+
+  port_declared : (n : Text) → Contains (ports_of m) n → Declares m n
+  port_declared n a =
+      let p = f.port n a in
+      subst (Declares m) (f.lists.named n p.place None false p.found).1 (f.lists.true_of p.place p.there)
+
+  by_port : (place : ℕ) → place < length d.list → (b : Bool) → is_port (declared_at d.list place).signal.port ≡ b → Contains (ports_of m ++ inner_names) (declared_at d.list place).signal.name
+  by_port place l true q = Contains-append_left (ports_of m) inner_names (declared_at d.list place).signal.name (f.listed place l q)
+  by_port place l false q = Contains-append_right (ports_of m) inner_names (declared_at d.list place).signal.name (inner_to d.list place l q)
+
+  either : (n : Text) → Has d n → Contains (ports_of m ++ inner_names) n
+  either n h =
+      let k = f.lists.named n h.place None false h.found in
+      subst (Contains (ports_of m ++ inner_names)) k.1 (by_port h.place k.0 (is_port (declared_at d.list h.place).signal.port) refl)
+
+  all_listed : AllByRecursion (Listed d) (ports ++ inners)
+  all_listed = both_lists (Listed d) ports inners first.listed (inner_listed (Listed d) d.list (λ s l. record { place = l.0; there = l.1.0; is = l.1.1 }))
+
+  -- a signal that has a name goes its way
+  goes : (n : Text) (w : Port) → HasWay d n w → (j : ℕ) → j < length (ports ++ inners) → (signal_at (ports ++ inners) j).name ≡ n → (signal_at (ports ++ inners) j).port ≡ w
+  goes n w h j l e =
+      let q = all_index (Listed d) (ports ++ inners) j no_signal all_listed l in
+      let f : lookup n d.names ≡ Some (entity.Signal q.place None false) = ap (λ (z : Text). lookup z d.names) (sym e ∙ ap name_of q.is) ∙ f.lists.placed q.place q.there in
+      let s : q.place ≡ h.place = same_place q.place h.place (sym f ∙ h.found) in
+      ap (λ (z : Signal). z.port) q.is ∙ (ap (λ (i : ℕ). (declared_at d.list i).signal.port) s ∙ h.goes)
+
+  abbrev IsOne : Signal → Type 0
+  IsOne s = Declares m s.name × (is_port s.port ≡ true → Contains (ports_of m) s.name)
+
+  in_order : Numbered m params (ports ++ inners)
+  in_order = record {
+    apart = subst Distinct (sym names_are) (distinct_append (ports_of m) inner_names f.apart (inner_apart d.list (list_apart f.bracketed params (Declares m) d f.lists)) cross);
+    new = λ n c. unparameter n (in_list n c) (lookup n params) refl;
+    declared = both_lists IsOne ports inners
+        (weaker (λ (s : Signal). is_port s.port ≡ true) IsOne ports (λ s c q. let k : Contains (ports_of m) s.name = subst (λ ns. Contains ns s.name) first.names c in (port_declared s.name k, λ r. k)) first.ports)
+        (weaker (λ (s : Signal). is_port s.port ≡ false) IsOne inners
+        (λ s c q. let k = inner_from d.list s.name c in (subst (Declares m) k.name (f.lists.true_of k.place k.there), λ r. absurd (both_ways (is_port s.port) q r))) (inner_ports d.list));
+    has = λ n c. subst (λ ns. Contains ns n) (sym names_are) (either n (f.has n c));
+    way = λ p n c k.
+        let h = f.way p n c k in
+        let q = name_place (ports ++ inners) n (subst (λ ns. Contains ns n) (sym names_are) (either n (record { place = h.place; found = h.found }))) in
+        (q.0, (q.1.0, (q.1.1, goes n (way_of p.dir) h q.0 q.1.0 q.1.1)));
+    port = λ n c.
+        let p = name_place ports n (subst (λ ns. Contains ns n) (sym first.names) c) in
+        let e : signal_at (ports ++ inners) p.0 ≡ signal_at ports p.0 = get_or_append_left ports inners no_signal p.0 p.1.0 in (
+          p.0,
+          (
+            omega (arith, p.1.0, length-append ports inners),
+            (ap (λ (s : Signal). s.name) e ∙ p.1.1, ap (λ (s : Signal). is_port s.port) e ∙ all_index (λ (s : Signal). is_port s.port ≡ true) ports p.0 no_signal first.ports p.1.0),
+          ),
+        );
+  }
+
+pub opened_head : (i base bits : ℕ) (given : Names) (m : ModuleDeclaration) (h : Head) → head i base bits given m ≡ Ok h → Opened m i base h
+unfolding head numbered
+opened_head i base bits given m h e =
+    let r = first_ok (parameters given m) (λ names. and_then (declared i bits m names) (λ d. numbered i base d.bits (signals_in_order m d) names)) h e in
+    let s = first_ok (declared i bits m r.0) (λ d. numbered i base d.bits (signals_in_order m d) r.0) h r.1.1 in
+    let f = facts i bits m r.0 s.0 (constants given m r.0 r.1.0) s.1.0 in
+    let first = as_ports f.bracketed r.0 (Declares m) s.0 f.lists (ports_of m) (all_in (HasPort s.0) (ports_of m) f.port) in
+    let n : Numbered m r.0 (signals_in_order m s.0) = subst (Numbered m r.0) (sym (signals_are m s.0)) (in_order m r.0 s.0 f first) in
+    let ss = signals_in_order m s.0 in
+    let made : Head = record { instance = i; base = base; bits = s.0.bits; signals = ss; scope = with_signals base ss r.0 } in
+    let is : made ≡ h = (settled (fault_if (nat_lt 65536 (base + length ss)) (TooMany FlatBits (base + length ss))) made h s.1.1).1 in
+    let own : AllByRecursion (λ (z : Signal). z.instance ≡ i) ss = subst (λ (z : Head). AllByRecursion (λ (y : Signal). y.instance ≡ i) z.signals) (sym is) (head_of i base bits given m h e).signals in
+    subst (Opened m i base) is (record {
+      own = own;
+      found = signals_found base ss r.0 n.apart n.new;
+      declared = λ j l. (all_index (λ (z : Signal). Declares m z.name × (is_port z.port ≡ true → Contains (ports_of m) z.name)) ss j no_signal n.declared l).0;
+      listed = λ j l. (all_index (λ (z : Signal). Declares m z.name × (is_port z.port ≡ true → Contains (ports_of m) z.name)) ss j no_signal n.declared l).1;
+      has = λ t c. name_place ss t (n.has t c);
+      port = n.port;
+      way = n.way;
+      apart = f.apart;
+    })

@@ -1,0 +1,51 @@
+-- What a module declares (IEEE 1364-2005 sections 3.2, 3.9 and 12.3).
+use Rattle.std.specs.Prelude.{◌⊎◌, List, [], ◌++◌, map, Option, Some, None}
+use Rattle.std.specs.List.{Contains, flat_map}
+use Rattle.rr_syntax.specs.declared.tree.Dir.{Dir}
+use Rattle.rr_syntax.specs.declared.tree.Dir.TheVariants as dir
+use Rattle.rr_syntax.specs.Tree.{Identifier, PortDeclaration, ModuleItem, Ports, Nets, Variables, Integers, Parameters, Assigns, Always, Instances, ModuleDeclaration}
+use Rattle.rr_flat.specs.declared.signal.Port.{Port}
+use Rattle.rr_flat.specs.declared.signal.Port.TheVariants.{Input, Output}
+use Rattle.rr_flat.specs.Signals.{Text}
+
+abbrev pub texts_of : List Identifier → List Text
+texts_of list = map (λ i. i.text) list
+
+abbrev pub ports_by : PortDeclaration → List Text
+ports_by p = texts_of p.names
+
+-- the nets and variables that an item declares (IEEE 1364-2005 sections 3.2, 3.9 and 12.3.3)
+abbrev pub declared_by : ModuleItem → List Text
+declared_by (Ports p) = ports_by p
+declared_by (Nets signed range list) = map (λ n. n.text) list
+declared_by (Variables signed range list) = texts_of list
+declared_by (Integers list) = texts_of list
+declared_by (Parameters p) = []
+declared_by (Assigns pairs) = []
+declared_by (Always events body token) = []
+declared_by (Instances m token overrides list) = []
+
+-- a port declaration of a module, in its port brackets or among its items (section 12.3.3)
+abbrev pub HasDeclaration : ModuleDeclaration → PortDeclaration → Type 0
+HasDeclaration m p = Contains m.groups p ⊎ Contains m.items (Ports p)
+
+-- its ports are inputs, or outputs
+abbrev pub way_of : Dir → Port
+way_of dir.Input = Input
+way_of dir.InputWire = Input
+way_of dir.Output = Output
+way_of dir.OutputWire = Output
+way_of dir.OutputReg = Output
+
+-- a net or a variable of a module: its port brackets declare it, or an item does (section 12.3.4)
+abbrev pub Declares : ModuleDeclaration → Text → Type 0
+Declares m name =
+    ((p : PortDeclaration) × (Contains m.groups p × Contains (ports_by p) name)) ⊎ ((x : ModuleItem) × (Contains m.items x × Contains (declared_by x) name))
+
+abbrev pub plain_ports : Option (List Identifier) → List Text
+plain_ports None = []
+plain_ports (Some list) = texts_of list
+
+-- the ports of a module in the order of its port brackets, which have plain names or declarations (section 12.3.2)
+abbrev pub ports_of : ModuleDeclaration → List Text
+ports_of m = plain_ports m.header ++ flat_map ports_by m.groups

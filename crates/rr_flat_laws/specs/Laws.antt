@@ -1,0 +1,24 @@
+-- The laws of the flat design of a source.
+use Rattle.std.specs.Prelude.{◌≡◌, ℕ, ◌<◌, length, Option, Ok, All}
+use Rattle.rr_syntax.specs.Tree.{SourceText}
+use Rattle.rr_flat.specs.Plain.{Flat}
+use Rattle.rr_flat.specs.Signals.{Text}
+use Rattle.rr_walk.specs.Walk.{flat_of}
+use Rattle.rr_flat_laws.specs.Hierarchy.{AreAssignments, AreConnections, IsDue}
+use Rattle.rr_flat_laws.specs.Names.{NamesAre}
+
+-- each name that an instance declares as a net or a variable is one signal, and each signal is such a name
+abbrev pub NamesAreSignals : Type 0
+NamesAreSignals = (source : SourceText) (top : Option Text) (flat : Flat) → flat_of source top ≡ Ok flat → NamesAre source flat
+
+-- each continuous assignment of an instance is one driver
+abbrev pub AssignmentsAreDrivers : Type 0
+AssignmentsAreDrivers = (source : SourceText) (top : Option Text) (flat : Flat) → flat_of source top ≡ Ok flat → (i : ℕ) → i < length flat.owners → AreAssignments source flat i
+
+-- each connected port of an instance below the top is one driver
+abbrev pub ConnectionsAreDrivers : Type 0
+ConnectionsAreDrivers = (source : SourceText) (top : Option Text) (flat : Flat) → flat_of source top ≡ Ok flat → AreConnections source flat
+
+-- there are no other drivers
+abbrev pub NoOtherDrivers : Type 0
+NoOtherDrivers = (source : SourceText) (top : Option Text) (flat : Flat) → flat_of source top ≡ Ok flat → All (IsDue flat) flat.drivers

@@ -1,0 +1,5 @@
+pub mod Declared
+pub mod Names
+pub mod Drivers
+pub mod Hierarchy
+pub mod Laws

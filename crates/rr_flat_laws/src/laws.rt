@@ -1,0 +1,32 @@
+//! What the flat design of a source is, as contracts of functions that do nothing.
+ghost use Rattle.rr_flat_laws.specs.Laws.{NamesAreSignals, AssignmentsAreDrivers, ConnectionsAreDrivers, NoOtherDrivers};
+
+/// In the flat design of a source each name that an instance declares as a net or a variable is
+/// exactly one signal, which the name stands for there, each signal is such a name, and the ports of
+/// an instance are its inputs and outputs, each as it is declared (IEEE 1364-2005 sections 3.2, 3.3
+/// and 12.3).
+#[tactic(auto, using(crate::proofs::Naming::names_of_design))]
+pub fn names_are_signals()
+    ensures { NamesAreSignals }
+{}
+
+/// The drivers within an instance are the continuous assignments of its module, each once and in the
+/// order of the text: each pair of an `assign`, and each net that is declared with a value
+/// (sections 6.1.1 and 6.1.2).
+#[tactic(auto, using(crate::proofs::Whole::assignments_of_design))]
+pub fn assignments_are_drivers()
+    ensures { AssignmentsAreDrivers }
+{}
+
+/// The instances below the top are those that the modules of the instances instantiate, each once
+/// (section 12.1.2). Each port of one has exactly one driver where an expression is connected to it,
+/// from the expression in the parent to an input and from an output to the expression, and none
+/// where none is (section 12.3.9.2). The ports of the top have none.
+pub fn connections_are_drivers()
+    ensures { ConnectionsAreDrivers }
+{}
+
+/// Each driver is a continuous assignment of an instance, or a connection of one below the top.
+pub fn no_other_drivers()
+    ensures { NoOtherDrivers }
+{}
