@@ -43,7 +43,7 @@ pub enum DesignFault {
 }
 
 /// The byte at which a token begins.
-fn start_of(tokens: &[Token<'_>], at: u32) -> u32
+pub fn start_of(tokens: &[Token<'_>], at: u32) -> u32
     ensures { result ≡ start_in (lexemes tokens.now) at }
 {
     match tokens.get(at as usize) {

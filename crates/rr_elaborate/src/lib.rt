@@ -6,7 +6,7 @@
 mod design;
 mod laws;
 
-pub use design::{Design, DesignFault, elaborate};
+pub use design::{Design, DesignFault, elaborate, start_of};
 pub use laws::one_design;
 pub use rr_flat::{Flat, FlatFault, Limit};
 pub use rr_lex::Wrong;

@@ -23,9 +23,6 @@ use Rattle.rr_run.specs.declared.fault.Fault.{Fault}
 use Rattle.rr_run.specs.declared.fault.Fault.TheVariants as fault
 use Rattle.rr_run.specs.Refusals.{Refusal, At, TooMany, NoHeader, UnknownColumn, ColumnTwice, MissingInput, RowLength, BadCell, CellTooLarge, NotUtf8}
 
-abbrev pub start_at : List Lexeme → ℕ → ℕ
-start_at = start_of
-
 -- an order of the steps of a design that is lawful with this word
 abbrev pub InOrder : Design → Order → Option Text → Type 0
 InOrder flat order word = Lawful (plain_flat flat) word × Ordered (plain_flat flat) word order.clock order.rising order.steps.items

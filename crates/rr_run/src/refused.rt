@@ -10,10 +10,10 @@ ghost use Rattle.rr_trace.specs.Tables.{table_of};
 ghost use Rattle.rr_trace.specs.Tops.{name_of as name_in, ports_of};
 ghost use Rattle.rr_trace.specs.View.{Refuses as RefusesRead};
 ghost use Rattle.rr_run.specs.Refusals.{StopsWhere};
-ghost use Rattle.rr_run.specs.Runs.{IsAt, RefusesDesign, RefusesTable, Told, start_at};
+ghost use Rattle.rr_run.specs.Runs.{IsAt, RefusesDesign, RefusesTable, Told};
 
 use crate::fault::{Fault, Refusal, RunFault};
-use rr_elaborate::{DesignFault, Flat, FlatFault, Wrong};
+use rr_elaborate::{DesignFault, Flat, FlatFault, Wrong, start_of};
 use rr_lawful::LawFault;
 use rr_syntax::Token;
 use rr_trace::TableFault;
@@ -69,16 +69,6 @@ pub(crate) fn of_design<'a>(fault: DesignFault) -> RunFault<'a>
     }
 }
 
-/// The byte at which a token begins.
-fn start_of(tokens: &[Token<'_>], token: u32) -> u32
-    ensures { result ≡ start_at (lexemes tokens.now) token }
-{
-    match tokens.get(token as usize) {
-        Some(token) => token.span.start,
-        None => 0,
-    }
-}
-
 /// Which law is broken, and the token at which that is told; `None` for want of memory.
 fn law_of(fault: &LawFault) -> Option<(Fault, u32)>
     ensures { MatchOption result (fault.now ≡ NoMemory) (λ p. Told fault.now p.0 p.1) }
@@ -108,16 +98,6 @@ pub(crate) fn of_law<'a>(tokens: &[Token<'_>], fault: &LawFault) -> RunFault<'a>
     }
 }
 
-/// The name of a signal, empty where there is none.
-fn name_of<'a>(flat: &Flat<'a>, id: u32) -> &'a str
-    ensures { result.now ≡ name_in (plain_flat flat.now) id }
-{
-    match flat.signals.get(id as usize) {
-        Some(signal) => signal.name,
-        None => "",
-    }
-}
-
 /// Why a text is no table.
 pub(crate) fn of_table<'a>(flat: &Flat<'a>, fault: TableFault) -> RunFault<'a>
     ensures { (clock : Option ℕ) (bytes : List ℕ) → RefusesRead (table_of (ports_of (plain_flat flat.now) clock) bytes) fault → StopsWhere (RefusesTable (plain_flat flat.now) clock bytes) result }
@@ -126,7 +106,7 @@ pub(crate) fn of_table<'a>(flat: &Flat<'a>, fault: TableFault) -> RunFault<'a>
         TableFault::NoHeader => Refusal::NoHeader,
         TableFault::UnknownColumn(column) => Refusal::UnknownColumn(column),
         TableFault::ColumnTwice(column) => Refusal::ColumnTwice(column),
-        TableFault::MissingInput(id) => Refusal::MissingInput(name_of(flat, id)),
+        TableFault::MissingInput(id) => Refusal::MissingInput(flat.signal_name(id)),
         TableFault::RowLength(row) => Refusal::RowLength(row),
         TableFault::BadCell { row, column } => Refusal::BadCell { row, column },
         TableFault::CellTooLarge { row, column } => Refusal::CellTooLarge { row, column },
