@@ -1,5 +1,5 @@
 -- What contracts see of reads and of what they give.
-use Rattle.std.specs.Prelude.{◌≡◌, ⊤, ℕ, ◌<◌, List, [], ◌∷◌, Option, Some, None, length, take, IfSome, IsSomeAnd, Result, Ok, Err, Vec}
+use Rattle.std.specs.Prelude.{◌≡◌, ⊤, ℕ, ◌<◌, List, Option, Some, None, length, map, take, IfSome, IsSomeAnd, Result, Ok, Err, Vec}
 use Rattle.std.specs.declared.alloc.Global.{Global}
 use Rattle.rr_edge.specs.Faults.{Faulted}
 use Rattle.rr_edge.specs.Held.{Held}
@@ -11,7 +11,6 @@ use Rattle.rr_report.specs.Refusals.{Refusal, TooManyBytes, Input, NotBuilt, Fla
 use Rattle.rr_report.specs.Texts.{absent_text, read_fault_text, memory_text, refused_text}
 use Rattle.rr_report.specs.Views.{report_text}
 use Rattle.rr_effects.specs.declared.reads.Read.{Read}
-use Rattle.rr_effects.specs.declared.reads.Both.{Both}
 use Rattle.rr_effects.specs.declared.delivery.WriteStop.{WriteStop}
 use Rattle.rr_effects.specs.declared.delivery.WriteStop.TheVariants as stop
 use Rattle.rr_effects.specs.Delivery.{with_files, StopsAtWrite}
@@ -21,9 +20,9 @@ use Rattle.rr_effects.specs.Reads.{Gave, Given, StopsReading}
 abbrev pub read_of : Read → List ℕ × ℕ
 read_of read = (read.name.now, read.limit)
 
--- the bytes of both files
-abbrev pub files_of : Both → List (List ℕ)
-files_of both = both.first.items ∷ (both.second.items ∷ [])
+-- the bytes of each file
+abbrev pub contents : List (Vec ℕ Global) → List (List ℕ)
+contents = map (λ file. file.items)
 
 -- the name has more bytes than the limit: so many
 abbrev pub IsTooLong : Option Held → List ℕ → ℕ → Refusal → Type 0
@@ -48,9 +47,9 @@ abbrev pub FetchesOne : Option Held → List ℕ → ℕ → ℕ → ℕ → Res
 FetchesOne told name limit before now (Ok bytes) = Gave told name limit bytes.items × (now ≡ before)
 FetchesOne told name limit before now (Err report) = StopsRead told name limit before now report.ending (report_text report)
 
--- what reads in order answer: both files, or the first that stops them
-abbrev pub Fetches : Option Held → List (List ℕ × ℕ) → ℕ → ℕ → Result Both Report → Type 0
-Fetches told reads before now (Ok both) = Given told reads (files_of both) × (now ≡ before)
+-- what reads in order answer: all files, or the first that stops them
+abbrev pub Fetches : Option Held → List (List ℕ × ℕ) → ℕ → ℕ → Result (Vec (Vec ℕ Global) Global) Report → Type 0
+Fetches told reads before now (Ok files) = Given told reads (contents files.items) × (now ≡ before)
 Fetches told reads before now (Err report) = StopsReading told reads before now report.ending (report_text report)
 
 -- what writes in order leave: all files; or the files before the one at which they stop

@@ -8,4 +8,4 @@ mod delivery;
 mod reads;
 
 pub use delivery::{deliver, put_report};
-pub use reads::{Both, Read, fetch};
+pub use reads::{Read, fetch};

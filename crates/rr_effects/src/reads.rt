@@ -1,5 +1,5 @@
 //! Files that are fetched from a shelf.
-ghost use Rattle.std.specs.Prelude.{◌≡◌, [], ◌∷◌};
+ghost use Rattle.std.specs.Prelude.{◌≡◌, map};
 ghost use Rattle.rr_effects.specs.Views.{Fetches, FetchesOne, read_of};
 
 use rr_edge::{Shelf, ShelfFault};
@@ -11,13 +11,6 @@ use std::alloc::Global;
 pub struct Read<'a> {
     pub name: &'a str,
     pub limit: u64,
-}
-
-/// The bytes of two files.
-#[derive(Drop)]
-pub struct Both {
-    pub first: Vec<u8>,
-    pub second: Vec<u8>,
 }
 
 /// The bytes under a name. The texts of its faults are made before the read.
@@ -44,23 +37,27 @@ fn fetch_one<'a, H: Shelf>(
     }
 }
 
-/// The bytes under two names, the first one first; or the report of the first read that gives none:
-/// an absent name, a fault, a file of too many bytes, or want of memory. It changes nothing held.
+/// The bytes under the names, in their order; or the report of the first read that gives none: an
+/// absent name, a fault, a file of too many bytes, or want of memory. Names behind that one are not
+/// read. It changes nothing held.
 pub fn fetch<'a, H: Shelf>(
     alloc: Global,
     shelf: &mut H,
-    first: Read<'a>,
-    second: Read<'a>,
-) -> Result<Both, Report<'a>>
-    ensures answer { Fetches (H.told shelf.old) (read_of first.entry ∷ (read_of second.entry ∷ [])) (H.faults shelf.old) (H.faults shelf.new) result }
+    reads: &[Read<'a>],
+) -> Result<Vec<Vec<u8>>, Report<'a>>
+    ensures answer { Fetches (H.told shelf.old) (map read_of reads.now) (H.faults shelf.old) (H.faults shelf.new) result }
     ensures same { H.told shelf.new ≡ H.told shelf.old }
 {
-    let first = match fetch_one(alloc, shelf, first) {
-        Ok(bytes) => bytes,
-        Err(report) => return Err(report),
-    };
-    match fetch_one(alloc, shelf, second) {
-        Ok(second) => Ok(Both { first, second }),
-        Err(report) => Err(report),
+    let mut files = Vec::new(alloc);
+    for number in 0..reads.len() {
+        let bytes = match fetch_one(alloc, shelf, reads[number]) {
+            Ok(bytes) => bytes,
+            Err(report) => return Err(report),
+        };
+        match files.push(bytes) {
+            Ok(()) => {}
+            Err(_) => return Err(out_of_memory(0)),
+        }
     }
+    Ok(files)
 }

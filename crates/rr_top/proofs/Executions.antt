@@ -23,15 +23,17 @@ use Rattle.rr_report.specs.Texts.{refused_text, out_fault_text}
 use Rattle.rr_effects.specs.Outside.{Outside, KeepsShelf, KeepsOut}
 use Rattle.rr_effects.specs.Reads.{AbsentAt, Gave, Given}
 use Rattle.rr_effects.specs.Delivery.{Delivers, Reports, with_files}
-use Rattle.rr_thin.specs.Repairs.{AnswersRepair, IsMatching, IsMendable, IsRepair, IsNoRepair}
+use Rattle.rr_thin.specs.Repairs.{AnswersRepair}
 use Rattle.rr_thin.specs.Texts.{unchanged_text}
-use Rattle.rr_thin.proofs.Outcomes.{repairs, despairs, answered, mendable, unmendable as unmended, matching, matching_mends}
-use Rattle.rr_top.specs.Commands.{Answers, AnswersRun, AnswersCheck, BothGiven, Due, Refuses, WhereTwo, reads_of, verdict_status}
-use Rattle.rr_top.specs.Expected.{Expected, absent, refused, unparsed, mended, unmendable, ran, checked, expected_status, IsChecked, IsPlaced, Judges}
-use Rattle.rr_top.specs.Endings.{PlanEnds}
-use Rattle.rr_top.specs.Execution.{Ends, IsUsage, Execution, IsExecution, IsRepaired, IsBeyondRepair, IsSimulated, IsAccepted, IsRejected, HasDone, HasFailed, HoldsNeverTrue, IsCheck, IsRefused, IsAbsent, IsReadFault, IsOutFault, IsReportFault, IsFailure, IsMatchingRepair, PrintsAsItWas, IsExhausted, IsUnread, WhereCommand, SomeFault, Shows, Follows, AllGiven, NoneRefuses, NoFaults}
+use Rattle.rr_thin.proofs.Outcomes.{repairs, despairs, answered, matching, matching_mends}
+use Rattle.rr_top.specs.Outcomes.{Outcome, mended, unmendable, ran, checked, Tells, outcome_status, verdict_status}
+use Rattle.rr_top.specs.Commands.{AnswersRun, AnswersCheck, BothGiven, Command, Due, HasOneOutcome, Refuses, WhereTwo, check_command, command_of_plan, repair_command, run_command}
+use Rattle.rr_top.specs.Expected.{Expected, absent, refused, unparsed, done, expected_status, IsChecked, IsPlaced, Judges}
+use Rattle.rr_top.specs.Endings.{CommandEnds}
+use Rattle.rr_top.specs.Execution.{Ends, IsUsage, Execution, IsExecution, IsRepaired, IsBeyondRepair, IsSimulated, IsAccepted, IsRejected, HasDone, HasFailed, HoldsNeverTrue, IsCheck, IsRefused, IsAbsent, IsReadFault, IsWriteFault, IsOutFault, IsReportFault, Fails, IsFailure, IsMatchingRepair, PrintsAsItWas, IsExhausted, IsUnread, WhereCommand, SomeFault, Shows, ShowsOutcome, Follows, AllGiven, NoneRefuses, NoFaults}
 use Rattle.rr_top.proofs.Judging.{placed_or_syntax}
 use Rattle.rr_top.proofs.Readings.{given_given}
+use Rattle.rr_top.proofs.Table.{one_in_table, writes_nothing}
 use Rattle.rr_top.proofs.Once.{one_outcome}
 
 -- what holds of two files holds of what was read
@@ -58,31 +60,24 @@ abbrev GivenCheck : Option Held → List ℕ → List ℕ → Answer → Type 0
 GivenCheck told c p answer = TwoGiven told (c, 268435456) (p, 1073741824) (λ x y. AnswersCheck x y answer)
 
 module _ (told : Option Held) (answer : Answer) where
-  repair_given : (d t cert : List ℕ) (top clock : Option (List ℕ)) (budget members : ℕ) → Due (repair d t cert top clock budget members) told answer → GivenRepair told d t top clock answer
-  repair_given d t cert top clock budget members due = two_given told (d, 1048576) (t, 16777216) due.files (λ x y. AnswersRepair top clock x y answer) due.given due.answers
+  repair_given : (d t : List ℕ) (top clock : Option (List ℕ)) → Due (repair_command d t top clock) told answer → GivenRepair told d t top clock answer
+  repair_given d t top clock due = two_given told (d, 1048576) (t, 16777216) due.files (λ x y. AnswersRepair top clock x y answer) due.given due.answers
 
-  run_given : (d t : List ℕ) (top clock : Option (List ℕ)) → Due (run d t top clock) told answer → GivenRun told d t top clock answer
+  run_given : (d t : List ℕ) (top clock : Option (List ℕ)) → Due (run_command d t top clock) told answer → GivenRun told d t top clock answer
   run_given d t top clock due = two_given told (d, 1048576) (t, 16777216) due.files (λ x y. AnswersRun top clock x y answer) due.given due.answers
 
-  check_given : (c p : List ℕ) → Due (check c p) told answer → GivenCheck told c p answer
+  check_given : (c p : List ℕ) → Due (check_command c p) told answer → GivenCheck told c p answer
   check_given c p due = two_given told (c, 268435456) (p, 1073741824) due.files (λ x y. AnswersCheck x y answer) due.given due.answers
 
-  repair_files : (top clock : Option (List ℕ)) (design table : List ℕ) → AnswersRepair top clock design table answer → answer.files ≡ []
-  repair_files top clock design table a = elim (answered top clock design table answer a) [ repairs is ↦ is.repairs.files | despairs is ↦ is.despairs.files ]
-
   -- no command writes a file
-  no_files : (plan : Plan) → Due plan told answer → answer.files ≡ []
-  no_files (repair d t cert top clock budget members) due = let two = repair_given d t cert top clock budget members due in repair_files top clock two.first two.second two.holds
-  no_files (run d t top clock) due = (run_given d t top clock due).holds.files
-  no_files (sites d top clock) due = absurd due.answers
-  no_files (check c p) due = (check_given c p due).holds.tells.files
-  no_files (make s c) due = absurd due.answers
+  no_files : (plan : Plan) → Due (command_of_plan plan) told answer → answer.files ≡ []
+  no_files plan due = writes_nothing plan due.files answer due.answers
 
-  none_below : {X : Type 0} (plan : Plan) (k : ℕ) → Due plan told answer → k < length answer.files → X
-  none_below plan k due less = let none : length answer.files ≡ 0 = ap length (no_files plan due) in absurd (omega (arith, less, none))
-
-  held_with : (plan : Plan) (new : Option Held) → Due plan told answer → new ≡ with_files told answer.files → new ≡ told
+  held_with : (plan : Plan) (new : Option Held) → Due (command_of_plan plan) told answer → new ≡ with_files told answer.files → new ≡ told
   held_with plan new due is = is ∙ ap (λ (fs : List File). with_files told fs) (no_files plan due)
+
+  none_below : {X : Type 0} (plan : Plan) (k : ℕ) → Due (command_of_plan plan) told answer → k < length answer.files → X
+  none_below plan k due less = let none : length answer.files ≡ 0 = ap length (no_files plan due) in absurd (omega (arith, less, none))
 
 -- no count of faults changed
 pub record Calm (r : Execution) : Type 0 where
@@ -92,23 +87,23 @@ pub record Calm (r : Execution) : Type 0 where
 
 -- which failure it was
 abbrev pub FailureOf : Execution → Option Plan → Type 0
-FailureOf r o = IsReportFault r ⊎ ((plan : Plan) × (o ≡ Some plan) × (IsAbsent r plan ⊎ (IsReadFault r plan ⊎ IsOutFault r plan)))
+FailureOf r o = IsReportFault r ⊎ ((plan : Plan) × (o ≡ Some plan) × Fails r (command_of_plan plan))
 
 -- what came of a run, by its status
 pub data Came (r : Execution) (o : Option Plan) : Type 0 where
   came_fault : SomeFault r → FailureOf r o → r.status ≡ 4 → r.after.held ≡ r.before.held → Came r o
   came_memory : Calm r → IsExhausted r → r.status ≡ 5 → Came r o
   came_usage : Calm r → o ≡ None → KeepsOut r.before r.after → Appends r.notes_before r.notes_after usage_text → r.status ≡ 6 → Came r o
-  came_absent : Calm r → (plan : Plan) → o ≡ Some plan → IsAbsent r plan → r.status ≡ 4 → Came r o
-  came_refused : Calm r → (plan : Plan) → o ≡ Some plan → IsRefused r plan → r.status ≡ 3 → Came r o
-  came_done : Calm r → (plan : Plan) → o ≡ Some plan → (answer : Answer) → Due plan r.before.held answer → Appends r.before.out r.after.out answer.out
+  came_absent : Calm r → (plan : Plan) → o ≡ Some plan → IsAbsent r (command_of_plan plan) → r.status ≡ 4 → Came r o
+  came_refused : Calm r → (plan : Plan) → o ≡ Some plan → IsRefused r (command_of_plan plan) → r.status ≡ 3 → Came r o
+  came_done : Calm r → (plan : Plan) → o ≡ Some plan → (answer : Answer) → Due (command_of_plan plan) r.before.held answer → Appends r.before.out r.after.out answer.out
       → Appends r.notes_before r.notes_after answer.notes → r.status ≡ answer.status → Came r o
 
 module _ (r : Execution) where
   calm_in : KeepsShelf r.before r.after → KeepsOut r.before r.after → r.notes_faults_after ≡ r.notes_faults_before → Calm r
   calm_in shelf out notes = record { shelf = shelf; out = out.faults; notes = notes }
 
-  held_of : (plan : Plan) (ending : Ending) (text : List ℕ) → PlanEnds plan r.before r.after ending text → r.after.held ≡ r.before.held
+  held_of : (plan : Plan) (ending : Ending) (text : List ℕ) → CommandEnds (command_of_plan plan) r.before r.after ending text → r.after.held ≡ r.before.held
   held_of plan Usage text (inl e) = absurd e
   held_of plan Usage text (inr e) = absurd e.2
   held_of plan (NoMemory k) text (inl e) = e.1.held
@@ -126,34 +121,53 @@ module _ (r : Execution) where
   held_of plan (Done status) text (inl e) = absurd e
   held_of plan (Done status) text (inr (answer, due, e)) = held_with r.before.held answer plan r.after.held due e.0
 
-  out_fault_put : (plan : Plan) (o : Option Plan) (answer : Answer) (text : List ℕ) → o ≡ Some plan → Due plan r.before.held answer → Delivers answer r.before r.after OutFault text
+  out_fault_put : (plan : Plan) (o : Option Plan) (answer : Answer) (text : List ℕ) → o ≡ Some plan → Due (command_of_plan plan) r.before.held answer → Delivers answer r.before r.after OutFault text
       → Appends r.notes_before r.notes_after text → r.status ≡ 4 → Came r o
   out_fault_put plan o answer text is due e put status =
       let held = held_with r.before.held answer plan r.after.held due e.0 in
       came_fault (inr (inl e.3)) (inr (
         plan,
         is,
-        inr (inr (record {
+        inr (inr (inr (record {
           answer = answer;
           due = due;
           rose = e.3;
           printed = e.2;
+          files = e.0;
           shelf = record { held = held; faults = e.1 };
           reported = rw e.4 at put;
-        })),
+        }))),
       )) status held
 
-  read_fault_put : (plan : Plan) (o : Option Plan) (fault : IsReadFault r plan) → o ≡ Some plan → r.status ≡ 4 → Came r o
+  write_fault_put : (plan : Plan) (o : Option Plan) (answer : Answer) (k : ℕ) (text : List ℕ) → o ≡ Some plan → Due (command_of_plan plan) r.before.held answer → Delivers answer r.before r.after (WriteFault k) text
+      → Appends r.notes_before r.notes_after text → r.status ≡ 4 → Came r o
+  write_fault_put plan o answer k text is due e put status =
+      came_fault (inl e.2) (inr (
+        plan,
+        is,
+        inr (inr (inl (record {
+          answer = answer;
+          due = due;
+          number = k;
+          within = e.0;
+          files = e.1;
+          rose = e.2;
+          out = e.3;
+          reported = rw e.4 at put;
+        }))),
+      )) status (none_below r.before.held answer plan k due e.0)
+
+  read_fault_put : (plan : Plan) (o : Option Plan) (fault : IsReadFault r (command_of_plan plan)) → o ≡ Some plan → r.status ≡ 4 → Came r o
   read_fault_put plan o fault is status = came_fault (inl fault.rose) (inr (plan, is, inr (inl fault))) status fault.held
 
-  done_put : (plan : Plan) (o : Option Plan) (answer : Answer) (status : ℕ) (text : List ℕ) → o ≡ Some plan → Due plan r.before.held answer → Delivers answer r.before r.after (Done status) text
+  done_put : (plan : Plan) (o : Option Plan) (answer : Answer) (status : ℕ) (text : List ℕ) → o ≡ Some plan → Due (command_of_plan plan) r.before.held answer → Delivers answer r.before r.after (Done status) text
       → Appends r.notes_before r.notes_after text → r.notes_faults_after ≡ r.notes_faults_before → r.status ≡ status → Came r o
-  done_put plan o answer status text is due done put quiet now =
-      let held = held_with r.before.held answer plan r.after.held due done.0 in
-      came_done (record { shelf = record { held = held; faults = done.1 }; out = done.3; notes = quiet }) plan is answer due done.2 (rw done.5 at put) (now ∙ done.4)
+  done_put plan o answer status text is due e put quiet now =
+      let held = held_with r.before.held answer plan r.after.held due e.0 in
+      came_done (record { shelf = record { held = held; faults = e.1 }; out = e.3; notes = quiet }) plan is answer due e.2 (rw e.5 at put) (now ∙ e.4)
 
   -- the report was put
-  plan_put : (plan : Plan) (o : Option Plan) (ending : Ending) (text : List ℕ) → o ≡ Some plan → PlanEnds plan r.before r.after ending text
+  plan_put : (plan : Plan) (o : Option Plan) (ending : Ending) (text : List ℕ) → o ≡ Some plan → CommandEnds (command_of_plan plan) r.before r.after ending text
       → Appends r.notes_before r.notes_after text → r.notes_faults_after ≡ r.notes_faults_before → r.status ≡ status_of ending → Came r o
   plan_put plan o Usage text is (inl e) put quiet status = absurd e
   plan_put plan o Usage text is (inr e) put quiet status = absurd e.2
@@ -166,14 +180,14 @@ module _ (r : Execution) where
       read_fault_put plan o (record { name = name.now; read = e.3; rose = e.1; held = e.0; out = e.2; reported = rw e.4 at put }) is status
   plan_put plan o (ReadFault name) text is (inr e) put quiet status = absurd e.2
   plan_put plan o (WriteFault k) text is (inl e) put quiet status = absurd e
-  plan_put plan o (WriteFault k) text is (inr (answer, due, e)) put quiet status = none_below r.before.held answer plan k due e.0
+  plan_put plan o (WriteFault k) text is (inr (answer, due, e)) put quiet status = write_fault_put plan o answer k text is due e put status
   plan_put plan o OutFault text is (inl e) put quiet status = absurd e
   plan_put plan o OutFault text is (inr (answer, due, e)) put quiet status = out_fault_put plan o answer text is due e put status
   plan_put plan o (Refused refusal) text is (inl e) put quiet status =
       came_refused (calm_in e.0 e.1 quiet) plan is (record { refusal = plain_refusal refusal; due = e.2; reported = rw e.3 at put; shelf = e.0; out = e.1 }) status
   plan_put plan o (Refused refusal) text is (inr e) put quiet status = absurd e.2
   plan_put plan o (Done status) text is (inl e) put quiet now = absurd e
-  plan_put plan o (Done status) text is (inr (answer, due, done)) put quiet now = done_put plan o answer status text is due done put quiet now
+  plan_put plan o (Done status) text is (inr (answer, due, e)) put quiet now = done_put plan o answer status text is due e put quiet now
 
   usage_put : (o : Option Plan) (ending : Ending) (text : List ℕ) → o ≡ None → IsUsage r.before r.after ending text
       → Appends r.notes_before r.notes_after text → r.notes_faults_after ≡ r.notes_faults_before → r.status ≡ status_of ending → Came r o
@@ -187,7 +201,7 @@ module _ (r : Execution) where
       → Faulted r.notes_faults_before r.notes_faults_after → IsReportFault r
   report_fault ending text ends front rose = record { ending = ending; text = text; ends = ends; rose = rose; reported = front }
 
-  came_of : (o : Option Plan) (ending : Ending) (text : List ℕ) → Ends r.words r.before r.after ending text → MatchOption o (IsUsage r.before r.after ending text) (λ plan. PlanEnds plan r.before r.after ending text)
+  came_of : (o : Option Plan) (ending : Ending) (text : List ℕ) → Ends r.words r.before r.after ending text → MatchOption o (IsUsage r.before r.after ending text) (λ plan. CommandEnds (command_of_plan plan) r.before r.after ending text)
       → Reports r.notes_before r.notes_after r.notes_faults_before r.notes_faults_after text (status_of ending) r.status → Came r o
   came_of None ending text ends e (inl p) = usage_put None ending text refl e p.0 p.1 p.2
   came_of None ending text ends e (inr p) = came_fault (inr (inr p.1)) (inl (report_fault ending text ends p.0 p.1)) p.2 e.shelf.held
@@ -211,20 +225,17 @@ status_zero found.NoEmptyClause e = absurd (omega (arith, e))
 status_one : (v : Verdict) → verdict_status v ≡ 1 → v ≡ found.Accepted → ⊥
 status_one v e is = let zero_is : verdict_status v ≡ 0 = ap verdict_status is in omega (arith, e, zero_is)
 
+outcome_low : (v : Outcome) → (outcome_status v ≡ 0) ⊎ (outcome_status v ≡ 1)
+outcome_low mended = inl refl
+outcome_low unmendable = inr refl
+outcome_low (ran text) = inl refl
+outcome_low (checked verdict) = status_low verdict
+
 -- the status that an answer has
-repair_status : (told : Option Held) (answer : Answer) (top clock : Option (List ℕ)) (design table : List ℕ) → AnswersRepair top clock design table answer → (answer.status ≡ 0) ⊎ (answer.status ≡ 1)
-repair_status told answer top clock design table a = elim (answered top clock design table answer a) [ repairs is ↦ inl is.repairs.status | despairs is ↦ inr is.despairs.status ]
-
-check_status : (answer : Answer) (circuit proof : List ℕ) → AnswersCheck circuit proof answer → (answer.status ≡ 0) ⊎ (answer.status ≡ 1)
-check_status answer circuit proof a = elim (status_low a.verdict) [ inl e ↦ inl (a.tells.status ∙ e) | inr e ↦ inr (a.tells.status ∙ e) ]
-
-due_status : (plan : Plan) (told : Option Held) (answer : Answer) → Due plan told answer → (answer.status ≡ 0) ⊎ (answer.status ≡ 1)
-due_status (repair d t cert top clock budget members) told answer due =
-    let two = repair_given told answer d t cert top clock budget members due in repair_status told answer top clock two.first two.second two.holds
-due_status (run d t top clock) told answer due = inl (run_given told answer d t top clock due).holds.status
-due_status (sites d top clock) told answer due = absurd due.answers
-due_status (check c p) told answer due = let two = check_given told answer c p due in check_status answer two.first two.second two.holds
-due_status (make s c) told answer due = absurd due.answers
+due_status : (plan : Plan) (told : Option Held) (answer : Answer) → Due (command_of_plan plan) told answer → (answer.status ≡ 0) ⊎ (answer.status ≡ 1)
+due_status plan told answer due =
+    let (outcome, (comes, is)) = (one_in_table plan).answered due.files answer due.answers in
+    elim (outcome_low outcome) [ inl e ↦ inl (is.status ∙ e) | inr e ↦ inr (is.status ∙ e) ]
 
 module _ (r : Execution) (answer : Answer) (calm : Calm r) (out : Appends r.before.out r.after.out answer.out) (notes : Appends r.notes_before r.notes_after answer.notes) where
   mends_given : (d t : List ℕ) (top clock : Option (List ℕ)) → GivenRepair r.before.held d t top clock answer → answer.status ≡ 0 → IsRepaired r d t top clock
@@ -296,97 +307,26 @@ module _ (r : Execution) (answer : Answer) (calm : Calm r) (out : Appends r.befo
         shelf = calm.shelf;
       }
 
-  mends_due : (plan : Plan) → Due plan r.before.held answer → answer.status ≡ 0 → HasDone r plan
-  mends_due (repair d t cert top clock budget members) due zero = inl (mends_given d t top clock (repair_given r.before.held answer d t cert top clock budget members due) zero)
+  mends_due : (plan : Plan) → Due (command_of_plan plan) r.before.held answer → answer.status ≡ 0 → HasDone r plan
+  mends_due (repair d t cert top clock budget members) due zero = inl (mends_given d t top clock (repair_given r.before.held answer d t top clock due) zero)
   mends_due (run d t top clock) due zero = inr (inl (simulates_given d t top clock (run_given r.before.held answer d t top clock due)))
   mends_due (sites d top clock) due zero = absurd due.answers
   mends_due (check c p) due zero = inr (inr (accepts_given c p (check_given r.before.held answer c p due) zero))
   mends_due (make s c) due zero = absurd due.answers
 
-  despairs_due : (plan : Plan) → Due plan r.before.held answer → answer.status ≡ 1 → HasFailed r plan
-  despairs_due (repair d t cert top clock budget members) due one = inl (despairs_given d t top clock (repair_given r.before.held answer d t cert top clock budget members due) one)
+  despairs_due : (plan : Plan) → Due (command_of_plan plan) r.before.held answer → answer.status ≡ 1 → HasFailed r plan
+  despairs_due (repair d t cert top clock budget members) due one = inl (despairs_given d t top clock (repair_given r.before.held answer d t top clock due) one)
   despairs_due (run d t top clock) due one = absurd (omega (arith, one, (run_given r.before.held answer d t top clock due).holds.status))
   despairs_due (sites d top clock) due one = absurd due.answers
   despairs_due (check c p) due one = inr (rejects_given c p (check_given r.before.held answer c p due) one)
   despairs_due (make s c) due one = absurd due.answers
 
--- what the answer shows of what is expected
-abbrev ShowsBy : Expected → Answer → Type 0
-ShowsBy (absent name) answer = ⊥
-ShowsBy (refused refusal) answer = ⊥
-ShowsBy unparsed answer = ⊥
-ShowsBy mended answer = ⊤
-ShowsBy unmendable answer = ⊤
-ShowsBy (ran text) answer = (answer.out ≡ text) × (answer.notes ≡ [])
-ShowsBy (checked verdict) answer = (answer.out ≡ verdict_text verdict) × (answer.notes ≡ [])
-
--- what is expected, where an answer is carried out
-record Carries (plan : Plan) (held : Held) (answer : Answer) : Type 0 where
-  expected : Expected
-  judged : Judges plan held expected
-  status : answer.status ≡ expected_status expected
-  shows : ShowsBy expected answer
-
-module _ (held : Held) (answer : Answer) where
-  carries_repair : (d t cert : List ℕ) (top clock : Option (List ℕ)) (budget members : ℕ) (files : List (List ℕ)) → Given (Some held) ((d, 1048576) ∷ ((t, 16777216) ∷ [])) files
-      → WhereTwo files (λ x y. AnswersRepair top clock x y answer) → Carries (repair d t cert top clock budget members) held answer
-  carries_repair d t cert top clock budget members [] g w = absurd w
-  carries_repair d t cert top clock budget members (x ∷ []) g w = absurd w
-  carries_repair d t cert top clock budget members (x ∷ (y ∷ [])) g w = elim (answered top clock x y answer w) [
-    | repairs is ↦ record {
-      expected = mended;
-      judged = record { files = x ∷ (y ∷ []); given = g; decides = mendable top clock x y answer is };
-      status = is.repairs.status;
-      shows = tt;
-    }
-    | despairs is ↦ record {
-      expected = unmendable;
-      judged = record { files = x ∷ (y ∷ []); given = g; decides = unmended top clock x y answer is };
-      status = is.despairs.status;
-      shows = tt;
-    }
-  ]
-  carries_repair d t cert top clock budget members (x ∷ (y ∷ (z ∷ files))) g w = absurd w
-
-  carries_run : (d t : List ℕ) (top clock : Option (List ℕ)) (files : List (List ℕ)) → Given (Some held) ((d, 1048576) ∷ ((t, 16777216) ∷ [])) files
-      → WhereTwo files (λ x y. AnswersRun top clock x y answer) → Carries (run d t top clock) held answer
-  carries_run d t top clock [] g w = absurd w
-  carries_run d t top clock (x ∷ []) g w = absurd w
-  carries_run d t top clock (x ∷ (y ∷ [])) g w = record {
-    expected = ran answer.out;
-    judged = record { files = x ∷ (y ∷ []); given = g; decides = w.ran };
-    status = w.status;
-    shows = (refl, w.notes);
-  }
-  carries_run d t top clock (x ∷ (y ∷ (z ∷ files))) g w = absurd w
-
-  carries_check : (c p : List ℕ) (files : List (List ℕ)) → Given (Some held) ((c, 268435456) ∷ ((p, 1073741824) ∷ [])) files
-      → WhereTwo files (λ x y. AnswersCheck x y answer) → Carries (check c p) held answer
-  carries_check c p [] g w = absurd w
-  carries_check c p (x ∷ []) g w = absurd w
-  carries_check c p (x ∷ (y ∷ [])) g w = record {
-    expected = checked w.verdict;
-    judged = record { files = x ∷ (y ∷ []); given = g; decides = w.judged };
-    status = w.tells.status;
-    shows = (w.tells.printed, w.tells.notes);
-  }
-  carries_check c p (x ∷ (y ∷ (z ∷ files))) g w = absurd w
-
-  carried : (plan : Plan) → Due plan (Some held) answer → Carries plan held answer
-  carried (repair d t cert top clock budget members) due = carries_repair d t cert top clock budget members due.files due.given due.answers
-  carried (run d t top clock) due = carries_run d t top clock due.files due.given due.answers
-  carried (sites d top clock) due = absurd due.answers
-  carried (check c p) due = carries_check c p due.files due.given due.answers
-  carried (make s c) due = absurd due.answers
-
-shown : (r : Execution) (answer : Answer) (v : Expected) → ShowsBy v answer → Appends r.before.out r.after.out answer.out → Appends r.notes_before r.notes_after answer.notes → Shows v r
-shown r answer (absent name) shows out notes = absurd shows
-shown r answer (refused refusal) shows out notes = absurd shows
-shown r answer unparsed shows out notes = absurd shows
-shown r answer mended shows out notes = tt
-shown r answer unmendable shows out notes = tt
-shown r answer (ran text) shows out notes = (rw shows.0 at out, rw shows.1 at notes)
-shown r answer (checked verdict) shows out notes = (rw shows.0 at out, rw shows.1 at notes)
+-- what the outcome decides of the answer's texts, the run shows where the answer is carried out
+shown : (r : Execution) (answer : Answer) (v : Outcome) → Tells v answer → Appends r.before.out r.after.out answer.out → Appends r.notes_before r.notes_after answer.notes → ShowsOutcome v r
+shown r answer mended tells out notes = tt
+shown r answer unmendable tells out notes = rw tells at out
+shown r answer (ran text) tells out notes = (rw tells.0 at out, rw tells.1 at notes)
+shown r answer (checked verdict) tells out notes = (rw tells.0 at out, rw tells.1 at notes)
 
 some_plan : {X : Type 0} (o : Option Plan) (plan : Plan) → o ≡ Some plan → o ≡ None → X
 some_plan o plan p q = absurd (cc)
@@ -414,7 +354,7 @@ module _ (r : Execution) (o : Option Plan) where
   of_despaired (came_refused c plan p a s) is = absurd (omega arith)
   of_despaired (came_done c plan p answer due out notes s) is = (plan, p, despairs_due r answer c out notes plan due (sym s ∙ is))
 
-  of_refused : Came r o → r.status ≡ 3 → (plan : Plan) × (o ≡ Some plan) × IsRefused r plan
+  of_refused : Came r o → r.status ≡ 3 → (plan : Plan) × (o ≡ Some plan) × IsRefused r (command_of_plan plan)
   of_refused (came_fault f w s h) is = absurd (omega arith)
   of_refused (came_memory c m s) is = absurd (omega arith)
   of_refused (came_usage c n k a s) is = absurd (omega arith)
@@ -424,7 +364,7 @@ module _ (r : Execution) (o : Option Plan) where
       let low = due_status plan r.before.held answer due in
       absurd (grind arith)
 
-  of_faulty : Came r o → r.status ≡ 4 → SomeFault r ⊎ ((plan : Plan) × (o ≡ Some plan) × IsAbsent r plan)
+  of_faulty : Came r o → r.status ≡ 4 → SomeFault r ⊎ ((plan : Plan) × (o ≡ Some plan) × IsAbsent r (command_of_plan plan))
   of_faulty (came_fault f w s h) is = inl f
   of_faulty (came_memory c m s) is = absurd (omega arith)
   of_faulty (came_usage c n k a s) is = absurd (omega arith)
@@ -482,40 +422,44 @@ module _ (r : Execution) (o : Option Plan) where
   of_calm (came_done c plan p answer due out notes s) rose = absurd (rose c)
 
   module _ (plan : Plan) (is : o ≡ Some plan) (held : Held) (told : r.before.held ≡ Some held) where
-    done_follows : (v : Expected) (answer : Answer) → Judges plan held v → Due plan (Some held) answer → Appends r.before.out r.after.out answer.out
+    one : HasOneOutcome (command_of_plan plan)
+    one = one_in_table plan
+
+    done_follows : (v : Expected) (answer : Answer) → Judges (command_of_plan plan) held v → Due (command_of_plan plan) (Some held) answer → Appends r.before.out r.after.out answer.out
         → Appends r.notes_before r.notes_after answer.notes → r.status ≡ answer.status → Follows r v
     done_follows v answer judged due out notes s =
-        let d = carried held answer plan due in
-        subst (λ (w : Expected). Follows r w) (one_outcome plan held d.expected v d.judged judged) (inl (s ∙ d.status, shown r answer d.expected d.shows out notes))
+        let (outcome, (comes, is)) = one.answered due.files answer due.answers in
+        let came : Judges (command_of_plan plan) held (done outcome) = record { files = due.files; given = due.given; comes_to = comes } in
+        subst (λ (w : Expected). Follows r w) (one_outcome (command_of_plan plan) one held (done outcome) v came judged) (inl (s ∙ is.status, shown r answer outcome is.tells out notes))
 
-    absent_follows : (v : Expected) → Judges plan held v → IsAbsent r plan → r.status ≡ 4 → Follows r v
+    absent_follows : (v : Expected) → Judges (command_of_plan plan) held v → IsAbsent r (command_of_plan plan) → r.status ≡ 4 → Follows r v
     absent_follows v judged a s =
-        subst (λ (w : Expected). Follows r w) (one_outcome plan held (absent a.name) v (rw told at a.due) judged) (inl (s, a.reported))
+        subst (λ (w : Expected). Follows r w) (one_outcome (command_of_plan plan) one held (absent a.name) v (rw told at a.due) judged) (inl (s, a.reported))
 
     -- a refusal whose place is decided, and one of a text without a tree
-    placed_follows : (v : Expected) (refusal : Refusal) → IsPlaced refusal → Judges plan held v → Refuses plan (Some held) refusal
+    placed_follows : (v : Expected) (refusal : Refusal) → IsPlaced refusal → Judges (command_of_plan plan) held v → Refuses (command_of_plan plan) (Some held) refusal
         → Appends r.notes_before r.notes_after (refused_text refusal) → r.status ≡ 3 → Follows r v
     placed_follows v refusal placed judged due reported s =
-        subst (λ (w : Expected). Follows r w) (one_outcome plan held (refused refusal) v (placed, due) judged) (inl (s, reported))
+        subst (λ (w : Expected). Follows r w) (one_outcome (command_of_plan plan) one held (refused refusal) v (placed, due) judged) (inl (s, reported))
 
-    input_follows : (v : Expected) (refusal : RunRefusal) → Judges plan held v → Refuses plan (Some held) (Input refusal)
+    input_follows : (v : Expected) (refusal : RunRefusal) → Judges (command_of_plan plan) held v → Refuses (command_of_plan plan) (Some held) (Input refusal)
         → Appends r.notes_before r.notes_after (refused_text (Input refusal)) → r.status ≡ 3 → Follows r v
     input_follows v refusal judged due reported s = elim (placed_or_syntax refusal) [
       | inl placed ↦ placed_follows v (Input refusal) placed judged due reported s
-      | inr (offset, is) ↦ subst (λ (w : Expected). Follows r w) (one_outcome plan held unparsed v (offset, rw is at due) judged) (inl (s, (offset, rw is at reported)))
+      | inr (offset, is) ↦ subst (λ (w : Expected). Follows r w) (one_outcome (command_of_plan plan) one held unparsed v (offset, rw is at due) judged) (inl (s, (offset, rw is at reported)))
     ]
 
-    by_refusal : (v : Expected) (refusal : Refusal) → Judges plan held v → Refuses plan (Some held) refusal
+    by_refusal : (v : Expected) (refusal : Refusal) → Judges (command_of_plan plan) held v → Refuses (command_of_plan plan) (Some held) refusal
         → Appends r.notes_before r.notes_after (refused_text refusal) → r.status ≡ 3 → Follows r v
     by_refusal v (TooManyBytes count) judged due reported s = placed_follows v (TooManyBytes count) tt judged due reported s
     by_refusal v (Input refusal) judged due reported s = input_follows v refusal judged due reported s
     by_refusal v (NotBuilt part) judged due reported s = placed_follows v (NotBuilt part) tt judged due reported s
     by_refusal v (Flawed flaw line) judged due reported s = placed_follows v (Flawed flaw line) tt judged due reported s
 
-    refused_follows : (v : Expected) → Judges plan held v → IsRefused r plan → r.status ≡ 3 → Follows r v
+    refused_follows : (v : Expected) → Judges (command_of_plan plan) held v → IsRefused r (command_of_plan plan) → r.status ≡ 3 → Follows r v
     refused_follows v judged a s = by_refusal v a.refusal judged (rw told at a.due) a.reported s
 
-    of_verdict : (v : Expected) → Judges plan held v → Came r o → Follows r v
+    of_verdict : (v : Expected) → Judges (command_of_plan plan) held v → Came r o → Follows r v
     of_verdict v judged (came_fault f w s h) = inr (inr (s, f))
     of_verdict v judged (came_memory c m s) = inr (inl s)
     of_verdict v judged (came_usage c n k a s) = some_plan o plan is n
@@ -528,15 +472,15 @@ module _ (r : Execution) (o : Option Plan) where
     no_absent (read ∷ reads) name all (inl a) = let here = a.0 in let there = all.0.1.held in cc
     no_absent (read ∷ reads) name all (inr a) = no_absent reads name all.1 a.1
 
-    of_complete : AllGiven (Some held) (reads_of plan) → NoneRefuses plan (Some held) → NoFaults r → Came r o → (r.status ≡ 0) ⊎ ((r.status ≡ 1) ⊎ (r.status ≡ 5))
+    of_complete : AllGiven (Some held) (command_of_plan plan).reads → NoneRefuses (command_of_plan plan) (Some held) → NoFaults r → Came r o → (r.status ≡ 0) ⊎ ((r.status ≡ 1) ⊎ (r.status ≡ 5))
     of_complete all none quiet (came_fault f w s h) = absurd (no_fault r quiet f)
     of_complete all none quiet (came_memory c m s) = inr (inr s)
     of_complete all none quiet (came_usage c n k a s) = some_plan o plan is n
     of_complete all none quiet (came_absent c other p a s) =
-        let due : AbsentAt r.before.held (reads_of plan) a.name = rw (same_plan o other plan p is) at a.due in
-        absurd (no_absent (reads_of plan) a.name all (rw told at due))
+        let due : AbsentAt r.before.held (command_of_plan plan).reads a.name = rw (same_plan o other plan p is) at a.due in
+        absurd (no_absent (command_of_plan plan).reads a.name all (rw told at due))
     of_complete all none quiet (came_refused c other p a s) =
-        let due : Refuses plan r.before.held a.refusal = rw (same_plan o other plan p is) at a.due in
+        let due : Refuses (command_of_plan plan) r.before.held a.refusal = rw (same_plan o other plan p is) at a.due in
         absurd (none a.refusal (rw told at due))
     of_complete all none quiet (came_done c other p answer due out notes s) = elim (due_status other r.before.held answer due) [
       | inl zero ↦ inl (s ∙ zero)
@@ -556,17 +500,20 @@ module _ (r : Execution) (design : List ℕ) (m : IsMatchingRepair r design) whe
   abbrev plan_in : Plan
   plan_in = repair m.design_name m.table_name m.cert m.top m.clock m.budget m.members
 
-  given_in : Given (Some m.held) (reads_of plan_in) (design ∷ (m.table ∷ []))
+  abbrev command_in : Command
+  command_in = repair_command m.design_name m.table_name m.top m.clock
+
+  given_in : Given (Some m.held) command_in.reads (design ∷ (m.table ∷ []))
   given_in = (m.given.design_given, (m.given.table_given, tt))
 
-  judged_in : Judges plan_in m.held mended
-  judged_in = record { files = design ∷ (m.table ∷ []); given = given_in; decides = matching_mends m.top m.clock design m.table m.matching }
+  judged_in : Judges command_in m.held (done mended)
+  judged_in = record { files = design ∷ (m.table ∷ []); given = given_in; comes_to = matching_mends m.top m.clock design m.table m.matching }
 
-  printed_due : (answer : Answer) → Due plan_in (Some m.held) answer → Appends r.before.out r.after.out answer.out → Appends r.notes_before r.notes_after answer.notes
+  printed_due : (answer : Answer) → Due command_in (Some m.held) answer → Appends r.before.out r.after.out answer.out → Appends r.notes_before r.notes_after answer.notes
       → Appends r.before.out r.after.out design × Appends r.notes_before r.notes_after unchanged_text
   printed_due answer due out notes =
-      let files = given_given m.held (reads_of plan_in) due.files (design ∷ (m.table ∷ [])) due.given given_in in
-      let answers : AnswersRepair m.top m.clock design m.table answer = subst (λ (fs : List (List ℕ)). Answers plan_in fs answer) files due.answers in
+      let files = given_given m.held command_in.reads due.files (design ∷ (m.table ∷ [])) due.given given_in in
+      let answers : AnswersRepair m.top m.clock design m.table answer = subst (λ (fs : List (List ℕ)). command_in.answers fs answer) files due.answers in
       let is = matching m.top m.clock design m.table answer m.matching answers in
       (rw is.out at out, rw is.notes at notes)
 
@@ -579,7 +526,7 @@ module _ (r : Execution) (design : List ℕ) (m : IsMatchingRepair r design) whe
   printed o is (came_done c plan p answer due out notes s) zero = printed_due answer (rw (same_plan o plan plan_in p is, m.told) at due) out notes
 
   as_it_was : (o : Option Plan) → o ≡ Some plan_in → Came r o → PrintsAsItWas r design
-  as_it_was o is came = elim (of_verdict r o plan_in is m.held m.told mended judged_in came) [
+  as_it_was o is came = elim (of_verdict r o plan_in is m.held m.told (done mended) judged_in came) [
     | inl zero ↦ inl (zero.0, printed o is came zero.0)
     | inr other ↦ inr other
   ]
@@ -595,12 +542,12 @@ module _ {r : Execution} (c : IsExecution r) where
   execution_certified is circuit proof words = of_certified (execution_done is)
     where
       of_certified : WhereCommand r.words (HasDone r) → HoldsNeverTrue r.before.held circuit
-      of_certified (plan, p, done) = certified r circuit proof (rw (same_plan (command_of r.words) plan (check circuit proof) p words) at done)
+      of_certified (plan, p, has) = certified r circuit proof (rw (same_plan (command_of r.words) plan (check circuit proof) p words) at has)
 
-  pub execution_refused : r.status ≡ 3 → WhereCommand r.words (IsRefused r)
+  pub execution_refused : r.status ≡ 3 → WhereCommand r.words (λ plan. IsRefused r (command_of_plan plan))
   execution_refused is = of_refused r (command_of r.words) (execution_came c) is
 
-  pub execution_faulty : r.status ≡ 4 → SomeFault r ⊎ WhereCommand r.words (IsAbsent r)
+  pub execution_faulty : r.status ≡ 4 → SomeFault r ⊎ WhereCommand r.words (λ plan. IsAbsent r (command_of_plan plan))
   execution_faulty is = of_faulty r (command_of r.words) (execution_came c) is
 
   pub execution_failure : r.status ≡ 4 → IsFailure r
@@ -632,10 +579,10 @@ module _ {r : Execution} (c : IsExecution r) where
   pub execution_notes : r.notes_faults_before < r.notes_faults_after → r.status ≡ 4
   execution_notes rose = of_calm r (command_of r.words) (execution_came c) (λ calm. let same = calm.notes in omega (arith, same))
 
-  pub execution_decided : (plan : Plan) (held : Held) (v : Expected) → command_of r.words ≡ Some plan → r.before.held ≡ Some held → Judges plan held v → Follows r v
+  pub execution_decided : (plan : Plan) (held : Held) (v : Expected) → command_of r.words ≡ Some plan → r.before.held ≡ Some held → Judges (command_of_plan plan) held v → Follows r v
   execution_decided plan held v is told judged = of_verdict r (command_of r.words) plan is held told v judged (execution_came c)
 
-  pub execution_complete : (plan : Plan) (held : Held) → IsPlain r.words plan → r.before.held ≡ Some held → AllGiven (Some held) (reads_of plan) → NoneRefuses plan (Some held)
+  pub execution_complete : (plan : Plan) (held : Held) → IsPlain r.words plan → r.before.held ≡ Some held → AllGiven (Some held) (command_of_plan plan).reads → NoneRefuses (command_of_plan plan) (Some held)
       → NoFaults r → (r.status ≡ 0) ⊎ ((r.status ≡ 1) ⊎ (r.status ≡ 5))
   execution_complete plan held plain told all none quiet =
       of_complete r (command_of r.words) plan (plain_command r.words plan plain) held told all none quiet (execution_came c)

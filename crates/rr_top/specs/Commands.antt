@@ -2,16 +2,26 @@
 use Rattle.std.specs.Prelude.{◌≡◌, ◌⊎◌, ℕ, List, [], ◌∷◌, Option}
 use Rattle.rr_edge.specs.Held.{Held}
 use Rattle.rr_words.specs.Plan.{Plan, repair, run, sites, check, make}
-use Rattle.rr_run.specs.Runs.{IsRun, Refuses as RefusesRun}
+use Rattle.rr_run.specs.Refusals.{Refusal as RunRefusal}
+use Rattle.rr_run.specs.Runs.{IsRun, IsSameRefusal as IsSameRunRefusal, Refuses as RefusesRun}
 use Rattle.rr_certify.specs.Certificates.{FlawIs, IsJudged}
 use Rattle.rr_certify.specs.Texts.{verdict_text}
 use Rattle.rr_check.specs.declared.verdict.Verdict.{Verdict}
-use Rattle.rr_check.specs.declared.verdict.Verdict.TheVariants as found
 use Rattle.rr_report.specs.declared.refusal.Part.TheVariants as part
 use Rattle.rr_report.specs.Found.{Answer}
 use Rattle.rr_report.specs.Refusals.{Refusal, TooManyBytes, Input, NotBuilt, Flawed}
 use Rattle.rr_effects.specs.Reads.{Gave, Given, RefusesReads}
-use Rattle.rr_thin.specs.Repairs.{AnswersRepair, RefusesRepair}
+use Rattle.rr_thin.specs.Repairs.{AnswersRepair, IsMendable, IsUnmendable, RefusesRepair}
+use Rattle.rr_top.specs.Outcomes.{Outcome, mended, unmendable, ran, checked, IsToldBy, verdict_status}
+
+-- A command: the names that it reads, in order, each with the most bytes that it may have; the answer for the files that it
+-- read, which tells the files to be written, the piece for standard output, the report and the status; why it refuses
+-- them; and what it comes to by them.
+pub record Command : Type 1 where
+  pub reads : List (List ℕ × ℕ)
+  pub answers : List (List ℕ) → Answer → Type 0
+  pub refuses : List (List ℕ) → Refusal → Type 0
+  pub comes_to : List (List ℕ) → Outcome → Type 0
 
 -- the files are two, of which this holds
 abbrev pub WhereTwo : List (List ℕ) → (List ℕ → List ℕ → Type 0) → Type 0
@@ -20,27 +30,51 @@ WhereTwo (first ∷ []) P = ⊥
 WhereTwo (first ∷ (second ∷ [])) P = P first second
 WhereTwo (first ∷ (second ∷ (third ∷ files))) P = ⊥
 
--- The names that are read, in order, each with the most bytes that it may have: 1 MiB of a design, 16 MiB of a table,
--- 256 MiB of a certificate's circuit, and 1 GiB of its proof. `sites` and `make` are refused without a read.
-abbrev pub reads_of : Plan → List (List ℕ × ℕ)
-reads_of (repair design table cert top clock budget members) = (design, 1048576) ∷ ((table, 16777216) ∷ [])
-reads_of (run design table top clock) = (design, 1048576) ∷ ((table, 16777216) ∷ [])
-reads_of (sites design top clock) = []
-reads_of (check circuit proof) = (circuit, 268435456) ∷ ((proof, 1073741824) ∷ [])
-reads_of (make seed cert) = []
+-- ---- `repair`: 1 MiB of a design and 16 MiB of a table
+abbrev pub ComesToRepair : Option (List ℕ) → Option (List ℕ) → List ℕ → List ℕ → Outcome → Type 0
+ComesToRepair top clock design table mended = IsMendable top clock design table
+ComesToRepair top clock design table unmendable = IsUnmendable top clock design table
+ComesToRepair top clock design table (ran text) = ⊥
+ComesToRepair top clock design table (checked verdict) = ⊥
 
--- the answer of `run`: the table of the rows with the outputs of the design's run, and nothing to report
+abbrev pub repair_command : List ℕ → List ℕ → Option (List ℕ) → Option (List ℕ) → Command
+repair_command design_name table_name top clock = record {
+  reads = (design_name, 1048576) ∷ ((table_name, 16777216) ∷ []);
+  answers = λ files answer. WhereTwo files (λ design table. AnswersRepair top clock design table answer);
+  refuses = λ files refusal. WhereTwo files (λ design table. RefusesRepair top clock design table refusal);
+  comes_to = λ files outcome. WhereTwo files (λ design table. ComesToRepair top clock design table outcome);
+}
+
+-- ---- `run`: the same files
+-- the answer: the table of the rows with the outputs of the design's run, and nothing to report
 pub record AnswersRun (top clock : Option (List ℕ)) (design table : List ℕ) (answer : Answer) : Type 0 where
   pub ran : IsRun design table top clock answer.out
   pub files : answer.files ≡ []
   pub notes : answer.notes ≡ []
   pub status : answer.status ≡ 0
 
-abbrev pub verdict_status : Verdict → ℕ
-verdict_status found.Accepted = 0
-verdict_status (found.Line n) = 1
-verdict_status found.NoEmptyClause = 1
+-- the refusal; every lawful design is taken
+abbrev pub RefusesTexts : Option (List ℕ) → Option (List ℕ) → List ℕ → List ℕ → Refusal → Type 0
+RefusesTexts top word design table (TooManyBytes count) = ⊥
+RefusesTexts top word design table (Input refusal) = RefusesRun design table top word refusal
+RefusesTexts top word design table (NotBuilt part) = ⊥
+RefusesTexts top word design table (Flawed flaw line) = ⊥
 
+abbrev pub ComesToRun : Option (List ℕ) → Option (List ℕ) → List ℕ → List ℕ → Outcome → Type 0
+ComesToRun top clock design table mended = ⊥
+ComesToRun top clock design table unmendable = ⊥
+ComesToRun top clock design table (ran text) = IsRun design table top clock text
+ComesToRun top clock design table (checked verdict) = ⊥
+
+abbrev pub run_command : List ℕ → List ℕ → Option (List ℕ) → Option (List ℕ) → Command
+run_command design_name table_name top clock = record {
+  reads = (design_name, 1048576) ∷ ((table_name, 16777216) ∷ []);
+  answers = λ files answer. WhereTwo files (λ design table. AnswersRun top clock design table answer);
+  refuses = λ files refusal. WhereTwo files (λ design table. RefusesTexts top clock design table refusal);
+  comes_to = λ files outcome. WhereTwo files (λ design table. ComesToRun top clock design table outcome);
+}
+
+-- ---- `check`: 256 MiB of a circuit and 1 GiB of its proof
 -- the answer prints the verdict, and reports nothing
 pub record TellsVerdict (verdict : Verdict) (answer : Answer) : Type 0 where
   pub files : answer.files ≡ []
@@ -48,57 +82,86 @@ pub record TellsVerdict (verdict : Verdict) (answer : Answer) : Type 0 where
   pub notes : answer.notes ≡ []
   pub status : answer.status ≡ verdict_status verdict
 
--- the answer of `check`
 pub record AnswersCheck (circuit proof : List ℕ) (answer : Answer) : Type 0 where
   pub verdict : Verdict
   pub judged : IsJudged circuit proof verdict
   pub tells : TellsVerdict verdict answer
 
--- the answer for the files that were read
-abbrev pub Answers : Plan → List (List ℕ) → Answer → Type 0
-Answers (repair d t cert top clock budget members) files answer = WhereTwo files (λ design table. AnswersRepair top clock design table answer)
-Answers (run d t top clock) files answer = WhereTwo files (λ design table. AnswersRun top clock design table answer)
-Answers (sites d top clock) files answer = ⊥
-Answers (check c p) files answer = WhereTwo files (λ circuit proof. AnswersCheck circuit proof answer)
-Answers (make seed cert) files answer = ⊥
-
--- the refusal of `run`, which takes every lawful design
-abbrev pub RefusesTexts : Option (List ℕ) → Option (List ℕ) → List ℕ → List ℕ → Refusal → Type 0
-RefusesTexts top word design table (TooManyBytes count) = ⊥
-RefusesTexts top word design table (Input refusal) = RefusesRun design table top word refusal
-RefusesTexts top word design table (NotBuilt part) = ⊥
-RefusesTexts top word design table (Flawed flaw line) = ⊥
-
--- the refusal of `check`
 abbrev pub RefusesCertificate : List ℕ → List ℕ → Refusal → Type 0
 RefusesCertificate circuit proof (TooManyBytes count) = ⊥
 RefusesCertificate circuit proof (Input refusal) = ⊥
 RefusesCertificate circuit proof (NotBuilt part) = ⊥
 RefusesCertificate circuit proof (Flawed flaw line) = FlawIs circuit proof flaw line
 
--- the refusal of the files that were read
-abbrev pub RefusesFiles : Plan → List (List ℕ) → Refusal → Type 0
-RefusesFiles (repair d t cert top clock budget members) files refusal = WhereTwo files (λ design table. RefusesRepair top clock design table refusal)
-RefusesFiles (run d t top clock) files refusal = WhereTwo files (λ design table. RefusesTexts top clock design table refusal)
-RefusesFiles (sites d top clock) files refusal = refusal ≡ NotBuilt part.Command
-RefusesFiles (check c p) files refusal = WhereTwo files (λ circuit proof. RefusesCertificate circuit proof refusal)
-RefusesFiles (make seed cert) files refusal = refusal ≡ NotBuilt part.Command
+abbrev pub ComesToCheck : List ℕ → List ℕ → Outcome → Type 0
+ComesToCheck circuit proof mended = ⊥
+ComesToCheck circuit proof unmendable = ⊥
+ComesToCheck circuit proof (ran text) = ⊥
+ComesToCheck circuit proof (checked verdict) = IsJudged circuit proof verdict
 
+abbrev pub check_command : List ℕ → List ℕ → Command
+check_command circuit_name proof_name = record {
+  reads = (circuit_name, 268435456) ∷ ((proof_name, 1073741824) ∷ []);
+  answers = λ files answer. WhereTwo files (λ circuit proof. AnswersCheck circuit proof answer);
+  refuses = λ files refusal. WhereTwo files (λ circuit proof. RefusesCertificate circuit proof refusal);
+  comes_to = λ files outcome. WhereTwo files (λ circuit proof. ComesToCheck circuit proof outcome);
+}
+
+-- ---- a command that is not built yet: it is refused without a read
+abbrev pub unbuilt_command : Command
+unbuilt_command = record {
+  reads = [];
+  answers = λ files answer. ⊥;
+  refuses = λ files refusal. refusal ≡ NotBuilt part.Command;
+  comes_to = λ files outcome. ⊥;
+}
+
+-- ---- the table
+abbrev pub command_of_plan : Plan → Command
+command_of_plan (repair design table cert top clock budget members) = repair_command design table top clock
+command_of_plan (run design table top clock) = run_command design table top clock
+command_of_plan (sites design top clock) = unbuilt_command
+command_of_plan (check circuit proof) = check_command circuit proof
+command_of_plan (make seed cert) = unbuilt_command
+
+-- two refusals are one, but for the byte that is told of a text without a tree
+abbrev pub IsSameRefusal : Refusal → Refusal → Type 0
+IsSameRefusal a b = (a ≡ b) ⊎ ((r : RunRefusal) × ((s : RunRefusal) × ((a ≡ Input r) × ((b ≡ Input s) × IsSameRunRefusal r s))))
+
+-- Files decide a command once: it has one refusal for them, or it comes to one outcome by them, which each of its answers
+-- tells.
+pub record HasOneOutcome (command : Command) : Type 0 where
+  pub one_refusal : (files : List (List ℕ)) (a b : Refusal) → command.refuses files a → command.refuses files b → IsSameRefusal a b
+  pub done_or_refused : (files : List (List ℕ)) (outcome : Outcome) (refusal : Refusal) → command.comes_to files outcome → command.refuses files refusal → ⊥
+  pub one_outcome : (files : List (List ℕ)) (v w : Outcome) → command.comes_to files v → command.comes_to files w → v ≡ w
+  pub answered : (files : List (List ℕ)) (answer : Answer) → command.answers files answer → (outcome : Outcome) × (command.comes_to files outcome × IsToldBy outcome answer)
+
+-- no answer writes a file
+abbrev pub WritesNothing : Command → Type 0
+WritesNothing command = (files : List (List ℕ)) (answer : Answer) → command.answers files answer → answer.files ≡ []
+
+-- ---- what is due, by the reads and then by what they gave
 -- all files were read, and this is the answer for them
-pub record Due (plan : Plan) (told : Option Held) (answer : Answer) : Type 0 where
+pub record Due (command : Command) (told : Option Held) (answer : Answer) : Type 0 where
   pub files : List (List ℕ)
-  pub given : Given told (reads_of plan) files
-  pub answers : Answers plan files answer
+  pub given : Given told command.reads files
+  pub answers : command.answers files answer
 
 -- all files were read, and they are refused
-pub record RefusesRead (plan : Plan) (told : Option Held) (refusal : Refusal) : Type 0 where
+pub record RefusesRead (command : Command) (told : Option Held) (refusal : Refusal) : Type 0 where
   pub files : List (List ℕ)
-  pub given : Given told (reads_of plan) files
-  pub refused : RefusesFiles plan files refusal
+  pub given : Given told command.reads files
+  pub refused : command.refuses files refusal
 
 -- the refusal that is due: of the reads in order, then of what they gave
-abbrev pub Refuses : Plan → Option Held → Refusal → Type 0
-Refuses plan told refusal = RefusesReads told (reads_of plan) refusal ⊎ RefusesRead plan told refusal
+abbrev pub Refuses : Command → Option Held → Refusal → Type 0
+Refuses command told refusal = RefusesReads told command.reads refusal ⊎ RefusesRead command told refusal
+
+-- all files were read, and the command comes to this outcome by them
+pub record ComesTo (command : Command) (told : Option Held) (outcome : Outcome) : Type 0 where
+  pub files : List (List ℕ)
+  pub given : Given told command.reads files
+  pub comes_to : command.comes_to files outcome
 
 -- the design and the table were read
 pub record BothGiven (told : Option Held) (design_name table_name design table : List ℕ) : Type 0 where

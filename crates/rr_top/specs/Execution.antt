@@ -1,5 +1,5 @@
 -- How a run ends, what it reports, and its status.
-use Rattle.std.specs.Prelude.{◌≡◌, ◌≢◌, ◌⊎◌, ℕ, List, [], ◌∷◌, Option, Some, None, MatchOption, ⊤}
+use Rattle.std.specs.Prelude.{◌≡◌, ◌≢◌, ◌⊎◌, ◌<◌, ℕ, List, [], ◌∷◌, length, Option, Some, None, MatchOption, ⊤}
 use Rattle.std.specs.Io.KnownBytes.{Appends}
 use Rattle.rr_edge.specs.Held.{Held}
 use Rattle.rr_edge.specs.Faults.{Faulted, NoFault}
@@ -18,15 +18,16 @@ use Rattle.rr_report.specs.declared.ending.Ending.TheVariants.{Usage, NoMemory}
 use Rattle.rr_report.specs.Endings.{status_of}
 use Rattle.rr_report.specs.Found.{Answer}
 use Rattle.rr_report.specs.Refusals.{Refusal, Input}
-use Rattle.rr_report.specs.Texts.{memory_text, refused_text, absent_text, read_fault_text, out_fault_text}
+use Rattle.rr_report.specs.Texts.{memory_text, refused_text, absent_text, read_fault_text, write_fault_text, out_fault_text}
 use Rattle.rr_effects.specs.Outside.{Outside, KeepsShelf, KeepsOut}
 use Rattle.rr_effects.specs.Reads.{AbsentAt, Gave, IsRead}
-use Rattle.rr_effects.specs.Delivery.{Reports}
+use Rattle.rr_effects.specs.Delivery.{Reports, StopsAtWrite, file_at, with_files}
 use Rattle.rr_thin.specs.Repairs.{IsMatching, IsNoRepair, IsRepair}
 use Rattle.rr_thin.specs.Texts.{unchanged_text}
-use Rattle.rr_top.specs.Commands.{reads_of, BothGiven, Due, Refuses, WhereRepair, WhereRun, WhereCheck}
-use Rattle.rr_top.specs.Expected.{Expected, absent, refused, unparsed, mended, unmendable, ran, checked, IsChecked, expected_status}
-use Rattle.rr_top.specs.Endings.{PlanEnds}
+use Rattle.rr_top.specs.Outcomes.{Outcome, mended, unmendable, ran, checked}
+use Rattle.rr_top.specs.Commands.{BothGiven, Command, Due, Refuses, WhereRepair, WhereRun, WhereCheck, command_of_plan}
+use Rattle.rr_top.specs.Expected.{Expected, absent, refused, unparsed, done, IsChecked, expected_status}
+use Rattle.rr_top.specs.Endings.{CommandEnds}
 
 -- what is said of words that name no command, or of words for which memory ran out
 abbrev pub SaysUsage : Ending → List ℕ → Type 0
@@ -40,7 +41,7 @@ pub record IsUsage (before after : Outside) (ending : Ending) (text : List ℕ) 
 
 -- how a run over these words ends, and the text for the report
 pub record Ends (words : List (List ℕ)) (before after : Outside) (ending : Ending) (text : List ℕ) : Type 0 where
-  pub how : MatchOption (command_of words) (IsUsage before after ending text) (λ plan. PlanEnds plan before after ending text)
+  pub how : MatchOption (command_of words) (IsUsage before after ending text) (λ plan. CommandEnds (command_of_plan plan) before after ending text)
 
 -- what a whole run found and left
 pub record Execution : Type 0 where
@@ -130,36 +131,50 @@ abbrev pub HasFailed : Execution → Plan → Type 0
 HasFailed r plan = WhereRepair plan (IsBeyondRepair r) ⊎ WhereCheck plan (IsRejected r)
 
 -- Status 3: a refusal was due, it is printed, and all else stays.
-pub record IsRefused (r : Execution) (plan : Plan) : Type 0 where
+pub record IsRefused (r : Execution) (command : Command) : Type 0 where
   pub refusal : Refusal
-  pub due : Refuses plan r.before.held refusal
+  pub due : Refuses command r.before.held refusal
   pub reported : Appends r.notes_before r.notes_after (refused_text refusal)
   pub shelf : KeepsShelf r.before r.after
   pub out : KeepsOut r.before r.after
 
 -- Status 4 with an absent name: it is the first that a told shelf does not hold, and all else stays.
-pub record IsAbsent (r : Execution) (plan : Plan) : Type 0 where
+pub record IsAbsent (r : Execution) (command : Command) : Type 0 where
   pub name : List ℕ
-  pub due : AbsentAt r.before.held (reads_of plan) name
+  pub due : AbsentAt r.before.held command.reads name
   pub reported : Appends r.notes_before r.notes_after (absent_text name)
   pub shelf : KeepsShelf r.before r.after
   pub out : KeepsOut r.before r.after
 
 -- Status 4 with a read that failed: the shelf's count of faults rose, and all else stays but the notes.
-pub record IsReadFault (r : Execution) (plan : Plan) : Type 0 where
+pub record IsReadFault (r : Execution) (command : Command) : Type 0 where
   pub name : List ℕ
-  pub read : IsRead (reads_of plan) name
+  pub read : IsRead command.reads name
   pub rose : Faulted r.before.faults r.after.faults
   pub held : r.after.held ≡ r.before.held
   pub out : KeepsOut r.before r.after
   pub reported : Appends r.notes_before r.notes_after (read_fault_text name)
 
--- Status 4 with a put on the output that failed: its count of faults rose, and it has grown by a front of the piece that is due.
-pub record IsOutFault (r : Execution) (plan : Plan) : Type 0 where
+-- Status 4 with the write of a file of the answer that failed, the first with number 0: the files before it are whole, its
+-- name has what it had or a front of its bytes, the shelf's count of faults rose, and nothing was put on the output.
+pub record IsWriteFault (r : Execution) (command : Command) : Type 0 where
   pub answer : Answer
-  pub due : Due plan r.before.held answer
+  pub due : Due command r.before.held answer
+  pub number : ℕ
+  pub within : number < length answer.files
+  pub files : StopsAtWrite r.before.held r.after.held answer.files number
+  pub rose : Faulted r.before.faults r.after.faults
+  pub out : KeepsOut r.before r.after
+  pub reported : Appends r.notes_before r.notes_after (write_fault_text (file_at answer.files number).0)
+
+-- Status 4 with a put on the output that failed: its count of faults rose, it has grown by a front of the piece that is due,
+-- and the files of the answer are whole.
+pub record IsOutFault (r : Execution) (command : Command) : Type 0 where
+  pub answer : Answer
+  pub due : Due command r.before.held answer
   pub rose : Faulted r.before.out_faults r.after.out_faults
   pub printed : AppendsFront r.before.out r.after.out answer.out
+  pub files : r.after.held ≡ with_files r.before.held answer.files
   pub shelf : KeepsShelf r.before r.after
   pub reported : Appends r.notes_before r.notes_after out_fault_text
 
@@ -193,19 +208,27 @@ WhereCommand words P = (plan : Plan) × (command_of words ≡ Some plan) × P pl
 abbrev pub SomeFault : Execution → Type 0
 SomeFault r = Faulted r.before.faults r.after.faults ⊎ (Faulted r.before.out_faults r.after.out_faults ⊎ Faulted r.notes_faults_before r.notes_faults_after)
 
--- which failure it was: of the report; or of a command, a name that is absent, a read, or the put on the output
+-- of a command, which failure it was: a name that is absent, a read, the write of a file, or the put on the output
+abbrev pub Fails : Execution → Command → Type 0
+Fails r command = IsAbsent r command ⊎ (IsReadFault r command ⊎ (IsWriteFault r command ⊎ IsOutFault r command))
+
+-- which failure it was: of the report; or of the command
 abbrev pub IsFailure : Execution → Type 0
-IsFailure r = IsReportFault r ⊎ WhereCommand r.words (λ plan. IsAbsent r plan ⊎ (IsReadFault r plan ⊎ IsOutFault r plan))
+IsFailure r = IsReportFault r ⊎ WhereCommand r.words (λ plan. Fails r (command_of_plan plan))
+
+-- the texts that an outcome decides alone
+abbrev pub ShowsOutcome : Outcome → Execution → Type 0
+ShowsOutcome mended r = ⊤
+ShowsOutcome unmendable r = Appends r.before.out r.after.out []
+ShowsOutcome (ran text) r = Appends r.before.out r.after.out text × Appends r.notes_before r.notes_after []
+ShowsOutcome (checked verdict) r = Appends r.before.out r.after.out (verdict_text verdict) × Appends r.notes_before r.notes_after []
 
 -- the texts that what is expected decides alone
 abbrev pub Shows : Expected → Execution → Type 0
 Shows (absent name) r = Appends r.notes_before r.notes_after (absent_text name)
 Shows (refused refusal) r = Appends r.notes_before r.notes_after (refused_text refusal)
 Shows unparsed r = (offset : ℕ) × Appends r.notes_before r.notes_after (refused_text (Input (At Syntax offset)))
-Shows mended r = ⊤
-Shows unmendable r = ⊤
-Shows (ran text) r = Appends r.before.out r.after.out text × Appends r.notes_before r.notes_after []
-Shows (checked verdict) r = Appends r.before.out r.after.out (verdict_text verdict) × Appends r.notes_before r.notes_after []
+Shows (done outcome) r = ShowsOutcome outcome r
 
 -- what is expected was carried out and reported; or memory ran out; or something failed
 abbrev pub Follows : Execution → Expected → Type 0
@@ -229,8 +252,8 @@ AllGiven told [] = ⊤
 AllGiven told (read ∷ reads) = ((bytes : List ℕ) × Gave told read.0 read.1 bytes) × AllGiven told reads
 
 -- no refusal of the command is due
-abbrev pub NoneRefuses : Plan → Option Held → Type 0
-NoneRefuses plan told = (refusal : Refusal) → Refuses plan told refusal → ⊥
+abbrev pub NoneRefuses : Command → Option Held → Type 0
+NoneRefuses command told = (refusal : Refusal) → Refuses command told refusal → ⊥
 
 -- no count of faults rose, or stands at its type's end
 pub record NoFaults (r : Execution) : Type 0 where

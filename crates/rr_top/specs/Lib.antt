@@ -2,8 +2,10 @@ pub use Rattle.rr_edge.specs.Faults
 pub use Rattle.rr_edge.specs.Held
 pub use Rattle.rr_edge.specs.Shelf
 pub use Rattle.rr_edge.specs.Sink
+pub mod Outcomes
 pub mod Commands
 pub mod Expected
 pub mod Endings
 pub mod Execution
 pub mod Views
+pub mod Arguments

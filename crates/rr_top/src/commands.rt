@@ -1,95 +1,74 @@
-//! The commands: each reads its files, has an answer for them or a refusal, and carries the answer out.
-ghost use Rattle.std.specs.Prelude.{◌≡◌, ◌≤◌, ℕ, List, IfOk, MatchResult, length};
-ghost use Rattle.rr_words.specs.Plan.{check, repair, run, texts_of};
+//! The commands: the answer of each for the files that it read, or why it has none.
+ghost use Rattle.std.specs.Prelude.{◌≡◌, ◌≤◌, ℕ, List, [], ◌∷◌, IfOk, MatchResult, length};
+ghost use Rattle.rr_words.specs.Plan.{Plan, plan_of, texts_of};
 ghost use Rattle.rr_certify.specs.Certificates.{IsFlawed};
 ghost use Rattle.rr_report.specs.Views.{plain_answer, report_text, StopsWhere};
 ghost use Rattle.rr_effects.specs.Outside.{outside};
-ghost use Rattle.rr_top.specs.Commands.{AnswersCheck, AnswersRun, RefusesCertificate, RefusesTexts, TellsVerdict};
-ghost use Rattle.rr_top.specs.Endings.{PlanEnds};
+ghost use Rattle.rr_effects.specs.Reads.{Given};
+ghost use Rattle.rr_effects.specs.Views.{contents};
+ghost use Rattle.rr_top.specs.Commands.{AnswersCheck, AnswersRun, RefusesCertificate, RefusesTexts, TellsVerdict, WhereTwo, check_command, command_of_plan, repair_command, run_command};
+ghost use Rattle.rr_top.specs.Endings.{CommandEnds};
+ghost use Rattle.rr_top.specs.Views.{Gives};
 
 use bumpalo::Bump;
 use rr_certify::{CertificateFault, Verdict, judge, verdict_text};
 use rr_edge::{Shelf, Sink};
-use rr_effects::{Read, deliver, fetch};
-use rr_report::{Found, Piece, Refusal, Report, Stop, Text, stop_of, stopped};
+use rr_effects::deliver;
+use rr_report::{Found, Part, Piece, Refusal, Report, Stop, Text, stop_of, stopped};
 use rr_run::run_files;
+use rr_words::Command;
 use std::alloc::{AllocError, Global};
 use std::thread::Threads;
 
-/// The most bytes of a design.
-const DESIGN_LIMIT: u64 = 1_048_576;
-
-/// The most bytes of a table.
-const TABLE_LIMIT: u64 = 16_777_216;
-
-/// The most bytes of a certificate's circuit.
-const CIRCUIT_LIMIT: u64 = 268_435_456;
-
-/// The most bytes of a certificate's proof.
-const PROOF_LIMIT: u64 = 1_073_741_824;
-
-/// The names of a design and of its table, and those of a top and of a clock where they are given.
-#[derive(Clone, Copy)]
-pub(crate) struct Names<'a> {
-    pub(crate) design: &'a str,
-    pub(crate) table: &'a str,
-    pub(crate) top: Option<&'a str>,
-    pub(crate) clock: Option<&'a str>,
-}
-
-/// `repair`: prints the design repaired. Names in a refusal live in the arena.
-pub(crate) fn repair_design<'a, H: Shelf, K: Sink>(
-    alloc: Global,
-    names: Names<'a>,
-    arena: &'a Bump,
-    shelf: &mut H,
-    out: &mut K,
-) -> Report<'a>
-    ensures { (cert : List ℕ) (budget members : ℕ) → PlanEnds
-        (repair names.entry.design.now names.entry.table.now cert (texts_of names.entry.top) (texts_of names.entry.clock) budget members)
-        (outside (H.told shelf.old) (H.faults shelf.old) (K.written out.old) (K.faults out.old))
-        (outside (H.told shelf.new) (H.faults shelf.new) (K.written out.new) (K.faults out.new))
-        result.ending (report_text result) }
+/// The bytes of two files.
+fn both(files: &[Vec<u8>]) -> (&[u8], &[u8])
+    requires { length files.now ≡ 2 }
+    ensures { contents files.now ≡ result.0.now ∷ (result.1.now ∷ []) }
 {
-    let design = Read {
-        name: names.design,
-        limit: DESIGN_LIMIT,
-    };
-    let table = Read {
-        name: names.table,
-        limit: TABLE_LIMIT,
-    };
-    let files = match fetch(alloc, shelf, design, table) {
-        Ok(files) => files,
-        Err(report) => return report,
-    };
-    match rr_thin::repair(
-        alloc,
-        &files.first,
-        &files.second,
-        names.top,
-        names.clock,
-        arena,
-    ) {
-        Ok(found) => deliver(found, shelf, out),
-        Err(stop) => stopped(alloc, stop),
-    }
+    (files[0].as_slice(), files[1].as_slice())
 }
 
-/// The answer of `run`.
+/// Two files, each by itself.
+fn into_both(files: Vec<Vec<u8>>) -> (Vec<u8>, Vec<u8>)
+    requires { length files.items ≡ 2 }
+    ensures { contents files.items ≡ result.0.items ∷ (result.1.items ∷ []) }
+{
+    let mut files = files;
+    let second = files.swap_remove(1);
+    let first = files.swap_remove(0);
+    (first, second)
+}
+
+/// The answer of `repair` for a design and its table. Names in a refusal live in the arena.
+fn repair_files<'b, 'a>(
+    alloc: Global,
+    files: &'b [Vec<u8>],
+    top: Option<&str>,
+    clock: Option<&str>,
+    arena: &'a Bump,
+) -> Result<Found<'b>, Stop<'a>>
+    requires { WhereTwo (contents files.now) (λ design table. length design ≤ 1048576) }
+    ensures { (design table : List ℕ) → Gives (repair_command design table (texts_of top.entry) (texts_of clock.entry)) (contents files.entry.now) result }
+{
+    let (design, table) = both(files);
+    rr_thin::repair(alloc, design, table, top, clock, arena)
+}
+
+/// The answer of `run` for the bytes of a design and of its table.
 fn simulate<'b, 'a>(
     alloc: Global,
-    names: Names<'_>,
     design: &[u8],
     table: &[u8],
+    top: Option<&str>,
+    clock: Option<&str>,
     arena: &'a Bump,
 ) -> Result<Found<'b>, Stop<'a>>
     requires { length design.now ≤ 1048576 }
     ensures { MatchResult result
-        (λ found. AnswersRun (texts_of names.entry.top) (texts_of names.entry.clock) design.now table.now (plain_answer found))
-        (StopsWhere (RefusesTexts (texts_of names.entry.top) (texts_of names.entry.clock) design.now table.now)) }
+        (λ found. AnswersRun (texts_of top.entry) (texts_of clock.entry) design.now table.now (plain_answer found))
+        (StopsWhere (RefusesTexts (texts_of top.entry) (texts_of clock.entry) design.now table.now)) }
 {
-    match run_files(alloc, design, table, names.top, names.clock, arena) {
+    match run_files(alloc, design, table, top, clock, arena) {
         Ok(text) => Ok(Found {
             status: 0,
             files: Vec::new(alloc),
@@ -100,36 +79,19 @@ fn simulate<'b, 'a>(
     }
 }
 
-/// `run`: prints the table with the outputs as they are. Names in a refusal live in the arena.
-pub(crate) fn run_design<'a, H: Shelf, K: Sink>(
+/// The answer of `run` for a design and its table. Names in a refusal live in the arena.
+fn simulate_files<'b, 'a>(
     alloc: Global,
-    names: Names<'a>,
+    files: &[Vec<u8>],
+    top: Option<&str>,
+    clock: Option<&str>,
     arena: &'a Bump,
-    shelf: &mut H,
-    out: &mut K,
-) -> Report<'a>
-    ensures { PlanEnds
-        (run names.entry.design.now names.entry.table.now (texts_of names.entry.top) (texts_of names.entry.clock))
-        (outside (H.told shelf.old) (H.faults shelf.old) (K.written out.old) (K.faults out.old))
-        (outside (H.told shelf.new) (H.faults shelf.new) (K.written out.new) (K.faults out.new))
-        result.ending (report_text result) }
+) -> Result<Found<'b>, Stop<'a>>
+    requires { WhereTwo (contents files.now) (λ design table. length design ≤ 1048576) }
+    ensures { (design table : List ℕ) → Gives (run_command design table (texts_of top.entry) (texts_of clock.entry)) (contents files.now) result }
 {
-    let design = Read {
-        name: names.design,
-        limit: DESIGN_LIMIT,
-    };
-    let table = Read {
-        name: names.table,
-        limit: TABLE_LIMIT,
-    };
-    let files = match fetch(alloc, shelf, design, table) {
-        Ok(files) => files,
-        Err(report) => return report,
-    };
-    match simulate(alloc, names, &files.first, &files.second, arena) {
-        Ok(found) => deliver(found, shelf, out),
-        Err(stop) => stopped(alloc, stop),
-    }
+    let (design, table) = both(files);
+    simulate(alloc, design, table, top, clock, arena)
 }
 
 /// The answer that prints a verdict.
@@ -159,8 +121,8 @@ fn stop_of_certificate<'a>(fault: CertificateFault) -> Stop<'a>
     }
 }
 
-/// The answer of `check`. The bytes of both files are let go.
-fn judge_files<'b, 'a, R: Threads + Sync>(
+/// The answer of `check` for the bytes of a circuit and of its proof, which are let go.
+fn certify<'b, 'a, R: Threads + Sync>(
     rt: &R,
     alloc: Global,
     circuit: Vec<u8>,
@@ -179,34 +141,70 @@ fn judge_files<'b, 'a, R: Threads + Sync>(
     }
 }
 
-/// `check`: prints the verdict on a certificate.
-pub(crate) fn check_certificate<'a, R: Threads + Sync, H: Shelf, K: Sink>(
+/// The answer of `check` for a circuit and its proof, which are let go.
+fn certify_files<'b, 'a, R: Threads + Sync>(
     rt: &R,
     alloc: Global,
-    circuit: &'a str,
-    proof: &'a str,
+    files: Vec<Vec<u8>>,
+) -> Result<Found<'b>, Stop<'a>>
+    requires { WhereTwo (contents files.items) (λ circuit proof. length circuit ≤ 268435456) }
+    ensures { (circuit proof : List ℕ) → Gives (check_command circuit proof) (contents files.items) result }
+{
+    let (circuit, proof) = into_both(files);
+    certify(rt, alloc, circuit, proof)
+}
+
+/// Carries an answer out, but for its report; or reports why there is none.
+fn conclude<'a, H: Shelf, K: Sink>(
+    alloc: Global,
+    answer: Result<Found<'_>, Stop<'a>>,
     shelf: &mut H,
     out: &mut K,
 ) -> Report<'a>
-    ensures { PlanEnds (check circuit.entry.now proof.entry.now)
+    ensures { (plan : Plan) (files : List (List ℕ)) → Given (H.told shelf.old) (command_of_plan plan).reads files → Gives (command_of_plan plan) files answer.entry
+        → CommandEnds (command_of_plan plan)
         (outside (H.told shelf.old) (H.faults shelf.old) (K.written out.old) (K.faults out.old))
         (outside (H.told shelf.new) (H.faults shelf.new) (K.written out.new) (K.faults out.new))
         result.ending (report_text result) }
 {
-    let first = Read {
-        name: circuit,
-        limit: CIRCUIT_LIMIT,
-    };
-    let second = Read {
-        name: proof,
-        limit: PROOF_LIMIT,
-    };
-    let files = match fetch(alloc, shelf, first, second) {
-        Ok(files) => files,
-        Err(report) => return report,
-    };
-    match judge_files(rt, alloc, files.first, files.second) {
+    match answer {
         Ok(found) => deliver(found, shelf, out),
         Err(stop) => stopped(alloc, stop),
+    }
+}
+
+/// How the command ends, once its files are read.
+pub(crate) fn answer_files<'a, R: Threads + Sync, H: Shelf, K: Sink>(
+    rt: &R,
+    alloc: Global,
+    command: Command<'a>,
+    files: Vec<Vec<u8>>,
+    arena: &'a Bump,
+    shelf: &mut H,
+    out: &mut K,
+) -> Report<'a>
+    requires { Given (H.told shelf.old) (command_of_plan (plan_of command)).reads (contents files.items) }
+    ensures { CommandEnds (command_of_plan (plan_of command.entry))
+        (outside (H.told shelf.old) (H.faults shelf.old) (K.written out.old) (K.faults out.old))
+        (outside (H.told shelf.new) (H.faults shelf.new) (K.written out.new) (K.faults out.new))
+        result.ending (report_text result) }
+{
+    match command {
+        Command::Repair { top, clock, .. } => {
+            let answer = repair_files(alloc, &files, top, clock, arena);
+            conclude(alloc, answer, shelf, out)
+        }
+        Command::Run { top, clock, .. } => {
+            let answer = simulate_files(alloc, &files, top, clock, arena);
+            conclude(alloc, answer, shelf, out)
+        }
+        Command::Check { .. } => {
+            let answer = certify_files(rt, alloc, files);
+            conclude(alloc, answer, shelf, out)
+        }
+        Command::Sites { .. } | Command::Make { .. } => {
+            let answer = Err(Stop::Refused(Refusal::NotBuilt(Part::Command)));
+            conclude(alloc, answer, shelf, out)
+        }
     }
 }

@@ -1,11 +1,14 @@
-//! Laws of what is due.
+//! Laws of the table of commands, and of what is due.
 
 ghost use Rattle.std.specs.Prelude.{◌≡◌};
 ghost use Rattle.rr_edge.specs.Held.{Held};
 ghost use Rattle.rr_words.specs.Plan.{Plan};
+ghost use Rattle.rr_top.specs.Commands.{HasOneOutcome, WritesNothing, command_of_plan};
 ghost use Rattle.rr_top.specs.Expected.{Expected, Judges};
 
-/// A told shelf decides each command once.
+/// Files decide each command of the table once; so a told shelf does. No command writes a file so far.
 pub fn one_outcome()
-    ensures { (plan : Plan) (held : Held) (v w : Expected) → Judges plan held v → Judges plan held w → v ≡ w }
+    ensures table { (plan : Plan) → HasOneOutcome (command_of_plan plan) }
+    ensures shelf { (plan : Plan) (held : Held) (v w : Expected) → Judges (command_of_plan plan) held v → Judges (command_of_plan plan) held w → v ≡ w }
+    ensures writes { (plan : Plan) → WritesNothing (command_of_plan plan) }
 {}

@@ -10,27 +10,31 @@ ghost use Rattle.rr_words.specs.Plan.{Plan, command_of, plan_of};
 ghost use Rattle.rr_words.specs.Plain.{IsPlain};
 ghost use Rattle.rr_report.specs.Views.{report_text};
 ghost use Rattle.rr_effects.specs.Outside.{outside};
-ghost use Rattle.rr_top.specs.Commands.{reads_of};
+ghost use Rattle.rr_top.specs.Commands.{command_of_plan};
 ghost use Rattle.rr_top.specs.Expected.{Expected, Judges};
-ghost use Rattle.rr_top.specs.Endings.{PlanEnds};
+ghost use Rattle.rr_top.specs.Endings.{CommandEnds};
 ghost use Rattle.rr_top.specs.Execution.{Ends, execution, IsExecution, HasDone, HasFailed, HoldsNeverTrue, IsCheck, IsRefused, IsAbsent, IsExhausted, IsFailure, IsMatchingRepair, IsUnread, PrintsAsItWas, WhereCommand, SomeFault, Follows, AllGiven, NoneRefuses, NoFaults};
 ghost use Rattle.rr_top.specs.Views.{SaysWhy};
 
 use bumpalo::Bump;
 use rr_edge::{Shelf, Sink};
 use rr_effects::put_report;
-use rr_report::{Part, Refusal, Report, no_usage, out_of_memory, refused};
+use rr_report::{Report, no_usage, out_of_memory};
 use rr_words::{Command, WordsFault, read_words};
 use std::alloc::Global;
 use std::thread::Threads;
 
+mod args;
 mod commands;
 mod laws;
+mod reads;
 
-use commands::{Names, check_certificate, repair_design, run_design};
+pub use args::arguments;
+use commands::answer_files;
 pub use laws::one_outcome;
+use reads::fetch_files;
 
-/// How the command ends; `sites` and `make` are refused. Names in a refusal live in the arena.
+/// Reads the files of the command, and carries its answer out. Names in a refusal live in the arena.
 fn run_command<'a, R: Threads + Sync, H: Shelf, K: Sink>(
     rt: &R,
     alloc: Global,
@@ -39,49 +43,14 @@ fn run_command<'a, R: Threads + Sync, H: Shelf, K: Sink>(
     shelf: &mut H,
     out: &mut K,
 ) -> Report<'a>
-    ensures { PlanEnds (plan_of command.entry)
+    ensures { CommandEnds (command_of_plan (plan_of command.entry))
         (outside (H.told shelf.old) (H.faults shelf.old) (K.written out.old) (K.faults out.old))
         (outside (H.told shelf.new) (H.faults shelf.new) (K.written out.new) (K.faults out.new))
         result.ending (report_text result) }
 {
-    match command {
-        Command::Repair {
-            design,
-            table,
-            cert: _,
-            top,
-            clock,
-            budget: _,
-            members: _,
-        } => {
-            let names = Names {
-                design,
-                table,
-                top,
-                clock,
-            };
-            repair_design(alloc, names, arena, shelf, out)
-        }
-        Command::Run {
-            design,
-            table,
-            top,
-            clock,
-        } => {
-            let names = Names {
-                design,
-                table,
-                top,
-                clock,
-            };
-            run_design(alloc, names, arena, shelf, out)
-        }
-        Command::Check { circuit, proof } => {
-            check_certificate(rt, alloc, circuit, proof, shelf, out)
-        }
-        Command::Sites { .. } | Command::Make { .. } => {
-            refused(alloc, Refusal::NotBuilt(Part::Command))
-        }
+    match fetch_files(alloc, command, shelf) {
+        Ok(files) => answer_files(rt, alloc, command, files, arena, shelf, out),
+        Err(report) => report,
     }
 }
 
@@ -180,26 +149,28 @@ pub fn run<R: Threads + Sync, H: Shelf, K: Sink, E: Sink>(
         (E.written notes.old) (E.written notes.new) (E.faults notes.old) (E.faults notes.new) result)) }
 
     // Status 3: the refusal that is due is printed.
-    ensures refused { result ≡ 3 → WhereCommand (map string_bytes words.now) (IsRefused
+    ensures refused { result ≡ 3 → WhereCommand (map string_bytes words.now) (λ plan. IsRefused
         (execution (map string_bytes words.now)
         (outside (H.told shelf.old) (H.faults shelf.old) (K.written out.old) (K.faults out.old))
         (outside (H.told shelf.new) (H.faults shelf.new) (K.written out.new) (K.faults out.new))
-        (E.written notes.old) (E.written notes.new) (E.faults notes.old) (E.faults notes.new) result)) }
+        (E.written notes.old) (E.written notes.new) (E.faults notes.old) (E.faults notes.new) result) (command_of_plan plan)) }
 
     // Status 4: a count of faults rose or stands at its end, or a name is absent.
     ensures faulty { result ≡ 4 → SomeFault
         (execution (map string_bytes words.now)
         (outside (H.told shelf.old) (H.faults shelf.old) (K.written out.old) (K.faults out.old))
         (outside (H.told shelf.new) (H.faults shelf.new) (K.written out.new) (K.faults out.new))
-        (E.written notes.old) (E.written notes.new) (E.faults notes.old) (E.faults notes.new) result) ⊎ WhereCommand (map string_bytes words.now) (IsAbsent
+        (E.written notes.old) (E.written notes.new) (E.faults notes.old) (E.faults notes.new) result) ⊎ WhereCommand (map string_bytes words.now) (λ plan. IsAbsent
         (execution (map string_bytes words.now)
         (outside (H.told shelf.old) (H.faults shelf.old) (K.written out.old) (K.faults out.old))
         (outside (H.told shelf.new) (H.faults shelf.new) (K.written out.new) (K.faults out.new))
-        (E.written notes.old) (E.written notes.new) (E.faults notes.old) (E.faults notes.new) result)) }
+        (E.written notes.old) (E.written notes.new) (E.faults notes.old) (E.faults notes.new) result) (command_of_plan plan)) }
 
     // .. and which: a put on the notes failed, and all else is as the ending leaves it that was to be reported; or `absent`
     // tells an absent name; or `fault read` tells one of the command's names, the shelf's count rose, and the output stays;
-    // or `fault out` says so, the output's count rose, and it has grown by a front of the piece that was due.
+    // or `fault write` tells a file of the answer, those before it are whole, that name has what it had or a front of its
+    // bytes, the shelf's count rose, and the output stays; or `fault out` says so, the output's count rose, and it has grown
+    // by a front of the piece that was due.
     ensures failure { result ≡ 4 → IsFailure
         (execution (map string_bytes words.now)
         (outside (H.told shelf.old) (H.faults shelf.old) (K.written out.old) (K.faults out.old))
@@ -229,7 +200,7 @@ pub fn run<R: Threads + Sync, H: Shelf, K: Sink, E: Sink>(
     // What a told shelf decides comes about: each absent name, each refusal, each verdict on a certificate, and the
     // statuses 0 and 1, exactly where they are due. Otherwise memory ran out, or the status is 4 and a count of faults rose or stands at its end.
     ensures decided { (plan : Plan) (held : Held) (expected : Expected) → command_of (map string_bytes words.now) ≡ Some plan → H.told shelf.old ≡ Some held
-        → Judges plan held expected → Follows
+        → Judges (command_of_plan plan) held expected → Follows
         (execution (map string_bytes words.now)
         (outside (H.told shelf.old) (H.faults shelf.old) (K.written out.old) (K.faults out.old))
         (outside (H.told shelf.new) (H.faults shelf.new) (K.written out.new) (K.faults out.new))
@@ -248,7 +219,7 @@ pub fn run<R: Threads + Sync, H: Shelf, K: Sink, E: Sink>(
 
     // Plain words, files that are held within their limits, no refusal that is due and no fault: the command is done, or memory ran out.
     ensures complete { (plan : Plan) (held : Held) → IsPlain (map string_bytes words.now) plan → H.told shelf.old ≡ Some held
-        → AllGiven (Some held) (reads_of plan) → NoneRefuses plan (Some held) → NoFaults
+        → AllGiven (Some held) (command_of_plan plan).reads → NoneRefuses (command_of_plan plan) (Some held) → NoFaults
         (execution (map string_bytes words.now)
         (outside (H.told shelf.old) (H.faults shelf.old) (K.written out.old) (K.faults out.old))
         (outside (H.told shelf.new) (H.faults shelf.new) (K.written out.new) (K.faults out.new))
