@@ -6,6 +6,7 @@ use Rattle.rr_expr.specs.declared.types.Bit.{Bit}
 use Rattle.rr_expr.specs.declared.types.Shape.{Shape}
 use Rattle.rr_expr.specs.Values.{form, value}
 use Rattle.rr_flat.specs.Signals.{signal_at}
+use Rattle.rr_flat.specs.Inputs.{row_inputs}
 use Rattle.rr_flat.specs.Plain.{Side, Written, Whole, Block, Flat}
 use Rattle.rr_flat.specs.Writers.{scope_at, driver_at, block_at, signal_bits, Writer, Driven, Clocked, Writes, writes_now}
 use Rattle.rr_cycle.specs.Exec.{Environment, executed, Update, updates, applied}
@@ -35,15 +36,6 @@ driver_value flat k env =
     (max (side_shape flat (driver_at flat k).target).width (side_shape flat (driver_at flat k).value).width) (side_shape flat (driver_at flat k).value).signed
 
 -- Inputs
-
-abbrev pub is_clock : Option ℕ → ℕ → Bool
-is_clock None id = false
-is_clock (Some clock) id = nat_eq clock id
-
--- the top inputs but the clock, in port order
-unfoldable pub row_inputs : Option ℕ → List ℕ → List ℕ
-row_inputs clock [] = []
-row_inputs clock (id ∷ ids) = cond (is_clock clock id) (row_inputs clock ids) (id ∷ row_inputs clock ids)
 
 abbrev pub head : List ℕ → ℕ
 head [] = 0

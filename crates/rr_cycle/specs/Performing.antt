@@ -8,7 +8,8 @@ use Rattle.rr_flat.specs.declared.design.Step.TheVariants as step
 use Rattle.rr_flat.specs.Plain.{Block, Flat}
 use Rattle.rr_flat.specs.Writers.{block_at, driven, writes_at_all}
 use Rattle.rr_cycle.specs.Exec.{Environment, write, Update}
-use Rattle.rr_cycle.specs.Cycles.{driver_value, row_inputs, given, after_block, updates_of_block}
+use Rattle.rr_cycle.specs.Cycles.{driver_value, given, after_block, updates_of_block}
+use Rattle.rr_flat.specs.Inputs.{row_inputs}
 
 -- a driver gives all its bits their values, a wire one of them; a block runs
 unfoldable pub act : Flat → Step → Environment → Environment

@@ -51,8 +51,8 @@ fault_or None a = Ok a
 fault_or (Some f) a = Err f
 
 -- the first of an item's faults, or what the item gives
-abbrev pub settle : {A : Type 0} → List FlatFault → A → Result A FlatFault
-settle faults a = fault_or (first_of faults) a
+abbrev pub first_fault_or : {A : Type 0} → List FlatFault → A → Result A FlatFault
+first_fault_or faults a = fault_or (first_of faults) a
 
 abbrev pub fault_if : Bool → FlatFault → List FlatFault
 fault_if bad f = if bad then f ∷ [] else []

@@ -1,6 +1,7 @@
 pub mod Signals
 pub mod Faults
 pub mod Plain
+pub mod Inputs
 pub mod View
 pub mod Shapes
 pub mod Sound

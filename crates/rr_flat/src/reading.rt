@@ -1,6 +1,7 @@
 //! The parts of a flat design by their numbers.
-ghost use Rattle.std.specs.Prelude.{◌≡◌, ◌<◌, ◌≤◌, [], length, All, IfSome, IfNone};
+ghost use Rattle.std.specs.Prelude.{◌≡◌, ◌<◌, ◌≤◌, [], length, All, IfOk, IfSome, IfNone};
 ghost use Rattle.rr_syntax.specs.View.{plain};
+ghost use Rattle.rr_flat.specs.Inputs.{is_clock as is_clock_of, row_inputs as inputs_but};
 ghost use Rattle.rr_flat.specs.Parts.{block_of as block_of_part, driver_of as driver_of_part};
 ghost use Rattle.rr_flat.specs.Signals.{no_signal, signal_at as signal_of_number};
 ghost use Rattle.rr_flat.specs.Sound.{IsBlock, IsDriver, IsScope, IsSignal, IsWalk};
@@ -12,6 +13,7 @@ use crate::design::{Block, Driver, Flat, Part};
 use crate::signal::Signal;
 use rr_expr::{Scope, constant};
 use rr_syntax::Expr;
+use std::alloc::{AllocError, Global};
 
 impl<'a> Flat<'a> {
     /// The drivers and blocks in the order of the walk.
@@ -172,6 +174,14 @@ impl<'a> Flat<'a> {
         self.inputs.as_slice()
     }
 
+    /// The inputs of the top but the clock, in port order: a row of a table has a value for each.
+    pub fn row_inputs(&self, alloc: Global, clock: Option<u32>) -> Result<Vec<u32>, AllocError>
+        ensures value { IfOk result (λ r. r.items ≡ inputs_but clock self.now.inputs) }
+        ensures inside { IfOk result (λ r. All (λ id. id < length self.now.signals) r.items) }
+    {
+        all_but(alloc, clock, self.input_list())
+    }
+
     /// The driver of a part of the walk; a block is none.
     pub fn driver_of(&self, part: Part) -> Option<Driver<'a>>
         ensures some { IfSome result (λ d. plain_driver d ≡ driver_of_part (plain_flat self.now) part) }
@@ -196,6 +206,28 @@ impl<'a> Flat<'a> {
             Part::Combinational(number) => self.combinational_block(number),
         }
     }
+}
+
+fn is_clock(clock: Option<u32>, id: u32) -> bool
+    ensures { result ≡ is_clock_of clock id }
+{
+    match clock {
+        Some(clock) => clock == id,
+        None => false,
+    }
+}
+
+/// These but the clock, in their order.
+fn all_but(alloc: Global, clock: Option<u32>, ids: &[u32]) -> Result<Vec<u32>, AllocError>
+    ensures { IfOk result (λ r. r.items ≡ inputs_but clock ids.now) }
+{
+    let mut others = Vec::new(alloc);
+    for &id in ids.iter() {
+        if !is_clock(clock, id) {
+            others.push(id)?;
+        }
+    }
+    Ok(others)
 }
 
 /// Whether an expression has its value in no environment: no signal stands in it (IEEE 1364-2005

@@ -12,7 +12,7 @@ use Rattle.rr_expr.specs.declared.types.Entity.TheVariants as entity
 use Rattle.rr_flat.specs.declared.fault.FlatFault.{FlatFault}
 use Rattle.rr_flat.specs.declared.fault.FlatFault.TheVariants.{NameTwice, UnknownName, BadRange, TooMany}
 use Rattle.rr_flat.specs.declared.fault.Limit.TheVariants.{FlatBits}
-use Rattle.rr_flat.specs.Faults.{fault_if, faults_in, settle, among, and_then, each}
+use Rattle.rr_flat.specs.Faults.{fault_if, faults_in, first_fault_or, among, and_then, each}
 use Rattle.rr_head.specs.Values.{constant, is_beyond, bound_or_zero, bound_faults, range_in}
 use Rattle.rr_flat.specs.Signals.{with_name}
 use Rattle.rr_head.specs.Parameters.{given_or, override_of, parameter, width_faults, add_parameter, add_parameters, add_item_parameters, parameters}
@@ -186,8 +186,8 @@ declare_new_bare : (bracketed : Names) (k : _) (at : ℕ) (name : Text) (d : Dec
 unfolding declare_new
 declare_new_bare bracketed k at name d =
     then_bare bare_declarations bare_declarations
-    (settle (fault_if (is_some (lookup name d.names)) (NameTwice at) ++ (fault_if (is_port k.port && is_none (lookup name bracketed)) (UnknownName at) ++ width_faults at k.range)) d)
-    (settle (fault_if (is_some (lookup name d.names)) (NameTwice 0) ++ (fault_if (is_port k.port && is_none (lookup name bracketed)) (UnknownName 0) ++ width_faults 0 k.range)) (bare_declarations d))
+    (first_fault_or (fault_if (is_some (lookup name d.names)) (NameTwice at) ++ (fault_if (is_port k.port && is_none (lookup name bracketed)) (UnknownName at) ++ width_faults at k.range)) d)
+    (first_fault_or (fault_if (is_some (lookup name d.names)) (NameTwice 0) ++ (fault_if (is_port k.port && is_none (lookup name bracketed)) (UnknownName 0) ++ width_faults 0 k.range)) (bare_declarations d))
     (counted k at name) (counted k 0 name)
     (settle_bare bare_declarations (fault_if (is_some (lookup name d.names)) (NameTwice at) ++ (fault_if (is_port k.port && is_none (lookup name bracketed)) (UnknownName at) ++ width_faults at k.range))
     (fault_if (is_some (lookup name d.names)) (NameTwice 0) ++ (fault_if (is_port k.port && is_none (lookup name bracketed)) (UnknownName 0) ++ width_faults 0 k.range)) d (bare_declarations d)

@@ -3,7 +3,7 @@ use Rattle.std.proofs.Common.{◌≡◌, ap, Bool, true, false, List, [], ◌∷
 use Rattle.rr_syntax.specs.Tree.{Tree, Trees, End, More, bare, bare_parts}
 use Rattle.rr_expr.specs.declared.types.ExprFault.{ExprFault}
 use Rattle.rr_flat.specs.declared.fault.FlatFault.{FlatFault}
-use Rattle.rr_flat.specs.Faults.{sooner, first_of, fault_or, settle, fault_if, faults_in, either, among, answer_of, of_expression, and_then, each}
+use Rattle.rr_flat.specs.Faults.{sooner, first_of, fault_or, first_fault_or, fault_if, faults_in, either, among, answer_of, of_expression, and_then, each}
 use Rattle.rr_walk.specs.Walk.{fold_trees}
 use Rattle.rr_flat_bare.proofs.Folds.{some_stays}
 
@@ -61,7 +61,7 @@ or_bare b None (Some g) a c h e = absurd h
 or_bare b (Some f) None a c h e = absurd h
 or_bare b (Some f) (Some g) a c h e = (g, refl)
 
-pub settle_bare : {A B : Type 0} (b : A → B) (fs gs : List FlatFault) (a : A) (c : B) → BothNil fs gs → c ≡ b a → Barely b (settle fs a) (settle gs c)
+pub settle_bare : {A B : Type 0} (b : A → B) (fs gs : List FlatFault) (a : A) (c : B) → BothNil fs gs → c ≡ b a → Barely b (first_fault_or fs a) (first_fault_or gs c)
 settle_bare b fs gs a c h e = or_bare b (first_of fs) (first_of gs) a c (both_noted None None fs gs tt h) e
 
 pub answer_bare : {A B : Type 0} (b : A → B) (o p : Option ExprFault) (a : A) (c : B) → Both o p → c ≡ b a → Barely b (answer_of o a) (answer_of p c)

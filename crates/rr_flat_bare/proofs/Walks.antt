@@ -13,7 +13,7 @@ use Rattle.rr_flat.specs.declared.fault.FlatFault.TheVariants.{UnknownModule, Se
 use Rattle.rr_flat.specs.declared.fault.Limit.TheVariants.{Instances as InstanceCount, Depth}
 use Rattle.rr_flat.specs.declared.signal.Port.{Port}
 use Rattle.rr_flat.specs.declared.signal.Port.TheVariants.{Inner, Input, Output}
-use Rattle.rr_flat.specs.Faults.{fault_if, faults_in, settle, and_then, each}
+use Rattle.rr_flat.specs.Faults.{fault_if, faults_in, first_fault_or, and_then, each}
 use Rattle.rr_head.specs.Heads.{Head, head}
 use Rattle.rr_flat.specs.Signals.{Text, Signal, signal_at}
 use Rattle.rr_head.specs.Values.{constant}
@@ -377,7 +377,7 @@ module _ (source : List ModuleDeclaration) where
   begin_bare k given w =
       let room : List FlatFault = fault_if (not (nat_lt (length w.flat.scopes) 256)) (TooMany InstanceCount 257) in
       rw (module_at-bare source k)
-      (then_bare bare_walked bare_walked (settle room w) (settle room (bare_walked w))
+      (then_bare bare_walked bare_walked (first_fault_or room w) (first_fault_or room (bare_walked w))
       (λ (u : Walked). and_then (head (length u.flat.scopes) (length u.flat.signals) u.bits given (module_at source k)) (λ (h : Head). Ok (opened k h u)))
       (λ (u : Walked). and_then (head (length u.flat.scopes) (length u.flat.signals) u.bits given (bare_module (module_at source k))) (λ (h : Head). Ok (opened k h u)))
       (settle_bare bare_walked room room w (bare_walked w) (nil_if (not (nat_lt (length w.flat.scopes) 256)) (TooMany InstanceCount 257) (TooMany InstanceCount 257)) refl)

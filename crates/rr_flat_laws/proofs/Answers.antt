@@ -2,7 +2,7 @@
 use Rattle.std.proofs.Common.{◌≡◌, Bool, true, false, List, [], ◌∷◌, ◌++◌, Option, Some, None, Result, Ok, refl, subst}
 use Rattle.std.specs.List.{AllByRecursion}
 use Rattle.rr_flat.specs.declared.fault.FlatFault.{FlatFault}
-use Rattle.rr_flat.specs.Faults.{fault_or, first_of, settle, fault_if, each}
+use Rattle.rr_flat.specs.Faults.{fault_or, first_of, first_fault_or, fault_if, each}
 use Rattle.rr_walk.proofs.Clears.{none_here}
 use Rattle.rr_walk.proofs.HeadOf.{ok_is, not_ok, first_ok}
 
@@ -19,7 +19,7 @@ not_if true f h = absurd (cc)
 not_if false f h = refl
 
 -- no fault, and what was given
-pub settled : {A : Type 0} (fs : List FlatFault) (a b : A) → settle fs a ≡ Ok b → (fs ≡ []) × (a ≡ b)
+pub settled : {A : Type 0} (fs : List FlatFault) (a b : A) → first_fault_or fs a ≡ Ok b → (fs ≡ []) × (a ≡ b)
 settled fs a b h = by (first_of fs) refl h
   where
     by : (o : Option FlatFault) → first_of fs ≡ o → fault_or o a ≡ Ok b → (fs ≡ []) × (a ≡ b)

@@ -16,7 +16,7 @@ use Rattle.rr_flat.specs.declared.fault.FlatFault.{FlatFault}
 use Rattle.rr_flat.specs.declared.fault.FlatFault.TheVariants.{NameTwice, UnknownName, BadRange, TooMany}
 use Rattle.rr_flat.specs.declared.fault.Limit.TheVariants.{FlatBits}
 use Rattle.rr_flat.specs.declared.signal.Port.{Port}
-use Rattle.rr_flat.specs.Faults.{fault_if, settle, each}
+use Rattle.rr_flat.specs.Faults.{fault_if, first_fault_or, each}
 use Rattle.rr_flat.specs.Signals.{Text, with_name}
 use Rattle.rr_head.specs.Declarations.{Declared, Declarations, is_port, signal_of, with_signal, counted, declare_new, no_declared, declared_at, is_same_range, redeclared, declare_again, again_place, repeated_place, declare_at, declare, declare_identifier, declare_net, port_of, port_declaration, inner_declaration, integer_declaration, declare_ports, declare_nets, declare_variables, declare_item}
 use Rattle.rr_head.specs.Parameters.{width_faults}
@@ -235,7 +235,7 @@ module _ (bracketed params : Names) (P : Text → Type 0) where
   one_new k at name d t l p e =
       let fs : List FlatFault = fault_if (is_some (lookup name d.names)) (NameTwice at) in
       let gs : List FlatFault = fault_if (is_port k.port && is_none (lookup name bracketed)) (UnknownName at) in
-      let r = first_ok (settle (fs ++ (gs ++ width_faults at k.range)) d) (counted k at name) t e in
+      let r = first_ok (first_fault_or (fs ++ (gs ++ width_faults at k.range)) d) (counted k at name) t e in
       let s = settled (fs ++ (gs ++ width_faults at k.range)) d r.0 r.1.0 in
       let c : counted k at name d ≡ Ok t = subst (λ (z : Declarations). counted k at name z ≡ Ok t) (sym s.1) r.1.1 in
       let u = settled (fault_if (nat_lt 65536 (d.bits + range_width k.range)) (TooMany FlatBits (d.bits + range_width k.range))) (with_signal k at name d) t c in

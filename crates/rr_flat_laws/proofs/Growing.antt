@@ -9,7 +9,7 @@ use Rattle.rr_flat.specs.declared.fault.FlatFault.TheVariants.{TooMany}
 use Rattle.rr_flat.specs.declared.fault.Limit.TheVariants.{Instances as InstanceCount}
 use Rattle.rr_flat.specs.declared.signal.Port.{Port}
 use Rattle.rr_flat.specs.declared.signal.Port.TheVariants.{Inner, Input, Output}
-use Rattle.rr_flat.specs.Faults.{and_then, each, settle, fault_if}
+use Rattle.rr_flat.specs.Faults.{and_then, each, first_fault_or, fault_if}
 use Rattle.rr_flat.specs.Plain.{Side, Written, Whole, Flat}
 use Rattle.rr_flat.specs.Shapes.{shape_faults, statement_faults}
 use Rattle.rr_flat.specs.Signals.{Text, signal_at}
@@ -117,7 +117,7 @@ pub record Began (source : List ModuleDeclaration) (k : ℕ) (given : Names) (w 
 pub began : (source : List ModuleDeclaration) (k : ℕ) (given : Names) (w v : Walked) → begin source k given w ≡ Ok v → Began source k given w v
 unfolding begin
 began source k given w v e =
-    let r = first_ok (settle (fault_if (not (nat_lt (length w.flat.scopes) 256)) (TooMany InstanceCount 257)) w) (λ w. and_then (head (length w.flat.scopes) (length w.flat.signals) w.bits given (module_at source k)) (λ h. Ok (opened k h w))) v e in
+    let r = first_ok (first_fault_or (fault_if (not (nat_lt (length w.flat.scopes) 256)) (TooMany InstanceCount 257)) w) (λ w. and_then (head (length w.flat.scopes) (length w.flat.signals) w.bits given (module_at source k)) (λ h. Ok (opened k h w))) v e in
     let s = settled (fault_if (not (nat_lt (length w.flat.scopes) 256)) (TooMany InstanceCount 257)) w r.0 r.1.0 in
     let n : and_then (head (length w.flat.scopes) (length w.flat.signals) w.bits given (module_at source k)) (λ (h : Head). Ok (opened k h w)) ≡ Ok v =
     subst (λ (z : Walked). and_then (head (length z.flat.scopes) (length z.flat.signals) z.bits given (module_at source k)) (λ (h : Head). Ok (opened k h z)) ≡ Ok v) (sym s.1) r.1.1 in

@@ -17,7 +17,7 @@ use Rattle.rr_flat.specs.declared.fault.FlatFault.{FlatFault}
 use Rattle.rr_flat.specs.declared.fault.FlatFault.TheVariants.{NameTwice, UnknownName, TooMany}
 use Rattle.rr_flat.specs.declared.fault.Limit.TheVariants.{FlatBits}
 use Rattle.rr_flat.specs.declared.signal.Port.{Port}
-use Rattle.rr_flat.specs.Faults.{fault_if, settle, and_then, each}
+use Rattle.rr_flat.specs.Faults.{fault_if, first_fault_or, and_then, each}
 use Rattle.rr_flat.specs.Signals.{Text, Signal, signal_at, no_signal, with_name}
 use Rattle.rr_flat.proofs.Lists.{all_index}
 use Rattle.rr_head.specs.Declarations.{Declared, Declarations, is_port, port_of, know, know_identifier, know_ports, know_port_item, known, plain_names, add_plain_name, brackets, no_declared, declared_at, declare_ports, declare_item, declarations}
@@ -54,7 +54,7 @@ plain_known directed (i ∷ is) names t e =
     let y : Entity = entity.Signal 0 None false in
     let fs : List FlatFault = fault_if (is_some (lookup i.text names)) (NameTwice i.token) in
     let gs : List FlatFault = fault_if (is_none (lookup i.text directed)) (UnknownName i.token) in
-    let r = first_ok (settle (fs ++ gs) (know names i.text)) (each (add_plain_name directed) is) t e in
+    let r = first_ok (first_fault_or (fs ++ gs) (know names i.text)) (each (add_plain_name directed) is) t e in
     let s = settled (fs ++ gs) (know names i.text) r.0 r.1.0 in
     let new : lookup i.text names ≡ None = is_none_of (lookup i.text names) (not_if (is_some (lookup i.text names)) (NameTwice i.token) (nil_left fs gs s.0)) in
     let way : is_some (lookup i.text directed) ≡ true = there_of (lookup i.text directed) (not_if (is_none (lookup i.text directed)) (UnknownName i.token) (nil_right fs gs s.0)) in

@@ -12,7 +12,7 @@ use Rattle.rr_head.specs.declared.declare.Declaration.{Declaration}
 use Rattle.rr_flat.specs.declared.fault.Limit.TheVariants.{FlatBits}
 use Rattle.rr_flat.specs.declared.fault.FlatFault.{FlatFault}
 use Rattle.rr_flat.specs.declared.fault.FlatFault.TheVariants.{NameTwice, UnknownName, BadRange, TooMany}
-use Rattle.rr_flat.specs.Faults.{fault_if, settle, and_then, each}
+use Rattle.rr_flat.specs.Faults.{fault_if, first_fault_or, and_then, each}
 use Rattle.rr_head.specs.Values.{range_in}
 use Rattle.rr_flat.specs.Signals.{with_name}
 use Rattle.rr_head.specs.Parameters.{width_faults}
@@ -66,7 +66,7 @@ plain_names (Some list) = list
 -- a plain name stands once, and is declared as an input or output by an item
 unfoldable pub add_plain_name : Names → Identifier → Names → Result Names FlatFault
 add_plain_name directed i names =
-    settle (fault_if (is_some (lookup i.text names)) (NameTwice i.token) ++ fault_if (is_none (lookup i.text directed)) (UnknownName i.token)) (know names i.text)
+    first_fault_or (fault_if (is_some (lookup i.text names)) (NameTwice i.token) ++ fault_if (is_none (lookup i.text directed)) (UnknownName i.token)) (know names i.text)
 
 -- the names in the port brackets of a module
 unfoldable pub brackets : ModuleDeclaration → Result Names FlatFault
@@ -105,12 +105,12 @@ with_signal k at name d = record d {
 -- the declaration that lifts the bits of the design above 65,536
 abbrev pub counted : Declaration → ℕ → Text → Declarations → Result Declarations FlatFault
 counted k at name d =
-    settle (fault_if (nat_lt 65536 (d.bits + range_width k.range)) (TooMany FlatBits (d.bits + range_width k.range))) (with_signal k at name d)
+    first_fault_or (fault_if (nat_lt 65536 (d.bits + range_width k.range)) (TooMany FlatBits (d.bits + range_width k.range))) (with_signal k at name d)
 
 -- one more signal; a port must stand in the brackets
 unfoldable pub declare_new : Names → Declaration → ℕ → Text → Declarations → Result Declarations FlatFault
 declare_new brackets k at name d =
-    and_then (settle (fault_if (is_some (lookup name d.names)) (NameTwice at) ++ (fault_if (is_port k.port && is_none (lookup name brackets)) (UnknownName at) ++ width_faults at k.range)) d)
+    and_then (first_fault_or (fault_if (is_some (lookup name d.names)) (NameTwice at) ++ (fault_if (is_port k.port && is_none (lookup name brackets)) (UnknownName at) ++ width_faults at k.range)) d)
     (counted k at name)
 
 abbrev pub no_declared : Declared
@@ -131,7 +131,7 @@ redeclared k x = record { signal = record x.signal { variable = k.variable; sign
 -- a port once more, with the same range
 unfoldable pub declare_again : Declaration → ℕ → ℕ → Declarations → Result Declarations FlatFault
 declare_again k at place d =
-    settle (fault_if (not (is_same_range (declared_at d.list place).signal.range k.range)) (BadRange at))
+    first_fault_or (fault_if (not (is_same_range (declared_at d.list place).signal.range k.range)) (BadRange at))
     (record d { list = slice_set d.list place (redeclared k (declared_at d.list place)) })
 
 -- the place of a port that may be declared once more

@@ -7,7 +7,7 @@ use Rattle.rr_expr.specs.declared.types.Entity.TheVariants as entity
 use Rattle.rr_flat.specs.declared.fault.Limit.TheVariants.{FlatBits}
 use Rattle.rr_flat.specs.declared.fault.FlatFault.{FlatFault}
 use Rattle.rr_flat.specs.declared.fault.FlatFault.TheVariants.{TooMany}
-use Rattle.rr_flat.specs.Faults.{fault_if, settle, and_then}
+use Rattle.rr_flat.specs.Faults.{fault_if, first_fault_or, and_then}
 use Rattle.rr_flat.specs.Signals.{with_name}
 use Rattle.rr_head.specs.Parameters.{parameters}
 use Rattle.rr_head.specs.Declarations.{Declared, Declarations, is_port, known, brackets, declarations, plain_names}
@@ -52,7 +52,7 @@ with_signals k (s ∷ ss) names = with_signals (k + 1) ss (with_name names s.nam
 -- where that of the declarations did not
 unfoldable pub numbered : ℕ → ℕ → ℕ → List Signal → Names → Result Head FlatFault
 numbered i base bits signals names =
-    settle (fault_if (nat_lt 65536 (base + length signals)) (TooMany FlatBits (base + length signals)))
+    first_fault_or (fault_if (nat_lt 65536 (base + length signals)) (TooMany FlatBits (base + length signals)))
     (record { instance = i; base = base; bits = bits; signals = signals; scope = with_signals base signals names })
 
 -- the names of the port brackets, then the declarations

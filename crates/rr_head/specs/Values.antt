@@ -7,7 +7,7 @@ use Rattle.rr_expr.specs.Values.{form, own, nowhere}
 use Rattle.rr_expr.specs.Faults.{fault, first}
 use Rattle.rr_flat.specs.declared.fault.FlatFault.{FlatFault}
 use Rattle.rr_flat.specs.declared.fault.FlatFault.TheVariants.{BadRange}
-use Rattle.rr_flat.specs.Faults.{answer_of, faults_in, fault_if, settle}
+use Rattle.rr_flat.specs.Faults.{answer_of, faults_in, fault_if, first_fault_or}
 
 -- the word and the sign of a constant expression, or its first fault
 unfoldable pub constant : Names → Tree → Result (List Bool × Bool) FlatFault
@@ -32,7 +32,7 @@ abbrev pub bound_faults : ℕ → Result (List Bool × Bool) FlatFault → List 
 bound_faults at v = faults_in v ++ fault_if (is_beyond v) (BadRange at)
 
 abbrev pub between : ℕ → Result (List Bool × Bool) FlatFault → Result (List Bool × Bool) FlatFault → Result (Option (ℕ × ℕ)) FlatFault
-between at left right = settle (bound_faults at left ++ bound_faults at right) (Some (bound_or_zero left, bound_or_zero right))
+between at left right = first_fault_or (bound_faults at left ++ bound_faults at right) (Some (bound_or_zero left, bound_or_zero right))
 
 -- `[left:right]`, which begins at its bracket, or no range
 unfoldable pub range_in : Names → Option Range → Result (Option (ℕ × ℕ)) FlatFault

@@ -1,5 +1,5 @@
 -- rows of inputs over the bits of registers
-use Rattle.std.proofs.Common.{◌≡◌, ◌∙◌, sym, ap, subst, ℕ, suc, ◌+◌, ◌<◌, ◌≤◌, ◌^◌, Bool, true, false, cond, ◌&&◌, ◌||◌, List, [], ◌∷◌, length, drop, drop-cons, get_or, set, replicate, nat_eq, nat_lt, Option, refl, arith, ◌⊎◌, inl, inr}
+use Rattle.std.proofs.Common.{◌≡◌, ◌∙◌, sym, ap, subst, ℕ, suc, ◌+◌, ◌<◌, ◌≤◌, ◌^◌, Bool, true, false, cond, not, ◌&&◌, ◌||◌, List, [], ◌∷◌, length, drop, drop-cons, get_or, set, replicate, nat_eq, nat_lt, Option, refl, arith, ◌⊎◌, inl, inr}
 use mathlib.Core.Path.{fun_ext}
 use Rattle.std.proofs.lemmas.Bool.{cases_Bool, cases_eq, cases_lt, both_ways, or_cases, eqb-true, eq-eqb, ne_eqb, lt-ltb, le-ltb}
 use Rattle.std.proofs.lemmas.List.{get_or_past, get_or-replicate, length-replicate}
@@ -13,7 +13,8 @@ use Rattle.rr_expr.specs.Scopes.{env_of}
 use Rattle.rr_flat.specs.Signals.{Signal, signal_at}
 use Rattle.rr_flat.specs.Plain.{Block, Flat}
 use Rattle.rr_flat.specs.Writers.{Clocked, Writer, Writes, block_at, writes_at_all}
-use Rattle.rr_cycle.specs.Cycles.{IsInputBit, given, head, is_clock, row_inputs, tail, zeros}
+use Rattle.rr_cycle.specs.Cycles.{IsInputBit, given, head, tail, zeros}
+use Rattle.rr_flat.specs.Inputs.{is_clock, row_inputs}
 use Rattle.rr_cycle.specs.Exec.{Environment}
 use Rattle.rr_cycle.specs.Performing.{any_is, any_writes, base}
 use Rattle.rr_flat.proofs.Bits.{missed}
@@ -149,7 +150,7 @@ not_given (id ∷ ids) row b h = elim (cases_Bool (nat_eq id b.signal)) [
 ]
 
 all_inputs : (clock : Option ℕ) (ids : List ℕ) (n : ℕ) → any_is (row_inputs clock ids) n ≡ true → any_is ids n ≡ true
-unfolding any_is row_inputs
+unfolding any_is
 all_inputs clock [] n h = h
 all_inputs clock (id ∷ ids) n h = by (is_clock clock id) (all_inputs clock ids n) h
   where
@@ -157,7 +158,7 @@ all_inputs clock (id ∷ ids) n h = by (is_clock clock id) (all_inputs clock ids
     right true y h = refl
     right false y h = h
 
-    by : (c : Bool) → (any_is (row_inputs clock ids) n ≡ true → any_is ids n ≡ true) → any_is (cond c (row_inputs clock ids) (id ∷ row_inputs clock ids)) n ≡ true → (nat_eq id n || any_is ids n) ≡ true
+    by : (c : Bool) → (any_is (row_inputs clock ids) n ≡ true → any_is ids n ≡ true) → any_is (cond (not c) (id ∷ row_inputs clock ids) (row_inputs clock ids)) n ≡ true → (nat_eq id n || any_is ids n) ≡ true
     by true r h = right (nat_eq id n) (any_is ids n) (r h)
     by false r h = elim (or_cases (nat_eq id n) (any_is (row_inputs clock ids) n) h) [
       | inl t ↦ rw t refl

@@ -12,10 +12,10 @@ use Rattle.rr_trace.specs.Columns.{Header, Port, Ports, and_then, columns, given
 use Rattle.rr_trace.specs.Names.{Text}
 use Rattle.rr_trace.specs.Rows.{Row, cells, row, row_of_cells, rows, value_in}
 use Rattle.rr_trace.specs.Tables.{Table, records_of, table_of, table_of_records, table_of_rows}
-use Rattle.rr_trace.specs.Tops.{others, port_of, ports_of}
+use Rattle.rr_trace.specs.Tops.{port_of, ports_of}
 use Rattle.rr_trace.specs.View.{plain_table}
 use Rattle.rr_trace.specs.declared.table.Table.{Table as Own}
-use Rattle.rr_cycle.specs.Cycles.{row_inputs}
+use Rattle.rr_flat.specs.Inputs.{row_inputs}
 use Rattle.rr_meaning.specs.Calls.{IsRow}
 
 -- what comes before an answer
@@ -92,21 +92,11 @@ records_inputs p (names ∷ rs) t e =
 
 -- the ports but the clock are the inputs of a row
 
-others_are : (clock : Option ℕ) (ids : List ℕ) → others clock ids ≡ row_inputs clock ids
-unfolding row_inputs
-others_are clock [] = refl
-others_are None (id ∷ ids) = ap (λ (xs : List ℕ). id ∷ xs) (others_are None ids)
-others_are (Some c) (id ∷ ids) = by (nat_eq c id) (others_are (Some c) ids)
-  where
-    by : (x : Bool) → others (Some c) ids ≡ row_inputs (Some c) ids → cond (not x) (id ∷ others (Some c) ids) (others (Some c) ids) ≡ cond x (row_inputs (Some c) ids) (id ∷ row_inputs (Some c) ids)
-    by true h = h
-    by false h = ap (λ (xs : List ℕ). id ∷ xs) h
-
 pub table_rows : (flat : Flat) (clock : Option ℕ) (bytes : List ℕ) (table : Table) → table_of (ports_of flat clock) bytes ≡ Ok table → All (IsRow flat clock) table.inputs
 table_rows flat clock bytes table e =
     let p : Ports = ports_of flat clock in
     let a = records_inputs p (records_of bytes) table (only_if (is_utf8 bytes) NotUtf8 (table_of_records p (records_of bytes)) table e) in
-    let l : length p.inputs ≡ length (row_inputs clock flat.inputs) = length-map (others clock flat.inputs) (port_of flat) ∙ ap length (others_are clock flat.inputs) in
+    let l : length p.inputs ≡ length (row_inputs clock flat.inputs) = length-map (row_inputs clock flat.inputs) (port_of flat) in
     subst (λ (n : ℕ). All (λ (ns : List ℕ). length ns ≡ n) table.inputs) l a
 
 -- what holds of the lists of vectors

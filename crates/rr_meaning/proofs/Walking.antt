@@ -14,7 +14,7 @@ use Rattle.rr_flat.specs.Plain.{Flat}
 use Rattle.rr_flat.specs.Plain as plain
 use Rattle.rr_flat.specs.View.{Design, plain_block, plain_driver, plain_flat}
 use Rattle.rr_flat.specs.Writers.{block_at, driven_by, no_block, no_driver, scope_at}
-use Rattle.rr_cycle.specs.Cycles.{IsNext, Runs, Settled, after_block, cycle, ended, is_clock, outputs_of, row_inputs, updates_of_block}
+use Rattle.rr_cycle.specs.Cycles.{IsNext, Runs, Settled, after_block, cycle, ended, outputs_of, updates_of_block}
 use Rattle.rr_cycle.specs.Exec.{Environment, applied, executed, updates, write}
 use Rattle.rr_cycle.specs.Performing.{act, performed, run_blocks, updates_of_blocks}
 use Rattle.rr_cycle.proofs.Applied.{applied_append}
@@ -94,30 +94,6 @@ updates_more flat bs i y s e g a a' f l q h k m =
 pub updates_done : (flat : Flat) (bs : List Block) (i : ℕ) (e a f : Environment) → length bs ≤ i → applied (updates_of_blocks flat (map plain_block (drop i bs)) e) a ≡ f → a ≡ f
 unfolding updates_of_blocks applied
 updates_done flat bs i e a f l h = ap (λ (xs : List Block). applied (updates_of_blocks flat (map plain_block xs) e) a) (sym (drop_all i bs l)) ∙ h
-
--- ports
-
-pub inputs_more : (clock : Option ℕ) (ids : List ℕ) (i d : ℕ) (xs ys all : List ℕ) → i < length ids → xs ++ row_inputs clock (drop i ids) ≡ all → ys ≡ cond (is_clock clock (get_or ids i d)) xs (xs ++ get_or ids i d ∷ []) →
-    ys ++ row_inputs clock (drop (i + 1) ids) ≡ all
-unfolding row_inputs
-inputs_more clock ids i d xs ys all l h k = by (is_clock clock (get_or ids i d)) refl k
-  where
-    rest : xs ++ cond (is_clock clock (get_or ids i d)) (row_inputs clock (drop (i + 1) ids)) (get_or ids i d ∷ row_inputs clock (drop (i + 1) ids)) ≡ all
-    rest = ap (λ (zs : List ℕ). xs ++ row_inputs clock zs) (sym (drop_more ids i d l)) ∙ h
-
-    by : (b : Bool) → is_clock clock (get_or ids i d) ≡ b → ys ≡ cond b xs (xs ++ get_or ids i d ∷ []) → ys ++ row_inputs clock (drop (i + 1) ids) ≡ all
-    by true e k = ap (λ (zs : List ℕ). zs ++ row_inputs clock (drop (i + 1) ids)) k ∙ (rw e at rest)
-    by false e k =
-        ap (λ (zs : List ℕ). zs ++ row_inputs clock (drop (i + 1) ids)) k
-        ∙ append_assoc xs (get_or ids i d ∷ []) (row_inputs clock (drop (i + 1) ids)) ∙ (rw e at rest)
-
-pub inputs_in : (P : ℕ → Type 0) (b : Bool) (xs ys : List ℕ) (id : ℕ) → All P xs → P id → ys ≡ cond b xs (xs ++ id ∷ []) → All P ys
-inputs_in P true xs ys id a p h = subst (All P) (sym h) a
-inputs_in P false xs ys id a p h = subst (All P) (sym h) (All-push P xs id a p)
-
-pub inputs_done : (clock : Option ℕ) (ids : List ℕ) (i : ℕ) (xs all : List ℕ) → length ids ≤ i → xs ++ row_inputs clock (drop i ids) ≡ all → xs ≡ all
-unfolding row_inputs
-inputs_done clock ids i xs all l h = sym (append-nil xs) ∙ ap (λ (ys : List ℕ). xs ++ row_inputs clock ys) (sym (drop_all i ids l)) ∙ h
 
 -- rows
 

@@ -5,7 +5,8 @@ ghost use Rattle.rr_expr.specs.declared.types.Bit.{Bit as FlatBit};
 ghost use Rattle.rr_flat.specs.Signals.{signal_at};
 ghost use Rattle.rr_flat.specs.Ordered.{IsStep};
 ghost use Rattle.rr_flat.specs.View.{plain_flat};
-ghost use Rattle.rr_cycle.specs.Cycles.{IsNext, Run, Settled, is_clock as is_clock_of, outputs_of, row_inputs as inputs_but, zeros as zeros_of};
+ghost use Rattle.rr_cycle.specs.Cycles.{IsNext, Run, Settled, outputs_of, zeros as zeros_of};
+ghost use Rattle.rr_flat.specs.Inputs.{row_inputs as inputs_but};
 ghost use Rattle.rr_cycle.specs.Exec.{Environment, applied};
 ghost use Rattle.rr_cycle.specs.Performing.{any_writes, performed, run_blocks, updates_of_blocks};
 ghost use Rattle.rr_flat.specs.Elaborated.{IsSound};
@@ -35,45 +36,6 @@ fn machine_on(alloc: Global, env: Env) -> Machine
         pieces: Vec::new(alloc),
         none: no_values(alloc),
     }
-}
-
-fn push_number(list: &mut Vec<u32>, number: u32) -> Result<(), AllocError>
-    ensures { OnOk result (list.new.items ≡ list.old.items ++ number ∷ []) }
-{
-    list.push(number)?;
-    Ok(())
-}
-
-fn is_clock(clock: Option<u32>, id: u32) -> bool
-    ensures { result ≡ is_clock_of clock id }
-{
-    match clock {
-        Some(clock) => clock == id,
-        None => false,
-    }
-}
-
-/// A top input after the others, where it is not the clock.
-fn add_input(list: &mut Vec<u32>, clock: Option<u32>, id: u32) -> Result<(), AllocError>
-    ensures { OnOk result (list.new.items ≡ cond (is_clock_of clock id) list.old.items (list.old.items ++ id ∷ [])) }
-{
-    if is_clock(clock, id) {
-        Ok(())
-    } else {
-        push_number(list, id)
-    }
-}
-
-/// The top inputs but the clock, by their numbers in port order: a row has a value for each.
-pub fn row_inputs(alloc: Global, flat: &Flat, clock: Option<u32>) -> Result<Vec<u32>, AllocError>
-    ensures value { IfOk result (λ r. r.items ≡ inputs_but clock flat.now.inputs) }
-    ensures inside { IfOk result (λ r. All (λ id. id < length flat.now.signals) r.items) }
-{
-    let mut inputs = Vec::new(alloc);
-    for id in flat.inputs.iter() {
-        add_input(&mut inputs, clock, *id)?;
-    }
-    Ok(inputs)
 }
 
 /// Each value keeps the bits of its mask alone.
@@ -173,7 +135,7 @@ fn prepare(alloc: Global, flat: &Flat, clock: Option<u32>) -> Result<Plan, Alloc
     ensures count { IfOk result (λ r. length r.registers.items ≡ length flat.now.signals) }
     ensures narrow { IfOk result (λ r. (b : FlatBit) → env_of r.registers.items b ≡ true → b.place < (signal_at (plain_flat flat.now).signals b.signal).width) }
 {
-    let inputs = row_inputs(alloc, flat, clock)?;
+    let inputs = flat.row_inputs(alloc, clock)?;
     let registers = registers(alloc, flat)?;
     Ok(Plan { inputs, registers })
 }

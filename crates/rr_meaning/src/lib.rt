@@ -8,5 +8,5 @@ mod laws;
 mod registers;
 mod steps;
 
-pub use cycle::{row_inputs, run_table, settle, step};
+pub use cycle::{run_table, settle, step};
 pub use laws::table_rows;

@@ -3,7 +3,7 @@ ghost use Rattle.std.specs.Prelude.{◌≡◌, ◌++◌, List, map, option_map, 
 ghost use Rattle.rr_trace.specs.Names.{Text, numbered};
 ghost use Rattle.rr_trace.specs.Columns.{is_name as is_name_of, is_unread as is_unread_of, column as column_of, place as place_of};
 ghost use Rattle.rr_flat.specs.View.{plain_flat};
-ghost use Rattle.rr_trace.specs.Tops.{is_clock as is_clock_of, others as others_of, port_of as port_of_id, ports_of};
+ghost use Rattle.rr_trace.specs.Tops.{port_of as port_of_id, ports_of};
 ghost use Rattle.rr_trace.specs.View.{SameNumbers, ArePorts, IsWidth, plain_port, plain_ports};
 
 use crate::names::Numbers;
@@ -55,28 +55,6 @@ fn port_of<'f>(flat: &Flat<'f>, id: u32) -> Port<'f>
     }
 }
 
-fn is_clock(clock: Option<u32>, id: u32) -> bool
-    ensures { result ≡ is_clock_of clock id }
-{
-    match clock {
-        Some(clock) => clock == id,
-        None => false,
-    }
-}
-
-/// The signals but the clock.
-fn others(alloc: Global, clock: Option<u32>, ids: &[u32]) -> Result<Vec<u32>, AllocError>
-    ensures { IfOk result (λ v. v.items ≡ others_of clock ids.now) }
-{
-    let mut others = Vec::new(alloc);
-    for &id in ids.iter() {
-        if !is_clock(clock, id) {
-            others.push(id)?;
-        }
-    }
-    Ok(others)
-}
-
 fn ports_at<'f>(alloc: Global, flat: &Flat<'f>, ids: &[u32]) -> Result<Vec<Port<'f>>, AllocError>
     ensures ports { IfOk result (λ v. map plain_port v.items ≡ map (port_of_id (plain_flat flat.now)) ids.now) }
     ensures widths { IfOk result (λ v. All (λ x. IsWidth x.width) v.items) }
@@ -108,8 +86,8 @@ impl<'f> Ports<'f> {
         ensures ports { IfOk result (λ p. plain_ports p ≡ ports_of (plain_flat flat.now) clock) }
         ensures sound { IfOk result ArePorts }
     {
-        let others = others(alloc, clock, flat.inputs.as_slice())?;
-        let inputs = ports_at(alloc, flat, others.as_slice())?;
+        let inputs = flat.row_inputs(alloc, clock)?;
+        let inputs = ports_at(alloc, flat, inputs.as_slice())?;
         let outputs = ports_at(alloc, flat, flat.outputs.as_slice())?;
         let mut widths = Numbers::new(alloc);
         add_widths(&mut widths, inputs.as_slice())?;

@@ -12,7 +12,7 @@ use Rattle.rr_flat.specs.declared.fault.FlatFault.{FlatFault}
 use Rattle.rr_head.specs.Declarations.{Declared, Declarations, with_signal, counted, declare_new, declared_at, redeclared, declare_again, again_place, repeated_place, declare, declare_at, declare_identifier, declare_net, declare_ports, declare_nets, declare_variables, declare_item, declarations, known, brackets, plain_names, signal_of, no_declared, is_port, is_same_range, port_declaration, inner_declaration, integer_declaration}
 use Rattle.rr_flat.specs.declared.fault.FlatFault.TheVariants.{NameTwice, UnknownName, BadRange, TooMany}
 use Rattle.rr_flat.specs.declared.fault.Limit.TheVariants.{FlatBits}
-use Rattle.rr_flat.specs.Faults.{among, fault_if, fault_or, first_of, settle, and_then, each}
+use Rattle.rr_flat.specs.Faults.{among, fault_if, fault_or, first_of, first_fault_or, and_then, each}
 use Rattle.rr_head.specs.Values.{constant, range_in}
 use Rattle.rr_head.specs.Heads.{Head, named_signal, with_port, with_ports, with_inner, signals_in_order, with_signals, numbered, declared, head}
 use Rattle.rr_flat.specs.Signals.{with_name}
@@ -152,7 +152,7 @@ own_new i k at name d h = (h.0, all_append (Mine i) d.list (record { signal = si
 own_declared : (i : ℕ) (bracketed : Names) (k : _) (at : ℕ) (name : Text) (d t : Declarations) → Own i d → declare_new bracketed k at name d ≡ Ok t → Own i t
 unfolding declare_new
 own_declared i bracketed k at name d t h e =
-    let r = first_ok (settle (fault_if (is_some (lookup name d.names)) (NameTwice at) ++ (fault_if (is_port k.port && is_none (lookup name bracketed)) (UnknownName at) ++ width_faults at k.range)) d) (counted k at name) t e in
+    let r = first_ok (first_fault_or (fault_if (is_some (lookup name d.names)) (NameTwice at) ++ (fault_if (is_port k.port && is_none (lookup name bracketed)) (UnknownName at) ++ width_faults at k.range)) d) (counted k at name) t e in
     let same : d ≡ r.0 = settled_is (first_of (fault_if (is_some (lookup name d.names)) (NameTwice at) ++ (fault_if (is_port k.port && is_none (lookup name bracketed)) (UnknownName at) ++ width_faults at k.range))) d r.0 r.1.0 in
     let last : with_signal k at name r.0 ≡ t = settled_is (first_of (fault_if (nat_lt 65536 (r.0.bits + range_width k.range)) (TooMany FlatBits (r.0.bits + range_width k.range)))) (with_signal k at name r.0) t r.1.1 in
     subst (Own i) last (own_new i k at name r.0 (subst (Own i) same h))

@@ -15,7 +15,7 @@ use Rattle.rr_flat.specs.declared.signal.Port.{Port}
 use Rattle.rr_flat.specs.declared.signal.Port.TheVariants.{Inner, Input, Output}
 use Rattle.rr_flat.specs.declared.fault.FlatFault.TheVariants.{TooMany}
 use Rattle.rr_flat.specs.declared.fault.Limit.TheVariants.{Instances as InstanceCount}
-use Rattle.rr_flat.specs.Faults.{and_then, each, fault_if, first_of, settle}
+use Rattle.rr_flat.specs.Faults.{and_then, each, fault_if, first_of, first_fault_or}
 use Rattle.rr_head.specs.Heads.{Head, head}
 use Rattle.rr_flat.specs.Signals.{with_name}
 use Rattle.rr_flat.specs.Signals.{Text, Signal, signal_at, no_signal}
@@ -235,7 +235,7 @@ after_opened k h w f o =
 after_begin : (source : List ModuleDeclaration) (k : ℕ) (given : Names) (w t : Walked) → Fine w.flat → begin source k given w ≡ Ok t → Fine t.flat × (length t.flat.scopes ≡ length w.flat.scopes + 1)
 unfolding begin
 after_begin source k given w t f e =
-    let r = first_ok (settle (fault_if (not (nat_lt (length w.flat.scopes) 256)) (TooMany InstanceCount 257)) w) (λ w. and_then (head (length w.flat.scopes) (length w.flat.signals) w.bits given (module_at source k)) (λ h. Ok (opened k h w))) t e in
+    let r = first_ok (first_fault_or (fault_if (not (nat_lt (length w.flat.scopes) 256)) (TooMany InstanceCount 257)) w) (λ w. and_then (head (length w.flat.scopes) (length w.flat.signals) w.bits given (module_at source k)) (λ h. Ok (opened k h w))) t e in
     let same : w ≡ r.0 = settled_is (first_of (fault_if (not (nat_lt (length w.flat.scopes) 256)) (TooMany InstanceCount 257))) w r.0 r.1.0 in
     let fine : Fine r.0.flat = subst (λ v. Fine v.flat) same f in
     let s = first_ok (head (length r.0.flat.scopes) (length r.0.flat.signals) r.0.bits given (module_at source k)) (λ h. Ok (opened k h r.0)) t r.1.1 in

@@ -5,7 +5,7 @@ use Rattle.rr_expr.specs.Scopes.{Names, lookup}
 use Rattle.rr_expr.specs.declared.types.Entity.{Entity}
 use Rattle.rr_expr.specs.declared.types.Entity.TheVariants as entity
 use Rattle.rr_flat.specs.Signals.{Text}
-use Rattle.rr_flat.specs.Faults.{settle, fault_if}
+use Rattle.rr_flat.specs.Faults.{first_fault_or, fault_if}
 use Rattle.rr_flat.specs.Signals.{with_name}
 use Rattle.rr_head.specs.Declarations.{plain_names}
 use Rattle.rr_flat.specs.declared.fault.FlatFault.{FlatFault}
@@ -23,7 +23,7 @@ place_of (Some entity.Instance) = None
 
 -- a second module of a name
 unfoldable pub add_module : ModuleDeclaration → Names → Result Names FlatFault
-add_module m table = settle (fault_if (is_some (lookup m.text table)) (NameTwice m.token)) (at_place table m.text (length table))
+add_module m table = first_fault_or (fault_if (is_some (lookup m.text table)) (NameTwice m.token)) (at_place table m.text (length table))
 
 -- the names of the modules that a module instantiates
 unfoldable pub instantiated_by_item : Names → ModuleItem → Names

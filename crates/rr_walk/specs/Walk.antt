@@ -12,7 +12,7 @@ use Rattle.rr_flat.specs.declared.signal.Port.TheVariants.{Inner, Input, Output}
 use Rattle.rr_flat.specs.declared.fault.Limit.TheVariants.{Instances as InstanceCount, Depth}
 use Rattle.rr_flat.specs.declared.fault.FlatFault.{FlatFault}
 use Rattle.rr_flat.specs.declared.fault.FlatFault.TheVariants.{NoTop, UnknownModule, SelfInstance, NameTwice, UnknownName, PortMismatch, TooMany}
-use Rattle.rr_flat.specs.Faults.{sooner, faults_in, fault_if, fault_or, settle, and_then, each}
+use Rattle.rr_flat.specs.Faults.{sooner, faults_in, fault_if, fault_or, first_fault_or, and_then, each}
 use Rattle.rr_head.specs.Values.{constant}
 use Rattle.rr_flat.specs.Signals.{with_name}
 use Rattle.rr_flat.specs.Shapes.{shape_faults, list_faults, statement_faults}
@@ -64,7 +64,7 @@ with_driver target value at w = record w {
 -- a continuous assignment
 unfoldable pub assign : ℕ → NetAssignment → Walked → Result Walked FlatFault
 assign i p w =
-    settle (shape_faults (scope_at w i) p.target ++ shape_faults (scope_at w i) p.value)
+    first_fault_or (shape_faults (scope_at w i) p.target ++ shape_faults (scope_at w i) p.value)
     (with_driver (Written p.target i) (Written p.value i) (first p.target) w)
 
 -- to the net of that number
@@ -73,7 +73,7 @@ net_driver i at t None w = w
 net_driver i at t (Some id) w = with_driver (Whole id) (Written t i) at w
 
 unfoldable pub net_value : ℕ → ℕ → Text → Tree → Walked → Result Walked FlatFault
-net_value i at name t w = settle (shape_faults (scope_at w i) t) (net_driver i at t (place_of (lookup name (scope_at w i))) w)
+net_value i at name t w = first_fault_or (shape_faults (scope_at w i) t) (net_driver i at t (place_of (lookup name (scope_at w i))) w)
 
 abbrev pub net_with : ℕ → ℕ → Text → Option Tree → Walked → Result Walked FlatFault
 net_with i at name None w = Ok w
@@ -106,7 +106,7 @@ with_block i (Edges list commas) s at w = clocked (record { body = s; edges = li
 with_block i (Levels list commas) s at w = combined (record { body = s; edges = []; scope = i; token = at }) w
 
 unfoldable pub always : ℕ → EventControl → Statement → ℕ → Walked → Result Walked FlatFault
-always i events s at w = settle (event_faults (scope_at w i) events ++ statement_faults (scope_at w i) s) (with_block i events s at w)
+always i events s at w = first_fault_or (event_faults (scope_at w i) events ++ statement_faults (scope_at w i) s) (with_block i events s at w)
 
 -- Overrides
 
@@ -290,7 +290,7 @@ opened k h w = record {
 -- one more instance: its head
 unfoldable pub begin : List ModuleDeclaration → Enter
 begin source k given w =
-    and_then (settle (fault_if (not (nat_lt (length w.flat.scopes) 256)) (TooMany InstanceCount 257)) w) (λ w.
+    and_then (first_fault_or (fault_if (not (nat_lt (length w.flat.scopes) 256)) (TooMany InstanceCount 257)) w) (λ w.
     and_then (head (length w.flat.scopes) (length w.flat.signals) w.bits given (module_at source k)) (λ h.
     Ok (opened k h w)))
 
