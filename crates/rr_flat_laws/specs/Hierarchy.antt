@@ -1,13 +1,18 @@
 -- What drives what in a flat design: each continuous assignment and each connected port is one driver, and there are no
 -- others (IEEE 1364-2005 sections 6.1, 12.1.2 and 12.3.9.2).
-use Rattle.std.specs.Prelude.{◌≡◌, ◌⊎◌, ℕ, ◌+◌, ◌<◌, ◌≤◌, true, List, [], length, get_or}
+use Rattle.std.specs.Prelude.{◌≡◌, ◌⊎◌, ℕ, ◌+◌, ◌<◌, ◌≤◌, true, List, [], length, Option, Some, None, get_or}
 use Rattle.std.specs.List.{Contains, filter, flat_map}
-use Rattle.rr_syntax.specs.Tree.{Tree, ModuleDeclaration, SourceText}
+use Rattle.rr_syntax.specs.Tree.{Tree, ModuleItem, ModuleDeclaration, SourceText}
 use Rattle.rr_flat.specs.Plain.{Driver, Flat}
 use Rattle.rr_flat.specs.Signals.{Text, signal_at}
 use Rattle.rr_flat_laws.specs.Declared.{ports_of}
 use Rattle.rr_flat_laws.specs.Drivers.{signal_named, Child, children_by, is_child_of, assigned_by, is_assignment, connected, Fits, connection_driver, is_connection, expression_of, driver_of_port, joins}
 use Rattle.rr_flat_laws.specs.Names.{module_of, IsPort}
+
+-- the top is the module with the given name; where none is given it is one that no module instantiates (section 12.1.1)
+abbrev pub IsTop : SourceText → Option Text → ModuleDeclaration → Type 0
+IsTop source None m = (n : ModuleDeclaration) (x : ModuleItem) (c : Child) → Contains source.modules n → Contains n.items x → Contains (children_by 0 x) c → c.module_name ≡ m.text → ⊥
+IsTop source (Some name) m = m.text ≡ name
 
 -- the drivers within an instance are its continuous assignments, in the order of the text
 abbrev pub AreAssignments : SourceText → Flat → ℕ → Type 0

@@ -1,5 +1,5 @@
 //! What the flat design of a source is, as contracts of functions that do nothing.
-ghost use Rattle.rr_flat_laws.specs.Laws.{NamesAreSignals, AssignmentsAreDrivers, ConnectionsAreDrivers, NoOtherDrivers};
+ghost use Rattle.rr_flat_laws.specs.Laws.{NamesAreSignals, AssignmentsAreDrivers, ConnectionsAreDrivers, TopIsFirst, NoOtherDrivers};
 
 /// In the flat design of a source each name that an instance declares as a net or a variable is
 /// exactly one signal, which the name stands for there, each signal is such a name, and the ports of
@@ -24,6 +24,12 @@ pub fn assignments_are_drivers()
 /// where none is (section 12.3.9.2). The ports of the top have none.
 pub fn connections_are_drivers()
     ensures { ConnectionsAreDrivers }
+{}
+
+/// The first instance is one of the top: of the module with the given name, or without a name of one
+/// that no module instantiates (section 12.1.1).
+pub fn top_is_first()
+    ensures { TopIsFirst }
 {}
 
 /// Each driver is a continuous assignment of an instance, or a connection of one below the top.

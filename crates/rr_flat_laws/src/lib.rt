@@ -7,4 +7,5 @@ mod laws;
 
 pub use laws::{
     assignments_are_drivers, connections_are_drivers, names_are_signals, no_other_drivers,
+    top_is_first,
 };
