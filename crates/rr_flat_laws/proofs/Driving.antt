@@ -44,10 +44,10 @@ number w = length w.flat.scopes
 
 -- numbers that are, and are not, the same
 
-same_numbers : (n : ℕ) → nat_eq n n ≡ true
+pub same_numbers : (n : ℕ) → nat_eq n n ≡ true
 same_numbers n = eq-eqb n n refl
 
-other_numbers : (n m : ℕ) → (n ≡ m → ⊥) → nat_eq n m ≡ false
+pub other_numbers : (n m : ℕ) → (n ≡ m → ⊥) → nat_eq n m ≡ false
 other_numbers n m h = ne_eqb n m h
 
 -- where the second is not first
@@ -83,13 +83,13 @@ names_right xs ys m c = subst (λ ns. Contains ns m) (sym (map-append (λ (x : T
 
 -- The same from the end of a walk
 
-grows_from : (w v : Walked) (g : Flat) → Same w v → Grows w.flat g → Grows v.flat g
+pub grows_from : (w v : Walked) (g : Flat) → Same w v → Grows w.flat g → Grows v.flat g
 grows_from w v g s h = record {
   signals = subst (λ ss. (zs : List Signal) × (g.signals ≡ ss ++ zs)) s.signals h.signals;
   owners = subst (λ (os : List ℕ). (zs : List ℕ) × (g.owners ≡ os ++ zs)) s.owners h.owners;
 }
 
-grows_back : (w v : Walked) (g : Flat) → Same w v → Grows v.flat g → Grows w.flat g
+pub grows_back : (w v : Walked) (g : Flat) → Same w v → Grows v.flat g → Grows w.flat g
 grows_back w v g s h = grows_twice w.flat v.flat g (same_grows w v s) h
 
 -- over a source, and what is known of its flat design and its table
@@ -213,12 +213,12 @@ module _ (source : SourceText) (F : Flat) (whole : Fine source.modules F.signals
   -- In an instance of a walk
 
   -- instance i is one of module k
-  record Here (i k : ℕ) (w : Walked) : Type 0 where
-    fine : Fine ms w.flat.signals w.flat.scopes w.flat.owners
-    there : i < length w.flat.scopes
-    owner : get_or w.flat.owners i 0 ≡ k
+  pub record Here (i k : ℕ) (w : Walked) : Type 0 where
+    pub fine : Fine source.modules w.flat.signals w.flat.scopes w.flat.owners
+    pub there : i < length w.flat.scopes
+    pub owner : get_or w.flat.owners i 0 ≡ k
 
-  here_same : (i k : ℕ) (w v : Walked) → Same w v → Here i k w → Here i k v
+  pub here_same : (i k : ℕ) (w v : Walked) → Same w v → Here i k w → Here i k v
   here_same i k w v s h = record {
     fine = naming.fine_same ms w v s h.fine;
     there = subst (λ (ns : List Names). i < length ns) s.scopes h.there;
@@ -226,7 +226,7 @@ module _ (source : SourceText) (F : Flat) (whole : Fine source.modules F.signals
   }
 
   -- it stays, as instances are added
-  here_later : (i k : ℕ) (w v : Walked) → Here i k w → FineWalk ms v → Grows w.flat v.flat → Here i k v
+  pub here_later : (i k : ℕ) (w v : Walked) → Here i k w → naming.FineWalk source.modules v → Grows w.flat v.flat → Here i k v
   here_later i k w v h f g =
       let a = h.fine.even in
       let b = f.even in
@@ -239,7 +239,7 @@ module _ (source : SourceText) (F : Flat) (whole : Fine source.modules F.signals
         owner = ap (λ (os : List ℕ). get_or os i 0) e ∙ (get_or_append_left w.flat.owners g.owners.0 0 i (omega (arith, a, l)) ∙ h.owner);
       }
 
-  at_end : (i k : ℕ) (w : Walked) → Here i k w → Grows w.flat F → (i < length F.owners) × (get_or F.owners i 0 ≡ k)
+  pub at_end : (i k : ℕ) (w : Walked) → Here i k w → Grows w.flat F → (i < length F.owners) × (get_or F.owners i 0 ≡ k)
   at_end i k w h g =
       let a = h.fine.even in
       let l = h.there in
@@ -247,7 +247,7 @@ module _ (source : SourceText) (F : Flat) (whole : Fine source.modules F.signals
       let n : length F.owners ≡ length w.flat.owners + length g.owners.0 = ap length e ∙ length-append w.flat.owners g.owners.0 in
       (omega (arith, a, l, n), ap (λ (os : List ℕ). get_or os i 0) e ∙ (get_or_append_left w.flat.owners g.owners.0 0 i (omega (arith, a, l)) ∙ h.owner))
 
-  module_is : (i k : ℕ) (w : Walked) → Here i k w → Grows w.flat F → module_of source F i ≡ module_at ms k
+  pub module_is : (i k : ℕ) (w : Walked) → Here i k w → Grows w.flat F → module_of source F i ≡ module_at ms k
   module_is i k w h g = ap (λ (z : ℕ). module_at ms z) (at_end i k w h g).1
 
   -- a name of an instance, in the walk and at its end
@@ -305,7 +305,7 @@ module _ (source : SourceText) (F : Flat) (whole : Fine source.modules F.signals
 
   -- over a list
 
-  each_later : {X : Type 0} (i k : ℕ) (step : X → Walked → Result Walked FlatFault) → ((x : X) (w t : Walked) → Here i k w → step x w ≡ Ok t → Here i k t × Grows w.flat t.flat) → (xs : List X) (w t : Walked) → Here i k w → each step xs w ≡ Ok t →
+  pub each_later : {X : Type 0} (i k : ℕ) (step : X → Walked → Result Walked FlatFault) → ((x : X) (w t : Walked) → Here i k w → step x w ≡ Ok t → Here i k t × Grows w.flat t.flat) → (xs : List X) (w t : Walked) → Here i k w → each step xs w ≡ Ok t →
       Here i k t × Grows w.flat t.flat
   each_later i k step keeps xs w t h e =
       each_keeps (λ (u : Walked). Here i k u × Grows w.flat u.flat) step (λ x s u p q. let n = keeps x s u p.0 q in (n.0, grows_twice w.flat s.flat u.flat p.1 n.1)) xs w t (h, grows_here w.flat) e
@@ -564,13 +564,13 @@ module _ (source : SourceText) (F : Flat) (whole : Fine source.modules F.signals
 
   -- Items
 
-  instance_keeps : (above : List ℕ) (i k : ℕ) (sub : Enter) → naming.Enters ms sub → EnterGrows sub → (at : ℕ) (over : Option Connections) (o : Option ℕ) (x : ModuleInstance) (w t : Walked) → Here i k w →
+  pub instance_keeps : (above : List ℕ) (i k : ℕ) (sub : Enter) → naming.Enters ms sub → EnterGrows sub → (at : ℕ) (over : Option Connections) (o : Option ℕ) (x : ModuleInstance) (w t : Walked) → Here i k w →
       walk.instance_of ms above i sub at over o x w ≡ Ok t → Here i k t × Grows w.flat t.flat
   instance_keeps above i k sub fs gs at over o x w t h e =
       let g = instance_grows ms above i sub at over o gs x w t e in
       (here_later i k w t h (naming.after_instance ms above i sub at over o fs x w t h.fine e) g, g)
 
-  item_keeps : (above : List ℕ) (i k : ℕ) (sub : Enter) → naming.Enters ms sub → EnterGrows sub → (x : ModuleItem) (w t : Walked) → Here i k w → item ms table above i sub x w ≡ Ok t → Here i k t × Grows w.flat t.flat
+  pub item_keeps : (above : List ℕ) (i k : ℕ) (sub : Enter) → naming.Enters ms sub → EnterGrows sub → (x : ModuleItem) (w t : Walked) → Here i k w → item ms table above i sub x w ≡ Ok t → Here i k t × Grows w.flat t.flat
   item_keeps above i k sub fs gs x w t h e =
       let g = item_grows ms table above i sub gs x w t e in
       (here_later i k w t h (naming.after_item ms table above i sub fs x w t h.fine e) g, g)

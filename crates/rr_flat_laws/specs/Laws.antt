@@ -4,6 +4,7 @@ use Rattle.rr_syntax.specs.Tree.{SourceText}
 use Rattle.rr_flat.specs.Plain.{Flat}
 use Rattle.rr_flat.specs.Signals.{Text}
 use Rattle.rr_walk.specs.Walk.{flat_of}
+use Rattle.rr_flat_laws.specs.Blocks.{AreBlocks}
 use Rattle.rr_flat_laws.specs.Hierarchy.{IsTop, AreAssignments, AreConnections, IsDue}
 use Rattle.rr_flat_laws.specs.Names.{module_of, NamesAre}
 
@@ -18,6 +19,10 @@ AssignmentsAreDrivers = (source : SourceText) (top : Option Text) (flat : Flat) 
 -- each connected port of an instance below the top is one driver
 abbrev pub ConnectionsAreDrivers : Type 0
 ConnectionsAreDrivers = (source : SourceText) (top : Option Text) (flat : Flat) → flat_of source top ≡ Ok flat → AreConnections source flat
+
+-- each `always` of an instance is one block, and there are no others
+abbrev pub BlocksAreAlways : Type 0
+BlocksAreAlways = (source : SourceText) (top : Option Text) (flat : Flat) → flat_of source top ≡ Ok flat → AreBlocks source flat
 
 -- the first instance is one of the top
 abbrev pub TopIsFirst : Type 0
