@@ -1,6 +1,6 @@
 -- The blocks of a walk: each `always`, once.
-use Rattle.std.proofs.Common.{◌≡◌, ◌∙◌, sym, ap, ◌⊎◌, inl, inr, ℕ, zero, suc, ◌+◌, ◌<◌, ◌≤◌, Bool, true, false, List, [], ◌∷◌, ◌++◌, length, map, get_or, fold, Option, Some, None, Result, Ok, refl, subst, arith, length-append, nat_eq}
-use Rattle.std.specs.List.{All, AllByRecursion, Contains, filter, flat_map}
+use Rattle.std.proofs.Common.{◌≡◌, ◌∙◌, sym, ap, inl, inr, ℕ, zero, suc, ◌+◌, ◌<◌, ◌≤◌, true, false, List, [], ◌∷◌, ◌++◌, length, get_or, fold, Option, Some, None, Result, Ok, refl, subst, arith, length-append}
+use Rattle.std.specs.List.{All, AllByRecursion, filter, flat_map}
 use Rattle.std.proofs.lemmas.Bool.{cases_lt, cases_eq}
 use Rattle.std.proofs.lemmas.List.{append-nil, append_assoc, length-set}
 use Rattle.std.proofs.lemmas.List.Elements.{All-from_recursion}
@@ -12,23 +12,23 @@ use Rattle.rr_expr.specs.declared.types.Entity.TheVariants as entity
 use Rattle.rr_flat.specs.declared.fault.FlatFault.{FlatFault}
 use Rattle.rr_flat.specs.declared.signal.Port.{Port}
 use Rattle.rr_flat.specs.declared.signal.Port.TheVariants.{Inner, Input, Output}
-use Rattle.rr_flat.specs.Faults.{and_then, each}
-use Rattle.rr_flat.specs.Plain.{Written, Whole, Block, Flat}
+use Rattle.rr_flat.specs.Faults.{each}
+use Rattle.rr_flat.specs.Plain.{Written, Block, Flat}
 use Rattle.rr_flat.specs.Shapes.{shape_faults, statement_faults}
 use Rattle.rr_flat.specs.Signals.{Text, signal_at, with_name}
 use Rattle.rr_walk.specs.Tables.{place_of, port_names}
 use Rattle.rr_walk.specs.Walk.{Walked, Enter, scope_at, module_at, with_driver, with_block, assign, net_driver, net_value, net_with, net, event_faults, always, with_instance, join_port, join_at, join, join_value, join_named, join_positions, joined, instance_of, item, opened, enter_by, enter, nothing, finished, top_place, enter_top, flat_of}
-use Rattle.rr_walk.proofs.HeadOf.{ok_is, not_ok, first_ok, all_append}
+use Rattle.rr_walk.proofs.HeadOf.{ok_is, not_ok, first_ok, all_append, all_weaker}
 use Rattle.rr_flat_laws.specs.Blocks.{at_edges, at_changes, clocked_by, combinational_by, is_block_of, AreBlocks}
 use Rattle.rr_flat_laws.specs.Names.{module_of}
 use Rattle.rr_flat_laws.proofs.Answers.{settled}
 use Rattle.rr_flat_laws.proofs.Driving as driving
 use Rattle.rr_flat_laws.proofs.Driving.{same_numbers, other_numbers, grows_back}
-use Rattle.rr_flat_laws.proofs.Growing.{Same, each_same, assign_same, net_same, always_same, joined_same, began, inside, entered, unknown, Grows, EnterGrows, same_grows, grows_here, grows_twice, enter_grows}
+use Rattle.rr_flat_laws.proofs.Growing.{Same, each_same, assign_same, net_same, always_same, joined_same, began, inside, entered, unknown, Grows, EnterGrows, grows_twice, enter_grows, end_grows}
 use Rattle.rr_flat_laws.proofs.Naming as naming
 use Rattle.rr_flat_laws.proofs.Naming.{Fine, FineWalk, walking, after_top, fine_nothing}
 use Rattle.rr_flat_laws.proofs.Opening.{opened_head}
-use Rattle.rr_flat_laws.proofs.Shares.{filter_all, filter_nothing, filter_both, Share, share_none, share_twice}
+use Rattle.rr_flat_laws.proofs.Shares.{filter_all, filter_nothing, Share, share_none, share_twice}
 use Rattle.rr_flat_laws.proofs.Tabling.{Table, table_of}
 use Rattle.rr_flat_laws.proofs.Texts.{flat_none, none_of}
 
@@ -133,16 +133,12 @@ changes_own i (Star brackets) s at = (refl, tt)
 changes_own i (Edges list commas) s at = tt
 changes_own i (Levels list commas) s at = (refl, tt)
 
-weaker : (P Q : Block → Type 0) (xs : List Block) → ((x : Block) → P x → Q x) → AllByRecursion P xs → AllByRecursion Q xs
-weaker P Q [] h p = tt
-weaker P Q (x ∷ xs) h p = (h x p.0, weaker P Q xs h p.1)
-
 share_own : (full : ℕ → List Block) (i low high : ℕ) (xs : List Block) → i < low → high ≡ low → AllByRecursion (λ (b : Block). b.scope ≡ i) xs → Share is_block_of full i low high xs xs
 share_own full i low high xs l e h = record {
-  here = filter_all (is_block_of i) xs (weaker (λ b. b.scope ≡ i) (λ b. is_block_of i b ≡ true) xs (λ b q. rw q (same_numbers i)) h);
-  before = λ j m d. filter_nothing (is_block_of j) xs (weaker (λ b. b.scope ≡ i) (λ b. is_block_of j b ≡ false) xs (λ b q. other_numbers b.scope j (λ f. d (sym f ∙ q))) h);
+  here = filter_all (is_block_of i) xs (all_weaker (λ b. b.scope ≡ i) (λ b. is_block_of i b ≡ true) xs (λ b q. rw q (same_numbers i)) h);
+  before = λ j m d. filter_nothing (is_block_of j) xs (all_weaker (λ b. b.scope ≡ i) (λ b. is_block_of j b ≡ false) xs (λ b q. other_numbers b.scope j (λ f. d (sym f ∙ q))) h);
   new = λ j m n. absurd (omega (arith, m, n, e));
-  later = λ j m. filter_nothing (is_block_of j) xs (weaker (λ b. b.scope ≡ i) (λ b. is_block_of j b ≡ false) xs (λ b q. other_numbers b.scope j (λ f. omega (arith, f, q, m, l, e))) h);
+  later = λ j m. filter_nothing (is_block_of j) xs (all_weaker (λ b. b.scope ≡ i) (λ b. is_block_of j b ≡ false) xs (λ b q. other_numbers b.scope j (λ f. omega (arith, f, q, m, l, e))) h);
 }
 
 module _ (source : SourceText) (F : Flat) (whole : Fine source.modules F.signals F.scopes F.owners) (table : Names) (tabled : Table source.modules table) where
@@ -210,8 +206,8 @@ module _ (source : SourceText) (F : Flat) (whole : Fine source.modules F.signals
         more = omega (arith, n);
         ticks = share_own all_clocked i (length w.flat.scopes) (length t.flat.scopes) (at_edges i events s at) h.there n (edges_own i events s at);
         changes = share_own all_combinational i (length w.flat.scopes) (length t.flat.scopes) (at_changes i events s at) h.there n (changes_own i events s at);
-        clocked_in = weaker (λ b. b.scope ≡ i) (λ b. b.scope < length F.owners) (at_edges i events s at) (λ b q. omega (arith, q, there)) (edges_own i events s at);
-        combinational_in = weaker (λ b. b.scope ≡ i) (λ b. b.scope < length F.owners) (at_changes i events s at) (λ b q. omega (arith, q, there)) (changes_own i events s at);
+        clocked_in = all_weaker (λ b. b.scope ≡ i) (λ b. b.scope < length F.owners) (at_edges i events s at) (λ b q. omega (arith, q, there)) (edges_own i events s at);
+        combinational_in = all_weaker (λ b. b.scope ≡ i) (λ b. b.scope < length F.owners) (at_changes i events s at) (λ b q. omega (arith, q, there)) (changes_own i events s at);
       }
 
   -- a module was walked: its instance is the first that is new
@@ -375,9 +371,6 @@ module _ (source : SourceText) (F : Flat) (whole : Fine source.modules F.signals
       clocked_in = subst (λ (bs : List Block). All (λ b. b.scope < length F.owners) bs) (sym clocked_are) (All-from_recursion (λ b. b.scope < length F.owners) h.made.clocked h.made.clocked_in);
       combinational_in = subst (λ (bs : List Block). All (λ b. b.scope < length F.owners) bs) (sym combinational_are) (All-from_recursion (λ b. b.scope < length F.owners) h.made.combinational h.made.combinational_in);
     }
-
-end_grows : (source : List ModuleDeclaration) (w : Walked) → Grows w.flat (finished source w.flat)
-end_grows source w = let g = grows_here w.flat in record { signals = g.signals; owners = g.owners }
 
 blocks_of_top : (source : SourceText) (table : Names) → Table source.modules table → (o : Option ℕ) (end : Walked) → enter_top source.modules table o ≡ Ok end → AreBlocks source (finished source.modules end.flat)
 blocks_of_top source table t None end e = absurd (not_ok _ end e)
