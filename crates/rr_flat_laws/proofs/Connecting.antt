@@ -17,10 +17,11 @@ use Rattle.rr_head.specs.Declarations.{plain_names}
 use Rattle.rr_walk.specs.Tables.{add_port_name, add_port_names, port_names, add_text, name_set}
 use Rattle.rr_walk.specs.Walk.{noted, twice_faults, value_faults, fold_trees, Joining, place_port, check_port, Connected, check_connection, connections}
 use Rattle.rr_walk.proofs.Clears.{none_before, none_here}
-use Rattle.rr_flat_laws.specs.Declared.{texts_of, ports_by, plain_ports, ports_of}
+use Rattle.rr_flat_laws.specs.Declared.{texts_of, ports_by, ports_of}
 use Rattle.rr_flat_laws.specs.Drivers.{connected_in_order, HavePorts, Fits, connected_value, connected_name, connected}
 use Rattle.rr_flat_laws.proofs.Answers.{not_if}
-use Rattle.rr_flat_laws.proofs.Texts.{none_some, nowhere, there_cases, here, later, Distinct, with_new, is_none_of, there_of, some_with, known_from}
+use Rattle.rr_flat_laws.proofs.Opening.{plain_is}
+use Rattle.rr_flat_laws.proofs.Texts.{none_some, nowhere, there_cases, here, later, Distinct, with_new, is_none_of, there_of, some_with, known_from, nothing_known}
 use Rattle.rr_flat_laws.proofs.Texts as texts
 
 -- The ports in their order
@@ -35,14 +36,10 @@ fold_ports [] acc = sym (append-nil acc)
 fold_ports (p ∷ ps) acc =
     fold_ports ps (fold add_port_name acc p.names) ∙ (ap (λ (z : List Text). z ++ flat_map ports_by ps) (fold_names p.names acc) ∙ append_assoc acc (ports_by p) (flat_map ports_by ps))
 
-plain_names_are : (header : Option (List Identifier)) → texts_of (plain_names header) ≡ plain_ports header
-plain_names_are None = refl
-plain_names_are (Some list) = refl
-
 pub ports_are : (m : ModuleDeclaration) → port_names m ≡ ports_of m
 unfolding port_names
 ports_are m =
-    fold_ports m.groups (fold add_port_name [] (plain_names m.header)) ∙ ap (λ (z : List Text). z ++ flat_map ports_by m.groups) (fold_names (plain_names m.header) [] ∙ plain_names_are m.header)
+    fold_ports m.groups (fold add_port_name [] (plain_names m.header)) ∙ ap (λ (z : List Text). z ++ flat_map ports_by m.groups) (fold_names (plain_names m.header) [] ∙ plain_is m.header)
 
 -- Connections by name
 
@@ -52,10 +49,6 @@ from_text names x n h = elim (some_with names n x (entity.Signal 0 None false) h
 ones : (ns : List Text) → flat_map (λ (x : Text). x ∷ []) ns ≡ ns
 ones [] = refl
 ones (n ∷ ns) = ap (λ (z : List Text). n ∷ z) (ones ns)
-
-nothing_known : (n : Text) → is_some (lookup n []) ≡ true → ⊥
-unfolding lookup
-nothing_known n h = both_ways false refl h
 
 set_has : (ns : List Text) (n : Text) → is_some (lookup n (name_set ns)) ≡ true → Contains ns n
 unfolding name_set

@@ -24,9 +24,9 @@ use Rattle.rr_flat.specs.Writers.{scope_at as scope_in}
 use Rattle.rr_walk.specs.Tables.{place_of}
 use Rattle.rr_walk.specs.Walk.{Walked, Enter, scope_at, module_at, with_driver, assign, net_value, net_with, net, always, noted, overrides, connections, checked, with_instance, join_port, join_at, join, join_value, join_named, join_positions, joined, item, opened, enter_by, enter}
 use Rattle.rr_walk.specs.Walk as walk
-use Rattle.rr_walk.proofs.HeadOf.{ok_is, not_ok, first_ok, each_keeps, all_append}
+use Rattle.rr_walk.proofs.HeadOf.{ok_is, not_ok, first_ok, each_keeps, all_append, all_weaker}
 use Rattle.rr_flat_laws.specs.Declared.{Declares, ports_of}
-use Rattle.rr_flat_laws.specs.Drivers.{instance_of, number_in, signal_named, pair_driver, value_driver, net_driver, assigned_by, is_assignment, Child, children_by, is_child_of, connected_in_order, connected_value, connected_name, connected, port_driver, connection_driver, is_connection}
+use Rattle.rr_flat_laws.specs.Drivers.{signal_instance, number_in, signal_number, driver_of_pair, driver_of_value, driver_of_net, assigned_by, is_assignment, Child, children_by, is_child_of, connected_in_order, connected_value, connected_name, connected, port_driver, driver_of_connection, is_connection}
 use Rattle.rr_flat_laws.specs.Hierarchy.{IsDue}
 use Rattle.rr_flat_laws.specs.Names.{module_of}
 use Rattle.rr_flat_laws.proofs.Answers.{settled}
@@ -44,10 +44,10 @@ number w = length w.flat.scopes
 
 -- numbers that are, and are not, the same
 
-same_numbers : (n : ℕ) → nat_eq n n ≡ true
+pub same_numbers : (n : ℕ) → nat_eq n n ≡ true
 same_numbers n = eq-eqb n n refl
 
-other_numbers : (n m : ℕ) → (n ≡ m → ⊥) → nat_eq n m ≡ false
+pub other_numbers : (n m : ℕ) → (n ≡ m → ⊥) → nat_eq n m ≡ false
 other_numbers n m h = ne_eqb n m h
 
 -- where the second is not first
@@ -70,6 +70,10 @@ apart_there i k d = rw (same_numbers k, other_numbers i k d) refl
 apart_else : (i k j : ℕ) → (j ≡ k → ⊥) → (nat_eq k j && not (nat_eq i j)) ≡ false
 apart_else i k j d = and_left (nat_eq k j) (not (nat_eq i j)) (other_numbers k j (λ e. d (sym e)))
 
+-- the number of a signal that a name stands for
+pub number_is : (o : Option Entity) (id : ℕ) (range : Option (ℕ × ℕ)) (signed : Bool) → o ≡ Some (entity.Signal id range signed) → number_in o ≡ id
+number_is o id range signed e = rw e refl
+
 -- The names of what is connected
 
 abbrev names_of : List (Text × Tree) → List Text
@@ -83,13 +87,13 @@ names_right xs ys m c = subst (λ ns. Contains ns m) (sym (map-append (λ (x : T
 
 -- The same from the end of a walk
 
-grows_from : (w v : Walked) (g : Flat) → Same w v → Grows w.flat g → Grows v.flat g
+pub grows_from : (w v : Walked) (g : Flat) → Same w v → Grows w.flat g → Grows v.flat g
 grows_from w v g s h = record {
   signals = subst (λ ss. (zs : List Signal) × (g.signals ≡ ss ++ zs)) s.signals h.signals;
   owners = subst (λ (os : List ℕ). (zs : List ℕ) × (g.owners ≡ os ++ zs)) s.owners h.owners;
 }
 
-grows_back : (w v : Walked) (g : Flat) → Same w v → Grows v.flat g → Grows w.flat g
+pub grows_back : (w v : Walked) (g : Flat) → Same w v → Grows v.flat g → Grows w.flat g
 grows_back w v g s h = grows_twice w.flat v.flat g (same_grows w v s) h
 
 -- over a source, and what is known of its flat design and its table
@@ -110,7 +114,7 @@ module _ (source : SourceText) (F : Flat) (whole : Fine source.modules F.signals
   pub record ChildIn (ds : List Driver) (k : ℕ) (c : Child) : Type 0 where
     pub later : c.parent < k
     pub named : (module_of source F k).text ≡ c.module_name
-    pub ports : filter (is_connection F k) ds ≡ flat_map (connection_driver F c.parent k) (connected (module_of source F k) c.text.connections)
+    pub ports : filter (is_connection F k) ds ≡ flat_map (driver_of_connection F c.parent k) (connected (module_of source F k) c.text.connections)
     pub connects : Connects (module_of source F k) c.text.connections
     pub owned : get_or F.owners k 0 < length source.modules
 
@@ -165,9 +169,9 @@ module _ (source : SourceText) (F : Flat) (whole : Fine source.modules F.signals
       }
     where
       made_ports : ℕ → Child → List Driver
-      made_ports n c = flat_map (connection_driver F c.parent n) (connected (module_of source F n) c.text.connections)
+      made_ports n c = flat_map (driver_of_connection F c.parent n) (connected (module_of source F n) c.text.connections)
 
-      with_more : {es : List Driver} (n : ℕ) (c : Child) (ds : List Driver) → ChildIn es n c → filter (is_connection F n) ds ≡ flat_map (connection_driver F c.parent n) (connected (module_of source F n) c.text.connections) → ChildIn ds n c
+      with_more : {es : List Driver} (n : ℕ) (c : Child) (ds : List Driver) → ChildIn es n c → filter (is_connection F n) ds ≡ flat_map (driver_of_connection F c.parent n) (connected (module_of source F n) c.text.connections) → ChildIn ds n c
       with_more n c ds p e = record { later = p.later; named = p.named; ports = e; connects = p.connects; owned = p.owned }
 
   -- One driver
@@ -196,14 +200,14 @@ module _ (source : SourceText) (F : Flat) (whole : Fine source.modules F.signals
     due = (inl (i, (m, h.own)), tt);
   }
 
-  within_pair : (i : ℕ) (p : NetAssignment) → Within i (pair_driver i p)
+  within_pair : (i : ℕ) (p : NetAssignment) → Within i (driver_of_pair i p)
   within_pair i p = record {
     own = and_from (nat_eq i i) (nat_eq i i) (same_numbers i) (same_numbers i);
     others = λ j d. and_left (nat_eq i j) (nat_eq i j) (other_numbers i j (λ e. d (sym e)));
     free = λ j. refl;
   }
 
-  within_net : (i id : ℕ) (t : Tree) (at : ℕ) → instance_of F id ≡ i → Within i (record { target = Whole id; value = Written t i; token = at })
+  within_net : (i id : ℕ) (t : Tree) (at : ℕ) → signal_instance F id ≡ i → Within i (record { target = Whole id; value = Written t i; token = at })
   within_net i id t at e = record {
     own = rw e (and_from (nat_eq i i) (nat_eq i i) (same_numbers i) (same_numbers i));
     others = λ j d. rw e (and_left (nat_eq i j) (nat_eq i j) (other_numbers i j (λ q. d (sym q))));
@@ -213,12 +217,12 @@ module _ (source : SourceText) (F : Flat) (whole : Fine source.modules F.signals
   -- In an instance of a walk
 
   -- instance i is one of module k
-  record Here (i k : ℕ) (w : Walked) : Type 0 where
-    fine : Fine ms w.flat.signals w.flat.scopes w.flat.owners
-    there : i < length w.flat.scopes
-    owner : get_or w.flat.owners i 0 ≡ k
+  pub record Here (i k : ℕ) (w : Walked) : Type 0 where
+    pub fine : Fine source.modules w.flat.signals w.flat.scopes w.flat.owners
+    pub there : i < length w.flat.scopes
+    pub owner : get_or w.flat.owners i 0 ≡ k
 
-  here_same : (i k : ℕ) (w v : Walked) → Same w v → Here i k w → Here i k v
+  pub here_same : (i k : ℕ) (w v : Walked) → Same w v → Here i k w → Here i k v
   here_same i k w v s h = record {
     fine = naming.fine_same ms w v s h.fine;
     there = subst (λ (ns : List Names). i < length ns) s.scopes h.there;
@@ -226,7 +230,7 @@ module _ (source : SourceText) (F : Flat) (whole : Fine source.modules F.signals
   }
 
   -- it stays, as instances are added
-  here_later : (i k : ℕ) (w v : Walked) → Here i k w → FineWalk ms v → Grows w.flat v.flat → Here i k v
+  pub here_later : (i k : ℕ) (w v : Walked) → Here i k w → naming.FineWalk source.modules v → Grows w.flat v.flat → Here i k v
   here_later i k w v h f g =
       let a = h.fine.even in
       let b = f.even in
@@ -239,7 +243,7 @@ module _ (source : SourceText) (F : Flat) (whole : Fine source.modules F.signals
         owner = ap (λ (os : List ℕ). get_or os i 0) e ∙ (get_or_append_left w.flat.owners g.owners.0 0 i (omega (arith, a, l)) ∙ h.owner);
       }
 
-  at_end : (i k : ℕ) (w : Walked) → Here i k w → Grows w.flat F → (i < length F.owners) × (get_or F.owners i 0 ≡ k)
+  pub at_end : (i k : ℕ) (w : Walked) → Here i k w → Grows w.flat F → (i < length F.owners) × (get_or F.owners i 0 ≡ k)
   at_end i k w h g =
       let a = h.fine.even in
       let l = h.there in
@@ -247,7 +251,7 @@ module _ (source : SourceText) (F : Flat) (whole : Fine source.modules F.signals
       let n : length F.owners ≡ length w.flat.owners + length g.owners.0 = ap length e ∙ length-append w.flat.owners g.owners.0 in
       (omega (arith, a, l, n), ap (λ (os : List ℕ). get_or os i 0) e ∙ (get_or_append_left w.flat.owners g.owners.0 0 i (omega (arith, a, l)) ∙ h.owner))
 
-  module_is : (i k : ℕ) (w : Walked) → Here i k w → Grows w.flat F → module_of source F i ≡ module_at ms k
+  pub module_is : (i k : ℕ) (w : Walked) → Here i k w → Grows w.flat F → module_of source F i ≡ module_at ms k
   module_is i k w h g = ap (λ (z : ℕ). module_at ms z) (at_end i k w h g).1
 
   -- a name of an instance, in the walk and at its end
@@ -255,8 +259,8 @@ module _ (source : SourceText) (F : Flat) (whole : Fine source.modules F.signals
     id : ℕ
     found : place_of (lookup n (scope_at w i)) ≡ Some id
     same : signal_at w.flat.signals id ≡ signal_at F.signals id
-    named : signal_named F i n ≡ id
-    instance : instance_of F id ≡ i
+    named : signal_number F i n ≡ id
+    instance : signal_instance F id ≡ i
 
   known_of : (w : Walked) (i : ℕ) (n : Text) → FineWalk ms w → Grows w.flat F → (id : ℕ) × Is ms w.flat.signals i n id → Known w i n
   known_of w i n f g (id, (l, (a, b))) =
@@ -271,20 +275,17 @@ module _ (source : SourceText) (F : Flat) (whole : Fine source.modules F.signals
         named = number_is (lookup n (scope_in F i)) id (signal_at F.signals id).range (signal_at F.signals id).signed (named_found ms F.signals F.scopes F.owners i n id whole there);
         instance = there.1.0;
       }
-    where
-      number_is : (o : Option Entity) (id : ℕ) (range : Option (ℕ × ℕ)) (signed : Bool) → o ≡ Some (entity.Signal id range signed) → number_in o ≡ id
-      number_is o id range signed e = rw e refl
 
   -- Continuous assignments
 
-  made_assign : (i k : ℕ) (p : NetAssignment) (w t : Walked) → Here i k w → Grows t.flat F → assign i p w ≡ Ok t → Made i w t (pair_driver i p ∷ []) []
+  made_assign : (i k : ℕ) (p : NetAssignment) (w t : Walked) → Here i k w → Grows t.flat F → assign i p w ≡ Ok t → Made i w t (driver_of_pair i p ∷ []) []
   unfolding assign
   made_assign i k p w t h g e =
       let s = settled (shape_faults (scope_at w i) p.target ++ shape_faults (scope_at w i) p.value) (with_driver (Written p.target i) (Written p.value i) (first p.target) w) t e in
       let a = at_end i k w h (grows_back w t F (assign_same i p w t e) g) in
-      made_one i w t (pair_driver i p) h.there a.0 (within_pair i p) (ap (λ (u : Walked). u.flat.drivers) (sym s.1)) (ap (λ (u : Walked). length u.flat.scopes) (sym s.1))
+      made_one i w t (driver_of_pair i p) h.there a.0 (within_pair i p) (ap (λ (u : Walked). u.flat.drivers) (sym s.1)) (ap (λ (u : Walked). length u.flat.scopes) (sym s.1))
 
-  made_net : (i k : ℕ) (n : NetIdentifier) (w t : Walked) → Declares (module_at ms k) n.text → Here i k w → Grows t.flat F → net i n w ≡ Ok t → Made i w t (net_driver F i n) []
+  made_net : (i k : ℕ) (n : NetIdentifier) (w t : Walked) → Declares (module_at ms k) n.text → Here i k w → Grows t.flat F → net i n w ≡ Ok t → Made i w t (driver_of_net F i n) []
   unfolding net net_value
   made_net i k n w t c h g e = by n.value e
     where
@@ -294,7 +295,7 @@ module _ (source : SourceText) (F : Flat) (whole : Fine source.modules F.signals
       known : Known w i n.text
       known = known_of w i n.text h.fine gw ((h.fine.filled i h.there).has n.text (subst (λ (z : ℕ). Declares (module_at ms z) n.text) (sym h.owner) c))
 
-      by : (o : Option Tree) → net_with i n.token n.text o w ≡ Ok t → Made i w t (value_driver F i n o) []
+      by : (o : Option Tree) → net_with i n.token n.text o w ≡ Ok t → Made i w t (driver_of_value F i n o) []
       by None q = made_none i w t (ap (λ (u : Walked). u.flat.drivers) (ok_is w t q)) (ap (λ (u : Walked). length u.flat.scopes) (sym (ok_is w t q)))
       by (Some v) q =
           let d : Driver = record { target = Whole known.id; value = Written v i; token = n.token } in
@@ -305,7 +306,7 @@ module _ (source : SourceText) (F : Flat) (whole : Fine source.modules F.signals
 
   -- over a list
 
-  each_later : {X : Type 0} (i k : ℕ) (step : X → Walked → Result Walked FlatFault) → ((x : X) (w t : Walked) → Here i k w → step x w ≡ Ok t → Here i k t × Grows w.flat t.flat) → (xs : List X) (w t : Walked) → Here i k w → each step xs w ≡ Ok t →
+  pub each_later : {X : Type 0} (i k : ℕ) (step : X → Walked → Result Walked FlatFault) → ((x : X) (w t : Walked) → Here i k w → step x w ≡ Ok t → Here i k t × Grows w.flat t.flat) → (xs : List X) (w t : Walked) → Here i k w → each step xs w ≡ Ok t →
       Here i k t × Grows w.flat t.flat
   each_later i k step keeps xs w t h e =
       each_keeps (λ (u : Walked). Here i k u × Grows w.flat u.flat) step (λ x s u p q. let n = keeps x s u p.0 q in (n.0, grows_twice w.flat s.flat u.flat p.1 n.1)) xs w t (h, grows_here w.flat) e
@@ -329,12 +330,12 @@ module _ (source : SourceText) (F : Flat) (whole : Fine source.modules F.signals
   port_drivers Input i id t w = refl
   port_drivers Output i id t w = refl
 
-  join_drivers : (i n : ℕ) (name : Text) (t : Tree) (w : Walked) → Known w n name → (join i n name t w).flat.drivers ≡ w.flat.drivers ++ connection_driver F i n (name, t)
+  join_drivers : (i n : ℕ) (name : Text) (t : Tree) (w : Walked) → Known w n name → (join i n name t w).flat.drivers ≡ w.flat.drivers ++ driver_of_connection F i n (name, t)
   unfolding join
   join_drivers i n name t w h =
       let at : (join_at (place_of (lookup name (scope_at w n))) i t w).flat.drivers ≡ (join_at (Some h.id) i t w).flat.drivers = ap (λ (o : Option ℕ). (join_at o i t w).flat.drivers) h.found in
       let same : w.flat.drivers ++ port_driver (signal_at w.flat.signals h.id).port h.id i t ≡ w.flat.drivers ++ port_driver (signal_at F.signals h.id).port h.id i t = ap (λ (s : Signal). w.flat.drivers ++ port_driver s.port h.id i t) h.same in
-      let named : w.flat.drivers ++ port_driver (signal_at F.signals h.id).port h.id i t ≡ w.flat.drivers ++ connection_driver F i n (name, t) =
+      let named : w.flat.drivers ++ port_driver (signal_at F.signals h.id).port h.id i t ≡ w.flat.drivers ++ driver_of_connection F i n (name, t) =
       ap (λ (z : ℕ). w.flat.drivers ++ port_driver (signal_at F.signals z).port z i t) (sym h.named) in
       at ∙ (port_drivers (signal_at w.flat.signals h.id).port i h.id t w ∙ (same ∙ named))
 
@@ -344,7 +345,7 @@ module _ (source : SourceText) (F : Flat) (whole : Fine source.modules F.signals
       known_of w n name h.fine g (q.0, q.1.0)
 
   positions_drivers : (i n k : ℕ) (left : List Text) (ts : Trees) (w : Walked) → Here n k w → Grows w.flat F → ((name : Text) → Contains left name → Contains (ports_of (module_at ms k)) name) →
-      (join_positions i n left ts w).flat.drivers ≡ w.flat.drivers ++ flat_map (connection_driver F i n) (connected_in_order left ts)
+      (join_positions i n left ts w).flat.drivers ≡ w.flat.drivers ++ flat_map (driver_of_connection F i n) (connected_in_order left ts)
   unfolding join_positions connected_in_order
   positions_drivers i n k left End w h g c = sym (append-nil w.flat.drivers)
   positions_drivers i n k [] (More t ts) w h g c = sym (append-nil w.flat.drivers)
@@ -352,17 +353,17 @@ module _ (source : SourceText) (F : Flat) (whole : Fine source.modules F.signals
       let s = join_same i n p t w in
       let v = join i n p t w in
       positions_drivers i n k ps ts v (here_same n k w v s h) (grows_from w v F s g) (λ m q. c m (later p ps m q))
-      ∙ (ap (λ (z : List Driver). z ++ flat_map (connection_driver F i n) (connected_in_order ps ts)) (join_drivers i n p t w (port_known n k p w h g (c p (here p ps))))
-      ∙ append_assoc w.flat.drivers (connection_driver F i n (p, t)) (flat_map (connection_driver F i n) (connected_in_order ps ts)))
+      ∙ (ap (λ (z : List Driver). z ++ flat_map (driver_of_connection F i n) (connected_in_order ps ts)) (join_drivers i n p t w (port_known n k p w h g (c p (here p ps))))
+      ∙ append_assoc w.flat.drivers (driver_of_connection F i n (p, t)) (flat_map (driver_of_connection F i n) (connected_in_order ps ts)))
 
   value_drivers : (i n k : ℕ) (name : Text) (o : Option Tree) (w : Walked) → Here n k w → Grows w.flat F → ((m : Text) → Contains (map (λ (x : Text × Tree). x.0) (connected_value name o)) m → Contains (ports_of (module_at ms k)) m) →
-      (join_value i n name o w).flat.drivers ≡ w.flat.drivers ++ flat_map (connection_driver F i n) (connected_value name o)
+      (join_value i n name o w).flat.drivers ≡ w.flat.drivers ++ flat_map (driver_of_connection F i n) (connected_value name o)
   value_drivers i n k name None w h g c = sym (append-nil w.flat.drivers)
   value_drivers i n k name (Some t) w h g c =
-      join_drivers i n name t w (port_known n k name w h g (c name (here name []))) ∙ ap (λ (z : List Driver). w.flat.drivers ++ z) (sym (append-nil (connection_driver F i n (name, t))))
+      join_drivers i n name t w (port_known n k name w h g (c name (here name []))) ∙ ap (λ (z : List Driver). w.flat.drivers ++ z) (sym (append-nil (driver_of_connection F i n (name, t))))
 
   names_drivers : (i n k : ℕ) (list : List NamedConnection) (w : Walked) → Here n k w → Grows w.flat F → ((m : Text) → Contains (map (λ (x : Text × Tree). x.0) (flat_map connected_name list)) m → Contains (ports_of (module_at ms k)) m) →
-      (fold (join_named i n) w list).flat.drivers ≡ w.flat.drivers ++ flat_map (connection_driver F i n) (flat_map connected_name list)
+      (fold (join_named i n) w list).flat.drivers ≡ w.flat.drivers ++ flat_map (driver_of_connection F i n) (flat_map connected_name list)
   names_drivers i n k [] w h g c = sym (append-nil w.flat.drivers)
   names_drivers i n k (x ∷ xs) w h g c =
       let s = join_value_same i n x.text x.value w in
@@ -370,12 +371,12 @@ module _ (source : SourceText) (F : Flat) (whole : Fine source.modules F.signals
       let here_names : List (Text × Tree) = connected_value x.text x.value in
       let rest : List (Text × Tree) = flat_map connected_name xs in
       names_drivers i n k xs v (here_same n k w v s h) (grows_from w v F s g) (λ m q. c m (names_right here_names rest m q))
-      ∙ (ap (λ (z : List Driver). z ++ flat_map (connection_driver F i n) rest) (value_drivers i n k x.text x.value w h g (λ m q. c m (names_left here_names rest m q)))
-      ∙ (append_assoc w.flat.drivers (flat_map (connection_driver F i n) here_names) (flat_map (connection_driver F i n) rest)
-      ∙ ap (λ (z : List Driver). w.flat.drivers ++ z) (sym (flat_map-append (connection_driver F i n) here_names rest))))
+      ∙ (ap (λ (z : List Driver). z ++ flat_map (driver_of_connection F i n) rest) (value_drivers i n k x.text x.value w h g (λ m q. c m (names_left here_names rest m q)))
+      ∙ (append_assoc w.flat.drivers (flat_map (driver_of_connection F i n) here_names) (flat_map (driver_of_connection F i n) rest)
+      ∙ ap (λ (z : List Driver). w.flat.drivers ++ z) (sym (flat_map-append (driver_of_connection F i n) here_names rest))))
 
   joined_drivers : (i n k : ℕ) (c : Connections) (w : Walked) → Here n k w → Grows w.flat F → Connects (module_at ms k) c →
-      (joined i n (module_at ms k) c w).flat.drivers ≡ w.flat.drivers ++ flat_map (connection_driver F i n) (connected (module_at ms k) c)
+      (joined i n (module_at ms k) c w).flat.drivers ≡ w.flat.drivers ++ flat_map (driver_of_connection F i n) (connected (module_at ms k) c)
   unfolding joined
   joined_drivers i n k (Positions ts) w h g c =
       ap (λ (left : List Text). (join_positions i n left ts w).flat.drivers) (ports_are (module_at ms k)) ∙ positions_drivers i n k (ports_of (module_at ms k)) ts w h g (λ m q. q)
@@ -387,7 +388,7 @@ module _ (source : SourceText) (F : Flat) (whole : Fine source.modules F.signals
     others : (j : ℕ) → (j ≡ n → ⊥) → is_connection F j d ≡ false
     free : (j : ℕ) → is_assignment F j d ≡ false
 
-  conn_port : (p : Port) (i n id : ℕ) (t : Tree) → (i ≡ n → ⊥) → instance_of F id ≡ n → AllByRecursion (Conn n) (port_driver p id i t)
+  conn_port : (p : Port) (i n id : ℕ) (t : Tree) → (i ≡ n → ⊥) → signal_instance F id ≡ n → AllByRecursion (Conn n) (port_driver p id i t)
   conn_port Inner i n id t d e = tt
   conn_port Input i n id t d e = (
     record { own = rw e (apart_there i n d); others = λ j q. rw e (apart_else i n j q); free = λ j. rw e (not_both i n j d) },
@@ -396,11 +397,11 @@ module _ (source : SourceText) (F : Flat) (whole : Fine source.modules F.signals
   conn_port Output i n id t d e = (record { own = rw e (apart_there i n d); others = λ j q. rw e (apart_else i n j q); free = λ j. refl }, tt)
 
   conn_all : (i n k : ℕ) (w : Walked) (cs : List (Text × Tree)) → (i ≡ n → ⊥) → Here n k w → Grows w.flat F → ((m : Text) → Contains (map (λ (x : Text × Tree). x.0) cs) m → Contains (ports_of (module_at ms k)) m) →
-      AllByRecursion (Conn n) (flat_map (connection_driver F i n) cs)
+      AllByRecursion (Conn n) (flat_map (driver_of_connection F i n) cs)
   conn_all i n k w cs d h g c =
-      all_flat (Conn n) (connection_driver F i n) cs (all_in (λ (x : Text × Tree). AllByRecursion (Conn n) (connection_driver F i n x)) cs (λ x q.
+      all_flat (Conn n) (driver_of_connection F i n) cs (all_in (λ (x : Text × Tree). AllByRecursion (Conn n) (driver_of_connection F i n x)) cs (λ x q.
       let known = port_known n k x.0 w h g (c x.0 (in_map (λ (y : Text × Tree). y.0) cs x q)) in
-      conn_port (signal_at F.signals (signal_named F n x.0)).port i n (signal_named F n x.0) x.1 d (ap (λ (z : ℕ). instance_of F z) known.named ∙ known.instance)))
+      conn_port (signal_at F.signals (signal_number F n x.0)).port i n (signal_number F n x.0) x.1 d (ap (λ (z : ℕ). signal_instance F z) known.named ∙ known.instance)))
 
   -- One instance
 
@@ -420,10 +421,6 @@ module _ (source : SourceText) (F : Flat) (whole : Fine source.modules F.signals
   no_fault None a b e = refl
   no_fault (Some f) a b e = absurd (not_ok f b e)
 
-  weaker_all : {X : Type 0} (P Q : X → Type 0) (xs : List X) → ((x : X) → P x → Q x) → AllByRecursion P xs → AllByRecursion Q xs
-  weaker_all P Q [] h p = tt
-  weaker_all P Q (x ∷ xs) h p = (h x p.0, weaker_all P Q xs h p.1)
-
   one_child : (i j : ℕ) (c : Child) (cs : List Child) → c.parent ≡ i → (j ≡ i → ⊥) → filter (is_child_of j) (c ∷ cs) ≡ filter (is_child_of j) cs
   one_child i j c cs e d = let b : nat_eq c.parent j ≡ false = other_numbers c.parent j (λ q. d (sym q ∙ e)) in rw b refl
 
@@ -433,14 +430,14 @@ module _ (source : SourceText) (F : Flat) (whole : Fine source.modules F.signals
   -- the parts of an instance in i: its walk from mid to last, and then its connections
   module _ (i k n : ℕ) (name : Text) (x : ModuleInstance) (w mid last t : Walked) (il : i < length w.flat.scopes) (nl : length w.flat.scopes ≡ n) (same : mid.flat.drivers ≡ w.flat.drivers) (one : length mid.flat.scopes ≡ n + 1)
       (made : Made n mid last (flat_map (assigned_by F n) (module_at source.modules k).items) (flat_map (children_by n) (module_at source.modules k).items))
-      (count : length t.flat.scopes ≡ length last.flat.scopes) (is : t.flat.drivers ≡ last.flat.drivers ++ flat_map (connection_driver F i n) (connected (module_at source.modules k) x.connections))
-      (conns : AllByRecursion (Conn n) (flat_map (connection_driver F i n) (connected (module_at source.modules k) x.connections))) (module_at_end : module_of source F n ≡ module_at source.modules k)
+      (count : length t.flat.scopes ≡ length last.flat.scopes) (is : t.flat.drivers ≡ last.flat.drivers ++ flat_map (driver_of_connection F i n) (connected (module_at source.modules k) x.connections))
+      (conns : AllByRecursion (Conn n) (flat_map (driver_of_connection F i n) (connected (module_at source.modules k) x.connections))) (module_at_end : module_of source F n ≡ module_at source.modules k)
       (named : (module_at source.modules k).text ≡ name) (joins : Connects (module_at source.modules k) x.connections) (inside_end : n < length F.owners) (owned : get_or F.owners n 0 < length source.modules) where
     abbrev child : Child
     child = record { parent = i; module_name = name; text = x }
 
     abbrev links : List Driver
-    links = flat_map (connection_driver F i n) (connected (module_at source.modules k) x.connections)
+    links = flat_map (driver_of_connection F i n) (connected (module_at source.modules k) x.connections)
 
     not_i : n ≡ i → ⊥
     not_i e = omega (arith, e, il, nl)
@@ -449,13 +446,13 @@ module _ (source : SourceText) (F : Flat) (whole : Fine source.modules F.signals
     i_not e = omega (arith, e, il, nl)
 
     no_links : (j : ℕ) → (j ≡ n → ⊥) → filter (is_connection F j) links ≡ []
-    no_links j d = filter_nothing (is_connection F j) links (weaker_all (Conn n) (λ z. is_connection F j z ≡ false) links (λ z c. c.others j d) conns)
+    no_links j d = filter_nothing (is_connection F j) links (all_weaker (Conn n) (λ z. is_connection F j z ≡ false) links (λ z c. c.others j d) conns)
 
     all_links : filter (is_connection F n) links ≡ links
-    all_links = filter_all (is_connection F n) links (weaker_all (Conn n) (λ z. is_connection F n z ≡ true) links (λ z c. c.own) conns)
+    all_links = filter_all (is_connection F n) links (all_weaker (Conn n) (λ z. is_connection F n z ≡ true) links (λ z c. c.own) conns)
 
     no_assignment : (j : ℕ) → filter (is_assignment F j) links ≡ []
-    no_assignment j = filter_nothing (is_assignment F j) links (weaker_all (Conn n) (λ z. is_assignment F j z ≡ false) links (λ z c. c.free j) conns)
+    no_assignment j = filter_nothing (is_assignment F j) links (all_weaker (Conn n) (λ z. is_assignment F j z ≡ false) links (λ z c. c.free j) conns)
 
     total : length t.flat.scopes ≡ n + 1 + length made.children
     total = let c = made.count in omega (arith, c, one, count)
@@ -496,7 +493,7 @@ module _ (source : SourceText) (F : Flat) (whole : Fine source.modules F.signals
       later = omega (arith, il, nl);
       named = ap (λ (z : ModuleDeclaration). z.text) module_at_end ∙ named;
       ports = filter_both (is_connection F n) made.drivers links [] links (made.before n (omega (arith, one))) all_links
-          ∙ ap (λ (z : ModuleDeclaration). flat_map (connection_driver F i n) (connected z x.connections)) (sym module_at_end);
+          ∙ ap (λ (z : ModuleDeclaration). flat_map (driver_of_connection F i n) (connected z x.connections)) (sym module_at_end);
       connects = subst (λ z. Connects z x.connections) (sym module_at_end) joins;
       owned = owned;
     }
@@ -505,8 +502,8 @@ module _ (source : SourceText) (F : Flat) (whole : Fine source.modules F.signals
     with_links j c l p = record {
       later = p.later;
       named = p.named;
-      ports = filter_both (is_connection F j) made.drivers links (flat_map (connection_driver F c.parent j) (connected (module_of source F j) c.text.connections)) [] p.ports (no_links j (λ e. omega (arith, e, l, one)))
-          ∙ append-nil (flat_map (connection_driver F c.parent j) (connected (module_of source F j) c.text.connections));
+      ports = filter_both (is_connection F j) made.drivers links (flat_map (driver_of_connection F c.parent j) (connected (module_of source F j) c.text.connections)) [] p.ports (no_links j (λ e. omega (arith, e, l, one)))
+          ∙ append-nil (flat_map (driver_of_connection F c.parent j) (connected (module_of source F j) c.text.connections));
       connects = p.connects;
       owned = p.owned;
     }
@@ -526,7 +523,7 @@ module _ (source : SourceText) (F : Flat) (whole : Fine source.modules F.signals
         subst (λ (z : ℕ). Numbers (ChildIn (made.drivers ++ links)) z made.children) one
             (numbers_weaker (ChildIn made.drivers) (ChildIn (made.drivers ++ links)) (length mid.flat.scopes) made.children (λ j c l m p. with_links j c l p) made.child),
       );
-      due = all_append (IsDue F) made.drivers links made.due (weaker_all (Conn n) (IsDue F) links (λ z c. inr (n, (omega (arith, il, nl), (inside_end, c.own)))) conns);
+      due = all_append (IsDue F) made.drivers links made.due (all_weaker (Conn n) (IsDue F) links (λ z c. inr (n, (omega (arith, il, nl), (inside_end, c.own)))) conns);
     }
 
   checked_connects : (above : List ℕ) (names : Names) (m : ModuleDeclaration) (k at : ℕ) (over : Option Connections) (x : ModuleInstance) (given : Names) → Distinct (ports_of m) → checked above names m k at over x ≡ Ok given → Connects m x.connections
@@ -564,13 +561,13 @@ module _ (source : SourceText) (F : Flat) (whole : Fine source.modules F.signals
 
   -- Items
 
-  instance_keeps : (above : List ℕ) (i k : ℕ) (sub : Enter) → naming.Enters ms sub → EnterGrows sub → (at : ℕ) (over : Option Connections) (o : Option ℕ) (x : ModuleInstance) (w t : Walked) → Here i k w →
+  pub instance_keeps : (above : List ℕ) (i k : ℕ) (sub : Enter) → naming.Enters ms sub → EnterGrows sub → (at : ℕ) (over : Option Connections) (o : Option ℕ) (x : ModuleInstance) (w t : Walked) → Here i k w →
       walk.instance_of ms above i sub at over o x w ≡ Ok t → Here i k t × Grows w.flat t.flat
   instance_keeps above i k sub fs gs at over o x w t h e =
       let g = instance_grows ms above i sub at over o gs x w t e in
       (here_later i k w t h (naming.after_instance ms above i sub at over o fs x w t h.fine e) g, g)
 
-  item_keeps : (above : List ℕ) (i k : ℕ) (sub : Enter) → naming.Enters ms sub → EnterGrows sub → (x : ModuleItem) (w t : Walked) → Here i k w → item ms table above i sub x w ≡ Ok t → Here i k t × Grows w.flat t.flat
+  pub item_keeps : (above : List ℕ) (i k : ℕ) (sub : Enter) → naming.Enters ms sub → EnterGrows sub → (x : ModuleItem) (w t : Walked) → Here i k w → item ms table above i sub x w ≡ Ok t → Here i k t × Grows w.flat t.flat
   item_keeps above i k sub fs gs x w t h e =
       let g = item_grows ms table above i sub gs x w t e in
       (here_later i k w t h (naming.after_item ms table above i sub fs x w t h.fine e) g, g)
@@ -583,17 +580,17 @@ module _ (source : SourceText) (F : Flat) (whole : Fine source.modules F.signals
   unfolding item
   made_item above i k sub fs gs s (Ports p) w t c h g e = nothing_made i w t (ok_is w t e)
   made_item above i k sub fs gs s (Nets signed range list) w t c h g e =
-      subst (λ kids. Made i w t (flat_map (net_driver F i) list) kids) (flat_none list)
-      (made_each (λ (n : NetIdentifier). Declares (module_at ms k) n.text) (net_driver F i) (λ (n : NetIdentifier). none_of Child) i k (net i) (λ n a b p q. let z = net_same i n a b q in (here_same i k a b z p, same_grows a b z))
+      subst (λ kids. Made i w t (flat_map (driver_of_net F i) list) kids) (flat_none list)
+      (made_each (λ (n : NetIdentifier). Declares (module_at ms k) n.text) (driver_of_net F i) (λ (n : NetIdentifier). none_of Child) i k (net i) (λ n a b p q. let z = net_same i n a b q in (here_same i k a b z p, same_grows a b z))
       (λ n a b d p u q. made_net i k n a b d p u q) list w t
       (all_in (λ (n : NetIdentifier). Declares (module_at ms k) n.text) list (λ n q. inr (Nets signed range list, (c, in_map (λ (z : NetIdentifier). z.text) list n q)))) h g e)
   made_item above i k sub fs gs s (Variables signed range list) w t c h g e = nothing_made i w t (ok_is w t e)
   made_item above i k sub fs gs s (Integers list) w t c h g e = nothing_made i w t (ok_is w t e)
   made_item above i k sub fs gs s (Parameters p) w t c h g e = nothing_made i w t (ok_is w t e)
   made_item above i k sub fs gs s (Assigns pairs) w t c h g e =
-      subst (λ ds. Made i w t ds []) (flat_map_single (pair_driver i) pairs)
-      (subst (λ kids. Made i w t (flat_map (λ (p : NetAssignment). pair_driver i p ∷ []) pairs) kids) (flat_none pairs)
-      (made_each (λ (p : NetAssignment). Unit {0}) (λ (p : NetAssignment). pair_driver i p ∷ []) (λ (p : NetAssignment). none_of Child) i k (assign i) (λ n a b p q. let z = assign_same i n a b q in (here_same i k a b z p, same_grows a b z))
+      subst (λ ds. Made i w t ds []) (flat_map_single (driver_of_pair i) pairs)
+      (subst (λ kids. Made i w t (flat_map (λ (p : NetAssignment). driver_of_pair i p ∷ []) pairs) kids) (flat_none pairs)
+      (made_each (λ (p : NetAssignment). Unit {0}) (λ (p : NetAssignment). driver_of_pair i p ∷ []) (λ (p : NetAssignment). none_of Child) i k (assign i) (λ n a b p q. let z = assign_same i n a b q in (here_same i k a b z p, same_grows a b z))
       (λ n a b d p u q. made_assign i k n a b p u q) pairs w t (all_in (λ (p : NetAssignment). Unit {0}) pairs (λ p q. tt)) h g e))
   made_item above i k sub fs gs s (Always events body at) w t c h g e =
       made_none i w t (always_drivers i events body at w t e) (ap (λ (ns : List Names). length ns) (sym (always_same i events body at w t e).scopes))

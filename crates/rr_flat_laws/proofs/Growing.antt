@@ -15,7 +15,7 @@ use Rattle.rr_flat.specs.Shapes.{shape_faults, statement_faults}
 use Rattle.rr_flat.specs.Signals.{Text, signal_at}
 use Rattle.rr_head.specs.Heads.{Head, head}
 use Rattle.rr_walk.specs.Tables.{place_of, port_names}
-use Rattle.rr_walk.specs.Walk.{Walked, Enter, scope_at, module_at, with_driver, with_block, assign, net_driver, net_value, net_with, net, event_faults, always, checked, with_instance, join_port, join_at, join, join_value, join_named, join_positions, joined, instance_of, item, opened, begin, enter_by, enter}
+use Rattle.rr_walk.specs.Walk.{Walked, Enter, scope_at, module_at, with_driver, with_block, assign, net_driver, net_value, net_with, net, event_faults, always, checked, with_instance, join_port, join_at, join, join_value, join_named, join_positions, joined, instance_of, item, opened, begin, enter_by, enter, finished}
 use Rattle.rr_walk.proofs.HeadOf.{ok_is, not_ok, first_ok, each_keeps}
 use Rattle.rr_flat_laws.proofs.Answers.{settled}
 
@@ -237,3 +237,7 @@ enter_grows source table (suc n) above k given w v e =
     let b = began source k given w r.mid r.began in
     grows_twice w.flat r.mid.flat v.flat (subst (λ (u : Walked). Grows w.flat u.flat) b.is (opened_grows k b.top w))
     (items_grow source table (above ++ k ∷ []) (length w.flat.scopes) (enter source table n (above ++ k ∷ [])) (enter_grows source table n (above ++ k ∷ [])) (module_at source k).items r.mid v r.walked)
+
+-- what is added at the end is no signal and no instance
+pub end_grows : (source : List ModuleDeclaration) (w : Walked) → Grows w.flat (finished source w.flat)
+end_grows source w = let g = grows_here w.flat in record { signals = g.signals; owners = g.owners }

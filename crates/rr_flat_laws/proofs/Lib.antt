@@ -10,3 +10,4 @@ pub mod Connecting
 pub mod Driving
 pub mod Porting
 pub mod Whole
+pub mod Blocking

@@ -20,7 +20,7 @@ use Rattle.rr_walk.specs.Tables.{place_of, add_module}
 use Rattle.rr_walk.specs.Walk.{Walked, Enter, scope_at, module_at, net, assign, with_instance, joined, instance_of, item, opened, enter_by, enter, nothing, finished, top_place, enter_top, flat_of}
 use Rattle.rr_walk.proofs.HeadOf.{ok_is, not_ok, first_ok, each_keeps}
 use Rattle.rr_flat_laws.specs.Declared.{ports_by, HasDeclaration, way_of, Declares, ports_of}
-use Rattle.rr_flat_laws.specs.Names.{IsSignal, NamesAre}
+use Rattle.rr_flat_laws.specs.Names.{IsSignalOf, NamesAre}
 use Rattle.rr_flat_laws.proofs.Growing.{Same, each_same, assign_same, net_same, always_same, joined_same, began, inside, entered}
 use Rattle.rr_flat_laws.proofs.Opening.{Opened, opened_head}
 use Rattle.rr_flat_laws.proofs.Texts.{Distinct, with_stays}
@@ -266,9 +266,9 @@ names_of_design source top flat e =
     record {
       one = λ i n l c.
           let h = (f.filled i (omega (arith, l, ev))).has n c in
-          let own : (id : ℕ) → IsSignal flat i n id → lookup n (get_or flat.scopes i []) ≡ Some (entity.Signal id (signal_at ss id).range (signal_at ss id).signed) =
+          let own : (id : ℕ) → IsSignalOf flat i n id → lookup n (get_or flat.scopes i []) ≡ Some (entity.Signal id (signal_at ss id).range (signal_at ss id).signed) =
           λ id s. named_found source.modules ss flat.scopes flat.owners i n id f (s.there, (s.instance, s.named)) in
-          let is : IsSignal flat i n h.0 = record { there = h.1.0; instance = h.1.1.0; named = h.1.1.1 } in
+          let is : IsSignalOf flat i n h.0 = record { there = h.1.0; instance = h.1.1.0; named = h.1.1.1 } in
           record {
             id = h.0;
             is = is;

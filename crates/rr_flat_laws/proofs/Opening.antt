@@ -23,15 +23,15 @@ use Rattle.rr_flat.proofs.Lists.{all_index}
 use Rattle.rr_head.specs.Declarations.{Declared, Declarations, is_port, port_of, know, know_identifier, know_ports, know_port_item, known, plain_names, add_plain_name, brackets, no_declared, declared_at, declare_ports, declare_item, declarations}
 use Rattle.rr_head.specs.Heads.{Head, named_signal, with_port, with_ports, with_inner, signals_in_order, with_signals, numbered, declared, head}
 use Rattle.rr_head.specs.Parameters.{parameters}
-use Rattle.rr_walk.proofs.HeadOf.{ok_is, first_ok, NoSignal, Entries, constants, head_of}
+use Rattle.rr_walk.proofs.HeadOf.{ok_is, first_ok, NoSignal, Entries, constants, head_of, all_append}
 use Rattle.rr_flat_laws.specs.Declared.{texts_of, ports_by, HasDeclaration, way_of, declared_by, Declares, plain_ports, ports_of}
 use Rattle.rr_flat_laws.proofs.Answers.{nil_left, nil_right, not_if, settled}
 use Rattle.rr_flat_laws.proofs.Declaring.{Has, HasPort, HasWay, Lists, done_twice, each_done, item_ports, with_way, ways_by, item_ways, done_ports, done_item}
-use Rattle.rr_flat_laws.proofs.Texts.{some_is, none_some, nowhere, there_cases, here, later, all_in, in_map, in_flat, Distinct, distinct_append, distinct_left, distinct_apart, distinct_places, with_stays, with_new, with_cases, none_before, is_none_of, there_of, found_entry, some_with, known_from}
+use Rattle.rr_flat_laws.proofs.Texts.{some_is, none_some, nowhere, there_cases, here, later, all_in, in_map, in_flat, Distinct, distinct_append, distinct_left, distinct_apart, distinct_places, with_stays, with_new, with_cases, none_before, is_none_of, there_of, found_entry, some_with, known_from, nothing_known}
 
 -- The port brackets
 
-plain_is : (header : Option (List Identifier)) → texts_of (plain_names header) ≡ plain_ports header
+pub plain_is : (header : Option (List Identifier)) → texts_of (plain_names header) ≡ plain_ports header
 plain_is None = refl
 plain_is (Some list) = refl
 
@@ -104,10 +104,6 @@ from_item names (Parameters p) n h = inl h
 from_item names (Assigns pairs) n h = inl h
 from_item names (Always events body token) n h = inl h
 from_item names (Instances m token overrides list) n h = inl h
-
-nothing_known : (n : Text) → is_some (lookup n []) ≡ true → ⊥
-unfolding lookup
-nothing_known n h = both_ways false refl h
 
 -- The declarations of a module
 
@@ -371,11 +367,6 @@ name_place ss n (j, l, e) =
 name_there : (ss : List Signal) (j : ℕ) → j < length ss → Contains (map name_of ss) (signal_at ss j).name
 name_there ss j l = (j, omega (arith, l, length-map ss name_of), get_or-map name_of ss j no_signal (signal_at ss j).name l)
 
--- a property of the signals of two lists
-both_lists : (Q : Signal → Type 0) (xs ys : List Signal) → AllByRecursion Q xs → AllByRecursion Q ys → AllByRecursion Q (xs ++ ys)
-both_lists Q [] ys p q = q
-both_lists Q (x ∷ xs) ys p q = (p.0, both_lists Q xs ys p.1 q)
-
 inner_ports : (list : List Declared) → AllByRecursion (λ (s : Signal). is_port s.port ≡ false) (flat_map one_inner list)
 inner_ports [] = tt
 inner_ports (x ∷ xs) = by (is_port x.signal.port) refl (inner_ports xs)
@@ -457,7 +448,7 @@ module _ (m : ModuleDeclaration) (params : Names) (d : Declarations) (f : Facts 
       subst (Contains (ports_of m ++ inner_names)) k.1 (by_port h.place k.0 (is_port (declared_at d.list h.place).signal.port) refl)
 
   all_listed : AllByRecursion (Listed d) (ports ++ inners)
-  all_listed = both_lists (Listed d) ports inners first.listed (inner_listed (Listed d) d.list (λ s l. record { place = l.0; there = l.1.0; is = l.1.1 }))
+  all_listed = all_append (Listed d) ports inners first.listed (inner_listed (Listed d) d.list (λ s l. record { place = l.0; there = l.1.0; is = l.1.1 }))
 
   -- a signal that has a name goes its way
   goes : (n : Text) (w : Port) → HasWay d n w → (j : ℕ) → j < length (ports ++ inners) → (signal_at (ports ++ inners) j).name ≡ n → (signal_at (ports ++ inners) j).port ≡ w
@@ -474,7 +465,7 @@ module _ (m : ModuleDeclaration) (params : Names) (d : Declarations) (f : Facts 
   in_order = record {
     apart = subst Distinct (sym names_are) (distinct_append (ports_of m) inner_names f.apart (inner_apart d.list (list_apart f.bracketed params (Declares m) d f.lists)) cross);
     new = λ n c. unparameter n (in_list n c) (lookup n params) refl;
-    declared = both_lists IsOne ports inners
+    declared = all_append IsOne ports inners
         (weaker (λ (s : Signal). is_port s.port ≡ true) IsOne ports (λ s c q. let k : Contains (ports_of m) s.name = subst (λ ns. Contains ns s.name) first.names c in (port_declared s.name k, λ r. k)) first.ports)
         (weaker (λ (s : Signal). is_port s.port ≡ false) IsOne inners
         (λ s c q. let k = inner_from d.list s.name c in (subst (Declares m) k.name (f.lists.true_of k.place k.there), λ r. absurd (both_ways (is_port s.port) q r))) (inner_ports d.list));

@@ -212,3 +212,7 @@ found_entry Q (e ∷ es) n x q h = by (bytes_eq n e.0) h (found_entry Q es n x q
     by : (b : Bool) → cond b (Some e.1) (lookup n es) ≡ Some x → (lookup n es ≡ Some x → Q x) → Q x
     by true h k = subst Q (some_is e.1 x h) q.0
     by false h k = k h
+
+pub nothing_known : (n : Text) → is_some (lookup n []) ≡ true → ⊥
+unfolding lookup
+nothing_known n h = both_ways false refl h

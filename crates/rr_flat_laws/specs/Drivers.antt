@@ -16,8 +16,8 @@ use Rattle.rr_flat.specs.Writers.{scope_at}
 use Rattle.rr_flat_laws.specs.Declared.{ports_of}
 
 -- the instance of a signal
-abbrev pub instance_of : Flat → ℕ → ℕ
-instance_of flat id = (signal_at flat.signals id).instance
+abbrev pub signal_instance : Flat → ℕ → ℕ
+signal_instance flat id = (signal_at flat.signals id).instance
 
 abbrev pub number_in : Option Entity → ℕ
 number_in None = 0
@@ -26,38 +26,38 @@ number_in (Some (entity.Signal id range signed)) = id
 number_in (Some entity.Instance) = 0
 
 -- the number of the signal that a name of an instance stands for
-abbrev pub signal_named : Flat → ℕ → Text → ℕ
-signal_named flat i name = number_in (lookup name (scope_at flat i))
+abbrev pub signal_number : Flat → ℕ → Text → ℕ
+signal_number flat i name = number_in (lookup name (scope_at flat i))
 
 -- Continuous assignments
 
 -- `assign target = value` in instance i (section 6.1.2)
-abbrev pub pair_driver : ℕ → NetAssignment → Driver
-pair_driver i p = record { target = Written p.target i; value = Written p.value i; token = first p.target }
+abbrev pub driver_of_pair : ℕ → NetAssignment → Driver
+driver_of_pair i p = record { target = Written p.target i; value = Written p.value i; token = first p.target }
 
 -- a net that is declared with a value in instance i (section 6.1.1)
-abbrev pub value_driver : Flat → ℕ → NetIdentifier → Option Tree → List Driver
-value_driver flat i n None = []
-value_driver flat i n (Some t) = record { target = Whole (signal_named flat i n.text); value = Written t i; token = n.token } ∷ []
+abbrev pub driver_of_value : Flat → ℕ → NetIdentifier → Option Tree → List Driver
+driver_of_value flat i n None = []
+driver_of_value flat i n (Some t) = record { target = Whole (signal_number flat i n.text); value = Written t i; token = n.token } ∷ []
 
-abbrev pub net_driver : Flat → ℕ → NetIdentifier → List Driver
-net_driver flat i n = value_driver flat i n n.value
+abbrev pub driver_of_net : Flat → ℕ → NetIdentifier → List Driver
+driver_of_net flat i n = driver_of_value flat i n n.value
 
 -- the continuous assignments of an item of instance i, in the order of the text
 abbrev pub assigned_by : Flat → ℕ → ModuleItem → List Driver
 assigned_by flat i (Ports p) = []
-assigned_by flat i (Nets signed range list) = flat_map (net_driver flat i) list
+assigned_by flat i (Nets signed range list) = flat_map (driver_of_net flat i) list
 assigned_by flat i (Variables signed range list) = []
 assigned_by flat i (Integers list) = []
 assigned_by flat i (Parameters p) = []
-assigned_by flat i (Assigns pairs) = map (pair_driver i) pairs
+assigned_by flat i (Assigns pairs) = map (driver_of_pair i) pairs
 assigned_by flat i (Always events body token) = []
 assigned_by flat i (Instances m token overrides list) = []
 
 -- a driver within instance i: from a text there to a text there, or to a net of it
 abbrev pub is_within : Flat → ℕ → Side → Side → Bool
 is_within flat i (Written t j) (Written v k) = nat_eq j i && nat_eq k i
-is_within flat i (Whole id) (Written v k) = nat_eq (instance_of flat id) i && nat_eq k i
+is_within flat i (Whole id) (Written v k) = nat_eq (signal_instance flat id) i && nat_eq k i
 is_within flat i (Written t j) (Whole id) = false
 is_within flat i (Whole x) (Whole id) = false
 
@@ -122,14 +122,14 @@ port_driver Input id i t = record { target = Whole id; value = Written t i; toke
 port_driver Output id i t = record { target = Written t i; value = Whole id; token = first t } ∷ []
 
 -- the driver of a connected port of instance k
-abbrev pub connection_driver : Flat → ℕ → ℕ → Text × Tree → List Driver
-connection_driver flat i k c = port_driver (signal_at flat.signals (signal_named flat k c.0)).port (signal_named flat k c.0) i c.1
+abbrev pub driver_of_connection : Flat → ℕ → ℕ → Text × Tree → List Driver
+driver_of_connection flat i k c = port_driver (signal_at flat.signals (signal_number flat k c.0)).port (signal_number flat k c.0) i c.1
 
 -- a driver between a signal of instance k and a text of another instance
 abbrev pub is_between : Flat → ℕ → Side → Side → Bool
 is_between flat k (Written t j) (Written v i) = false
-is_between flat k (Whole id) (Written v i) = nat_eq (instance_of flat id) k && not (nat_eq i k)
-is_between flat k (Written t i) (Whole id) = nat_eq (instance_of flat id) k && not (nat_eq i k)
+is_between flat k (Whole id) (Written v i) = nat_eq (signal_instance flat id) k && not (nat_eq i k)
+is_between flat k (Written t i) (Whole id) = nat_eq (signal_instance flat id) k && not (nat_eq i k)
 is_between flat k (Whole x) (Whole id) = false
 
 abbrev pub is_connection : Flat → ℕ → Driver → Bool
@@ -145,13 +145,13 @@ expression_of port (c ∷ cs) = if bytes_eq port c.0 then Some c.1 else expressi
 -- its driver, or none
 abbrev pub driver_of_port : Flat → ℕ → ℕ → Text → Option Tree → List Driver
 driver_of_port flat i k port None = []
-driver_of_port flat i k port (Some t) = connection_driver flat i k (port, t)
+driver_of_port flat i k port (Some t) = driver_of_connection flat i k (port, t)
 
 -- a driver between a signal and a text of another instance than its own
 abbrev pub is_joined : Flat → ℕ → Side → Side → Bool
 is_joined flat id (Written t j) (Written v i) = false
-is_joined flat id (Whole x) (Written v i) = nat_eq x id && not (nat_eq i (instance_of flat id))
-is_joined flat id (Written t i) (Whole x) = nat_eq x id && not (nat_eq i (instance_of flat id))
+is_joined flat id (Whole x) (Written v i) = nat_eq x id && not (nat_eq i (signal_instance flat id))
+is_joined flat id (Written t i) (Whole x) = nat_eq x id && not (nat_eq i (signal_instance flat id))
 is_joined flat id (Whole x) (Whole y) = false
 
 abbrev pub joins : Flat → ℕ → Driver → Bool

@@ -4,8 +4,9 @@ use Rattle.rr_syntax.specs.Tree.{SourceText}
 use Rattle.rr_flat.specs.Plain.{Flat}
 use Rattle.rr_flat.specs.Signals.{Text}
 use Rattle.rr_walk.specs.Walk.{flat_of}
-use Rattle.rr_flat_laws.specs.Hierarchy.{AreAssignments, AreConnections, IsDue}
-use Rattle.rr_flat_laws.specs.Names.{NamesAre}
+use Rattle.rr_flat_laws.specs.Blocks.{AreBlocks}
+use Rattle.rr_flat_laws.specs.Hierarchy.{IsTop, AreAssignments, AreConnections, IsDue}
+use Rattle.rr_flat_laws.specs.Names.{module_of, NamesAre}
 
 -- each name that an instance declares as a net or a variable is one signal, and each signal is such a name
 abbrev pub NamesAreSignals : Type 0
@@ -18,6 +19,14 @@ AssignmentsAreDrivers = (source : SourceText) (top : Option Text) (flat : Flat) 
 -- each connected port of an instance below the top is one driver
 abbrev pub ConnectionsAreDrivers : Type 0
 ConnectionsAreDrivers = (source : SourceText) (top : Option Text) (flat : Flat) → flat_of source top ≡ Ok flat → AreConnections source flat
+
+-- each `always` of an instance is one block, and there are no others
+abbrev pub BlocksAreAlways : Type 0
+BlocksAreAlways = (source : SourceText) (top : Option Text) (flat : Flat) → flat_of source top ≡ Ok flat → AreBlocks source flat
+
+-- the first instance is one of the top
+abbrev pub TopIsFirst : Type 0
+TopIsFirst = (source : SourceText) (top : Option Text) (flat : Flat) → flat_of source top ≡ Ok flat → IsTop source top (module_of source flat 0)
 
 -- there are no other drivers
 abbrev pub NoOtherDrivers : Type 0

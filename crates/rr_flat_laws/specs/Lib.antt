@@ -1,5 +1,6 @@
 pub mod Declared
 pub mod Names
 pub mod Drivers
+pub mod Blocks
 pub mod Hierarchy
 pub mod Laws

@@ -20,7 +20,7 @@ abbrev pub IsPort : Signal → Type 0
 IsPort s = s.port ≡ Inner → ⊥
 
 -- a signal by its number is one of instance i, with this name
-pub record IsSignal (flat : Flat) (i : ℕ) (name : Text) (id : ℕ) : Type 0 where
+pub record IsSignalOf (flat : Flat) (i : ℕ) (name : Text) (id : ℕ) : Type 0 where
   pub there : id < length flat.signals
   pub instance : (signal_at flat.signals id).instance ≡ i
   pub named : (signal_at flat.signals id).name ≡ name
@@ -28,32 +28,32 @@ pub record IsSignal (flat : Flat) (i : ℕ) (name : Text) (id : ℕ) : Type 0 wh
 -- there is exactly one, and in that instance the name stands for it
 pub record IsOneSignal (flat : Flat) (i : ℕ) (name : Text) : Type 0 where
   pub id : ℕ
-  pub is : IsSignal flat i name id
-  pub alone : (other : ℕ) → IsSignal flat i name other → other ≡ id
+  pub is : IsSignalOf flat i name id
+  pub alone : (other : ℕ) → IsSignalOf flat i name other → other ≡ id
   pub found : lookup name (scope_at flat i) ≡ Some (entity_of_signal flat id)
 
 -- a signal is one of an instance that there is, whose module declares its name
-pub record IsNamed (source : SourceText) (flat : Flat) (s : Signal) : Type 0 where
+pub record IsOfInstance (source : SourceText) (flat : Flat) (s : Signal) : Type 0 where
   pub there : s.instance < length flat.owners
   pub declared : Declares (module_of source flat s.instance) s.name
 
 -- an input or output of an instance with this name
 pub record IsPortNamed (flat : Flat) (i : ℕ) (name : Text) : Type 0 where
   pub id : ℕ
-  pub is : IsSignal flat i name id
+  pub is : IsSignalOf flat i name id
   pub port : IsPort (signal_at flat.signals id)
 
 -- a signal of an instance with this name goes this way
 pub record GoesWay (flat : Flat) (i : ℕ) (name : Text) (way : Port) : Type 0 where
   pub id : ℕ
-  pub is : IsSignal flat i name id
+  pub is : IsSignalOf flat i name id
   pub goes : (signal_at flat.signals id).port ≡ way
 
 -- the names of each instance's module and the signals are one to one, and its ports are the inputs and outputs, as they
 -- are declared
 pub record NamesAre (source : SourceText) (flat : Flat) : Type 0 where
   pub one : (i : ℕ) (name : Text) → i < length flat.owners → Declares (module_of source flat i) name → IsOneSignal flat i name
-  pub named : (id : ℕ) → id < length flat.signals → IsNamed source flat (signal_at flat.signals id)
+  pub named : (id : ℕ) → id < length flat.signals → IsOfInstance source flat (signal_at flat.signals id)
   pub ports : (i : ℕ) (name : Text) → i < length flat.owners → Contains (ports_of (module_of source flat i)) name → IsPortNamed flat i name
   pub ways : (i : ℕ) (p : PortDeclaration) (name : Text) → i < length flat.owners → HasDeclaration (module_of source flat i) p → Contains (ports_by p) name → GoesWay flat i name (way_of p.dir)
   pub listed : (id : ℕ) → id < length flat.signals → IsPort (signal_at flat.signals id) → Contains (ports_of (module_of source flat (signal_at flat.signals id).instance)) (signal_at flat.signals id).name

@@ -1,5 +1,5 @@
 //! What the flat design of a source is, as contracts of functions that do nothing.
-ghost use Rattle.rr_flat_laws.specs.Laws.{NamesAreSignals, AssignmentsAreDrivers, ConnectionsAreDrivers, NoOtherDrivers};
+ghost use Rattle.rr_flat_laws.specs.Laws.{NamesAreSignals, AssignmentsAreDrivers, ConnectionsAreDrivers, TopIsFirst, NoOtherDrivers, BlocksAreAlways};
 
 /// In the flat design of a source each name that an instance declares as a net or a variable is
 /// exactly one signal, which the name stands for there, each signal is such a name, and the ports of
@@ -26,7 +26,20 @@ pub fn connections_are_drivers()
     ensures { ConnectionsAreDrivers }
 {}
 
+/// The first instance is one of the top: of the module with the given name, or without a name of one
+/// that no module instantiates (section 12.1.1).
+pub fn top_is_first()
+    ensures { TopIsFirst }
+{}
+
 /// Each driver is a continuous assignment of an instance, or a connection of one below the top.
 pub fn no_other_drivers()
     ensures { NoOtherDrivers }
+{}
+
+/// The blocks of an instance are the `always` of its module, each once and in the order of the text:
+/// those with edges are clocked, the others combinational (sections 9.7 and 9.9.2). There are no
+/// others.
+pub fn blocks_are_always()
+    ensures { BlocksAreAlways }
 {}

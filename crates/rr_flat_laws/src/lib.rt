@@ -6,5 +6,6 @@
 mod laws;
 
 pub use laws::{
-    assignments_are_drivers, connections_are_drivers, names_are_signals, no_other_drivers,
+    assignments_are_drivers, blocks_are_always, connections_are_drivers, names_are_signals,
+    no_other_drivers, top_is_first,
 };

@@ -197,19 +197,19 @@ module _ (r : Execution) where
   ]
 
   -- the put of the report failed
-  report_fault : (ending : Ending) (text : List ℕ) → Ends r.words r.before r.after ending text → AppendsFront r.notes_before r.notes_after text
+  report_fault : (ending : Ending) (text : List ℕ) → Ends r.arguments r.before r.after ending text → AppendsFront r.notes_before r.notes_after text
       → Faulted r.notes_faults_before r.notes_faults_after → IsReportFault r
   report_fault ending text ends front rose = record { ending = ending; text = text; ends = ends; rose = rose; reported = front }
 
-  came_of : (o : Option Plan) (ending : Ending) (text : List ℕ) → Ends r.words r.before r.after ending text → MatchOption o (IsUsage r.before r.after ending text) (λ plan. CommandEnds (command_of_plan plan) r.before r.after ending text)
+  came_of : (o : Option Plan) (ending : Ending) (text : List ℕ) → Ends r.arguments r.before r.after ending text → MatchOption o (IsUsage r.before r.after ending text) (λ plan. CommandEnds (command_of_plan plan) r.before r.after ending text)
       → Reports r.notes_before r.notes_after r.notes_faults_before r.notes_faults_after text (status_of ending) r.status → Came r o
   came_of None ending text ends e (inl p) = usage_put None ending text refl e p.0 p.1 p.2
   came_of None ending text ends e (inr p) = came_fault (inr (inr p.1)) (inl (report_fault ending text ends p.0 p.1)) p.2 e.shelf.held
   came_of (Some plan) ending text ends e (inl p) = plan_put plan (Some plan) ending text refl e p.0 p.1 p.2
   came_of (Some plan) ending text ends e (inr p) = came_fault (inr (inr p.1)) (inl (report_fault ending text ends p.0 p.1)) p.2 (held_of plan ending text e)
 
-pub execution_came : {r : Execution} → IsExecution r → Came r (command_of r.words)
-execution_came {r} c = came_of r (command_of r.words) c.ending c.text c.ends c.ends.how c.reports
+pub execution_came : {r : Execution} → IsExecution r → Came r (command_of r.arguments)
+execution_came {r} c = came_of r (command_of r.arguments) c.ending c.text c.ends c.ends.how c.reports
 
 -- what the status of a verdict says
 status_low : (v : Verdict) → (verdict_status v ≡ 0) ⊎ (verdict_status v ≡ 1)
@@ -532,57 +532,57 @@ module _ (r : Execution) (design : List ℕ) (m : IsMatchingRepair r design) whe
   ]
 
 module _ {r : Execution} (c : IsExecution r) where
-  pub execution_done : r.status ≡ 0 → WhereCommand r.words (HasDone r)
-  execution_done is = of_repaired r (command_of r.words) (execution_came c) is
+  pub execution_done : r.status ≡ 0 → WhereCommand r.arguments (HasDone r)
+  execution_done is = of_repaired r (command_of r.arguments) (execution_came c) is
 
-  pub execution_failed : r.status ≡ 1 → WhereCommand r.words (HasFailed r)
-  execution_failed is = of_despaired r (command_of r.words) (execution_came c) is
+  pub execution_failed : r.status ≡ 1 → WhereCommand r.arguments (HasFailed r)
+  execution_failed is = of_despaired r (command_of r.arguments) (execution_came c) is
 
-  pub execution_certified : r.status ≡ 0 → (circuit proof : List ℕ) → IsCheck r.words circuit proof → HoldsNeverTrue r.before.held circuit
-  execution_certified is circuit proof words = of_certified (execution_done is)
+  pub execution_certified : r.status ≡ 0 → (circuit proof : List ℕ) → IsCheck r.arguments circuit proof → HoldsNeverTrue r.before.held circuit
+  execution_certified is circuit proof arguments = of_certified (execution_done is)
     where
-      of_certified : WhereCommand r.words (HasDone r) → HoldsNeverTrue r.before.held circuit
-      of_certified (plan, p, has) = certified r circuit proof (rw (same_plan (command_of r.words) plan (check circuit proof) p words) at has)
+      of_certified : WhereCommand r.arguments (HasDone r) → HoldsNeverTrue r.before.held circuit
+      of_certified (plan, p, has) = certified r circuit proof (rw (same_plan (command_of r.arguments) plan (check circuit proof) p arguments) at has)
 
-  pub execution_refused : r.status ≡ 3 → WhereCommand r.words (λ plan. IsRefused r (command_of_plan plan))
-  execution_refused is = of_refused r (command_of r.words) (execution_came c) is
+  pub execution_refused : r.status ≡ 3 → WhereCommand r.arguments (λ plan. IsRefused r (command_of_plan plan))
+  execution_refused is = of_refused r (command_of r.arguments) (execution_came c) is
 
-  pub execution_faulty : r.status ≡ 4 → SomeFault r ⊎ WhereCommand r.words (λ plan. IsAbsent r (command_of_plan plan))
-  execution_faulty is = of_faulty r (command_of r.words) (execution_came c) is
+  pub execution_faulty : r.status ≡ 4 → SomeFault r ⊎ WhereCommand r.arguments (λ plan. IsAbsent r (command_of_plan plan))
+  execution_faulty is = of_faulty r (command_of r.arguments) (execution_came c) is
 
   pub execution_failure : r.status ≡ 4 → IsFailure r
-  execution_failure is = of_failure r (command_of r.words) (execution_came c) is
+  execution_failure is = of_failure r (command_of r.arguments) (execution_came c) is
 
   pub execution_as_it_was : (design : List ℕ) → IsMatchingRepair r design → PrintsAsItWas r design
-  execution_as_it_was design m = as_it_was r design m (command_of r.words) m.words (execution_came c)
+  execution_as_it_was design m = as_it_was r design m (command_of r.arguments) m.arguments (execution_came c)
 
   pub execution_exhausted : r.status ≡ 5 → IsExhausted r
-  execution_exhausted is = of_exhausted r (command_of r.words) (execution_came c) is
+  execution_exhausted is = of_exhausted r (command_of r.arguments) (execution_came c) is
 
   pub execution_usage : r.status ≡ 6 → IsUnread r
   execution_usage is =
-      let u = of_usage r (command_of r.words) (execution_came c) is in
+      let u = of_usage r (command_of r.arguments) (execution_came c) is in
       record { none = u.0; reported = u.3; shelf = u.1.shelf; out = u.2 }
 
-  pub execution_not_plain : r.status ≡ 6 → (plan : Plan) → IsPlain r.words plan → ⊥
-  execution_not_plain is plan plain = some_plan (command_of r.words) plan (plain_command r.words plan plain) (execution_usage is).none
+  pub execution_not_plain : r.status ≡ 6 → (plan : Plan) → IsPlain r.arguments plan → ⊥
+  execution_not_plain is plan plain = some_plan (command_of r.arguments) plan (plain_command r.arguments plan plain) (execution_usage is).none
 
   pub execution_kept : r.after.held ≡ r.before.held
-  execution_kept = of_held r (command_of r.words) (execution_came c)
+  execution_kept = of_held r (command_of r.arguments) (execution_came c)
 
   pub execution_shelf : r.before.faults < r.after.faults → r.status ≡ 4
-  execution_shelf rose = of_calm r (command_of r.words) (execution_came c) (λ calm. let same = calm.shelf.faults in omega (arith, same))
+  execution_shelf rose = of_calm r (command_of r.arguments) (execution_came c) (λ calm. let same = calm.shelf.faults in omega (arith, same))
 
   pub execution_out : r.before.out_faults < r.after.out_faults → r.status ≡ 4
-  execution_out rose = of_calm r (command_of r.words) (execution_came c) (λ calm. let same = calm.out in omega (arith, same))
+  execution_out rose = of_calm r (command_of r.arguments) (execution_came c) (λ calm. let same = calm.out in omega (arith, same))
 
   pub execution_notes : r.notes_faults_before < r.notes_faults_after → r.status ≡ 4
-  execution_notes rose = of_calm r (command_of r.words) (execution_came c) (λ calm. let same = calm.notes in omega (arith, same))
+  execution_notes rose = of_calm r (command_of r.arguments) (execution_came c) (λ calm. let same = calm.notes in omega (arith, same))
 
-  pub execution_decided : (plan : Plan) (held : Held) (v : Expected) → command_of r.words ≡ Some plan → r.before.held ≡ Some held → Judges (command_of_plan plan) held v → Follows r v
-  execution_decided plan held v is told judged = of_verdict r (command_of r.words) plan is held told v judged (execution_came c)
+  pub execution_decided : (plan : Plan) (held : Held) (v : Expected) → command_of r.arguments ≡ Some plan → r.before.held ≡ Some held → Judges (command_of_plan plan) held v → Follows r v
+  execution_decided plan held v is told judged = of_verdict r (command_of r.arguments) plan is held told v judged (execution_came c)
 
-  pub execution_complete : (plan : Plan) (held : Held) → IsPlain r.words plan → r.before.held ≡ Some held → AllGiven (Some held) (command_of_plan plan).reads → NoneRefuses (command_of_plan plan) (Some held)
+  pub execution_complete : (plan : Plan) (held : Held) → IsPlain r.arguments plan → r.before.held ≡ Some held → AllGiven (Some held) (command_of_plan plan).reads → NoneRefuses (command_of_plan plan) (Some held)
       → NoFaults r → (r.status ≡ 0) ⊎ ((r.status ≡ 1) ⊎ (r.status ≡ 5))
   execution_complete plan held plain told all none quiet =
-      of_complete r (command_of r.words) plan (plain_command r.words plan plain) held told all none quiet (execution_came c)
+      of_complete r (command_of r.arguments) plan (plain_command r.arguments plan plain) held told all none quiet (execution_came c)

@@ -29,23 +29,23 @@ use Rattle.rr_top.specs.Commands.{BothGiven, Command, Due, Refuses, WhereRepair,
 use Rattle.rr_top.specs.Expected.{Expected, absent, refused, unparsed, done, IsChecked, expected_status}
 use Rattle.rr_top.specs.Endings.{CommandEnds}
 
--- what is said of words that name no command, or of words for which memory ran out
+-- what is said of arguments that name no command, or of arguments for which memory ran out
 abbrev pub SaysUsage : Ending → List ℕ → Type 0
 SaysUsage ending text = ((ending ≡ Usage) × (text ≡ usage_text)) ⊎ ((ending ≡ NoMemory 0) × (text ≡ memory_text))
 
--- the words name no command
+-- the arguments name no command
 pub record IsUsage (before after : Outside) (ending : Ending) (text : List ℕ) : Type 0 where
   pub shelf : KeepsShelf before after
   pub out : KeepsOut before after
   pub says : SaysUsage ending text
 
--- how a run over these words ends, and the text for the report
-pub record Ends (words : List (List ℕ)) (before after : Outside) (ending : Ending) (text : List ℕ) : Type 0 where
-  pub how : MatchOption (command_of words) (IsUsage before after ending text) (λ plan. CommandEnds (command_of_plan plan) before after ending text)
+-- how a run over these arguments ends, and the text for the report
+pub record Ends (arguments : List (List ℕ)) (before after : Outside) (ending : Ending) (text : List ℕ) : Type 0 where
+  pub how : MatchOption (command_of arguments) (IsUsage before after ending text) (λ plan. CommandEnds (command_of_plan plan) before after ending text)
 
 -- what a whole run found and left
 pub record Execution : Type 0 where
-  pub words : List (List ℕ)
+  pub arguments : List (List ℕ)
   pub before : Outside
   pub after : Outside
   pub notes_before : Option (List ℕ)
@@ -58,7 +58,7 @@ pub record Execution : Type 0 where
 pub record IsExecution (r : Execution) : Type 0 where
   pub ending : Ending
   pub text : List ℕ
-  pub ends : Ends r.words r.before r.after ending text
+  pub ends : Ends r.arguments r.before r.after ending text
   pub reports : Reports r.notes_before r.notes_after r.notes_faults_before r.notes_faults_after text (status_of ending) r.status
 
 -- Status 0 of `repair`: the design and the table were read, the output has grown by exactly the source with one choice
@@ -118,9 +118,9 @@ pub record HoldsNeverTrue (told : Option Held) (circuit_name : List ℕ) : Type 
   pub given : Gave told circuit_name 268435456 circuit
   pub never : IsNeverTrue circuit
 
--- the words ask for a check of these files
+-- the arguments ask for a check of these files
 abbrev pub IsCheck : List (List ℕ) → List ℕ → List ℕ → Type 0
-IsCheck words circuit proof = command_of words ≡ Some (check circuit proof)
+IsCheck arguments circuit proof = command_of arguments ≡ Some (check circuit proof)
 
 -- what `repair` has done, or `run`, or `check`
 abbrev pub HasDone : Execution → Plan → Type 0
@@ -183,7 +183,7 @@ pub record IsOutFault (r : Execution) (command : Command) : Type 0 where
 pub record IsReportFault (r : Execution) : Type 0 where
   pub ending : Ending
   pub text : List ℕ
-  pub ends : Ends r.words r.before r.after ending text
+  pub ends : Ends r.arguments r.before r.after ending text
   pub rose : Faulted r.notes_faults_before r.notes_faults_after
   pub reported : AppendsFront r.notes_before r.notes_after text
 
@@ -193,16 +193,16 @@ pub record IsExhausted (r : Execution) : Type 0 where
   pub shelf : KeepsShelf r.before r.after
   pub out : KeepsOut r.before r.after
 
--- Status 6: the words name no command, the usage is printed, and all else stays.
+-- Status 6: the arguments name no command, the usage is printed, and all else stays.
 pub record IsUnread (r : Execution) : Type 0 where
-  pub none : command_of r.words ≡ None
+  pub none : command_of r.arguments ≡ None
   pub reported : Appends r.notes_before r.notes_after usage_text
   pub shelf : KeepsShelf r.before r.after
   pub out : KeepsOut r.before r.after
 
--- the words name a command of which this holds
+-- the arguments name a command of which this holds
 abbrev pub WhereCommand : List (List ℕ) → (Plan → Type 0) → Type 0
-WhereCommand words P = (plan : Plan) × (command_of words ≡ Some plan) × P plan
+WhereCommand arguments P = (plan : Plan) × (command_of arguments ≡ Some plan) × P plan
 
 -- a count of faults rose in the run, or stands at its type's end
 abbrev pub SomeFault : Execution → Type 0
@@ -214,7 +214,7 @@ Fails r command = IsAbsent r command ⊎ (IsReadFault r command ⊎ (IsWriteFaul
 
 -- which failure it was: of the report; or of the command
 abbrev pub IsFailure : Execution → Type 0
-IsFailure r = IsReportFault r ⊎ WhereCommand r.words (λ plan. Fails r (command_of_plan plan))
+IsFailure r = IsReportFault r ⊎ WhereCommand r.arguments (λ plan. Fails r (command_of_plan plan))
 
 -- the texts that an outcome decides alone
 abbrev pub ShowsOutcome : Outcome → Execution → Type 0
@@ -235,8 +235,8 @@ abbrev pub Follows : Execution → Expected → Type 0
 Follows r v = ((r.status ≡ expected_status v) × Shows v r) ⊎ ((r.status ≡ 5) ⊎ ((r.status ≡ 4) × SomeFault r))
 
 abbrev pub execution : List (List ℕ) → Outside → Outside → Option (List ℕ) → Option (List ℕ) → ℕ → ℕ → ℕ → Execution
-execution words before after notes_before notes_after notes_faults_before notes_faults_after status = record {
-  words = words;
+execution arguments before after notes_before notes_after notes_faults_before notes_faults_after status = record {
+  arguments = arguments;
   before = before;
   after = after;
   notes_before = notes_before;
@@ -261,7 +261,7 @@ pub record NoFaults (r : Execution) : Type 0 where
   pub out : NoFault r.before.out_faults r.after.out_faults
   pub notes : NoFault r.notes_faults_before r.notes_faults_after
 
--- The words ask for a repair, a told shelf holds both files, and the design matches the table as it is.
+-- The arguments ask for a repair, a told shelf holds both files, and the design matches the table as it is.
 pub record IsMatchingRepair (r : Execution) (design : List ℕ) : Type 0 where
   pub held : Held
   pub told : r.before.held ≡ Some held
@@ -272,7 +272,7 @@ pub record IsMatchingRepair (r : Execution) (design : List ℕ) : Type 0 where
   pub clock : Option (List ℕ)
   pub budget : ℕ
   pub members : ℕ
-  pub words : command_of r.words ≡ Some (repair design_name table_name cert top clock budget members)
+  pub arguments : command_of r.arguments ≡ Some (repair design_name table_name cert top clock budget members)
   pub table : List ℕ
   pub given : BothGiven (Some held) design_name table_name design table
   pub matching : IsMatching top clock design table

@@ -54,7 +54,7 @@ fn run_command<'a, R: Threads + Sync, H: Shelf, K: Sink>(
     }
 }
 
-/// What is said of words that name no command, or for which memory ran out.
+/// What is said of arguments that name no command, or for which memory ran out.
 fn unread<'a>(fault: WordsFault) -> Report<'a>
     ensures { SaysWhy fault result.ending (report_text result) }
 {
@@ -64,47 +64,47 @@ fn unread<'a>(fault: WordsFault) -> Report<'a>
     }
 }
 
-/// How the command of these words ends.
+/// How the command of these arguments ends.
 fn attempt<'a, R: Threads + Sync, H: Shelf, K: Sink>(
     rt: &R,
     alloc: Global,
-    words: &'a [String],
+    arguments: &'a [String],
     arena: &'a Bump,
     shelf: &mut H,
     out: &mut K,
 ) -> Report<'a>
-    ensures { Ends (map string_bytes words.entry.now)
+    ensures { Ends (map string_bytes arguments.entry.now)
         (outside (H.told shelf.old) (H.faults shelf.old) (K.written out.old) (K.faults out.old))
         (outside (H.told shelf.new) (H.faults shelf.new) (K.written out.new) (K.faults out.new))
         result.ending (report_text result) }
 {
-    let command = match read_words(alloc, words) {
+    let command = match read_words(alloc, arguments) {
         Ok(command) => command,
         Err(fault) => return unread(fault),
     };
     run_command(rt, alloc, command, arena, shelf, out)
 }
 
-/// Runs the command that the words name, and puts the report.
+/// Runs the command that the arguments name, and puts the report.
 fn conduct<R: Threads + Sync, H: Shelf, K: Sink, E: Sink>(
     rt: &R,
     alloc: Global,
-    words: &[String],
+    arguments: &[String],
     shelf: &mut H,
     out: &mut K,
     notes: &mut E,
 ) -> u8
-    ensures { IsExecution (execution (map string_bytes words.now)
+    ensures { IsExecution (execution (map string_bytes arguments.now)
         (outside (H.told shelf.old) (H.faults shelf.old) (K.written out.old) (K.faults out.old))
         (outside (H.told shelf.new) (H.faults shelf.new) (K.written out.new) (K.faults out.new))
         (E.written notes.old) (E.written notes.new) (E.faults notes.old) (E.faults notes.new) result) }
 {
     let arena = Bump::new(alloc);
-    let report = attempt(rt, alloc, words, &arena, shelf, out);
+    let report = attempt(rt, alloc, arguments, &arena, shelf, out);
     put_report(&report, notes)
 }
 
-/// Runs the command that the words name, the first of which is the program's own name, over a shelf,
+/// Runs the command that the arguments name, the first of which is the program's own name, over a shelf,
 /// an output and a report, and answers the program's status: 0 done, 1 no repair or a certificate that
 /// does not hold, 3 refused input, 4 a fault or an absent name, 5 want of memory, 6 usage.
 ///
@@ -113,13 +113,13 @@ fn conduct<R: Threads + Sync, H: Shelf, K: Sink, E: Sink>(
 pub fn run<R: Threads + Sync, H: Shelf, K: Sink, E: Sink>(
     rt: &R,
     alloc: Global,
-    words: &[String],
+    arguments: &[String],
     shelf: &mut H,
     out: &mut K,
     notes: &mut E,
 ) -> u8
     // How the run ends, whole: what was found, which text reports it, and what it leaves.
-    ensures ended { IsExecution (execution (map string_bytes words.now)
+    ensures ended { IsExecution (execution (map string_bytes arguments.now)
         (outside (H.told shelf.old) (H.faults shelf.old) (K.written out.old) (K.faults out.old))
         (outside (H.told shelf.new) (H.faults shelf.new) (K.written out.new) (K.faults out.new))
         (E.written notes.old) (E.written notes.new) (E.faults notes.old) (E.faults notes.new) result) }
@@ -131,37 +131,37 @@ pub fn run<R: Threads + Sync, H: Shelf, K: Sink, E: Sink>(
     // matches every expected cell, and no instance with fewer does. Of `run`: the bytes put out are the table of the
     // rows that were read with the outputs of the one run of the design on them. Of `check`: `accepted` is put out, and
     // the proof that was read refutes the formula of the circuit that was read.
-    ensures done { result ≡ 0 → WhereCommand (map string_bytes words.now) (HasDone
-        (execution (map string_bytes words.now)
+    ensures done { result ≡ 0 → WhereCommand (map string_bytes arguments.now) (HasDone
+        (execution (map string_bytes arguments.now)
         (outside (H.told shelf.old) (H.faults shelf.old) (K.written out.old) (K.faults out.old))
         (outside (H.told shelf.new) (H.faults shelf.new) (K.written out.new) (K.faults out.new))
         (E.written notes.old) (E.written notes.new) (E.faults notes.old) (E.faults notes.new) result)) }
 
     // Status 0 of `check`: no input makes every output of the circuit in the file true.
-    ensures certified { result ≡ 0 → (circuit proof : List ℕ) → IsCheck (map string_bytes words.now) circuit proof
+    ensures certified { result ≡ 0 → (circuit proof : List ℕ) → IsCheck (map string_bytes arguments.now) circuit proof
         → HoldsNeverTrue (H.told shelf.old) circuit }
 
     // Status 1. Of `repair`: no instance matches. Of `check`: the verdict is put out, and the proof does not refute.
-    ensures failed { result ≡ 1 → WhereCommand (map string_bytes words.now) (HasFailed
-        (execution (map string_bytes words.now)
+    ensures failed { result ≡ 1 → WhereCommand (map string_bytes arguments.now) (HasFailed
+        (execution (map string_bytes arguments.now)
         (outside (H.told shelf.old) (H.faults shelf.old) (K.written out.old) (K.faults out.old))
         (outside (H.told shelf.new) (H.faults shelf.new) (K.written out.new) (K.faults out.new))
         (E.written notes.old) (E.written notes.new) (E.faults notes.old) (E.faults notes.new) result)) }
 
     // Status 3: the refusal that is due is printed.
-    ensures refused { result ≡ 3 → WhereCommand (map string_bytes words.now) (λ plan. IsRefused
-        (execution (map string_bytes words.now)
+    ensures refused { result ≡ 3 → WhereCommand (map string_bytes arguments.now) (λ plan. IsRefused
+        (execution (map string_bytes arguments.now)
         (outside (H.told shelf.old) (H.faults shelf.old) (K.written out.old) (K.faults out.old))
         (outside (H.told shelf.new) (H.faults shelf.new) (K.written out.new) (K.faults out.new))
         (E.written notes.old) (E.written notes.new) (E.faults notes.old) (E.faults notes.new) result) (command_of_plan plan)) }
 
     // Status 4: a count of faults rose or stands at its end, or a name is absent.
     ensures faulty { result ≡ 4 → SomeFault
-        (execution (map string_bytes words.now)
+        (execution (map string_bytes arguments.now)
         (outside (H.told shelf.old) (H.faults shelf.old) (K.written out.old) (K.faults out.old))
         (outside (H.told shelf.new) (H.faults shelf.new) (K.written out.new) (K.faults out.new))
-        (E.written notes.old) (E.written notes.new) (E.faults notes.old) (E.faults notes.new) result) ⊎ WhereCommand (map string_bytes words.now) (λ plan. IsAbsent
-        (execution (map string_bytes words.now)
+        (E.written notes.old) (E.written notes.new) (E.faults notes.old) (E.faults notes.new) result) ⊎ WhereCommand (map string_bytes arguments.now) (λ plan. IsAbsent
+        (execution (map string_bytes arguments.now)
         (outside (H.told shelf.old) (H.faults shelf.old) (K.written out.old) (K.faults out.old))
         (outside (H.told shelf.new) (H.faults shelf.new) (K.written out.new) (K.faults out.new))
         (E.written notes.old) (E.written notes.new) (E.faults notes.old) (E.faults notes.new) result) (command_of_plan plan)) }
@@ -172,25 +172,25 @@ pub fn run<R: Threads + Sync, H: Shelf, K: Sink, E: Sink>(
     // bytes, the shelf's count rose, and the output stays; or `fault out` says so, the output's count rose, and it has grown
     // by a front of the piece that was due.
     ensures failure { result ≡ 4 → IsFailure
-        (execution (map string_bytes words.now)
+        (execution (map string_bytes arguments.now)
         (outside (H.told shelf.old) (H.faults shelf.old) (K.written out.old) (K.faults out.old))
         (outside (H.told shelf.new) (H.faults shelf.new) (K.written out.new) (K.faults out.new))
         (E.written notes.old) (E.written notes.new) (E.faults notes.old) (E.faults notes.new) result) }
 
     // Status 5: memory ran out.
     ensures exhausted { result ≡ 5 → IsExhausted
-        (execution (map string_bytes words.now)
+        (execution (map string_bytes arguments.now)
         (outside (H.told shelf.old) (H.faults shelf.old) (K.written out.old) (K.faults out.old))
         (outside (H.told shelf.new) (H.faults shelf.new) (K.written out.new) (K.faults out.new))
         (E.written notes.old) (E.written notes.new) (E.faults notes.old) (E.faults notes.new) result) }
 
-    // Status 6: the words name no command, so they are not plain.
+    // Status 6: the arguments name no command, so they are not plain.
     ensures usage { result ≡ 6 → IsUnread
-        (execution (map string_bytes words.now)
+        (execution (map string_bytes arguments.now)
         (outside (H.told shelf.old) (H.faults shelf.old) (K.written out.old) (K.faults out.old))
         (outside (H.told shelf.new) (H.faults shelf.new) (K.written out.new) (K.faults out.new))
         (E.written notes.old) (E.written notes.new) (E.faults notes.old) (E.faults notes.new) result) }
-    ensures not_plain { result ≡ 6 → (plan : Plan) → IsPlain (map string_bytes words.now) plan → ⊥ }
+    ensures not_plain { result ≡ 6 → (plan : Plan) → IsPlain (map string_bytes arguments.now) plan → ⊥ }
 
     // A fault in this call makes the status 4.
     ensures shelf_fault { H.faults shelf.old < H.faults shelf.new → result ≡ 4 }
@@ -199,31 +199,31 @@ pub fn run<R: Threads + Sync, H: Shelf, K: Sink, E: Sink>(
 
     // What a told shelf decides comes about: each absent name, each refusal, each verdict on a certificate, and the
     // statuses 0 and 1, exactly where they are due. Otherwise memory ran out, or the status is 4 and a count of faults rose or stands at its end.
-    ensures decided { (plan : Plan) (held : Held) (expected : Expected) → command_of (map string_bytes words.now) ≡ Some plan → H.told shelf.old ≡ Some held
+    ensures decided { (plan : Plan) (held : Held) (expected : Expected) → command_of (map string_bytes arguments.now) ≡ Some plan → H.told shelf.old ≡ Some held
         → Judges (command_of_plan plan) held expected → Follows
-        (execution (map string_bytes words.now)
+        (execution (map string_bytes arguments.now)
         (outside (H.told shelf.old) (H.faults shelf.old) (K.written out.old) (K.faults out.old))
         (outside (H.told shelf.new) (H.faults shelf.new) (K.written out.new) (K.faults out.new))
         (E.written notes.old) (E.written notes.new) (E.faults notes.old) (E.faults notes.new) result) expected }
 
     // Where the design of a repair matches as it is, it is put out as it was, or memory ran out, or something failed.
     ensures as_it_was { (design : List ℕ) → IsMatchingRepair
-        (execution (map string_bytes words.now)
+        (execution (map string_bytes arguments.now)
         (outside (H.told shelf.old) (H.faults shelf.old) (K.written out.old) (K.faults out.old))
         (outside (H.told shelf.new) (H.faults shelf.new) (K.written out.new) (K.faults out.new))
         (E.written notes.old) (E.written notes.new) (E.faults notes.old) (E.faults notes.new) result) design → PrintsAsItWas
-        (execution (map string_bytes words.now)
+        (execution (map string_bytes arguments.now)
         (outside (H.told shelf.old) (H.faults shelf.old) (K.written out.old) (K.faults out.old))
         (outside (H.told shelf.new) (H.faults shelf.new) (K.written out.new) (K.faults out.new))
         (E.written notes.old) (E.written notes.new) (E.faults notes.old) (E.faults notes.new) result) design }
 
-    // Plain words, files that are held within their limits, no refusal that is due and no fault: the command is done, or memory ran out.
-    ensures complete { (plan : Plan) (held : Held) → IsPlain (map string_bytes words.now) plan → H.told shelf.old ≡ Some held
+    // Plain arguments, files that are held within their limits, no refusal that is due and no fault: the command is done, or memory ran out.
+    ensures complete { (plan : Plan) (held : Held) → IsPlain (map string_bytes arguments.now) plan → H.told shelf.old ≡ Some held
         → AllGiven (Some held) (command_of_plan plan).reads → NoneRefuses (command_of_plan plan) (Some held) → NoFaults
-        (execution (map string_bytes words.now)
+        (execution (map string_bytes arguments.now)
         (outside (H.told shelf.old) (H.faults shelf.old) (K.written out.old) (K.faults out.old))
         (outside (H.told shelf.new) (H.faults shelf.new) (K.written out.new) (K.faults out.new))
         (E.written notes.old) (E.written notes.new) (E.faults notes.old) (E.faults notes.new) result) → (result ≡ 0) ⊎ ((result ≡ 1) ⊎ (result ≡ 5)) }
 {
-    conduct(rt, alloc, words, shelf, out, notes)
+    conduct(rt, alloc, arguments, shelf, out, notes)
 }
