@@ -86,8 +86,8 @@ impl<'f> Ports<'f> {
         ensures ports { IfOk result (λ p. plain_ports p ≡ ports_of (plain_flat flat.now) clock) }
         ensures sound { IfOk result ArePorts }
     {
-        let inputs = flat.row_inputs(alloc, clock)?;
-        let inputs = ports_at(alloc, flat, inputs.as_slice())?;
+        let numbers = flat.row_inputs(alloc, clock)?;
+        let inputs = ports_at(alloc, flat, numbers.as_slice())?;
         let outputs = ports_at(alloc, flat, flat.outputs.as_slice())?;
         let mut widths = Numbers::new(alloc);
         add_widths(&mut widths, inputs.as_slice())?;
