@@ -1,6 +1,6 @@
 -- Looking for sites by their tokens.
-use Rattle.std.proofs.Common.{◌≡◌, ◌≢◌, ℕ, zero, suc, ◌+◌, ◌-◌, ◌^◌, ◌%◌, ◌<◌, ◌≤◌, ◌==◌, min, nat_lt, ltb, Bool, true, false, ◌&&◌, if◌then◌else◌, List, [], ◌∷◌, length, map, take, drop, get_or, Option, Some, None, refl, sym, ◌∙◌, ap, ap₂, subst, arith, add-one, drop-cons, length-take, length-drop}
-use Rattle.std.specs.List.{All, AllWithin}
+use Rattle.std.proofs.Common.{◌≡◌, ◌≢◌, ℕ, zero, suc, ◌+◌, ◌-◌, ◌^◌, ◌%◌, ◌<◌, ◌≤◌, ◌==◌, min, nat_lt, ltb, Bool, true, false, ◌&&◌, if◌then◌else◌, List, [], ◌∷◌, length, take, drop, get_or, Option, Some, None, refl, sym, ◌∙◌, ap, ap₂, arith, add-one, drop-cons, length-take, length-drop}
+use Rattle.std.specs.List.{All}
 use Rattle.std.specs.List.Sorted.{IsNonDecreasingBy, IsPartitionPoint}
 use Rattle.std.proofs.lemmas.Bool.{ltb-true, ltb-false, eqb-true}
 use Rattle.std.proofs.lemmas.List.{drop_all, drop-map, get_or-map, get_or-take, get_or-drop, length-map}
@@ -10,9 +10,9 @@ use Rattle.std.proofs.Math.Pow.{pow_mono}
 use Rattle.rr_syntax.specs.declared.site.Site.{Site as ArenaSite}
 use Rattle.rr_syntax.specs.declared.site.SiteKind.TheVariants as kind
 use Rattle.rr_instance.specs.declared.pick.Pick.{Pick}
-use Rattle.rr_instance.specs.Sites.{SiteKind, Site, IsSiteList, IsFirstAt}
+use Rattle.rr_instance.specs.Sites.{Site, IsSiteList, IsFirstAt}
 use Rattle.rr_syntax.specs.Tree.{Statement}
-use Rattle.rr_instance.specs.Instances.{find_pick, is_literal_at, is_guard_at, is_overwrite_at, new_body, all_overwritten, overwritten}
+use Rattle.rr_instance.specs.Instances.{find_pick, new_body, all_overwritten, overwritten}
 use Rattle.rr_instance.specs.View.{is_at, plain_site, plain_sites}
 use Rattle.rr_instance.proofs.BitsRead.{sites_here}
 
@@ -38,24 +38,24 @@ module _ (list : List ArenaSite) (token : ℕ) where
   first_of_point k w p = record {
     within = let n = length-map list plain_site in omega (arith, w, n);
     before = λ j e l.
-      let n = length-take k (plain_sites list) in
-      let m = length-map list plain_site in
-      let lj : j < k = omega (arith, l, n) in
-      let ln : j < length list = omega (arith, lj, w) in
-      let d = get_or list j (record { kind = kind.Literal 0 false; token = 0 }) in
-      let a = token_at j d e ln in
-      let b = ltb-true _ _ (p.0 j d (omega arith) lj) in
-      let c = ap (λ (s : Site). s.token) (get_or-take k (plain_sites list) j e lj) in
-      omega (arith, a, b, c);
+        let n = length-take k (plain_sites list) in
+        let m = length-map list plain_site in
+        let lj : j < k = omega (arith, l, n) in
+        let ln : j < length list = omega (arith, lj, w) in
+        let d = get_or list j (record { kind = kind.Literal 0 false; token = 0 }) in
+        let a = token_at j d e ln in
+        let b = ltb-true _ _ (p.0 j d (omega arith) lj) in
+        let c = ap (λ (s : Site). s.token) (get_or-take k (plain_sites list) j e lj) in
+        omega (arith, a, b, c);
     behind = λ j e l.
-      let n = length-drop k (plain_sites list) in
-      let m = length-map list plain_site in
-      let ln : k + j < length list = omega (arith, l, n, m, w) in
-      let d = get_or list j (record { kind = kind.Literal 0 false; token = 0 }) in
-      let a = token_at (k + j) d e ln in
-      let b = ltb-false _ _ (p.1 (k + j) d (omega arith) ln) in
-      let c = ap (λ (s : Site). s.token) (get_or-drop k (plain_sites list) j e) in
-      omega (arith, a, b, c);
+        let n = length-drop k (plain_sites list) in
+        let m = length-map list plain_site in
+        let ln : k + j < length list = omega (arith, l, n, m, w) in
+        let d = get_or list j (record { kind = kind.Literal 0 false; token = 0 }) in
+        let a = token_at (k + j) d e ln in
+        let b = ltb-false _ _ (p.1 (k + j) d (omega arith) ln) in
+        let c = ap (λ (s : Site). s.token) (get_or-drop k (plain_sites list) j e) in
+        omega (arith, a, b, c);
   }
 
   -- behind a site that begins behind the token

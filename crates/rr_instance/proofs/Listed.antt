@@ -1,11 +1,11 @@
 -- Whether sites make a list, site after site.
-use Rattle.std.proofs.Common.{◌≡◌, ℕ, zero, suc, ◌+◌, ◌*◌, ◌<◌, ◌≤◌, ◌==◌, Bool, true, false, if◌then◌else◌, List, [], ◌∷◌, length, get_or, drop, refl, ap, subst, sym, arith}
+use Rattle.std.proofs.Common.{ℕ, zero, suc, ◌+◌, ◌*◌, ◌<◌, ◌≤◌, ◌==◌, Bool, true, false, if◌then◌else◌, List, [], ◌∷◌, length, get_or, drop, subst, sym, arith}
 use Rattle.std.specs.List.{All}
 use Rattle.std.specs.List.Sorted.{IsNonDecreasingBy}
 use Rattle.std.proofs.lemmas.List.{drop_all}
 use Rattle.std.proofs.lemmas.List.Elements.{All-nil, All-head, All-tail, All-cons}
 use Rattle.rr_syntax.specs.declared.site.Site.{Site as ArenaSite}
-use Rattle.rr_instance.specs.Choices.{site_bits, total_bits, name_width, guard_width}
+use Rattle.rr_instance.specs.Choices.{total_bits, name_width, guard_width}
 use Rattle.rr_instance.specs.Laws.{BitsAreFew}
 use Rattle.rr_instance.specs.Sites.{SiteKind, Site, Literal, Guard, Overwrite, value_width, HasWidth, IsSite, IsSiteList}
 use Rattle.rr_instance.specs.View.{plain_site, plain_sites}
@@ -47,7 +47,7 @@ rising_of last (s ∷ ss) g h = (
   (
     All-head IsSite s ss g.each,
     rising_of s.token ss (record { each = All-tail IsSite s ss g.each; rising = λ i j d le lt. g.rising (suc i) (suc j) d (omega (arith, le)) (omega (arith, lt)) })
-    (λ k d l. g.rising 0 (suc k) d (omega arith) (omega (arith, l))),
+        (λ k d l. g.rising 0 (suc k) d (omega arith) (omega (arith, l))),
   ),
 )
 

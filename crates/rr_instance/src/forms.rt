@@ -98,11 +98,7 @@ pub(crate) fn operation<'a>(
 {
     let left = arena.try_alloc(left)?;
     let right = arena.try_alloc(right)?;
-    Ok(Expr::Binary {
-        op,
-        left,
-        right,
-    })
+    Ok(Expr::Binary { op, left, right })
 }
 
 /// A condition in a form of a guard; a form past the last counts as the last.

@@ -14,9 +14,7 @@ use crate::pick::Choice;
 use crate::statement::statement;
 use bumpalo::Bump;
 use bumpalo::collections::into_bump_slice;
-use rr_syntax::{
-    Connection, Conns, Expr, Instance, Item, Module, NetName, Pair, Source, Stmt,
-};
+use rr_syntax::{Connection, Conns, Expr, Instance, Item, Module, NetName, Pair, Source, Stmt};
 use std::alloc::AllocError;
 
 /// A value where there is one.

@@ -1,4 +1,4 @@
-use Rattle.std.proofs.Common.{◌∙◌, ap, sym, false, arith}
+use Rattle.std.proofs.Common.{ap, false, arith}
 use Rattle.rr_syntax.specs.declared.site.SiteKind.TheVariants as kind
 use Rattle.rr_instance.specs.Choices.{total_bits}
 use Rattle.rr_instance.proofs.BitsRead.{site_fits, total_here, total_end}
