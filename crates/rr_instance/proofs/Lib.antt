@@ -14,3 +14,4 @@ pub mod Arms
 pub mod Snocs
 pub mod StatementArms
 pub mod Items
+pub mod Related

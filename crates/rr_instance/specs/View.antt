@@ -1,5 +1,5 @@
 -- What the sites in the arena stand for.
-use Rattle.std.specs.Prelude.{◌≡◌, ℕ, Bool, List, length, map, Option, Some, None}
+use Rattle.std.specs.Prelude.{◌≡◌, ℕ, Bool, List, length, map, min, Option, Some, None}
 use Rattle.rr_syntax.specs.declared.site.Site.{Site as ArenaSite}
 use Rattle.rr_syntax.specs.declared.site.SiteKind.{SiteKind as ArenaKind}
 use Rattle.rr_syntax.specs.declared.site.SiteKind.TheVariants as kind
@@ -39,11 +39,11 @@ abbrev pub is_at : Option ℕ → ℕ → Site → Bool
 is_at None token s = is_literal_at token s
 is_at (Some n) token s = is_guard_at token n s
 
--- what is said of where a statement, or several, begin: the number that is told or, where none is, the count of the tokens
+-- what is said of where a statement, or several, begin: the number that is told or, where none is, the count of the tokens, as far as 64 bits hold it
 abbrev pub IsBeginning : Start → Statement → Type 0
 IsBeginning (Told at) t = told t ≡ Some at
-IsBeginning (Silent count) t = (told t ≡ None) × (length (spell_statement t) ≡ count)
+IsBeginning (Silent count) t = (told t ≡ None) × (count ≡ min (length (spell_statement t)) 18446744073709551615)
 
 abbrev pub AreBeginning : Start → Statements → Type 0
 AreBeginning (Told at) ts = told_of ts ≡ Some at
-AreBeginning (Silent count) ts = (told_of ts ≡ None) × (length (spell_statements ts) ≡ count)
+AreBeginning (Silent count) ts = (told_of ts ≡ None) × (count ≡ min (length (spell_statements ts)) 18446744073709551615)

@@ -1,6 +1,7 @@
 //! What choices and their instances keep, as contracts of functions that do nothing.
 
 ghost use Rattle.rr_instance.specs.Laws.{ChoicesAreDecoded, DecodedAreChoices, BitsAreFew, FormsStay, NoFaultsMore, NoFaultsByScalars, NoFaultsInTests, NamesFromGuards, BitsFromGuards, BitsOfTests, TruthOfGuards, TruthOfTests, TruthOfGates, TruthOfScalars, KeepsAtNoCost, TargetsStay, RulesStay, LiteralsStayFit, FirstsOfExpressions, FirstsOfStatements};
+ghost use Rattle.rr_instance.specs.Relation.{TreesExist, TreesAgree};
 
 /// Every choice of sites is read from some list of bits, and every list of bits is read to a choice; a
 /// site has at most 138 of them.
@@ -58,4 +59,12 @@ pub fn rule_laws()
 pub fn first_laws()
     ensures expressions { FirstsOfExpressions }
     ensures statements { FirstsOfStatements }
+{}
+
+/// The relation of instances has a tree for every choice, and trees that stand in it for one choice are
+/// equal but for token numbers.
+#[tactic(auto, using(crate::proofs::Related::relation_laws))]
+pub fn relation_laws()
+    ensures exist { TreesExist }
+    ensures agree { TreesAgree }
 {}
