@@ -1,0 +1,17 @@
+pub mod DecodeLaws
+pub mod Rounds
+pub mod FormLaws
+pub mod FirstLaws
+pub mod Beginnings
+pub mod NameLaws
+pub mod TruthLaws
+pub mod OffLaws
+pub mod RuleLaws
+pub mod BitsRead
+pub mod Finds
+pub mod Listed
+pub mod Arms
+pub mod Snocs
+pub mod StatementArms
+pub mod Items
+pub mod Related
