@@ -1,17 +1,14 @@
 //! Instances of designs, whose texts are those that a repair prints.
 
-ghost use Rattle.std.specs.Prelude.{◌<◌, ◌^◌, IfOk};
-ghost use Rattle.rr_instance.specs.Choices.{total_bits};
-
 use crate::texts::{shown, source_of};
 use bumpalo::Bump;
-use rr_instance::{Choice, Pick, SiteList, are_listed, cost, decode, find, instance};
+use rr_instance::{Choice, Pick, SiteList, are_listed, choice_laws, cost, decode, find, instance};
 use rr_syntax::{Site, SiteKind};
 use std::alloc::{AllocError, Global};
 use std::test::Fail;
 
 /// A literal of a width without a sign.
-fn literal(token: u32, width: u32) -> Site<'static> {
+fn literal<'a>(token: u32, width: u32) -> Site<'a> {
     Site {
         kind: SiteKind::Literal {
             width,
@@ -67,25 +64,24 @@ fn off() -> Pick {
     }
 }
 
-/// A list of at most a thousand sites that make one.
-fn list_of<'a>(alloc: Global, sites: &[Site<'a>]) -> Result<SiteList<'a>, Fail>
-    ensures { IfOk result (λ list. total_bits list < 2 ^ 32) }
-{
-    if sites.len() > 1_000 {
-        return Err(Fail::from("too many sites"));
-    }
-    if !are_listed(sites) {
-        return Err(Fail::from("no list"));
-    }
+/// A list of sites that make one.
+fn list_of<'a>(alloc: Global, sites: &[Site<'a>]) -> Result<SiteList<'a>, Fail> {
     let mut list = Vec::new(alloc);
     list.extend_from_slice(sites)?;
+    if !are_listed(list.as_slice()) {
+        return Err(Fail::from("no list"));
+    }
     Ok(SiteList::new(list))
 }
 
-/// The choice that bits write, and its cost.
-fn decoded(alloc: Global, list: &SiteList, bits: &[bool]) -> Result<(Choice, u32), Fail>
-    requires few { total_bits list.now < 2 ^ 32 }
-{
+/// The choice that bits write at no more than a thousand sites, and its cost.
+fn decoded(alloc: Global, list: &SiteList, bits: &[bool]) -> Result<(Choice, u32), Fail> {
+    // Each site has few bits, so their number is below 2^32.
+    choice_laws();
+    let sites = list.sites();
+    if sites.len() > 1_000 {
+        return Err(Fail::from("too many sites"));
+    }
     if bits.len() != list.bits() as usize {
         return Err(Fail::from("other bits"));
     }
@@ -98,16 +94,16 @@ fn decoded(alloc: Global, list: &SiteList, bits: &[bool]) -> Result<(Choice, u32
 }
 
 /// Whether a choice at the sites of a design makes another design.
-fn makes(
+fn makes<'a>(
     alloc: Global,
     design: &str,
-    sites: &[Site],
+    sites: &[Site<'a>],
     picks: &[Pick],
     repaired: &str,
+    arena: &'a Bump,
 ) -> Result<bool, Fail> {
-    let arena = Bump::new(alloc);
-    let source = source_of(design, &arena)?;
-    let wanted = source_of(repaired, &arena)?;
+    let source = source_of(design, arena)?;
+    let wanted = source_of(repaired, arena)?;
     let list = match list_of(alloc, sites) {
         Ok(list) => list,
         Err(fail) => return Err(fail),
@@ -115,7 +111,7 @@ fn makes(
     let mut chosen = Vec::new(alloc);
     chosen.extend_from_slice(picks)?;
     let choice = Choice { picks: chosen };
-    let made = instance(source, &list, &choice, &arena)?;
+    let made = instance(source, &list, &choice, arena)?;
     let made = shown(alloc, made)?;
     let wanted = shown(alloc, wanted)?;
     Ok(made.as_str() == wanted.as_str())
@@ -168,6 +164,7 @@ fn counter_from_bits(rt: HostRuntime) -> Result<(), Fail> {
 /// Designs with one fault or two, and their repairs.
 #[test]
 fn repairs(rt: HostRuntime) -> Result<(), Fail> {
+    let arena = Bump::new(rt.alloc());
     let names = ["rst"];
     assert!(rt;
         makes(
@@ -185,6 +182,7 @@ fn repairs(rt: HostRuntime) -> Result<(), Fail> {
     if (rst) q <= 4'd0;
     else q <= q +  4'h1 ;
 endmodule",
+            &arena,
         )?
     );
     // An inverted reset.
@@ -203,6 +201,7 @@ endmodule",
     if ( ! ( !rst ) ) q <= 1'b0;
     else q <= ~q;
 endmodule",
+            &arena,
         )?
     );
     // A missing reset.
@@ -219,6 +218,7 @@ endmodule",
   always @(posedge clk) begin 
     q <= q + 4'd1; if ( rst ) q <= 4'h0 ; end 
 endmodule",
+            &arena,
         )?
     );
     // Two faults.
@@ -235,6 +235,7 @@ endmodule",
   always @(posedge clk) p <= p +  4'h1 ;
   always @(posedge clk) q <= q +  4'h1 ;
 endmodule",
+            &arena,
         )?
     );
     Ok(())
@@ -243,6 +244,7 @@ endmodule",
 /// A design without blanks, with a site of each kind, of which one is off.
 #[test]
 fn sites_of_each_kind(rt: HostRuntime) -> Result<(), Fail> {
+    let arena = Bump::new(rt.alloc());
     let names = ["s"];
     assert!(rt;
         makes(
@@ -257,6 +259,7 @@ fn sites_of_each_kind(rt: HostRuntime) -> Result<(), Fail> {
             &[on(9, 2, 0), on(0, 2, 0), on(10, 0, 0), off()],
             "module m(input clk,input s,output reg[3:0]q);always@(posedge clk) begin q<= ( s ) && ! s ? \
              4'ha :4'd0; if ( ! s ) q <= 4'h9 ; end endmodule",
+            &arena,
         )?
     );
     Ok(())
@@ -266,6 +269,7 @@ fn sites_of_each_kind(rt: HostRuntime) -> Result<(), Fail> {
 /// the first is innermost, and a form, a name and a value past the last.
 #[test]
 fn nested_sites(rt: HostRuntime) -> Result<(), Fail> {
+    let arena = Bump::new(rt.alloc());
     let names = ["a", "b"];
     let design = "module m(input clk, input a, input b, output reg [3:0] p, output reg q);
   always @(posedge clk) if (a ? b : a) q <= b;
@@ -279,6 +283,7 @@ endmodule";
             "module m(input clk, input a, input b, output reg [3:0] p, output reg q);
   always @(posedge clk) if ( ( ( a ) || a ? b : a ) && b ) q <= b;
 endmodule",
+            &arena,
         )?
     );
     assert!(rt;
@@ -290,6 +295,7 @@ endmodule",
             "module m(input clk, input a, input b, output reg [3:0] p, output reg q);
   always @(posedge clk) begin begin if (a ? b : a) q <= b; if ( 1'h1 ) p <= 4'h3 ; end if ( ! b ) q <= 1'h1 ; end
 endmodule",
+            &arena,
         )?
     );
     Ok(())
