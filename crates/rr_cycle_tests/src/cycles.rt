@@ -8,7 +8,7 @@ use rr_elaborate::elaborate;
 use rr_expr::Env;
 use rr_flat::Flat;
 use rr_lawful::check;
-use rr_meaning::{row_inputs, run_table, settle, step};
+use rr_meaning::{run_table, settle, step};
 use rr_trace::{read_table, write_table};
 use std::alloc::{AllocError, Global};
 use std::test::Fail;
@@ -416,7 +416,7 @@ fn cycle_from(
     let Ok(order) = check(alloc, flat, None) else {
         return Ok(None);
     };
-    let inputs = row_inputs(alloc, flat, order.clock)?;
+    let inputs = flat.row_inputs(alloc, order.clock)?;
     if row.len() != inputs.len() || state.values.len() != flat.signals.len() {
         return Ok(None);
     }
