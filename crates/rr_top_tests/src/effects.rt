@@ -256,13 +256,11 @@ fn want_of_memory_leaves_whole_files(rt: HostRuntime) {
         assert_eq!(rt; put_report(&report, &mut notes), due, "{calls}");
         assert!(rt; out.written() == printed.as_bytes(), "{calls}");
         assert!(rt; notes.written() == told.as_bytes(), "{calls}");
-        let mut whole = 0;
-        for name in ["c.aag", "c.cnf", "c.lrat"] {
+        for (before, name) in [(0, "c.aag"), (1, "c.cnf"), (2, "c.lrat")] {
             assert!(rt;
-                shelf.shelf.held(name).is_some() == (whole < calls),
+                shelf.shelf.held(name).is_some() == (before < calls),
                 "{calls} {name}"
             );
-            whole += 1;
         }
     }
 }
