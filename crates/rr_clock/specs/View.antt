@@ -1,6 +1,6 @@
 -- What places and names stand for as plain data.
 use Rattle.rr_syntax.specs.declared.site.ModulePlace.{ModulePlace}
-use Rattle.rr_flat.specs.View.{texts}
+use Rattle.rr_syntax.specs.View.{texts}
 use Rattle.rr_clock.specs.declared.places.ClockName.{ClockName as DeclaredName}
 use Rattle.rr_clock.specs.Places.{Place, ClockName}
 

@@ -4,7 +4,7 @@ ghost use Rattle.rr_expr.specs.declared.types.Entity.TheVariants as entity;
 ghost use Rattle.rr_flat.specs.Signals.{with_name};
 ghost use Rattle.rr_flat.specs.View.{plain_signal};
 ghost use Rattle.rr_flat.specs.View.{plain_flat};
-ghost use Rattle.rr_flat.specs.View.{texts};
+ghost use Rattle.rr_syntax.specs.View.{texts};
 ghost use Rattle.rr_parts.specs.Names.{entry, is_the as is_the_clock, scalar_named as scalar_named_in};
 ghost use Rattle.rr_clock.specs.Clock.{IsClockInput, has};
 ghost use Rattle.rr_clock.specs.Places.{AreNames, ArePlaces, clock_name, clock_names, clock_set, names_in, owner_at, place_of as place_in, with_clock};

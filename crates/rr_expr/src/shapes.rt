@@ -134,7 +134,9 @@ fn repeat_shape(token: u32, copies: u128, bits: u128) -> Result<Shape, ExprFault
     sized(token, copies.saturating_mul(bits))
 }
 
-fn takes_constants(op: Infix) -> bool
+/// Whether the operands of an operator are constant expressions: those of `/`, `%` and `**`, a rule of
+/// this profile beside IEEE 1364-2005 section 5.1.5.
+pub fn takes_constants(op: Infix) -> bool
     ensures { result ≡ constants_of op }
 {
     matches!(op, Infix::Divide | Infix::Remainder | Infix::Power)

@@ -11,11 +11,6 @@ use Rattle.rr_flat.specs.declared.design.Block.{Block}
 use Rattle.rr_flat.specs.declared.design.Part as part
 use Rattle.rr_flat.specs.Plain as plain_design
 use Rattle.rr_flat.specs.Plain.{Written, Whole}
-use denote.Ref.{Bor}
-
--- the texts of names
-abbrev pub texts : List (Bor (List ℕ)) → List (List ℕ)
-texts names = map (λ n. n.now) names
 
 abbrev pub plain_signal : Signal → signals.Signal
 plain_signal s = record { instance = s.instance; name = s.name.now; variable = s.variable; port = s.port; range = s.range; signed = s.signed; width = s.width; token = s.token }

@@ -20,8 +20,8 @@ use Rattle.rr_instance.specs.declared.pick.Pick.{Pick}
 use Rattle.rr_instance.specs.Firsts.{first_token}
 use Rattle.rr_instance.specs.Sites.{Site}
 use Rattle.rr_instance.specs.Instances.{instance_tree, instance_body, instance_value, instance_net, instance_pair}
-use Rattle.rr_instance.specs.Tests.{IsGuardName, IsBodyName}
-use Rattle.rr_instance.specs.Truth.{IsScalar}
+use Rattle.rr_instance_laws.specs.Tests.{IsGuardName, IsBodyName}
+use Rattle.rr_instance_laws.specs.Truth.{IsScalar}
 use Rattle.rr_flat_instance.specs.Flats.{instance_side, instance_at, instance_driver, instance_block, instance_flat}
 use Rattle.rr_flat_instance.specs.Places.{IsApart, HasWidth, IsAimAt, IsNameOfValue}
 use Rattle.rr_flat_instance.proofs.Lists.{stepped, and_then_ok}

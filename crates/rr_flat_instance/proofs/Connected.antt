@@ -21,8 +21,8 @@ use Rattle.rr_flat.specs.Writers.{no_driver}
 use Rattle.rr_instance.specs.declared.pick.Pick.{Pick}
 use Rattle.rr_instance.specs.Sites.{Site}
 use Rattle.rr_instance.specs.Instances.{instance_tree, instance_parts, instance_value, instance_connection, instance_connections, instance_child, instance_module}
-use Rattle.rr_instance.specs.Tests.{IsGuardName, IsGuardNameIn}
-use Rattle.rr_instance.specs.Truth.{IsScalar}
+use Rattle.rr_instance_laws.specs.Tests.{IsGuardName, IsGuardNameIn}
+use Rattle.rr_instance_laws.specs.Truth.{IsScalar}
 use Rattle.rr_flat_instance.specs.Flats.{instance_at, instance_flat}
 use Rattle.rr_flat_instance.specs.Places.{Somewhere, IsNameOfValue, IsNameOfConnection, IsNameOfConnections, MayBeDriven}
 use Rattle.rr_flat_instance.proofs.Lists.{Begins}

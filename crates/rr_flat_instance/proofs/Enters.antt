@@ -15,7 +15,7 @@ use Rattle.rr_flat.specs.Writers.{no_driver}
 use Rattle.rr_instance.specs.declared.pick.Pick.{Pick}
 use Rattle.rr_instance.specs.Sites.{Site}
 use Rattle.rr_instance.specs.Instances.{instance_net, instance_pair, instance_connections, instance_child, instance_item, instance_module}
-use Rattle.rr_instance.specs.Truth.{IsScalar}
+use Rattle.rr_instance_laws.specs.Truth.{IsScalar}
 use Rattle.rr_flat_instance.specs.Flats.{instance_flat}
 use Rattle.rr_flat_instance.specs.Places.{Somewhere, IsNameOfNet, IsNameOfPair, IsNameOfInstance, IsNameOfItem, IsAimOfItem, FitsItem, FitsModule, IsApart, NetsApartIn, NetsApart, MayBeDriven}
 use Rattle.rr_flat_instance.proofs.Lists.{Begins, and_then_ok}

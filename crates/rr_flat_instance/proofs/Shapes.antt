@@ -16,10 +16,10 @@ use Rattle.rr_instance.specs.declared.pick.Pick.{Pick}
 use Rattle.rr_instance.specs.Sites as sites
 use Rattle.rr_instance.specs.Sites.{SiteKind, Site, guard_names}
 use Rattle.rr_instance.specs.Instances.{fresh, named, negated, instance_tree, instance_parts, instance_test, instance_statement, instance_statements, instance_arm, instance_arms, gate, followed, overwritten, new_body, all_overwritten, instance_body, is_overwrite_at, picked_form, picked_name, unsigned_number}
-use Rattle.rr_instance.specs.Tests.{IsNameAt, IsGuardName, IsGuardNameIn, IsTestName, IsGuardNameOf, IsGuardNameOfAll, IsGuardNameOfArm, IsGuardNameOfArms, IsBodyName}
-use Rattle.rr_instance.specs.Truth.{IsScalar}
-use Rattle.rr_instance.proofs.FormLaws.{no_faults_by_scalars, no_faults_in_tests}
-use Rattle.rr_instance.proofs.Rounds.{picked_is_one}
+use Rattle.rr_instance_laws.specs.Tests.{IsNameAt, IsGuardName, IsGuardNameIn, IsTestName, IsGuardNameOf, IsGuardNameOfAll, IsGuardNameOfArm, IsGuardNameOfArms, IsBodyName}
+use Rattle.rr_instance_laws.specs.Truth.{IsScalar}
+use Rattle.rr_instance_laws.proofs.FormLaws.{no_faults_by_scalars, no_faults_in_tests}
+use Rattle.rr_instance_laws.proofs.Rounds.{picked_is_one}
 use Rattle.rr_flat_bare.proofs.Folds.{some_stays}
 use Rattle.rr_flat_instance.specs.Places.{HasWidth, IsAim, IsAimAt}
 

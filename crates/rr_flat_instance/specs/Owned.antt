@@ -11,7 +11,7 @@ use Rattle.rr_walk.specs.Walk.{module_at}
 use Rattle.rr_flat.specs.Writers.{scope_at}
 use Rattle.rr_instance.specs.Sites as sites
 use Rattle.rr_instance.specs.Sites.{SiteKind, Site}
-use Rattle.rr_instance.specs.Truth.{IsScalar}
+use Rattle.rr_instance_laws.specs.Truth.{IsScalar}
 use Rattle.rr_flat_instance.specs.Places.{HasWidth, owner_at}
 
 -- the number of the first token of module k

@@ -12,8 +12,8 @@ use Rattle.rr_instance.specs.Firsts.{first_token}
 use Rattle.rr_instance.specs.Instances.{is_overwrite_at}
 use Rattle.rr_instance.specs.Sites as sites
 use Rattle.rr_instance.specs.Sites.{SiteKind, Site}
-use Rattle.rr_instance.specs.Tests.{IsGuardName, IsGuardNameIn, IsBodyName}
-use Rattle.rr_instance.specs.Truth.{IsScalar}
+use Rattle.rr_instance_laws.specs.Tests.{IsGuardName, IsGuardNameIn, IsBodyName}
+use Rattle.rr_instance_laws.specs.Truth.{IsScalar}
 
 -- it holds of an element
 unfoldable pub Somewhere : {X : Type 0} → (X → Type 0) → List X → Type 0

@@ -1,12 +1,4 @@
-pub mod DecodeLaws
-pub mod Rounds
-pub mod FormLaws
-pub mod FirstLaws
 pub mod Beginnings
-pub mod NameLaws
-pub mod TruthLaws
-pub mod OffLaws
-pub mod RuleLaws
 pub mod BitsRead
 pub mod Finds
 pub mod Listed
@@ -14,4 +6,3 @@ pub mod Arms
 pub mod Snocs
 pub mod StatementArms
 pub mod Items
-pub mod Related

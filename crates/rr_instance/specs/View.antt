@@ -4,8 +4,8 @@ use Rattle.rr_syntax.specs.declared.site.Site.{Site as ArenaSite}
 use Rattle.rr_syntax.specs.declared.site.SiteKind.{SiteKind as ArenaKind}
 use Rattle.rr_syntax.specs.declared.site.SiteKind.TheVariants as kind
 use Rattle.rr_syntax.specs.Statements.{spell_statement, spell_statements}
+use Rattle.rr_syntax.specs.View.{texts}
 use Rattle.rr_syntax.specs.Tree.{Statement, Statements}
-use denote.Ref.{Bor}
 use Rattle.rr_instance.specs.declared.finding.Found.{Found}
 use Rattle.rr_instance.specs.declared.firsts.Start.{Start}
 use Rattle.rr_instance.specs.declared.firsts.Start.TheVariants.{Told, Silent}
@@ -13,10 +13,6 @@ use Rattle.rr_instance.specs.declared.pick.Pick.{Pick}
 use Rattle.rr_instance.specs.Firsts.{told, told_of}
 use Rattle.rr_instance.specs.Instances.{is_literal_at, is_guard_at}
 use Rattle.rr_instance.specs.Sites.{SiteKind, Site, Literal, Guard, Overwrite}
-
--- the texts of names
-abbrev pub texts : List (Bor (List ℕ)) → List (List ℕ)
-texts names = map (λ n. n.now) names
 
 abbrev pub plain_kind : ArenaKind → SiteKind
 plain_kind (kind.Literal width signed) = Literal width signed

@@ -4,7 +4,6 @@ ghost use Rattle.std.specs.Prelude.{◌≡◌, ◌<◌, ◌^◌, ◌++◌, ◌�
 ghost use Rattle.rr_syntax.specs.Expressions.{spell, spell_more};
 ghost use Rattle.rr_syntax.specs.Tree.{Cast, Concat, Cond, Repeat, Unary};
 ghost use Rattle.rr_syntax.specs.View.{plain, plain_list};
-ghost use Rattle.rr_expr.specs.Faults.{takes_constants as takes_constants_of};
 ghost use Rattle.rr_instance.specs.Instances.{instance_tree, instance_parts, instance_test};
 
 use crate::finding::find;
@@ -13,23 +12,9 @@ use crate::list::SiteList;
 use crate::pick::Choice;
 use bumpalo::Bump;
 use bumpalo::collections::into_bump_slice;
-use rr_expr::{Infix, first_token, infix_of};
+use rr_expr::{first_token, infix_of, takes_constants};
 use rr_syntax::{Expr, Mark, expression_len};
 use std::alloc::AllocError;
-
-/// Whether the operands of an operator are constant.
-fn takes_constants(op: Infix) -> bool
-    ensures { result ≡ takes_constants_of op }
-{
-    match op {
-        Infix::Divide | Infix::Remainder | Infix::Power => true,
-        Infix::Arithmetic(_)
-        | Infix::Shifted(_)
-        | Infix::Compared(_)
-        | Infix::Both
-        | Infix::Either => false,
-    }
-}
 
 /// An operation of one expression.
 #[tactic(auto, unfolding(rr_syntax::specs::View::plain))]

@@ -2,9 +2,9 @@
 
 ghost use Rattle.std.specs.Prelude.{◌≡◌, ◌≤◌, ◌%◌, ◌^◌, IfOk};
 ghost use Rattle.rr_syntax.specs.Tree.{Binary, Paren, Unary};
-ghost use Rattle.rr_syntax.specs.View.{plain};
+ghost use Rattle.rr_syntax.specs.View.{plain, texts};
 ghost use Rattle.rr_instance.specs.Instances.{fresh, guarded as guarded_of, named as named_of, negated as negated_of, new_literal as new_literal_of, new_test as new_test_of, number_with as number_with_of, picked_form as picked_form_of, picked_name as picked_name_of};
-ghost use Rattle.rr_instance.specs.View.{plain_found, texts};
+ghost use Rattle.rr_instance.specs.View.{plain_found};
 
 use crate::finding::Found;
 use crate::pick::Pick;

@@ -7,7 +7,6 @@ mod expression;
 mod finding;
 mod firsts;
 mod forms;
-mod laws;
 mod list;
 mod overwrite;
 mod pick;
@@ -19,9 +18,6 @@ mod statement;
 pub use finding::{Found, find};
 pub use firsts::first_token;
 pub use forms::{cut, picked_form, picked_name};
-pub use laws::{
-    choice_laws, first_laws, form_laws, name_laws, relation_laws, rule_laws, stay_laws, truth_laws,
-};
 pub use list::{SiteList, are_listed};
 pub use pick::{Choice, Pick};
 pub use reading::{cost, decode};

@@ -3,7 +3,8 @@
 ghost use Rattle.std.specs.Prelude.{◌≡◌, ◌<◌, ◌≤◌, ◌^◌, ◌*◌, length, true};
 ghost use Rattle.rr_instance.specs.Choices.{guard_width as guard_width_of, name_width as name_width_of, site_bits as site_bits_of};
 ghost use Rattle.rr_instance.specs.Sites.{IsSite, guard_names as names_of_kind, value_width as value_width_of, last_form as last_form_of, form_width as form_width_of};
-ghost use Rattle.rr_instance.specs.View.{plain_kind, plain_site, texts};
+ghost use Rattle.rr_instance.specs.View.{plain_kind, plain_site};
+ghost use Rattle.rr_syntax.specs.View.{texts};
 
 use rr_syntax::{Site, SiteKind};
 

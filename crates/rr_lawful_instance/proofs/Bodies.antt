@@ -21,8 +21,8 @@ use Rattle.rr_instance.specs.declared.pick.Pick.{Pick}
 use Rattle.rr_instance.specs.Instances.{fresh, unsigned_number, picked_form, picked_name, named, negated, gate, followed, overwritten, is_overwrite_at, new_body, all_overwritten, instance_statement, instance_body}
 use Rattle.rr_instance.specs.Sites as sites
 use Rattle.rr_instance.specs.Sites.{SiteKind, Site, guard_names}
-use Rattle.rr_instance.specs.Tests.{IsNameAt, IsBodyName}
-use Rattle.rr_instance.proofs.Rounds.{picked_is_one}
+use Rattle.rr_instance_laws.specs.Tests.{IsNameAt, IsBodyName}
+use Rattle.rr_instance_laws.proofs.Rounds.{picked_is_one}
 use Rattle.rr_lawful_instance.specs.AreSites.{IsTargetOf, TargetStands}
 use Rattle.rr_lawful_instance.proofs.Lists.{both, parts, holds_of}
 use Rattle.rr_lawful_instance.proofs.Statements.{assigned_same, writes_same, fits_stays, names_of_instance, names_read_instance, reads_of_instance, known_same, known_grows, reads_stay_known}

@@ -16,7 +16,7 @@ use Rattle.rr_instance.specs.declared.pick.Pick.{Pick}
 use Rattle.rr_instance.specs.Instances.{fresh, find_pick, is_guard_of, gate, followed, instance_tree, instance_parts, instance_test, picked_form, picked_name, unsigned_number, instance_statement, instance_statements, instance_arm, instance_arms, overwritten, is_overwrite_at, new_body, all_overwritten, instance_body}
 use Rattle.rr_instance.specs.Sites as sites
 use Rattle.rr_instance.specs.Sites.{SiteKind, Site}
-use Rattle.rr_instance.proofs.Rounds.{branch_has, found_names, Rounds, guard_term, test_has}
+use Rattle.rr_instance_laws.proofs.Rounds.{branch_has, found_names, Rounds, guard_term, test_has}
 
 abbrev Any : Text → Type 0
 Any name = Unit {0}

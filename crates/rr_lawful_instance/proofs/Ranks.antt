@@ -17,8 +17,8 @@ use Rattle.rr_flat.specs.Writers.{scope_at, driver_at, block_at, writes_at_all, 
 use Rattle.rr_flat.proofs.Bits.{or_left, or_right}
 use Rattle.rr_instance.specs.declared.pick.Pick.{Pick}
 use Rattle.rr_instance.specs.Sites.{Site}
-use Rattle.rr_instance.proofs.FormLaws.{form_instance}
-use Rattle.rr_instance.proofs.NameLaws.{has_bits}
+use Rattle.rr_instance_laws.proofs.FormLaws.{form_instance}
+use Rattle.rr_instance_laws.proofs.NameLaws.{has_bits}
 use Rattle.rr_lawful_instance.specs.AreSites.{MayGuardElsewhere, SideFits, AreSitesOf}
 use Rattle.rr_flat_instance.specs.Flats.{instance_side}
 use Rattle.rr_instance.specs.Firsts.{first_token}

@@ -18,8 +18,8 @@ use Rattle.rr_flat.proofs.Bits.{or_left, or_right}
 use Rattle.rr_instance.specs.declared.pick.Pick.{Pick}
 use Rattle.rr_instance.specs.Instances.{instance_tree, instance_parts, instance_test, instance_statement, instance_statements, instance_arm, instance_arms}
 use Rattle.rr_instance.specs.Sites.{Site}
-use Rattle.rr_instance.specs.Tests.{IsGuardNameOf, IsGuardNameOfAll, IsGuardNameOfArm, IsGuardNameOfArms}
-use Rattle.rr_instance.proofs.NameLaws.{has_bits, have_bits, test_has_bits}
+use Rattle.rr_instance_laws.specs.Tests.{IsGuardNameOf, IsGuardNameOfAll, IsGuardNameOfArm, IsGuardNameOfArms}
+use Rattle.rr_instance_laws.proofs.NameLaws.{has_bits, have_bits, test_has_bits}
 use Rattle.rr_lawful_instance.proofs.Lists.{both, parts}
 use Rattle.rr_lawful_instance.proofs.Trees.{OfText, names_in_instance, names_in_parts_instance, names_in_test_instance, labels_stay}
 

@@ -21,9 +21,9 @@ use Rattle.rr_flat.specs.Writers.{is_wiring, are_wiring, taken, all_taken, nothi
 use Rattle.rr_instance.specs.declared.pick.Pick.{Pick}
 use Rattle.rr_instance.specs.Instances.{find_pick, is_literal_at, is_guard_of, number_with, instance_tree, instance_parts, instance_test, fresh}
 use Rattle.rr_instance.specs.Sites.{Site}
-use Rattle.rr_instance.specs.Tests.{IsGuardName, IsGuardNameIn, IsTestName}
-use Rattle.rr_instance.proofs.NameLaws.{has_names, test_has_names}
-use Rattle.rr_instance.proofs.Rounds.{literal_has, branch_has, found_names, Rounds, guard_term, test_has}
+use Rattle.rr_instance_laws.specs.Tests.{IsGuardName, IsGuardNameIn, IsTestName}
+use Rattle.rr_instance_laws.proofs.NameLaws.{has_names, test_has_names}
+use Rattle.rr_instance_laws.proofs.Rounds.{literal_has, branch_has, found_names, Rounds, guard_term, test_has}
 use Rattle.rr_lawful_instance.proofs.Lists.{both, parts}
 
 -- Names

@@ -16,7 +16,7 @@ use Rattle.rr_instance.specs.Firsts.{first_token}
 use Rattle.rr_instance.specs.Instances.{is_overwrite_at}
 use Rattle.rr_instance.specs.Sites as sites
 use Rattle.rr_instance.specs.Sites.{SiteKind, Site}
-use Rattle.rr_instance.specs.Tests.{IsGuardName, IsBodyName}
+use Rattle.rr_instance_laws.specs.Tests.{IsGuardName, IsBodyName}
 
 -- Names
 

@@ -1,5 +1,5 @@
 -- What the trees in the arena stand for.
-use Rattle.std.specs.Prelude.{List, [], ◌∷◌, Option, None, Some, map}
+use Rattle.std.specs.Prelude.{ℕ, List, [], ◌∷◌, Option, None, Some, map}
 use Rattle.rr_syntax.specs.declared.tree.Expr.{Expr, Row_of-Expr, end_of-Expr, more_of-Expr}
 use Rattle.rr_syntax.specs.declared.tree.Expr.TheVariants as expr
 use Rattle.rr_syntax.specs.declared.tree.Named.{Named}
@@ -166,3 +166,7 @@ plain_module m = record {
 
 unfoldable pub plain_source : Source → SourceText
 plain_source s = record { modules = map plain_module s.modules.now }
+
+-- the texts of names
+abbrev pub texts : List (Bor (List ℕ)) → List (List ℕ)
+texts names = map (λ n. n.now) names

@@ -7,7 +7,7 @@ use Rattle.std.proofs.Math.ListN.{set}
 use Rattle.std.proofs.lemmas.List.{drop_all, length-map, map-append, length-set, get_or-set_other}
 use Rattle.std.proofs.lemmas.List.Elements.{All-get_or}
 use Rattle.rr_syntax.specs.Tree.{Tree, Trees, End, More, ModuleDeclaration}
-use Rattle.rr_syntax.specs.View.{plain, plain_list, plain_module}
+use Rattle.rr_syntax.specs.View.{plain, plain_list, plain_module, texts}
 use Rattle.rr_syntax.specs.declared.tree.Module.{Module}
 use Rattle.rr_syntax.specs.declared.tree.Expr.{Expr}
 use Rattle.rr_expr.specs.Scopes.{Names, lookup}
@@ -27,7 +27,6 @@ use Rattle.rr_walk.specs.Kept.{IsSame, Keeps}
 use Rattle.rr_flat.specs.Sound.{IsExpression, AreExpressions, IsScope, names_at}
 use Rattle.rr_walk.specs.Tables.{place_of}
 use Rattle.rr_flat.specs.View.{Design, plain_flat, plain_driver, plain_block}
-use Rattle.rr_flat.specs.View.{texts}
 use Rattle.rr_walk.specs.Walk.{Walked, no_module, module_at, join, join_positions}
 use Rattle.rr_walk.proofs.Positions.{texts_here, texts_past}
 use denote.Ref.{Bor}

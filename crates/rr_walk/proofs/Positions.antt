@@ -2,7 +2,7 @@
 use Rattle.std.proofs.Common.{◌≡◌, ◌∙◌, ap, ℕ, ◌+◌, ◌<◌, ◌≤◌, Bool, true, not, List, [], ◌∷◌, length, drop, get_or, Option, Some, refl, arith}
 use Rattle.std.proofs.lemmas.List.{drop_all, get_or-map, length-map}
 use Rattle.rr_syntax.specs.Tree.{Tree}
-use Rattle.rr_syntax.specs.View.{plain, plain_list}
+use Rattle.rr_syntax.specs.View.{plain, plain_list, texts}
 use Rattle.rr_syntax.specs.declared.tree.Expr.{Expr}
 use Rattle.rr_expr.specs.Scopes.{Names}
 use Rattle.rr_expr.specs.Faults.{first}
@@ -11,7 +11,6 @@ use Rattle.rr_head.specs.Values.{constant}
 use Rattle.rr_flat.specs.declared.fault.FlatFault.{FlatFault}
 use Rattle.rr_flat.specs.declared.fault.FlatFault.TheVariants.{PortMismatch}
 use Rattle.rr_flat.proofs.Lists.{rest}
-use Rattle.rr_flat.specs.View.{texts}
 use Rattle.rr_walk.specs.Walk.{fold_trees, noted, with_override, Checked, check_position, check_port}
 use Rattle.rr_flat.specs.Shapes.{shape_faults}
 use denote.Ref.{Bor}

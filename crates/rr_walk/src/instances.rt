@@ -4,12 +4,11 @@ ghost use Rattle.std.specs.Prelude.{◌≡◌, ◌<◌, ◌+◌, MatchResult, On
 ghost use Rattle.std.specs.List.{list_any, AllByRecursion};
 ghost use Rattle.rr_syntax.specs.Tree.{Trees, More};
 ghost use Rattle.rr_syntax.specs.Items.{WellFormedConnections, FitLiteralsConnections};
-ghost use Rattle.rr_syntax.specs.View.{plain, plain_list, plain_value, plain_connection, plain_connections, plain_overrides, plain_instance, plain_module};
+ghost use Rattle.rr_syntax.specs.View.{plain, plain_list, plain_value, plain_connection, plain_connections, plain_overrides, plain_instance, plain_module, texts};
 ghost use Rattle.rr_flat.specs.Faults.{Refuses};
 ghost use Rattle.rr_flat.specs.Signals.{signal_at};
 ghost use Rattle.rr_walk.specs.Kept.{plain_walked, IsSame};
 ghost use Rattle.rr_flat.specs.Sound.{IsExpression, AreExpressions, IsValue, IsConnection, AreConnected, names_at};
-ghost use Rattle.rr_flat.specs.View.{texts};
 ghost use Rattle.rr_walk.specs.Walk.{checked as checked_of, join_port as join_port_in, join as join_in, join_value as join_value_in, join_named as join_named_in, join_positions as join_positions_in, joined as joined_in};
 
 use crate::items::{Walked, drive, names_of};

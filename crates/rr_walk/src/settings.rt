@@ -1,7 +1,6 @@
 //! Overrides of parameters (IEEE 1364-2005 section 12.2.2) and connections of ports (section 12.3.6).
 ghost use Rattle.std.specs.Prelude.{◌≡◌, ◌+◌, OnOk, IfOk, Some, false, map, fold, drop};
-ghost use Rattle.rr_syntax.specs.View.{plain, plain_list, plain_value, plain_connection, plain_connections, plain_overrides, plain_module};
-ghost use Rattle.rr_flat.specs.View.{texts};
+ghost use Rattle.rr_syntax.specs.View.{plain, plain_list, plain_value, plain_connection, plain_connections, plain_overrides, plain_module, texts};
 ghost use Rattle.rr_walk.specs.View.{plain_checked, plain_connected};
 ghost use Rattle.rr_walk.specs.Walk.{noted, with_value as with_value_in, parameter_faults, with_override as with_override_in, check_override as check_override_in, fold_trees, check_position as check_position_in, nothing_checked, overrides as overrides_of, check_connection as check_connection_in, check_port as check_port_in, connections as connections_of};
 

@@ -1,13 +1,12 @@
 //! Modules, parameters and ports by name.
 ghost use Rattle.std.specs.Prelude.{◌≡◌, ◌+◌, ◌<◌, ◌^◌, MatchResult, OnOk, IfOk, IfSome, Ok, Some, None, [], ◌∷◌, ◌++◌, is_some, if◌then◌else◌, map, fold, length};
-ghost use Rattle.rr_syntax.specs.View.{plain_assignment, plain_identifier, plain_parameter, plain_port, plain_item, plain_module, plain_header};
+ghost use Rattle.rr_syntax.specs.View.{plain_assignment, plain_identifier, plain_parameter, plain_port, plain_item, plain_module, plain_header, texts};
 ghost use Rattle.rr_expr.specs.Scopes.{lookup};
 ghost use Rattle.rr_flat.specs.Faults.{Refuses, each};
 ghost use Rattle.rr_flat.specs.Signals.{with_name};
 ghost use Rattle.rr_head.specs.Declarations.{plain_names as names_of};
 ghost use Rattle.rr_head.specs.Sound.{ArePlaces};
 ghost use Rattle.rr_walk.specs.Tables.{at_place, place_of as place_of_entity, add_module as add_module_to, instantiated_by_item, instantiated_by, last_free as last_free_of, add_parameter_name, add_parameter_names as add_parameter_names_to, add_item_parameter_names, parameter_table as parameter_table_of, add_open_name, add_open_names as add_open_names_to, add_item_open_names, open_names as open_names_of, add_port_name, add_port_names as add_port_names_to, port_names as port_names_of, add_text, name_set as name_set_of};
-ghost use Rattle.rr_flat.specs.View.{texts};
 
 use rr_expr::{Entity, Scope};
 use rr_flat::FlatFault;

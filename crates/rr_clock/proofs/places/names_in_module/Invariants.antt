@@ -1,6 +1,6 @@
 use Rattle.std.proofs.Common.{◌≡◌, map, drop}
 use Rattle.std.specs.Prelude.{fold}
-use Rattle.rr_flat.specs.View.{texts}
+use Rattle.rr_syntax.specs.View.{texts}
 use Rattle.rr_clock.specs.Places.{clock_set, names_in, with_clock}
 use Rattle.rr_clock.specs.View.{plain_name}
 use Rattle.rr_clock.proofs.places.names_in_module.Given as goal

@@ -1,7 +1,7 @@
 use Rattle.std.proofs.Common.{◌∙◌, sym}
 use Rattle.rr_walk.specs.Kept.{plain_walked}
 use Rattle.rr_flat.specs.Sound.{names_at}
-use Rattle.rr_flat.specs.View.{texts}
+use Rattle.rr_syntax.specs.View.{texts}
 use Rattle.rr_walk.proofs.Grown.{expression_here, positions_more, positions_done, same_twice}
 use Rattle.rr_walk.proofs.instances.join_positions.Goals as goal
 

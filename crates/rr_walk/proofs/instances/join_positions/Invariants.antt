@@ -1,7 +1,6 @@
 use Rattle.std.proofs.Common.{◌≡◌, drop}
-use Rattle.rr_syntax.specs.View.{plain_list}
+use Rattle.rr_syntax.specs.View.{plain_list, texts}
 use Rattle.rr_walk.specs.Kept.{plain_walked, IsSame}
-use Rattle.rr_flat.specs.View.{texts}
 use Rattle.rr_walk.specs.Walk.{join_positions}
 use Rattle.rr_walk.proofs.instances.join_positions.Given as goal
 

@@ -1,7 +1,6 @@
 use Rattle.std.proofs.Common.{◌≡◌, drop, false}
-use Rattle.rr_syntax.specs.View.{plain_list}
+use Rattle.rr_syntax.specs.View.{plain_list, texts}
 use Rattle.rr_walk.specs.Walk.{fold_trees, check_port}
-use Rattle.rr_flat.specs.View.{texts}
 use Rattle.rr_walk.proofs.settings.check_ports.Given as goal
 
 abbrev pub invariant-loop-place : goal.invariant-loop-place

@@ -1,7 +1,6 @@
 use Rattle.std.proofs.Common.{◌≡◌, map, drop, fold}
-use Rattle.rr_syntax.specs.View.{plain_port}
+use Rattle.rr_syntax.specs.View.{plain_port, texts}
 use Rattle.rr_walk.specs.Tables.{add_port_names}
-use Rattle.rr_flat.specs.View.{texts}
 use Rattle.rr_walk.proofs.tables.add_groups.Given as goal
 
 abbrev pub invariant-loop-group : goal.invariant-loop-group

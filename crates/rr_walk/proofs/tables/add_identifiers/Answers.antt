@@ -1,7 +1,6 @@
 use Rattle.std.proofs.Common.{◌∙◌, ap, map, drop, fold, ◌+◌}
-use Rattle.rr_syntax.specs.View.{plain_identifier}
+use Rattle.rr_syntax.specs.View.{plain_identifier, texts}
 use Rattle.rr_walk.specs.Tables.{add_port_name}
-use Rattle.rr_flat.specs.View.{texts}
 use Rattle.rr_head.proofs.Steps.{fold_more}
 use Rattle.rr_walk.proofs.tables.add_identifiers.Goals as goal
 

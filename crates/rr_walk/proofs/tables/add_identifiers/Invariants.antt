@@ -1,7 +1,6 @@
 use Rattle.std.proofs.Common.{◌≡◌, map, drop, fold}
-use Rattle.rr_syntax.specs.View.{plain_identifier}
+use Rattle.rr_syntax.specs.View.{plain_identifier, texts}
 use Rattle.rr_walk.specs.Tables.{add_port_name}
-use Rattle.rr_flat.specs.View.{texts}
 use Rattle.rr_walk.proofs.tables.add_identifiers.Given as goal
 
 abbrev pub invariant-loop-named : goal.invariant-loop-named

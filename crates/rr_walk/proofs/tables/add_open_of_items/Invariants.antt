@@ -1,7 +1,6 @@
 use Rattle.std.proofs.Common.{◌≡◌, map, drop, fold}
-use Rattle.rr_syntax.specs.View.{plain_item}
+use Rattle.rr_syntax.specs.View.{plain_item, texts}
 use Rattle.rr_walk.specs.Tables.{add_item_open_names}
-use Rattle.rr_flat.specs.View.{texts}
 use Rattle.rr_walk.proofs.tables.add_open_of_items.Given as goal
 
 abbrev pub invariant-loop-item : goal.invariant-loop-item

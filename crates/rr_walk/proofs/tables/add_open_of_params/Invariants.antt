@@ -1,7 +1,6 @@
 use Rattle.std.proofs.Common.{◌≡◌, map, drop, fold}
-use Rattle.rr_syntax.specs.View.{plain_parameter}
+use Rattle.rr_syntax.specs.View.{plain_parameter, texts}
 use Rattle.rr_walk.specs.Tables.{add_open_names}
-use Rattle.rr_flat.specs.View.{texts}
 use Rattle.rr_walk.proofs.tables.add_open_of_params.Given as goal
 
 abbrev pub invariant-loop-one : goal.invariant-loop-one

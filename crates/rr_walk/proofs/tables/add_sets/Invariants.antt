@@ -1,7 +1,6 @@
 use Rattle.std.proofs.Common.{◌≡◌, map, drop, fold}
-use Rattle.rr_syntax.specs.View.{plain_assignment}
+use Rattle.rr_syntax.specs.View.{plain_assignment, texts}
 use Rattle.rr_walk.specs.Tables.{add_open_name}
-use Rattle.rr_flat.specs.View.{texts}
 use Rattle.rr_walk.proofs.tables.add_sets.Given as goal
 
 abbrev pub invariant-loop-set : goal.invariant-loop-set

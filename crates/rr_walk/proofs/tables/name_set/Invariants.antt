@@ -1,6 +1,6 @@
 use Rattle.std.proofs.Common.{◌≡◌, drop, fold, []}
 use Rattle.rr_walk.specs.Tables.{add_text}
-use Rattle.rr_flat.specs.View.{texts}
+use Rattle.rr_syntax.specs.View.{texts}
 use Rattle.rr_walk.proofs.tables.name_set.Given as goal
 
 abbrev pub invariant-loop-name : goal.invariant-loop-name

@@ -1,7 +1,6 @@
 use Rattle.std.proofs.Common.{◌≡◌, drop, false}
-use Rattle.rr_syntax.specs.View.{plain_list}
+use Rattle.rr_syntax.specs.View.{plain_list, texts}
 use Rattle.rr_walk.specs.Walk.{fold_trees, check_position}
-use Rattle.rr_flat.specs.View.{texts}
 use Rattle.rr_walk.specs.View.{plain_checked}
 use Rattle.rr_walk.proofs.settings.Checked.check_positions.Given as goal
 

@@ -15,8 +15,8 @@ use Rattle.rr_instance.specs.Sites.{Site, IsSiteList, FewNames, FitWidths}
 use Rattle.rr_instance.specs.Firsts.{told}
 use Rattle.rr_instance.specs.Choices.{IsChoice, cost, total_bits, decode}
 use Rattle.rr_instance.specs.Instances.{guarded, gate, named, new_test, instance_tree, instance_test, instance_statement, instance_body, instance_item, instance_module, instance_source}
-use Rattle.rr_instance.specs.Tests.{IsGuardName, IsTestName}
-use Rattle.rr_instance.specs.Truth.{is_true, guard_truth, gate_truth, new_truth, name_truth, IsScalar}
+use Rattle.rr_instance_laws.specs.Tests.{IsGuardName, IsTestName}
+use Rattle.rr_instance_laws.specs.Truth.{is_true, guard_truth, gate_truth, new_truth, name_truth, IsScalar}
 
 -- a list of bits is read to a choice
 abbrev pub IsDecoded : List Site → List Pick → Type 0

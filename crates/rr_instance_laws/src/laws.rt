@@ -1,11 +1,11 @@
 //! What choices and their instances keep, as contracts of functions that do nothing.
 
-ghost use Rattle.rr_instance.specs.Laws.{ChoicesAreDecoded, DecodedAreChoices, BitsAreFew, FormsStay, NoFaultsMore, NoFaultsByScalars, NoFaultsInTests, NamesFromGuards, BitsFromGuards, BitsOfTests, TruthOfGuards, TruthOfTests, TruthOfGates, TruthOfScalars, KeepsAtNoCost, TargetsStay, RulesStay, LiteralsStayFit, FirstsOfExpressions, FirstsOfStatements};
-ghost use Rattle.rr_instance.specs.Relation.{TreesExist, TreesAgree};
+ghost use Rattle.rr_instance_laws.specs.Laws.{ChoicesAreDecoded, DecodedAreChoices, BitsAreFew, FormsStay, NoFaultsMore, NoFaultsByScalars, NoFaultsInTests, NamesFromGuards, BitsFromGuards, BitsOfTests, TruthOfGuards, TruthOfTests, TruthOfGates, TruthOfScalars, KeepsAtNoCost, TargetsStay, RulesStay, LiteralsStayFit, FirstsOfExpressions, FirstsOfStatements};
+ghost use Rattle.rr_instance_laws.specs.Relation.{TreesExist, TreesAgree};
 
 /// Every choice of sites is read from some list of bits, and every list of bits is read to a choice; a
 /// site has at most 138 of them.
-#[tactic(auto, using(crate::proofs::DecodeLaws::decode_laws, crate::proofs::Listed::bits_are_few))]
+#[tactic(auto, using(crate::proofs::DecodeLaws::decode_laws, crate::proofs::Few::bits_are_few))]
 pub fn choice_laws()
     ensures every { ChoicesAreDecoded }
     ensures decoded { DecodedAreChoices }

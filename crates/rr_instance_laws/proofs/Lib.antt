@@ -1,0 +1,10 @@
+pub mod DecodeLaws
+pub mod Few
+pub mod Rounds
+pub mod FormLaws
+pub mod FirstLaws
+pub mod NameLaws
+pub mod TruthLaws
+pub mod OffLaws
+pub mod RuleLaws
+pub mod Related

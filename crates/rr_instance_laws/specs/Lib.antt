@@ -1,0 +1,4 @@
+pub mod Tests
+pub mod Truth
+pub mod Laws
+pub mod Relation
