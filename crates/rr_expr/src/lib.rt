@@ -29,8 +29,8 @@ use rr_bits::Bits;
 use rr_syntax::Expr;
 pub use scope::Scope;
 pub use selects::{Index, below_index, index_of, near_place};
-pub use shapes::{first_token, takes_constants};
 use shapes::shape_in;
+pub use shapes::{first_token, takes_constants};
 pub use types::{Bit, Entity, Env, ExprFault, Shape};
 use values::{own_shape, value_in};
 
