@@ -1,0 +1,22 @@
+use Rattle.std.proofs.Common.{◌∙◌, ap, ◌++◌, map}
+use Rattle.rr_syntax.specs.View.{plain_identifier}
+use Rattle.rr_instance.specs.View.{plain_sites}
+use Rattle.rr_spots.specs.Spots.{HasFewTokens}
+use Rattle.rr_spots.specs.View.{plain_spot}
+use Rattle.rr_spots.proofs.Walks.{one_more, all_done, flat_map_map}
+use Rattle.rr_guard.specs.Guards.{guard_of}
+use Rattle.rr_guard.specs.Names.{first_names}
+use Rattle.rr_guard.proofs.Lists.{all_item}
+use Rattle.rr_guard.proofs.guards.add_guards.Goals as goal
+
+pub add_guard-requires : goal.add_guard-requires
+add_guard-requires c = all_item HasFewTokens plain_spot c.args.spots.now c.loop-spot.spot-index c.spot-item.result c.loop-spot-test.true c.spot-item.is c.requires
+
+pub loop-spot-preserved : goal.loop-spot-preserved
+loop-spot-preserved c =
+    one_more (λ x. guard_of c.args.«module» (first_names (map plain_identifier c.args.names.now)) (plain_spot x)) (plain_sites c.loop-spot.list.items) _ _ c.args.spots.now c.loop-spot.spot-index c.spot-item.result c.loop-spot-test.true c.spot-item.is c.in_ok-add_guard.ensures c.loop-spot.invariant
+
+pub returns : goal.returns
+returns c =
+    all_done (λ x. guard_of c.args.«module» (first_names (map plain_identifier c.args.names.now)) (plain_spot x)) (plain_sites c.loop-spot.list.items) _ c.args.spots.now c.loop-spot.spot-index c.loop-spot-test.false c.loop-spot.invariant
+    ∙ ap (λ z. plain_sites c.args.list.now.items ++ z) (flat_map_map (guard_of c.args.«module» (first_names (map plain_identifier c.args.names.now))) plain_spot c.args.spots.now)

@@ -1,0 +1,24 @@
+-- The guard sites of a module.
+use Rattle.std.specs.Prelude.{ℕ, Bool, List, [], ◌∷◌, length, flat_map}
+use Rattle.rr_syntax.specs.Expressions.{spell}
+use Rattle.rr_syntax.specs.Tree.{ModuleDeclaration}
+use Rattle.rr_expr.specs.Faults.{first}
+use Rattle.rr_flat.specs.Signals.{Text}
+use Rattle.rr_instance.specs.Sites as sites
+use Rattle.rr_instance.specs.Sites.{Site}
+use Rattle.rr_spots.specs.Spots.{Spot, Body, Test, Value, is_clocked, spots_of_item}
+use Rattle.rr_guard.specs.Names.{names_at}
+
+-- the guard of a condition of the module with this number, where `names` tells the names at each token
+abbrev pub guard_of : ℕ → (ℕ → List Text) → Spot → List Site
+guard_of owner names (Body s) = []
+guard_of owner names (Test t) = (record { kind = sites.Guard owner (length (spell t)) (names (first t)); token = first t }) ∷ []
+guard_of owner names (Value token n) = []
+
+-- the same with the names of the module's clock, in a clocked block or elsewhere
+abbrev pub guard_at : ModuleDeclaration → ℕ → List Text → Bool → Spot → List Site
+guard_at m owner clocks clocked spot = guard_of owner (names_at m clocks clocked) spot
+
+-- in the order of the text
+unfoldable pub guard_sites : ModuleDeclaration → ℕ → List Text → List Site
+guard_sites m owner clocks = flat_map (λ x. flat_map (guard_at m owner clocks (is_clocked x)) (spots_of_item x)) m.items

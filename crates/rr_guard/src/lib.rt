@@ -1,0 +1,15 @@
+//! The guard sites of a module: its conditions, each with the names that a guard may be there. They
+//! are right where they are those of the definitions on plain trees, in the order of the text. It
+//! stands on `rr_spots`' conditions and `rr_parts`' lists of targets.
+#![tactic(auto)]
+
+mod assigned;
+mod candidates;
+mod declared;
+mod guards;
+mod texts;
+
+pub use assigned::whole_name;
+pub use candidates::{GuardNames, guard_names, names_before};
+pub use guards::{add_guard, sites};
+pub use texts::TextSet;
