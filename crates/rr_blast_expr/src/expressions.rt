@@ -17,13 +17,13 @@ ghost use Rattle.rr_blast_expr.specs.Forms.{in_context, placed, index_worth, bit
 use crate::inputs::Inputs;
 use crate::names::name_word;
 use crate::operands::{
-    bit_word, constant_at, constant_word, copies_of, literal_in, name_in,
-    part_select, unsited,
+    bit_word, constant_at, constant_word, copies_of, literal_in, name_in, part_select, unsited,
 };
 use crate::sites::test_wire;
 use rr_circuit::{Builder, Wire};
 use rr_expr::{
-    Infix, Operation, Prefix, Relation, Shape, Shift, below_index, entity_range, infix_of, joined, prefix_of, shape_of,
+    Infix, Operation, Prefix, Relation, Shape, Shift, below_index, entity_range, infix_of, joined,
+    prefix_of, shape_of,
 };
 use rr_syntax::{Expr, Mark};
 use rr_word_gates::{
@@ -104,7 +104,16 @@ fn bits_at(
             let shape = shape_of(index, inputs.scope);
             let still = unsited(inputs);
             let at = word_in(alloc, b, index, &still, shape)?;
-            let out = selected(alloc, b, word, at.as_slice(), shape.signed, range, below, count)?;
+            let out = selected(
+                alloc,
+                b,
+                word,
+                at.as_slice(),
+                shape.signed,
+                range,
+                below,
+                count,
+            )?;
             Ok(out)
         }
     }

@@ -5,8 +5,8 @@ use rr_expr::Scope;
 use rr_instance::SiteList;
 
 /// The names of an expression, the wires of the signals by their numbers, the sites in it and beside
-/// it, and one wire for each bit of a choice among their changes; or all stays as it is, and
-/// there is no wire for a choice.
+/// it, and one wire for each bit of a choice among their changes. Where it is still, all stays as it is,
+/// whatever the sites, and there is no wire for a choice.
 #[derive(Clone, Copy)]
 pub(crate) struct Inputs<'a> {
     pub scope: &'a Scope<'a>,

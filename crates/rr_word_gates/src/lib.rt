@@ -13,5 +13,6 @@ mod words;
 pub use operators::{computed, holds, reduced, shifted};
 pub use selects::{matches, names_place, picked_at, selected};
 pub use words::{
-    Connective, bitwise, chosen, chosen_or, connected, constants, extended, inverted, negated, of_all, repeated,
+    Connective, bitwise, chosen, chosen_or, connected, constants, extended, inverted, negated,
+    of_all, repeated,
 };

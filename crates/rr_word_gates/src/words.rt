@@ -102,12 +102,7 @@ pub fn negated(alloc: Global, b: &mut Builder, xs: &[Wire]) -> Result<Vec<Wire>,
 }
 
 /// Two truth values joined.
-pub fn connected(
-    b: &mut Builder,
-    op: Connective,
-    x: Wire,
-    y: Wire,
-) -> Result<Wire, AllocError>
+pub fn connected(b: &mut Builder, op: Connective, x: Wire, y: Wire) -> Result<Wire, AllocError>
     requires x { IsWire b.old x }
     requires y { IsWire b.old y }
     ensures extends { Extends b.old b.new }
