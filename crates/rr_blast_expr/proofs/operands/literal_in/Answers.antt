@@ -1,0 +1,6 @@
+use Rattle.rr_bits.specs.Words.{extend}
+use Rattle.rr_word_gates.proofs.Carrying.{carried1}
+use Rattle.rr_blast_expr.proofs.operands.literal_in.Goals as goal
+
+pub returns-clause-value : goal.returns-clause-value
+returns-clause-value c = λ W h. carried1 (extend c.args.context.width c.args.context.signed) _ _ _ _ _ _ c.as_slice.ensures.value (c.in_ok-word.ensures.value W h) c.in_ok-out.ensures.value

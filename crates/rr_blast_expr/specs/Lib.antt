@@ -1,0 +1,4 @@
+pub mod Signals
+pub mod Instances
+pub mod Forms
+pub mod Finding

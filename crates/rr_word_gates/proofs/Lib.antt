@@ -1,0 +1,4 @@
+pub mod Carrying
+pub mod WordLaws
+pub mod SelectLaws
+pub mod Copying

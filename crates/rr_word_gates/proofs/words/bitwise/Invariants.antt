@@ -1,0 +1,6 @@
+use Rattle.rr_arith.proofs.ShiftLaws.{Filled}
+use Rattle.rr_word_gates.proofs.WordLaws.{joined_bit}
+use Rattle.rr_word_gates.proofs.words.bitwise.Given as goal
+
+abbrev pub invariant-loop-i : goal.invariant-loop-i
+invariant-loop-i l = Filled l.fn.b l.b (joined_bit l.fn.b l.op l.xs l.ys) l.out.items l.i
