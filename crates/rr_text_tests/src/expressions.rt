@@ -1,12 +1,14 @@
 //! Expressions at tokens, with trees that the standard's table of operators gives.
 
+ghost use Rattle.std.specs.Prelude.{◌≤◌, ◌<◌, ◌^◌, length, IfOk};
+
 use crate::texts::{push_times, tokens_of};
 use bumpalo::Bump;
 use rr_parse_expr::{
-    ParseFault, expr, expr_before, expr_within, is_mark, mark_at, name_at, operand, operand_within,
-    target_within,
+    ParseFault, Piece, expr, expr_before, expr_within, is_mark, list, mark_at, name_at, operand,
+    operand_within, target_within,
 };
-use rr_syntax::{Expr, MARKS, Mark, Named};
+use rr_syntax::{Expr, MARKS, Mark, Named, Token};
 use std::alloc::{AllocError, Global};
 use std::test::Fail;
 
@@ -342,6 +344,45 @@ fn names(rt: HostRuntime) -> Result<(), Fail> {
     for at in [0, 2, 3, 4, 5, u32::MAX] {
         assert!(rt; name_at(tokens, at).is_none());
     }
+    Ok(())
+}
+
+/// The name at a token, as a part of a list.
+fn named<'a>(tokens: &'a [Token<'a>], at: u32) -> Result<Piece<Named<'a>>, ParseFault>
+    requires short { length tokens.now < 2 ^ 32 }
+    ensures { IfOk result (λ p. (at < p.next) × (p.next ≤ length tokens.now)) }
+{
+    match name_at(tokens, at) {
+        Some(value) => Ok(Piece {
+            value,
+            next: at + 1,
+        }),
+        None => Err(ParseFault::Syntax(at)),
+    }
+}
+
+/// Whether the list at the front of a text has these names, and is of as many tokens.
+fn lists(alloc: Global, text: &str, wanted: &str, count: u32) -> Result<bool, Fail> {
+    let arena = Bump::new(alloc);
+    let tokens = tokens_of(text, &arena)?;
+    match list(tokens, 0, &arena, |at| named(tokens, at)) {
+        Err(_) => Ok(false),
+        Ok(found) => {
+            let mut out = String::new(alloc);
+            for part in found.value.iter() {
+                out.push_str(part.name)?;
+            }
+            Ok(out.as_str() == wanted && found.next == count)
+        }
+    }
+}
+
+/// A list goes on as far as a name stands behind a comma; a comma with none is left.
+#[test]
+fn lists_with_commas(rt: HostRuntime) -> Result<(), Fail> {
+    assert!(rt; lists(rt.alloc(), "a , b , c ;", "abc", 5)?);
+    assert!(rt; lists(rt.alloc(), "a , 3", "a", 1)?);
+    assert!(rt; !lists(rt.alloc(), ", a", "", 0)?);
     Ok(())
 }
 
