@@ -36,6 +36,11 @@ pub record IsDesign (bytes : List ℕ) (tokens : List Lexeme) (top : Option Text
   pub text : IsText bytes tokens tree
   pub flat : flat_of tree top ≡ Ok design
 
+-- the bytes have these tokens, which spell this tree, and this is its flat design
+pub record IsDesignOf (bytes : List ℕ) (tokens : List Lexeme) (tree : SourceText) (top : Option Text) (design : Flat) : Type 0 where
+  pub text : IsText bytes tokens tree
+  pub flat : flat_of tree top ≡ Ok design
+
 -- the first word without a rule begins at this byte
 pub record IsUnsupported (bytes : List ℕ) (offset : ℕ) : Type 0 where
   pub tokens : List Lexeme

@@ -9,7 +9,7 @@ ghost use Rattle.rr_flat.specs.Faults.{Refuses as RefusesFlat};
 ghost use Rattle.rr_flat.specs.View.{plain_flat};
 ghost use Rattle.rr_walk.specs.Walk.{flat_of};
 ghost use Rattle.rr_parse.specs.Exact.{IsRefusal};
-ghost use Rattle.rr_elaborate.specs.Designs.{IsDesign, IsText, Refuses, placed as placed_by, start_of as start_in};
+ghost use Rattle.rr_elaborate.specs.Designs.{IsDesign, IsDesignOf, IsText, Refuses, placed as placed_by, start_of as start_in};
 
 use bumpalo::Bump;
 use rr_flat::{Flat, FlatFault};
@@ -20,10 +20,11 @@ use rr_syntax::{Source, Token};
 use rr_walk::flatten;
 use std::alloc::Global;
 
-/// A flat design with the tokens of its text, which its numbers of tokens name.
+/// A flat design with the tokens of its text, which its numbers of tokens name, and with its tree.
 #[derive(Drop)]
 pub struct Design<'a> {
     pub tokens: &'a [Token<'a>],
+    pub source: &'a Source<'a>,
     pub flat: Flat<'a>,
 }
 
@@ -123,15 +124,24 @@ fn flattened<'a>(
     top: Option<&str>,
 ) -> Result<Design<'a>, DesignFault>
     requires few { length source.now.modules.now < 2 ^ 32 }
+    requires short { length tokens.now < 2 ^ 32 }
     requires formed { WellFormedSource (plain_source source.now) }
     requires fit { FitLiteralsSource (plain_source source.now) }
     ensures answer { (bytes : List ℕ) → IsText bytes (lexemes tokens.now) (plain_source source.now) → MatchResult result
         (λ design. IsDesign bytes (lexemes design.tokens.now) (option_map (λ n. n.now) top.entry) (plain_flat design.flat))
         (Refuses bytes (option_map (λ n. n.now) top.entry)) }
+    ensures tree { (bytes : List ℕ) → IsText bytes (lexemes tokens.now) (plain_source source.now) → IfOk result
+        (λ design. IsDesignOf bytes (lexemes design.tokens.now) (plain_source design.source.now) (option_map (λ n. n.now) top.entry) (plain_flat design.flat)) }
     ensures sound { IfOk result (λ design. IsSound (plain_flat design.flat)) }
+    ensures fit { IfOk result (λ design. FitLiteralsSource (plain_source design.source.now)) }
+    ensures few { IfOk result (λ design. length design.tokens.now < 2 ^ 32) }
 {
     match flatten(alloc, source, top) {
-        Ok(flat) => Ok(Design { tokens, flat }),
+        Ok(flat) => Ok(Design {
+            tokens,
+            source,
+            flat,
+        }),
         Err(fault) => Err(of_flat(tokens, fault)),
     }
 }
@@ -148,7 +158,11 @@ fn parsed<'a>(
     ensures answer { (bytes : List ℕ) → AreTokens bytes (lexemes tokens.now) → MatchResult result
         (λ design. IsDesign bytes (lexemes design.tokens.now) (option_map (λ n. n.now) top.entry) (plain_flat design.flat))
         (Refuses bytes (option_map (λ n. n.now) top.entry)) }
+    ensures tree { (bytes : List ℕ) → AreTokens bytes (lexemes tokens.now) → IfOk result
+        (λ design. IsDesignOf bytes (lexemes design.tokens.now) (plain_source design.source.now) (option_map (λ n. n.now) top.entry) (plain_flat design.flat)) }
     ensures sound { IfOk result (λ design. IsSound (plain_flat design.flat)) }
+    ensures fit { IfOk result (λ design. FitLiteralsSource (plain_source design.source.now)) }
+    ensures few { IfOk result (λ design. length design.tokens.now < 2 ^ 32) }
 {
     match parse(tokens, arena) {
         Ok(source) => flattened(alloc, tokens, source, top),
@@ -169,7 +183,11 @@ pub fn elaborate<'a>(
     ensures answer { MatchResult result
         (λ design. IsDesign bytes.now (lexemes design.tokens.now) (option_map (λ n. n.now) top.entry) (plain_flat design.flat))
         (Refuses bytes.now (option_map (λ n. n.now) top.entry)) }
+    ensures tree { IfOk result
+        (λ design. IsDesignOf bytes.now (lexemes design.tokens.now) (plain_source design.source.now) (option_map (λ n. n.now) top.entry) (plain_flat design.flat)) }
     ensures sound { IfOk result (λ design. IsSound (plain_flat design.flat)) }
+    ensures fit { IfOk result (λ design. FitLiteralsSource (plain_source design.source.now)) }
+    ensures few { IfOk result (λ design. length design.tokens.now < 2 ^ 32) }
 {
     match lex(bytes, arena) {
         Ok(tokens) => parsed(alloc, tokens, top, arena),

@@ -2,7 +2,7 @@
 use crate::texts::design_of;
 use bumpalo::Bump;
 use rr_flat::{Bit, Flat};
-use rr_target::Write;
+use rr_target::{Piece, Write, add_driven, no_values, push_piece};
 use rr_writers::{BitTable, TwoDrivers, add_assigned_bits, first_two_drivers};
 use std::alloc::{AllocError, Global};
 use std::test::Fail;
@@ -115,5 +115,45 @@ fn numbers_of_bits(rt: HostRuntime) -> Result<(), Fail> {
             place: 5
         }) == 0
     );
+    Ok(())
+}
+
+/// What a driver drives, and a piece of bits that are not there behind it.
+fn driven(alloc: Global, flat: &Flat, number: u32) -> Result<Vec<Piece>, AllocError> {
+    let mut pieces = Vec::new(alloc);
+    if let Some(driver) = flat.driver(number) {
+        add_driven(&mut pieces, flat, &driver.target, &no_values(alloc))?;
+    }
+    push_piece(&mut pieces, Piece::absent(3))?;
+    Ok(pieces)
+}
+
+/// Whether this is the piece with so many bits of a signal from a place on.
+fn is_piece(piece: Option<&Piece>, signal: u32, from: i64, count: u32) -> bool {
+    match piece {
+        None => false,
+        Some(piece) => piece.signal == signal && piece.from == from && piece.count == count,
+    }
+}
+
+/// A concatenated target, and a port that takes a concatenation.
+#[test]
+fn driven_pieces(rt: HostRuntime) -> Result<(), Fail> {
+    let alloc = rt.alloc();
+    let arena = Bump::new(alloc);
+    let text = "module n(input [1:0] p); endmodule
+        module m(input a, output [2:0] y); assign {y[2], y[1:0]} = a; n u({a, a}); endmodule";
+    match design_of(alloc, text, &arena) {
+        Err(_) => assert!(rt; false),
+        Ok(design) => {
+            let assigned = driven(alloc, &design.flat, 0)?;
+            assert_eq!(rt; assigned.len(), 3);
+            assert!(rt; is_piece(assigned.first(), 1, 2, 1));
+            assert!(rt; is_piece(assigned.get(1), 1, 0, 2));
+            let connected = driven(alloc, &design.flat, 1)?;
+            assert_eq!(rt; connected.len(), 2);
+            assert!(rt; is_piece(connected.first(), 2, 0, 2));
+        }
+    }
     Ok(())
 }

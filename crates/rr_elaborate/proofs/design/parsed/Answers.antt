@@ -16,3 +16,6 @@ returns-in-Ok-clause-answer c = λ bytes lexed. c.flattened.ensures.answer bytes
 
 pub returns-in-Err-clause-answer : goal.returns-in-Err-clause-answer
 returns-in-Err-clause-answer c = λ bytes lexed. c.of_tokens.ensures bytes (option_map (λ n. n.now) c.args.top) lexed
+
+pub returns-in-Ok-clause-tree : goal.returns-in-Ok-clause-tree
+returns-in-Ok-clause-tree c = λ bytes lexed. c.flattened.ensures.tree bytes (text_of bytes c.args.tokens.now c.in-Ok.source.now lexed c.in-Ok.ensures)
