@@ -1,0 +1,4 @@
+pub mod Pieces
+pub mod Printing
+pub mod Stretches
+pub mod Laws
