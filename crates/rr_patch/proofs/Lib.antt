@@ -8,5 +8,4 @@ pub mod Bodies
 pub mod ListWalks
 pub mod Sizes
 pub mod ItemWalks
-pub mod Counts
 pub mod Printed

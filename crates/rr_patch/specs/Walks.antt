@@ -1,11 +1,15 @@
--- The new tokens before a condition or a body, and after it.
-use Rattle.std.specs.Prelude.{ℕ, ◌==◌, ◌%◌, ◌^◌, ◌&&◌, false, if◌then◌else◌, List, [], ◌∷◌, ◌++◌, Option, None, Some}
+-- The new tokens before a condition or a body, and after it; and the changes of parts of items, by the numbers of their tokens.
+use Rattle.std.specs.Prelude.{◌≡◌, ℕ, ◌==◌, ◌%◌, ◌^◌, ◌&&◌, false, if◌then◌else◌, List, [], ◌∷◌, ◌++◌, Option, None, Some}
 use Rattle.rr_syntax.specs.Words.{keyword_begin, mark_open_parenthesis, mark_close_parenthesis, mark_not, mark_logical_and, mark_logical_or}
 use Rattle.rr_lex.specs.Patch.{New, new_keyword, new_literal, new_mark, new_name}
+use Rattle.rr_syntax.specs.Tree.{NetAssignment, ModuleItem, ModuleDeclaration}
+use Rattle.rr_syntax.specs.Items.{WellFormedPair, WellFormedItem, WellFormedModule, NumberedPair, NumberedItem, NumberedModule}
 use Rattle.rr_instance.specs.declared.pick.Pick.{Pick}
 use Rattle.rr_instance.specs.Sites.{SiteKind, Site, Literal, Guard, Overwrite, guard_names}
 use Rattle.rr_instance.specs.Instances.{is_overwrite_at, picked_form, picked_name}
 use Rattle.rr_respell.specs.Printing.{gate_words, last_assignment, negated_name}
+use Rattle.rr_respell.specs.Pieces.{Piece}
+use Rattle.rr_patch.specs.Changes.{Change, changes}
 use Rattle.rr_patch.specs.declared.body.Side.{Side}
 use Rattle.rr_patch.specs.declared.body.Side.TheVariants.{Before, After}
 
@@ -44,3 +48,17 @@ unfoldable pub rounds : Side → ℕ → List Site → List Pick → List New
 rounds side token [] ps = []
 rounds side token (s ∷ ss) [] = []
 rounds side token (s ∷ ss) (p ∷ ps) = round_at side token s p ++ rounds side token ss ps
+
+-- the changes of pieces have come to others, whatever number the first token of their part has by the numbers in the part
+abbrev pub Adds : List Change → List Change → (ℕ → Type 0) → List Piece → Type 0
+Adds old new IsAt xs = (at : ℕ) → IsAt at → new ≡ old ++ changes at xs
+
+-- a well-formed part whose first token has that number, and each leaf and name the number of its token
+abbrev pub PairAt : NetAssignment → ℕ → Type 0
+PairAt p at = WellFormedPair p × NumberedPair p at
+
+abbrev pub ItemAt : ModuleItem → ℕ → Type 0
+ItemAt i at = WellFormedItem i × NumberedItem i at
+
+abbrev pub ModuleAt : ModuleDeclaration → ℕ → Type 0
+ModuleAt m at = WellFormedModule m × NumberedModule m at

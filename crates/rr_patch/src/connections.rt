@@ -1,36 +1,35 @@
 //! The changes of connections and of the instances of modules.
 
-ghost use Rattle.std.specs.Prelude.{◌≡◌, ◌<◌, ◌+◌, ◌^◌, ◌++◌, length, map, IfOk};
-ghost use Rattle.rr_syntax.specs.Items.{spell_connection, spell_connections, spell_each, spell_instance};
+ghost use Rattle.std.specs.Prelude.{◌≡◌, ◌<◌, ◌^◌, ◌++◌, length, map, IfOk};
+ghost use Rattle.rr_syntax.specs.Items.{spell_connection, spell_connections, spell_each, spell_instance, NumberedConnection, NumberedConnections, NumberedEach, NumberedInstance};
 ghost use Rattle.rr_syntax.specs.View.{plain_connection, plain_connections, plain_instance};
 ghost use Rattle.rr_respell.specs.Printing.{child_pieces, connection_pieces, connections_pieces, each_pieces};
 ghost use Rattle.rr_patch.specs.Changes.{changes, plain_changes};
+ghost use Rattle.rr_patch.specs.Walks.{Adds};
 
 use crate::change::Change;
-use crate::expression::{expression, expressions, past_list};
+use crate::expression::{expression, expressions};
 use rr_instance::{Choice, SiteList};
 use rr_syntax::{Connection, Conns, Instance};
 use std::alloc::AllocError;
 
-/// The changes of a connection by name whose dot has the number `at`, and the number of the token after
-/// it; so below.
+/// The changes of a connection by name, whose value begins two tokens after the name.
 #[tactic(auto, using(crate::proofs::ItemWalks::connection_walks))]
 fn connection<'a>(
     connection: &Connection,
-    at: u64,
     list: &SiteList<'a>,
     choice: &Choice,
     out: &mut Vec<Change<'a>>,
-) -> Result<u64, AllocError>
-    requires fits { at + length (spell_connection (plain_connection connection.now)) < 2 ^ 63 }
-    ensures next { IfOk result (λ next. next ≡ at + length (spell_connection (plain_connection connection.now))) }
-    ensures made { IfOk result (λ _. plain_changes out.new.items ≡ plain_changes out.old.items ++ changes at (connection_pieces list.now choice.now.picks.items (plain_connection connection.now))) }
+) -> Result<(), AllocError>
+    requires fits { length (spell_connection (plain_connection connection.now)) < 2 ^ 62 }
+    ensures { IfOk result (λ _. Adds (plain_changes out.old.items) (plain_changes out.new.items) (NumberedConnection (plain_connection connection.now)) (connection_pieces list.now choice.now.picks.items (plain_connection connection.now))) }
 {
     match connection.value {
-        None => Ok(at + 4),
+        None => Ok(()),
         Some(value) => {
-            let close = expression(value, at + 3, list, choice, out)?;
-            Ok(close + 1)
+            let start = u64::from(connection.token) + 2;
+            expression(value, start, list, choice, out)?;
+            Ok(())
         }
     }
 }
@@ -38,24 +37,20 @@ fn connection<'a>(
 /// The changes of connections by name, each after a comma.
 fn named<'a>(
     entries: &[Connection],
-    at: u64,
     list: &SiteList<'a>,
     choice: &Choice,
     out: &mut Vec<Change<'a>>,
-) -> Result<u64, AllocError>
-    requires fits { at + length (spell_each spell_connection (map plain_connection entries.now)) < 2 ^ 63 }
-    ensures next { IfOk result (λ next. next ≡ at + length (spell_each spell_connection (map plain_connection entries.now))) }
-    ensures made { IfOk result (λ _. plain_changes out.new.items ≡ plain_changes out.old.items ++ changes at (each_pieces (connection_pieces list.now choice.now.picks.items) (map plain_connection entries.now))) }
+) -> Result<(), AllocError>
+    requires fits { length (spell_each spell_connection (map plain_connection entries.now)) < 2 ^ 62 }
+    ensures { IfOk result (λ _. Adds (plain_changes out.old.items) (plain_changes out.new.items) (NumberedEach spell_connection NumberedConnection (map plain_connection entries.now)) (each_pieces (connection_pieces list.now choice.now.picks.items) (map plain_connection entries.now))) }
 {
-    let mut comma = at;
     for one in entries.iter() {
-        let next = connection(one, comma + 1, list, choice, out)?;
-        comma = next;
+        connection(one, list, choice, out)?;
     }
-    Ok(comma)
+    Ok(())
 }
 
-/// The changes of connections in their brackets.
+/// The changes of connections in their brackets, of which the first has the number `at`.
 #[tactic(auto, using(crate::proofs::ItemWalks::connections_walks))]
 fn connections<'a>(
     conns: &Conns,
@@ -63,56 +58,51 @@ fn connections<'a>(
     list: &SiteList<'a>,
     choice: &Choice,
     out: &mut Vec<Change<'a>>,
-) -> Result<u64, AllocError>
-    requires fits { at + length (spell_connections (plain_connections conns.now)) < 2 ^ 62 }
-    ensures next { IfOk result (λ next. next ≡ at + length (spell_connections (plain_connections conns.now))) }
-    ensures made { IfOk result (λ _. plain_changes out.new.items ≡ plain_changes out.old.items ++ changes at (connections_pieces list.now choice.now.picks.items (plain_connections conns.now))) }
+) -> Result<(), AllocError>
+    requires low { at < 2 ^ 62 }
+    requires fits { length (spell_connections (plain_connections conns.now)) < 2 ^ 62 }
+    ensures { IfOk result (λ _. NumberedConnections (plain_connections conns.now) at → plain_changes out.new.items ≡ plain_changes out.old.items ++ changes at (connections_pieces list.now choice.now.picks.items (plain_connections conns.now))) }
 {
     match conns {
         Conns::Positions(entries) => {
-            let end = expressions(entries, at, list, choice, out)?;
-            Ok(past_list(at, end))
+            expressions(entries, at, list, choice, out)?;
+            Ok(())
         }
         Conns::Names(entries) => {
-            let end = named(entries, at, list, choice, out)?;
-            Ok(past_list(at, end))
+            named(entries, list, choice, out)?;
+            Ok(())
         }
     }
 }
 
-/// The changes of an instance of a module.
+/// The changes of an instance of a module, whose connections begin after its name.
 #[tactic(auto, using(crate::proofs::ItemWalks::child_walks))]
 fn child<'a>(
     instance: &Instance,
-    at: u64,
     list: &SiteList<'a>,
     choice: &Choice,
     out: &mut Vec<Change<'a>>,
-) -> Result<u64, AllocError>
-    requires fits { at + length (spell_instance (plain_instance instance.now)) < 2 ^ 62 }
-    ensures next { IfOk result (λ next. next ≡ at + length (spell_instance (plain_instance instance.now))) }
-    ensures made { IfOk result (λ _. plain_changes out.new.items ≡ plain_changes out.old.items ++ changes at (child_pieces list.now choice.now.picks.items (plain_instance instance.now))) }
+) -> Result<(), AllocError>
+    requires fits { length (spell_instance (plain_instance instance.now)) < 2 ^ 62 }
+    ensures { IfOk result (λ _. Adds (plain_changes out.old.items) (plain_changes out.new.items) (NumberedInstance (plain_instance instance.now)) (child_pieces list.now choice.now.picks.items (plain_instance instance.now))) }
 {
-    let next = connections(&instance.conns, at + 1, list, choice, out)?;
-    Ok(next)
+    let bracket = u64::from(instance.token) + 1;
+    connections(&instance.conns, bracket, list, choice, out)?;
+    Ok(())
 }
 
 /// The changes of instances of a module, each after a comma.
 pub(crate) fn children<'a>(
     entries: &[Instance],
-    at: u64,
     list: &SiteList<'a>,
     choice: &Choice,
     out: &mut Vec<Change<'a>>,
-) -> Result<u64, AllocError>
-    requires fits { at + length (spell_each spell_instance (map plain_instance entries.now)) < 2 ^ 62 }
-    ensures next { IfOk result (λ next. next ≡ at + length (spell_each spell_instance (map plain_instance entries.now))) }
-    ensures made { IfOk result (λ _. plain_changes out.new.items ≡ plain_changes out.old.items ++ changes at (each_pieces (child_pieces list.now choice.now.picks.items) (map plain_instance entries.now))) }
+) -> Result<(), AllocError>
+    requires fits { length (spell_each spell_instance (map plain_instance entries.now)) < 2 ^ 62 }
+    ensures { IfOk result (λ _. Adds (plain_changes out.old.items) (plain_changes out.new.items) (NumberedEach spell_instance NumberedInstance (map plain_instance entries.now)) (each_pieces (child_pieces list.now choice.now.picks.items) (map plain_instance entries.now))) }
 {
-    let mut comma = at;
     for one in entries.iter() {
-        let next = child(one, comma + 1, list, choice, out)?;
-        comma = next;
+        child(one, list, choice, out)?;
     }
-    Ok(comma)
+    Ok(())
 }

@@ -1,39 +1,39 @@
-//! The changes of module items.
+//! The changes of module items. Where a part of an item stands in the source is read from the numbers
+//! of its tokens, so what stays needs no step.
 
-ghost use Rattle.std.specs.Prelude.{◌≡◌, ◌<◌, ◌+◌, ◌^◌, ◌++◌, length, map, IfOk};
-ghost use Rattle.rr_syntax.specs.Items.{spell_each, spell_item, spell_net, spell_pair};
+ghost use Rattle.std.specs.Prelude.{◌<◌, ◌^◌, length, map, IfOk};
+ghost use Rattle.rr_syntax.specs.Items.{spell_each, spell_item, spell_net, spell_pair, NumberedEach, NumberedNet};
 ghost use Rattle.rr_syntax.specs.View.{plain_item, plain_net, plain_pair};
 ghost use Rattle.rr_respell.specs.Printing.{each_pieces, item_pieces, net_pieces, pair_pieces};
-ghost use Rattle.rr_patch.specs.Changes.{changes, plain_changes};
+ghost use Rattle.rr_patch.specs.Changes.{plain_changes};
+ghost use Rattle.rr_patch.specs.Walks.{Adds, ItemAt, PairAt};
 
 use crate::body::body;
 use crate::change::Change;
 use crate::connections::children;
-use crate::expression::{expression, past_list};
-use crate::lengths::item_len;
+use crate::expression::expression;
+use rr_expr::first_token;
 use rr_instance::{Choice, SiteList};
 use rr_syntax::{Item, NetName, Pair, events_len, expression_len};
 use std::alloc::AllocError;
 
-/// The changes of a declared net whose name has the number `at`, and the number of the token after it;
-/// so below.
+/// The changes of a declared net, whose value begins two tokens after its name.
 #[tactic(auto, using(crate::proofs::ItemWalks::net_walks))]
 fn net<'a>(
     net: &NetName,
-    at: u64,
     list: &SiteList<'a>,
     choice: &Choice,
     out: &mut Vec<Change<'a>>,
-) -> Result<u64, AllocError>
-    requires fits { at + length (spell_net (plain_net net.now)) < 2 ^ 63 }
-    ensures next { IfOk result (λ next. next ≡ at + length (spell_net (plain_net net.now))) }
-    ensures made { IfOk result (λ _. plain_changes out.new.items ≡ plain_changes out.old.items ++ changes at (net_pieces list.now choice.now.picks.items (plain_net net.now))) }
+) -> Result<(), AllocError>
+    requires fits { length (spell_net (plain_net net.now)) < 2 ^ 62 }
+    ensures { IfOk result (λ _. Adds (plain_changes out.old.items) (plain_changes out.new.items) (NumberedNet (plain_net net.now)) (net_pieces list.now choice.now.picks.items (plain_net net.now))) }
 {
     match net.value {
-        None => Ok(at + 1),
+        None => Ok(()),
         Some(value) => {
-            let next = expression(value, at + 2, list, choice, out)?;
-            Ok(next)
+            let start = u64::from(net.token) + 2;
+            expression(value, start, list, choice, out)?;
+            Ok(())
         }
     }
 }
@@ -41,59 +41,49 @@ fn net<'a>(
 /// The changes of declared nets, each after a comma.
 fn nets<'a>(
     entries: &[NetName],
-    at: u64,
     list: &SiteList<'a>,
     choice: &Choice,
     out: &mut Vec<Change<'a>>,
-) -> Result<u64, AllocError>
-    requires fits { at + length (spell_each spell_net (map plain_net entries.now)) < 2 ^ 63 }
-    ensures next { IfOk result (λ next. next ≡ at + length (spell_each spell_net (map plain_net entries.now))) }
-    ensures made { IfOk result (λ _. plain_changes out.new.items ≡ plain_changes out.old.items ++ changes at (each_pieces (net_pieces list.now choice.now.picks.items) (map plain_net entries.now))) }
+) -> Result<(), AllocError>
+    requires fits { length (spell_each spell_net (map plain_net entries.now)) < 2 ^ 62 }
+    ensures { IfOk result (λ _. Adds (plain_changes out.old.items) (plain_changes out.new.items) (NumberedEach spell_net NumberedNet (map plain_net entries.now)) (each_pieces (net_pieces list.now choice.now.picks.items) (map plain_net entries.now))) }
 {
-    let mut comma = at;
     for one in entries.iter() {
-        let next = net(one, comma + 1, list, choice, out)?;
-        comma = next;
+        net(one, list, choice, out)?;
     }
-    Ok(comma)
+    Ok(())
 }
 
-/// The changes of a continuous assignment; its target stays.
-#[tactic(auto, using(crate::proofs::ItemWalks::pair_sizes))]
+/// The changes of a continuous assignment, whose value stands after the target, which stays, and `=`.
+#[tactic(auto, using(crate::proofs::ItemWalks::pair_walks))]
 fn pair<'a>(
     pair: &Pair,
-    at: u64,
     list: &SiteList<'a>,
     choice: &Choice,
     out: &mut Vec<Change<'a>>,
-) -> Result<u64, AllocError>
-    requires fits { at + length (spell_pair (plain_pair pair.now)) < 2 ^ 63 }
-    ensures next { IfOk result (λ next. next ≡ at + length (spell_pair (plain_pair pair.now))) }
-    ensures made { IfOk result (λ _. plain_changes out.new.items ≡ plain_changes out.old.items ++ changes at (pair_pieces list.now choice.now.picks.items (plain_pair pair.now))) }
+) -> Result<(), AllocError>
+    requires fits { length (spell_pair (plain_pair pair.now)) < 2 ^ 62 }
+    ensures { IfOk result (λ _. Adds (plain_changes out.old.items) (plain_changes out.new.items) (PairAt (plain_pair pair.now)) (pair_pieces list.now choice.now.picks.items (plain_pair pair.now))) }
 {
-    let equals = at + expression_len(pair.target);
-    let next = expression(pair.value, equals + 1, list, choice, out)?;
-    Ok(next)
+    let equals = u64::from(first_token(pair.target)) + expression_len(pair.target);
+    expression(pair.value, equals + 1, list, choice, out)?;
+    Ok(())
 }
 
 /// The changes of continuous assignments, each after a comma.
 fn pairs<'a>(
     entries: &[Pair],
-    at: u64,
     list: &SiteList<'a>,
     choice: &Choice,
     out: &mut Vec<Change<'a>>,
-) -> Result<u64, AllocError>
-    requires fits { at + length (spell_each spell_pair (map plain_pair entries.now)) < 2 ^ 63 }
-    ensures next { IfOk result (λ next. next ≡ at + length (spell_each spell_pair (map plain_pair entries.now))) }
-    ensures made { IfOk result (λ _. plain_changes out.new.items ≡ plain_changes out.old.items ++ changes at (each_pieces (pair_pieces list.now choice.now.picks.items) (map plain_pair entries.now))) }
+) -> Result<(), AllocError>
+    requires fits { length (spell_each spell_pair (map plain_pair entries.now)) < 2 ^ 62 }
+    ensures { IfOk result (λ _. Adds (plain_changes out.old.items) (plain_changes out.new.items) (NumberedEach spell_pair PairAt (map plain_pair entries.now)) (each_pieces (pair_pieces list.now choice.now.picks.items) (map plain_pair entries.now))) }
 {
-    let mut comma = at;
     for one in entries.iter() {
-        let next = pair(one, comma + 1, list, choice, out)?;
-        comma = next;
+        pair(one, list, choice, out)?;
     }
-    Ok(comma)
+    Ok(())
 }
 
 /// The changes of an item; declarations of ports, variables and parameters stay, and so do ranges,
@@ -101,59 +91,38 @@ fn pairs<'a>(
 #[tactic(auto, using(crate::proofs::ItemWalks::item_walks))]
 pub(crate) fn item<'a>(
     item: &Item,
-    at: u64,
     list: &SiteList<'a>,
     choice: &Choice,
     out: &mut Vec<Change<'a>>,
-) -> Result<u64, AllocError>
-    requires fits { at + length (spell_item (plain_item item.now)) < 2 ^ 61 }
-    ensures next { IfOk result (λ next. next ≡ at + length (spell_item (plain_item item.now))) }
-    ensures made { IfOk result (λ _. plain_changes out.new.items ≡ plain_changes out.old.items ++ changes at (item_pieces list.now choice.now.picks.items (plain_item item.now))) }
+) -> Result<(), AllocError>
+    requires fits { length (spell_item (plain_item item.now)) < 2 ^ 61 }
+    ensures { IfOk result (λ _. Adds (plain_changes out.old.items) (plain_changes out.new.items) (ItemAt (plain_item item.now)) (item_pieces list.now choice.now.picks.items (plain_item item.now))) }
 {
     match item {
-        Item::Ports(_) => Ok(at + item_len(item)),
-        Item::Variables { .. } => Ok(at + item_len(item)),
-        Item::Integers { .. } => Ok(at + item_len(item)),
-        Item::Parameters(_) => Ok(at + item_len(item)),
-        Item::Nets {
-            signed,
-            range,
-            names,
-        } => {
-            // Without its names the item has a token more than stand before the first of them.
-            let bare = Item::Nets {
-                signed: *signed,
-                range: *range,
-                names: &[],
-            };
-            let before = at + item_len(&bare) - 2;
-            let end = nets(names, before, list, choice, out)?;
-            Ok(past_list(before, end))
+        Item::Ports(_) => Ok(()),
+        Item::Variables { .. } => Ok(()),
+        Item::Integers { .. } => Ok(()),
+        Item::Parameters(_) => Ok(()),
+        Item::Nets { names, .. } => {
+            nets(names, list, choice, out)?;
+            Ok(())
         }
         Item::Assigns { pairs: entries } => {
-            let end = pairs(entries, at, list, choice, out)?;
-            Ok(past_list(at, end))
+            pairs(entries, list, choice, out)?;
+            Ok(())
         }
-        Item::Always { events, body: stmt, .. } => {
-            let start = at + 2 + events_len(events);
-            let next = body(stmt, start, list, choice, out)?;
-            Ok(next)
-        }
-        Item::Instances {
-            module,
+        Item::Always {
+            events,
+            body: stmt,
             token,
-            overrides,
-            list: entries,
         } => {
-            let bare = Item::Instances {
-                module,
-                token: *token,
-                overrides: *overrides,
-                list: &[],
-            };
-            let before = at + item_len(&bare) - 2;
-            let end = children(entries, before, list, choice, out)?;
-            Ok(past_list(before, end))
+            let start = u64::from(*token) + 2 + events_len(events);
+            body(stmt, start, list, choice, out)?;
+            Ok(())
+        }
+        Item::Instances { list: entries, .. } => {
+            children(entries, list, choice, out)?;
+            Ok(())
         }
     }
 }

@@ -10,7 +10,6 @@ mod expression;
 mod forms;
 mod item;
 mod laws;
-mod lengths;
 mod patch;
 mod printing;
 mod source;

@@ -1,13 +1,13 @@
-use Rattle.std.proofs.Common.{◌≡◌, ◌+◌, ◌++◌, map, take}
 use Rattle.rr_syntax.specs.Items.{spell_pair}
 use Rattle.rr_syntax.specs.View.{plain_pair}
-use Rattle.rr_syntax.proofs.ItemLengths.{each_len}
-use Rattle.rr_respell.specs.Printing.{each_pieces, pair_pieces}
-use Rattle.rr_patch.specs.Changes.{changes, plain_changes}
+use Rattle.rr_respell.specs.Printing.{pair_pieces}
+use Rattle.rr_patch.specs.Changes.{plain_changes}
+use Rattle.rr_patch.specs.Walks.{PairAt}
+use Rattle.rr_patch.proofs.ListWalks.{EachTo}
+use Rattle.rr_patch.proofs.Sizes.{pair_size}
 use Rattle.rr_patch.proofs.item.pairs.Given as goal
 
 abbrev pub invariant-loop-one : goal.invariant-loop-one
 invariant-loop-one l = record {
-  place : l.comma ≡ l.at + each_len spell_pair plain_pair (take l.one-index l.entries);
-  done : plain_changes l.out.items ≡ plain_changes l.initial.out.items ++ changes l.at (each_pieces (pair_pieces l.list l.choice.picks.items) (map plain_pair (take l.one-index l.entries)));
+  done : EachTo (pair_pieces l.list l.choice.picks.items) spell_pair plain_pair (pair_size l.list l.choice.picks.items) PairAt (plain_changes l.initial.out.items) (plain_changes l.out.items) l.entries l.one-index;
 }
