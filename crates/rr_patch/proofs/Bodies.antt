@@ -1,5 +1,5 @@
 -- The pieces of a body with last assignments: each `begin`, the body, and the last assignments in the order of their sites.
-use Rattle.std.proofs.Common.{◌≡◌, ◌≢◌, ℕ, zero, suc, ◌+◌, ◌-◌, ◌<◌, ◌≤◌, ◌%◌, ◌^◌, ◌==◌, ◌&&◌, min, nat_lt, ltb, Bool, true, false, cond, if◌then◌else◌, List, [], ◌∷◌, ◌++◌, length, take, drop, get_or, refl, sym, ◌∙◌, ap, ap₂, arith, append-nil, add-one, drop-cons}
+use Rattle.std.proofs.Common.{◌≡◌, ◌≢◌, ℕ, zero, suc, ◌+◌, ◌<◌, ◌≤◌, ◌%◌, ◌^◌, ◌&&◌, min, nat_lt, Bool, true, false, cond, if◌then◌else◌, List, [], ◌∷◌, ◌++◌, length, take, drop, get_or, refl, sym, ◌∙◌, ap, ap₂, arith, append-nil, add-one, drop-cons}
 use Rattle.std.specs.List.{All}
 use Rattle.std.proofs.lemmas.Bool.{ne_eqb, eq-eqb, ltb-true, ltb-false}
 use Rattle.std.proofs.lemmas.List.{append_assoc, map-append, drop_all, drop-map}
@@ -21,7 +21,7 @@ use Rattle.rr_instance.specs.Instances.{is_overwrite, is_overwrite_at, picked_fo
 use Rattle.rr_instance.specs.View.{plain_kind, plain_site, plain_sites}
 use Rattle.rr_instance.proofs.BitsRead.{sites_here}
 use Rattle.rr_instance.proofs.Finds.{all_past}
-use Rattle.rr_respell.specs.Pieces.{Piece, Put, puts, source_words}
+use Rattle.rr_respell.specs.Pieces.{Piece, Put, puts}
 use Rattle.rr_respell.specs.Printing.{gate_words, overwritten_pieces, new_body_pieces, all_overwritten_pieces, body_pieces, statement_pieces}
 use Rattle.rr_respell.proofs.SourceParts.{Free, free, statement_makes}
 use Rattle.rr_patch.specs.declared.body.Side.{Side}
@@ -222,4 +222,3 @@ last_made o o1 o2 o3 k side kd p owner target width now names form name f v es e
 
 pub round_off : (o : List Change) (k : ℕ) (ns : List New) (on : Bool) → on ≡ false → o ≡ o ++ changes k (puts (if on then ns else []))
 round_off o k ns on e = no_puts o k ∙ ap (λ (b : Bool). o ++ changes k (puts (if b then ns else []))) (sym e)
-

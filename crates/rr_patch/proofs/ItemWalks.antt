@@ -1,5 +1,5 @@
 -- The changes of items and modules, node by node.
-use Rattle.std.proofs.Common.{◌≡◌, ℕ, ◌+◌, ◌-◌, ◌<◌, ◌^◌, Bool, List, [], ◌∷◌, ◌++◌, length, map, Option, None, Some, refl, sym, ◌∙◌, ap, subst, arith, append-nil}
+use Rattle.std.proofs.Common.{◌≡◌, ℕ, ◌+◌, Bool, List, [], ◌∷◌, ◌++◌, length, map, Option, None, Some, refl, sym, ◌∙◌, ap, subst, arith, append-nil}
 use denote.Ref.{Bor}
 use Rattle.rr_syntax.specs.declared.tree.Bounds.{Bounds}
 use Rattle.rr_syntax.specs.declared.tree.Connection.{Connection}
@@ -18,10 +18,8 @@ use Rattle.rr_syntax.specs.declared.tree.Pair.{Pair}
 use Rattle.rr_syntax.specs.declared.tree.Params.{Params}
 use Rattle.rr_syntax.specs.declared.tree.Stmt.{Stmt}
 use Rattle.rr_syntax.specs.Words.{Word, Marked, Reserved, keyword_endmodule, mark_close_parenthesis, mark_equals, mark_semicolon}
-use Rattle.rr_syntax.specs.Tree.{Tree}
 use Rattle.rr_syntax.specs.Expressions.{spell}
-use Rattle.rr_syntax.specs.Items.{spell_type, spell_events, spell_overrides, spell_item, spell_parameters, spell_ports, spell_net, spell_pair, spell_connection, spell_instance, spell_separated, WellFormedPair, WellFormedItem, WellFormedModule, NumberedEach, NumberedSeparated, NumberedAll, NumberedNet, NumberedPair, NumberedConnection, NumberedConnections, NumberedInstance, NumberedItem, NumberedModule}
-use Rattle.rr_syntax.specs.Statements.{spell_statement}
+use Rattle.rr_syntax.specs.Items.{spell_type, spell_events, spell_overrides, spell_item, spell_parameters, spell_ports, spell_net, spell_pair, spell_connection, spell_instance, WellFormedPair, WellFormedItem, WellFormedModule, NumberedEach, NumberedSeparated, NumberedAll, NumberedNet, NumberedPair, NumberedConnection, NumberedConnections, NumberedInstance, NumberedItem, NumberedModule}
 use Rattle.rr_syntax.specs.View.{plain, plain_list, plain_statement, plain_range, plain_header, plain_parameter, plain_port, plain_value, plain_net, plain_pair, plain_events, plain_connection, plain_connections, plain_overrides, plain_instance, plain_item, plain_module}
 use Rattle.rr_syntax.proofs.ItemLengths.{separated_len, size-net-none, size-net-some, size-pair, size-connection-none, size-connection-some, size-positions, size-named, size-instance, size-Nets, size-Assigns, size-Always, size-Instances, size-module}
 use Rattle.rr_syntax.proofs.Lengths.{parts_len}
@@ -219,9 +217,9 @@ module _ (ss : List Site) (ps : List Pick) where
   Nets_adds o o' i signed range names q h =
       with_item o o' i (item.Nets signed range names) q
       (λ at w.
-          let L : ℕ = length (spell_type signed (plain_range range)) in
-          let n = subst (NumberedSeparated spell_net NumberedNet (map plain_net names.now)) (omega arith) w.1.1 in
-          made_Nets o o' at (at + L) (item.Nets signed range names) signed range names refl refl (h (at + L) (separated_each spell_net NumberedNet (map plain_net names.now) (at + L) n)))
+      let L : ℕ = length (spell_type signed (plain_range range)) in
+      let n = subst (NumberedSeparated spell_net NumberedNet (map plain_net names.now)) (omega arith) w.1.1 in
+      made_Nets o o' at (at + L) (item.Nets signed range names) signed range names refl refl (h (at + L) (separated_each spell_net NumberedNet (map plain_net names.now) (at + L) n)))
 
   pub Assigns_adds : (o o' : List Change) (i : Item) (pairs : Bor (List Pair)) → i ≡ item.Assigns pairs →
       Adds o o' (NumberedEach spell_pair PairAt (map plain_pair pairs.now)) (each_pieces (pair_pieces ss ps) (map plain_pair pairs.now)) → AddsItem o o' i
@@ -229,8 +227,8 @@ module _ (ss : List Site) (ps : List Pick) where
   Assigns_adds o o' i pairs q h =
       with_item o o' i (item.Assigns pairs) q
       (λ at w.
-          made_Assigns o o' at (item.Assigns pairs) pairs refl
-          (h at (each_both spell_pair WellFormedPair NumberedPair (map plain_pair pairs.now) at w.0.1 (separated_each spell_pair NumberedPair (map plain_pair pairs.now) at w.1))))
+      made_Assigns o o' at (item.Assigns pairs) pairs refl
+      (h at (each_both spell_pair WellFormedPair NumberedPair (map plain_pair pairs.now) at w.0.1 (separated_each spell_pair NumberedPair (map plain_pair pairs.now) at w.1))))
 
   pub Always_adds : (o o' : List Change) (k : ℕ) (i : Item) (events : Events) (s : Bor Stmt) (token : ℕ) → i ≡ item.Always events s token → k ≡ token + 2 + length (spell_events (plain_events events)) →
       o' ≡ o ++ changes k (body_pieces ss ps (first_token (plain_statement s.now)) (plain_statement s.now)) → AddsItem o o' i
@@ -244,9 +242,9 @@ module _ (ss : List Site) (ps : List Pick) where
   Instances_adds o o' i m token u list q h =
       with_item o o' i (item.Instances m token u list) q
       (λ at w.
-          let L : ℕ = length (spell_overrides (plain_overrides u)) in
-          let n = subst (NumberedSeparated spell_instance NumberedInstance (map plain_instance list.now)) (omega arith) w.1.2 in
-          made_Instances o o' at (at + L) (item.Instances m token u list) m token u list refl refl (h (at + L) (separated_each spell_instance NumberedInstance (map plain_instance list.now) (at + L) n)))
+      let L : ℕ = length (spell_overrides (plain_overrides u)) in
+      let n = subst (NumberedSeparated spell_instance NumberedInstance (map plain_instance list.now)) (omega arith) w.1.2 in
+      made_Instances o o' at (at + L) (item.Instances m token u list) m token u list refl refl (h (at + L) (separated_each spell_instance NumberedInstance (map plain_instance list.now) (at + L) n)))
 
   pub module_adds : (o o' : List Change) (m : Module) → Adds o o' (NumberedAll spell_item ItemAt (map plain_item m.items.now)) (all_pieces (item_pieces ss ps) (map plain_item m.items.now)) →
       Adds o o' (ModuleAt (plain_module m)) (module_pieces ss ps (plain_module m))

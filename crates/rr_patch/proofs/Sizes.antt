@@ -1,5 +1,5 @@
 -- The pieces of parts have as many tokens of the source as the parts have words.
-use Rattle.std.proofs.Common.{◌≡◌, ℕ, List, length, ap}
+use Rattle.std.proofs.Common.{◌≡◌, List, length, ap}
 use Rattle.rr_syntax.specs.Tree.{NetIdentifier, NetAssignment, NamedConnection, ModuleInstance, ModuleItem, ModuleDeclaration}
 use Rattle.rr_syntax.specs.Items.{spell_net, spell_pair, spell_connection, spell_instance, spell_item, spell_module}
 use Rattle.rr_instance.specs.declared.pick.Pick.{Pick}

@@ -30,7 +30,11 @@ pub(crate) enum Side {
 fn assigns(now: bool) -> Fixed
     ensures { plain_fixed result ≡ new_mark (cond now mark_equals mark_less_or_equal) }
 {
-    if now { Fixed::Equals } else { Fixed::LessOrEqual }
+    if now {
+        Fixed::Equals
+    } else {
+        Fixed::LessOrEqual
+    }
 }
 
 /// The condition of a last assignment; a form past the last counts as the last.
@@ -55,11 +59,7 @@ fn gate<'a>(
         put_all(out, place, &[Added::Name(name)])?;
         return Ok(());
     }
-    put_all(
-        out,
-        place,
-        &[Added::Fixed(Fixed::Not), Added::Name(name)],
-    )?;
+    put_all(out, place, &[Added::Fixed(Fixed::Not), Added::Name(name)])?;
     Ok(())
 }
 

@@ -3,7 +3,7 @@ use Rattle.rr_lex.specs.Patch.{run_end}
 use Rattle.rr_patch.specs.declared.change.Added.TheVariants as added
 use Rattle.rr_patch.specs.declared.change.Fixed.TheVariants as fixed
 use Rattle.rr_patch.specs.Changes.{after_run, plain_changes, run_at}
-use Rattle.rr_patch.proofs.Changed.{run_goes, rest_goes, run_stops, rest_stops, run_ends, rest_ends, fit_from}
+use Rattle.rr_patch.proofs.Changed.{run_goes, rest_goes, run_stops, rest_stops, run_ends, rest_ends}
 use Rattle.rr_patch.proofs.patch.push_run_end.Goals as goal
 
 pub returns-then-not-is_before_at-clause-text : goal.returns-then-not-is_before_at-clause-text
