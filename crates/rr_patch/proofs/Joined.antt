@@ -1,0 +1,72 @@
+-- The changes of a source's pieces print it, and the code can write them.
+use Rattle.std.proofs.Common.{ℕ, ◌+◌, ◌<◌, ◌≤◌, ◌^◌, List, [], ◌∷◌, sym, ◌∙◌, subst}
+use Rattle.std.specs.List.{AllByRecursion}
+use Rattle.std.proofs.lemmas.List.Elements.{All-head, All-tail, All-from_recursion, recursion_from_All}
+use Rattle.std.proofs.lemmas.Nat.{mod_below, pow_pos}
+use Rattle.rr_syntax.specs.Words.{Word, Named, System, Digits, Reserved, Marked}
+use Rattle.rr_lex.specs.Tokens.{IsSound}
+use Rattle.rr_lex.specs.Patch.{New}
+use Rattle.rr_lex.proofs.Sound.{words_sound}
+use Rattle.rr_instance.specs.Sites as sites
+use Rattle.rr_instance.specs.Sites.{SiteKind, Site, HasFitWidth, FitWidths}
+use Rattle.rr_patch.specs.declared.change.Change.{Change as Made}
+use Rattle.rr_patch.specs.declared.change.Added.{Added}
+use Rattle.rr_patch.specs.declared.change.Added.TheVariants as added
+use Rattle.rr_respell.specs.Pieces.{Piece, Kept, Replaced, Put, source_words}
+use Rattle.rr_respell.specs.Printing.{source_pieces}
+use Rattle.rr_patch.specs.Changes.{Change, changes, plain_added, plain_changes, IsFitAdded}
+use Rattle.rr_patch.specs.Laws.{ChangesPrint, ChangesAreFit}
+use Rattle.rr_respell.proofs.Makes.{Allowed, AllowsKind, AllowsSites, Allows}
+use Rattle.rr_respell.proofs.SourceParts.{source_makes, spells}
+use Rattle.rr_respell.proofs.PrintedTree.{no_run}
+use Rattle.rr_patch.proofs.Changed.{changed_is}
+
+pub changes_print : ChangesPrint
+changes_print bytes s tree ss ps = changed_is 0 0 bytes tree.tokens (source_pieces ss ps s) (no_run ss ps s) (sym tree.spells.spelled ∙ sym (spells.source ss ps s))
+
+-- a literal of 1 to 128 bits whose value has no more
+abbrev FitWord : Word → Type 0
+FitWord (Named x) = Unit {0}
+FitWord (System x) = Unit {0}
+FitWord (Digits n) = (1 ≤ n.width) × (n.width ≤ 128) × (n.value < 2 ^ n.width)
+FitWord (Reserved k) = Unit {0}
+FitWord (Marked m) = Unit {0}
+
+abbrev FitNew : New → Type 0
+FitNew n = FitWord n.word
+
+fit_kind : (k : SiteKind) → HasFitWidth k → AllowsKind FitNew k
+fit_kind (sites.Literal width signed) h = tt
+fit_kind (sites.Guard owner extent names) h = λ name c. tt
+fit_kind (sites.Overwrite owner target width now names) h = (λ name c. tt, tt, λ v. (h.0, h.1, mod_below v (2 ^ width) (pow_pos width)))
+
+fit_sites : (ss : List Site) → FitWidths ss → AllowsSites FitNew ss
+unfolding AllowsSites
+fit_sites [] h = tt
+fit_sites (s ∷ ss) h = (fit_kind s.kind (All-head (λ (x : Site). HasFitWidth x.kind) s ss h), fit_sites ss (All-tail (λ (x : Site). HasFitWidth x.kind) s ss h))
+
+fit_allows : (ss : List Site) → FitWidths ss → Allows FitNew ss
+fit_allows ss h = record { marks = λ m l. tt; keywords = λ k l. tt; literals = λ w signed v a b c. (a, b, c); sites = fit_sites ss h }
+
+fit_changes : (k : ℕ) (xs : List Piece) → AllByRecursion IsSound (source_words xs) → Allowed FitNew xs → AllByRecursion (λ (c : Change). FitNew c.new) (changes k xs)
+unfolding changes source_words Allowed
+fit_changes k [] s a = tt
+fit_changes k (Kept w ∷ xs) s a = fit_changes (k + 1) xs s.1 a
+fit_changes k (Replaced w n ∷ xs) s a = (a.0 s.0, fit_changes (k + 1) xs s.1 a.1)
+fit_changes k (Put n ∷ xs) s a = (a.0, fit_changes k xs s a.1)
+
+fit_added : (a : Added) → FitNew (plain_added a) → IsFitAdded a
+fit_added (added.Fixed f) h = tt
+fit_added (added.Name name) h = tt
+fit_added (added.Literal width signed value) h = h
+
+fit_made : (cs : List Made) → AllByRecursion (λ (c : Change). FitNew c.new) (plain_changes cs) → AllByRecursion (λ (c : Made). IsFitAdded c.new) cs
+fit_made [] h = tt
+fit_made (c ∷ cs) h = (fit_added c.new h.0, fit_made cs h.1)
+
+pub changes_are_fit : ChangesAreFit
+changes_are_fit bytes s tree ss ps cs w e =
+    let sound = recursion_from_All IsSound _ (words_sound bytes tree.tokens tree.are) in
+    let words = subst (AllByRecursion IsSound) (sym tree.spells.spelled ∙ sym (spells.source ss ps s)) sound in
+    let fit = fit_changes 0 (source_pieces ss ps s) words (source_makes FitNew ss (fit_allows ss w) ps s).allowed in
+    All-from_recursion (λ (c : Made). IsFitAdded c.new) cs (fit_made cs (subst (AllByRecursion (λ (c : Change). FitNew c.new)) (sym e) fit))

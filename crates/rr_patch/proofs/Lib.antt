@@ -1,0 +1,11 @@
+pub mod Changed
+pub mod Walked
+pub mod Walks
+pub mod TreeWalks
+pub mod StatementWalks
+pub mod Joined
+pub mod Bodies
+pub mod ListWalks
+pub mod Sizes
+pub mod ItemWalks
+pub mod Printed

@@ -1,0 +1,24 @@
+use Rattle.std.proofs.Common.{arith, ap, length, subst}
+use Rattle.rr_syntax.specs.declared.tree.Item.{Item}
+use Rattle.rr_syntax.specs.Items.{spell_item}
+use Rattle.rr_syntax.specs.View.{plain_item}
+use Rattle.rr_respell.specs.Printing.{item_pieces}
+use Rattle.rr_patch.specs.Changes.{plain_changes}
+use Rattle.rr_patch.specs.Walks.{ItemAt, Adds}
+use Rattle.rr_patch.proofs.ListWalks.{all_none, all_more, all_full, all_short}
+use Rattle.rr_patch.proofs.Sizes.{item_size}
+use Rattle.rr_patch.proofs.source.items.Goals as goal
+
+pub loop-one-init : goal.loop-one-init
+loop-one-init c = record { done = all_none (item_pieces c.args.list.now c.args.choice.now.picks.items) spell_item plain_item (item_size c.args.list.now c.args.choice.now.picks.items) ItemAt (plain_changes c.args.out.now.items) c.args.entries.now }
+
+pub item-requires : goal.item-requires
+item-requires c = let f = c.requires.fits in let w = all_short spell_item plain_item c.args.entries.now c.loop-one.one-index c.one-item.result c.loop-one-test.true in let q = ap (λ (x : Item). length (spell_item (plain_item x))) c.one-item.is in record { fits = omega (arith, f, w, q) }
+
+pub loop-one-preserved : goal.loop-one-preserved
+loop-one-preserved c = record {
+  done = all_more (item_pieces c.args.list.now c.args.choice.now.picks.items) spell_item plain_item (item_size c.args.list.now c.args.choice.now.picks.items) ItemAt (plain_changes c.args.out.now.items) (plain_changes c.loop-one.out.items) (plain_changes c.item.new.out.items) c.args.entries.now c.loop-one.one-index c.one-item.result c.loop-one-test.true c.loop-one.invariant.done (subst (λ (x : Item). Adds (plain_changes c.loop-one.out.items) (plain_changes c.item.new.out.items) (ItemAt (plain_item x)) (item_pieces c.args.list.now c.args.choice.now.picks.items (plain_item x))) c.one-item.is c.in_ok-item.ensures);
+}
+
+pub returns : goal.returns
+returns c = all_full (item_pieces c.args.list.now c.args.choice.now.picks.items) spell_item plain_item (item_size c.args.list.now c.args.choice.now.picks.items) ItemAt (plain_changes c.args.out.now.items) (plain_changes c.loop-one.out.items) c.args.entries.now c.loop-one.one-index c.loop-one-test.false c.loop-one.invariant.done

@@ -1,0 +1,13 @@
+use Rattle.rr_syntax.specs.Items.{spell_item}
+use Rattle.rr_syntax.specs.View.{plain_item}
+use Rattle.rr_respell.specs.Printing.{item_pieces}
+use Rattle.rr_patch.specs.Changes.{plain_changes}
+use Rattle.rr_patch.specs.Walks.{ItemAt}
+use Rattle.rr_patch.proofs.ListWalks.{AllTo}
+use Rattle.rr_patch.proofs.Sizes.{item_size}
+use Rattle.rr_patch.proofs.source.items.Given as goal
+
+abbrev pub invariant-loop-one : goal.invariant-loop-one
+invariant-loop-one l = record {
+  done : AllTo (item_pieces l.list l.choice.picks.items) spell_item plain_item (item_size l.list l.choice.picks.items) ItemAt (plain_changes l.initial.out.items) (plain_changes l.out.items) l.entries l.one-index;
+}

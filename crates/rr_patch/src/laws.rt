@@ -1,0 +1,10 @@
+//! What the changes of a source are, as the contract of a function that does nothing.
+
+ghost use Rattle.rr_patch.specs.Laws.{ChangesAreFit, ChangesPrint};
+
+/// The changes of a source's pieces print it, and the code can write them.
+#[tactic(auto, using(crate::proofs::Joined::changes_print, crate::proofs::Joined::changes_are_fit))]
+pub fn change_laws()
+    ensures print { ChangesPrint }
+    ensures fit { ChangesAreFit }
+{}
