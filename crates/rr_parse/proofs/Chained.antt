@@ -1,23 +1,10 @@
 -- A list with one part more.
 use Rattle.std.proofs.Common.{◌≡◌, ℕ, ◌+◌, ◌<◌, List, [], ◌∷◌, ◌++◌, Bool, refl}
 use Rattle.rr_syntax.specs.declared.token.Token.{Token}
-use Rattle.rr_parse.specs.Chains.{Reads, found, comma_at, Behind, Row, Run, Between, Alternate}
+use Rattle.rr_parse_expr.specs.Lists.{Reads, found}
+use Rattle.rr_parse.specs.Chains.{Run, Between, Alternate}
 use Rattle.rr_grammar.specs.Formats.{Finds}
 use Rattle.rr_grammar.specs.Parts.{separator_of}
-
-behind_more : {A : Type 0} (R : Reads A) (T : List Token) (at : ℕ) (xs : List A) (next : ℕ) (x : A) (m : ℕ) → Behind R T at xs next → comma_at T next → R (next + 1) (found x m) → Behind R T at (xs ++ (x ∷ [])) m
-unfolding Behind
-behind_more R T at [] next x m b c r = let e : at ≡ next = b in rw e (m, c, r, refl)
-behind_more R T at (y ∷ ys) next x m b c r = (b.0, b.1, b.2, behind_more R T b.0 ys next x m b.3 c r)
-
-pub row_first : {A : Type 0} (R : Reads A) (T : List Token) (from : ℕ) (x : A) (m : ℕ) (items : List A) → items ≡ x ∷ [] → R from (found x m) → Row R T from items m
-unfolding Row Behind
-row_first R T from x m items e r = rw e (m, r, refl)
-
-pub row_more : {A : Type 0} (R : Reads A) (T : List Token) (from : ℕ) (xs : List A) (next : ℕ) (x : A) (m : ℕ) (items : List A) → items ≡ xs ++ (x ∷ []) → Row R T from xs next → comma_at T next → R (next + 1) (found x m) → Row R T from items m
-unfolding Row
-row_more R T from [] next x m items e b c r = absurd b
-row_more R T from (y ∷ ys) next x m items e b c r = rw e (b.0, b.1, behind_more R T b.0 ys next x m b.2 c r)
 
 run_snoc : {A : Type 0} (R : Reads A) (at : ℕ) (xs : List A) (next : ℕ) (x : A) (m : ℕ) → Run R at xs next → next < m → R next (found x m) → Run R at (xs ++ (x ∷ [])) m
 unfolding Run

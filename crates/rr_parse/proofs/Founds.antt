@@ -12,7 +12,7 @@ use Rattle.rr_parse_stmt.proofs.Answered.{keyword_inside}
 use Rattle.rr_grammar.specs.Formats.{Format, both, after_mark, before_mark, after_word, before_word, position, shaped, respelled, narrowed, guarded, imaged, choose, nothing_of, Finds, FindsNone}
 use Rattle.rr_grammar.specs.Leaves.{where_mark, there}
 use Rattle.rr_grammar.proofs.Exacts.{chain_mapped, mapped_some}
-use Rattle.rr_parse.specs.declared.tokens.Piece.{Piece}
+use Rattle.rr_parse_expr.specs.declared.lists.Piece.{Piece}
 use Rattle.rr_parse.specs.Answer.{Misses, Answers, MarkAt, WordAt, AnswersMark, AnswersWord}
 
 -- ---- single steps

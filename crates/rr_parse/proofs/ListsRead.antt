@@ -8,14 +8,16 @@ use Rattle.rr_parse_expr.specs.Reading.{Found, mark, rest, expect}
 use Rattle.rr_parse_expr.specs.declared.expression.ParseFault.{ParseFault}
 use Rattle.rr_parse_expr.specs.declared.expression.ParseFault.TheVariants.{Unsupported, Syntax, Memory}
 use Rattle.rr_parse_expr.proofs.Answered.{not_equal, rest_drop}
+use Rattle.rr_parse_expr.proofs.FrontMarks.{mark_found, mark_is}
 use Rattle.rr_parse_expr.proofs.TokenWords.{length_words}
 use Rattle.rr_parse_stmt.specs.Reading.{keyword}
 use Rattle.rr_grammar.specs.Formats.{Format, both, or_else, more, some_of, list, again, any_of, repeated, Finds, FindsNone}
 use Rattle.rr_grammar.specs.Parts.{separator_of, separated, firsts, seconds}
-use Rattle.rr_parse.specs.declared.tokens.Piece.{Piece}
+use Rattle.rr_parse_expr.specs.declared.lists.Piece.{Piece}
 use Rattle.rr_parse.specs.declared.lists.Separated.{Separated}
 use Rattle.rr_parse.specs.Answer.{Misses, Answers}
-use Rattle.rr_parse.specs.Chains.{Reads, found, Refuses, comma_at, Behind, Row, IsList, AnswersList, Run, IsRun, AnswersAll, Between, Alternate, Closes, IsSeparated, AnswersSeparated}
+use Rattle.rr_parse_expr.specs.Lists.{Reads, found, Refuses, comma_at, Behind, Row, IsList, AnswersList}
+use Rattle.rr_parse.specs.Chains.{Run, IsRun, AnswersAll, Between, Alternate, Closes, IsSeparated, AnswersSeparated}
 use Rattle.rr_parse.specs.Trees.{plain_list_by, FindsSeparated, AnswersParts}
 use Rattle.rr_parse.proofs.Founds.{same, if_true, if_false, expect_here, other_mark, chain_here, chain_none, chain_then, mapped_none, finds_both, mark_here, word_here}
 use denote.Ref.{Bor}
@@ -77,9 +79,6 @@ closes_behind R T at c s f r = record { none = λ d n g. subst (λ (i : ℕ). Re
 pub closes_alone : {A : Type 0} (R : Reads A) (T : List Token) (at : ℕ) → FindsNone separator_of T at → Closes R T at
 closes_alone R T at n = record { none = λ c s f. (let e : Some (c, drop s (words T)) ≡ None = sym f.found_is ∙ n.none_is in absurd (cc e)) }
 
-pub list_made : {A : Type 0} (R : Reads A) (T : List Token) (from : ℕ) (xs items : List A) (next : ℕ) → items ≡ xs → Row R T from xs next → (comma_at T next → Refuses R (next + 1)) → next ≤ length T → IsList R T from items next
-list_made R T from xs items next e a k w = rw e (record { row = a; ends = k; within = w })
-
 pub separated_made : {A : Type 0} (R : Reads A) (T : List Token) (from : ℕ) (cs commas : List Bool) (xs items : List A) (next : ℕ) → commas ≡ cs → items ≡ xs → Alternate R T from cs xs next → Closes R T next → next ≤ length T → IsSeparated R T from commas items next
 separated_made R T from cs commas xs items next d e a k w = rw (d, e) (record { parts = a; ends = k; within = w })
 
@@ -102,7 +101,7 @@ module _ {A B : Type 0} (F : Format B) (plain : A → B) (T : List Token) (R : R
 
   no_more : (next : ℕ) → (comma_at T next → Refuses R (next + 1)) → expect mark_comma F.read (drop next (words T)) ≡ None
   no_more next ends = by_test (nat_eq (mark (drop next (words T))) mark_comma)
-      (λ e. let c = equal_of (mark (drop next (words T))) mark_comma e in expect_here mark_comma F.read (drop next (words T)) None c (ap F.read (rest_drop (words T) next) ∙ (refused (next + 1) (ends c)).none_is))
+      (λ e. let c = equal_of (mark (drop next (words T))) mark_comma e in expect_here mark_comma F.read (drop next (words T)) None c (ap F.read (rest_drop (words T) next) ∙ (refused (next + 1) (ends (mark_is _ _ c (omega arith)))).none_is))
       (λ e. other_mark mark_comma F.read (drop next (words T)) (λ c. absurd (cc (e, same (mark (drop next (words T))) mark_comma c))))
 
   stops : (next fuel : ℕ) (have : List B) → next ≤ length T → length T < fuel + next → (comma_at T next → Refuses R (next + 1)) → more F.read fuel have (drop next (words T)) ≡ Some (have, drop next (words T))
@@ -116,7 +115,7 @@ module _ {A B : Type 0} (F : Format B) (plain : A → B) (T : List Token) (R : R
   goes at x m zero have o c f w h go = absurd (omega arith)
   goes at x m (suc n) have o c f w h go =
       or_else_here (expect mark_comma F.read (drop at (words T))) (Some (have, drop at (words T))) (λ a left. more F.read n (have ++ (a ∷ [])) left) (F.bare (plain x), drop m (words T))
-      (expect_here mark_comma F.read (drop at (words T)) (Some (F.bare (plain x), drop m (words T))) c (ap F.read (rest_drop (words T) at) ∙ f.found_is))
+      (expect_here mark_comma F.read (drop at (words T)) (Some (F.bare (plain x), drop m (words T))) (mark_found _ (sym c)) (ap F.read (rest_drop (words T) at) ∙ f.found_is))
       ∙ go n (omega (arith, f.taken))
 
   went_on : (at : ℕ) (xs : List A) (next : ℕ) → at ≤ length T → (comma_at T next → Refuses R (next + 1)) → Behind R T at xs next → WentOn at xs next

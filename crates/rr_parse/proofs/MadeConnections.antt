@@ -21,7 +21,7 @@ use Rattle.rr_grammar.proofs.Exacts.{list_exact}
 use Rattle.rr_grammar.proofs.LeavesExact.{expression_exact}
 use Rattle.rr_grammar.proofs.DeclarationsExact.{comma_ends}
 use Rattle.rr_grammar.proofs.ConnectionsExact.{each_words, trees_bare, connections_words, overrides_words, overrides_bare}
-use Rattle.rr_parse.specs.declared.tokens.Piece.{Piece}
+use Rattle.rr_parse_expr.specs.declared.lists.Piece.{Piece}
 use Rattle.rr_parse.specs.Answer.{Answers, MarkAt}
 use Rattle.rr_parse.proofs.Founds.{passes, finds_both, behind_mark_none, finds_after_mark, finds_before_mark, finds_nothing, finds_shaped, finds_respelled, finds_imaged, finds_absent, finds_there}
 use Rattle.rr_parse.proofs.MadeEvents.{plain_trees}

@@ -22,7 +22,7 @@ use Rattle.rr_grammar.specs.Declarations.{port, to_port, of_port, setting, to_se
 use Rattle.rr_grammar.proofs.Exacts.{mapped_some}
 use Rattle.rr_grammar.proofs.LeavesExact.{range_words, range_bare}
 use Rattle.rr_grammar.proofs.DeclarationsExact.{net_words, net_bare}
-use Rattle.rr_parse.specs.declared.tokens.Piece.{Piece}
+use Rattle.rr_parse_expr.specs.declared.lists.Piece.{Piece}
 use Rattle.rr_parse.specs.declared.declarations.Type as typing
 use Rattle.rr_parse.specs.declared.declarations.ParameterType.{ParameterType}
 use Rattle.rr_parse.specs.Answer.{MarkAt, WordAt, FindsDirection, bounds_of, plain_bounds}

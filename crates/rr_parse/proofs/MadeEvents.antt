@@ -18,7 +18,7 @@ use Rattle.rr_grammar.specs.Formats.{both, behind_mark, Finds}
 use Rattle.rr_grammar.specs.Leaves.{identifier, expression, choice}
 use Rattle.rr_grammar.specs.Parts.{separator_of, seconds, firsts, trees, edge, to_edge, of_edge, to_edges, to_levels, inside, GoodEdges, GoodLevels, GoodStar, stars, edge_list, level_list, star_alone, star_closed, bracketed, in_brackets}
 use Rattle.rr_grammar.proofs.PartsExact.{edges_words, edges_bare, levels_words, levels_bare, bracketed_exact}
-use Rattle.rr_parse.specs.declared.tokens.Piece.{Piece}
+use Rattle.rr_parse_expr.specs.declared.lists.Piece.{Piece}
 use Rattle.rr_parse.specs.declared.lists.Separated.{Separated}
 use Rattle.rr_parse.specs.Answer.{Answers, MarkAt}
 use Rattle.rr_parse.specs.Trees.{FindsSeparated}

@@ -26,7 +26,7 @@ use Rattle.rr_grammar.specs.Declarations.{port, net, pair, parameter}
 use Rattle.rr_grammar.specs.Parts.{events}
 use Rattle.rr_grammar.specs.Connections.{overrides, one_instance}
 use Rattle.rr_grammar.specs.ItemForms.{statement_of, words_of_ports, to_ports, Good_ports, ports_item, words_of_nets, to_nets, Good_nets, nets_item, words_of_variables, to_variables, Good_variables, variables_item, words_of_integers, to_integers, Good_integers, integers_item, words_of_parameters, to_parameters, Good_parameters, parameters_item, words_of_assigns, to_assigns, Good_assigns, assigns_item, words_of_always, to_always, Good_always, always_item, words_of_instances, to_instances, Good_instances, instances_item, begins_ports, begins_parameters, front_ports, front_nets, front_variables, front_integers, front_parameters, front_assigns, front_always, from_nets, from_variables, from_integers, from_parameters, from_assigns, from_always, item}
-use Rattle.rr_parse.specs.declared.tokens.Piece.{Piece}
+use Rattle.rr_parse_expr.specs.declared.lists.Piece.{Piece}
 use Rattle.rr_parse.specs.declared.declarations.Type as typing
 use Rattle.rr_parse.specs.Answer.{Answers, MarkAt, WordAt}
 use Rattle.rr_parse.specs.Trees.{plain_type}

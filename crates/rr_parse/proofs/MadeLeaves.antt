@@ -1,33 +1,35 @@
 -- Names, reserved words, expressions and statements that were read.
-use Rattle.std.proofs.Common.{◌≡◌, ℕ, ◌+◌, ◌≤◌, ◌<◌, List, length, drop, get_or, true, false, nat_eq, refl, ap, ◌∙◌, arith, Some, None}
+use Rattle.std.proofs.Common.{◌≡◌, ℕ, ◌+◌, ◌≤◌, ◌<◌, List, length, drop, true, false, nat_eq, refl, ap, ◌∙◌, sym, arith, inl, inr, Some, None}
 use Rattle.rr_syntax.specs.declared.token.Token.{Token}
-use Rattle.rr_syntax.specs.declared.token.Kind.TheVariants as variant
+use Rattle.rr_syntax.specs.declared.token.Mark.{Mark}
 use Rattle.rr_syntax.specs.declared.tree.Expr.{Expr}
 use Rattle.rr_syntax.specs.declared.tree.Stmt.{Stmt}
+use Rattle.rr_syntax.specs.declared.tree.Named.{Named as NamedToken}
 use Rattle.rr_syntax.specs.Words.{Word, words}
-use Rattle.rr_syntax.specs.Tree.{Statement, bare, bare_identifier}
+use Rattle.rr_syntax.specs.Tree.{Statement, bare_identifier}
 use Rattle.rr_syntax.specs.Items.{spell_where, spell_identifier, NumberedIdentifier}
 use Rattle.rr_syntax.specs.View.{plain, plain_identifier, plain_statement}
-use Rattle.rr_parse_expr.specs.Reading.{Found, rest, reads}
-use Rattle.rr_parse_expr.specs.Exact.{IsExpression, IsLongest, IsLongestOperand, Fails, FailsTarget}
+use Rattle.rr_parse_expr.specs.Fronts.{IsNameAt}
+use Rattle.rr_parse_expr.specs.Reading.{Found, no_mark, rest, reads}
+use Rattle.rr_parse_expr.specs.Exact.{IsExpression, IsLongest, IsLongestOperand, IsClosed, NoClosed, Fails, FailsTarget, FailsClosed}
 use Rattle.rr_parse_expr.specs.declared.expression.ParseFault.{ParseFault}
 use Rattle.rr_parse_expr.specs.declared.expression.ParseFault.TheVariants.{Unsupported, Syntax, Memory}
 use Rattle.rr_parse_expr.proofs.Answered.{not_equal, rest_drop}
 use Rattle.rr_parse_expr.proofs.Exactly.{expressions_read}
+use Rattle.rr_parse_expr.proofs.FrontMarks.{mark_found, mark_is, front_inside}
 use Rattle.rr_parse_stmt.specs.Reading.{keyword, statement}
 use Rattle.rr_parse_stmt.specs.Exact.{IsStatement, NoneStands}
 use Rattle.rr_parse_stmt.specs.Exact as statements
 use Rattle.rr_parse_stmt.proofs.FromExpressions.{expressions_well, longest_read, none_read}
-use Rattle.rr_parse_stmt.proofs.Names.{name_here, name_past, name_other}
+use Rattle.rr_parse_stmt.proofs.Names.{name_is}
 use Rattle.rr_parse_stmt.proofs.Targets.{target_by, no_target_by}
 use Rattle.rr_parse_stmt.proofs.Complete.{reads_statement}
 use Rattle.rr_parse_stmt.proofs.Sound.{statement_sound}
-use Rattle.rr_grammar.specs.Formats.{Finds, FindsNone}
+use Rattle.rr_grammar.specs.Formats.{before_mark, Finds, FindsNone}
 use Rattle.rr_grammar.specs.Leaves.{identifier, expression, target_of, flag, choice}
 use Rattle.rr_grammar.specs.ItemForms.{statement_of}
 use Rattle.rr_parse.specs.Answer.{Misses, WordAt}
-use Rattle.rr_parse.proofs.Founds.{same, if_true, if_false}
-use denote.Ref.{Bor}
+use Rattle.rr_parse.proofs.Founds.{same, if_true, if_false, chain_none, chain_then, other_mark, finds_before_mark}
 
 -- ---- reserved words
 
@@ -76,15 +78,12 @@ no_choice {T = T} {from = from} {v = v} {w = w} h i =
 
 -- ---- names
 
-pub name_found : (T : List Token) (from : ℕ) (t : Token) (s : Bor (List ℕ)) → from < length T → t ≡ get_or T from t → t.kind ≡ variant.Name s → Finds identifier T from (plain_identifier (record { token = from; name = s })) (from + 1)
+pub name_found : {T : List Token} {from : ℕ} {n : NamedToken} → IsNameAt T from (Some n) → Finds identifier T from (plain_identifier n) (from + 1)
 unfolding plain_identifier bare_identifier spell_identifier NumberedIdentifier
-name_found T from t s h g e = record { found_is = name_here T from t s h g e; within = omega arith; taken = omega arith; numbered = refl }
+name_found {T = T} {from = from} {n = n} h = let a = name_is T from (Some n) h in record { found_is = a.1; within = omega (arith, a.2); taken = omega arith; numbered = a.0 }
 
-pub no_name_past : (T : List Token) (from : ℕ) → length T ≤ from → FindsNone identifier T from
-no_name_past T from h = record { none_is = name_past T from h }
-
-pub no_name_there : (T : List Token) (from : ℕ) (t : Token) → from < length T → t ≡ get_or T from t → ((s : Bor (List ℕ)) → t.kind ≡ variant.Name s → ⊥) → FindsNone identifier T from
-no_name_there T from t h g k = record { none_is = name_other T from t h g k }
+pub no_name : {T : List Token} {from : ℕ} → IsNameAt T from None → FindsNone identifier T from
+no_name {T = T} {from = from} h = record { none_is = name_is T from None h }
 
 -- ---- expressions
 
@@ -108,6 +107,22 @@ pub no_target : (k : ℕ) (T : List Token) (from : ℕ) (f : ParseFault) → Fai
 no_target k T from (Syntax at) h = record { none_is = no_target_by (reads k) k T from refl h.1 }
 no_target k T from (Unsupported at) h = h
 no_target k T from Memory h = h
+
+-- an expression with a mark behind it
+pub closed_found : {m : Mark} {k : ℕ} {T : List Token} {from : ℕ} {e : Expr} {next : ℕ} → IsClosed m k T from e next → Finds (before_mark (expression k) m.0) T from (plain e) next
+closed_found {m = m} {k = k} {T = T} {from = from} {e = e} {next = next} h =
+    finds_before_mark (expression_found h.expression) (h.behind, (mark_found (drop h.end (words T)) (sym h.closes), front_inside T h.end m h.closes))
+
+not_closed : (m : Mark) (k : ℕ) (T : List Token) (from : ℕ) → m.0 < no_mark → NoClosed m k T from → FindsNone (before_mark (expression k) m.0) T from
+not_closed m k T from l (inl n) = record { none_is = chain_none _ (none_read IsExpression 1 expressions_read k T from n) }
+not_closed m k T from l (inr (e, end, h, n)) =
+    let f : Finds (expression k) T from (plain e) end = expression_found h in
+    record { none_is = chain_then _ f.found_is (other_mark m.0 _ (drop end (words T)) (λ q. n (mark_is (drop end (words T)) m q l))) }
+
+pub no_closed : (m : Mark) (k : ℕ) (T : List Token) (from : ℕ) → m.0 < no_mark → (f : ParseFault) → FailsClosed m k T from f → Misses (before_mark (expression k) m.0) T from f
+no_closed m k T from l (Syntax at) h = not_closed m k T from l h.1
+no_closed m k T from l (Unsupported at) h = h
+no_closed m k T from l Memory h = h
 
 -- ---- statements
 

@@ -18,7 +18,7 @@ use Rattle.rr_grammar.specs.Declarations.{port, head_parameter}
 use Rattle.rr_grammar.specs.ItemForms.{item}
 use Rattle.rr_grammar.specs.ModuleForms.{front_hash, as_they_are, IsNil, some_heads, no_heads, heads, ports_words, ports_inside, bare_ports, ports_numbered, BothNil, AreGroups, AreNames, to_groups, to_names, empty_ports, group_ports, name_ports, ports_in, front_open, same_ports, with_ports, NoPorts, without_ports, port_list, to_module, of_module, one_module}
 use Rattle.rr_grammar.proofs.ModulesExact.{heads_list_exact, ports_in_exact}
-use Rattle.rr_parse.specs.declared.tokens.Piece.{Piece}
+use Rattle.rr_parse_expr.specs.declared.lists.Piece.{Piece}
 use Rattle.rr_parse.specs.declared.modules.PortList as code
 use Rattle.rr_parse.specs.Answer.{Answers, MarkAt, WordAt}
 use Rattle.rr_parse.specs.Trees.{plain_port_list}

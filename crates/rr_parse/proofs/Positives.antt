@@ -8,7 +8,7 @@ use Rattle.rr_syntax.specs.Tree.{Identifier, PortDeclaration, ParamAssignment, P
 use Rattle.rr_syntax.specs.Expressions.{spell}
 use Rattle.rr_syntax.specs.Items.{spell_identifier, spell_type, spell_dir, spell_port, spell_assignment, spell_parameter, spell_net, spell_pair, spell_connection, spell_instance, spell_separated}
 use Rattle.rr_grammar.specs.Formats.{Format}
-use Rattle.rr_parse.specs.declared.tokens.Piece.{Piece}
+use Rattle.rr_parse_expr.specs.declared.lists.Piece.{Piece}
 use Rattle.rr_parse.specs.Answer.{Answers}
 
 pub identifier_some : (i : Identifier) → 0 < length (spell_identifier i)

@@ -15,7 +15,7 @@ use Rattle.rr_parse_expr.specs.declared.expression.ParseFault.TheVariants.{Unsup
 use Rattle.rr_parse_stmt.specs.Reading.{keyword}
 use Rattle.rr_grammar.specs.Formats.{Format, both, before_mark, shaped, Finds, FindsNone}
 use Rattle.rr_grammar.specs.Leaves.{expression, to_range, of_range}
-use Rattle.rr_parse.specs.declared.tokens.Piece.{Piece}
+use Rattle.rr_parse_expr.specs.declared.lists.Piece.{Piece}
 use denote.Ref.{Bor}
 
 -- the fault says that no part of the format stands at the token; want of memory is free

@@ -6,7 +6,7 @@ use Rattle.rr_syntax.specs.View.{plain_range, plain_header, plain_port}
 use Rattle.rr_parse_expr.specs.declared.expression.ParseFault.{ParseFault}
 use Rattle.rr_grammar.specs.Formats.{Format, Finds}
 use Rattle.rr_grammar.specs.Parts.{separated, firsts, seconds}
-use Rattle.rr_parse.specs.declared.tokens.Piece.{Piece}
+use Rattle.rr_parse_expr.specs.declared.lists.Piece.{Piece}
 use Rattle.rr_parse.specs.declared.lists.Separated.{Separated}
 use Rattle.rr_parse.specs.declared.declarations.Type as typing
 use Rattle.rr_parse.specs.declared.declarations.ParameterType.{ParameterType}

@@ -9,10 +9,9 @@ ghost use Rattle.rr_parse.specs.Answer.{Answers};
 ghost use Rattle.rr_parse.specs.Trees.{plain_list_by};
 
 use crate::expressions::{closed, entry};
-use crate::lists::list;
-use crate::tokens::{Input, Piece, mark, name};
+use crate::tokens::{mark, name};
 use bumpalo::collections::into_bump_slice;
-use rr_parse_expr::{ParseFault, is_mark};
+use rr_parse_expr::{Input, ParseFault, Piece, is_mark, list};
 use rr_syntax::{Connection, Conns, Expr, Instance, Mark};
 
 /// An expression, if one stands there, and the closing bracket.

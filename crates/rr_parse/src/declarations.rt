@@ -12,9 +12,8 @@ ghost use Rattle.rr_parse.specs.Answer.{Answers};
 ghost use Rattle.rr_parse.specs.Trees.{plain_kind, plain_list_by, plain_type};
 
 use crate::expressions::{expression, range, target};
-use crate::lists::list;
-use crate::tokens::{Input, Piece, choice, flag, mark, name};
-use rr_parse_expr::{ParseFault, is_keyword, is_mark};
+use crate::tokens::{choice, flag, mark, name};
+use rr_parse_expr::{Input, ParseFault, Piece, is_keyword, is_mark, list};
 use rr_syntax::{Bounds, Expr, Keyword, Mark, Named, NetName, Pair, Params, Setting, Token};
 
 /// `signed` and a range, where they stand.

@@ -10,8 +10,8 @@ ghost use Rattle.rr_parse.specs.Trees.{AnswersParts};
 
 use crate::expressions::entry;
 use crate::lists::{Separated, alternating};
-use crate::tokens::{Input, Piece, choice, mark, name};
-use rr_parse_expr::{ParseFault, is_keyword, is_mark};
+use crate::tokens::{choice, mark, name};
+use rr_parse_expr::{Input, ParseFault, Piece, is_keyword, is_mark};
 use rr_syntax::{Event, Events, Expr, Keyword, Mark, Token};
 
 /// `posedge` or `negedge`, and a name (section 9.7.2).

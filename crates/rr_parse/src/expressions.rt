@@ -8,8 +8,7 @@ ghost use Rattle.rr_grammar.specs.ItemForms.{statement_of};
 ghost use Rattle.rr_grammar.specs.Leaves.{expression as expression_of, range as range_of, target_of};
 ghost use Rattle.rr_parse.specs.Answer.{Answers, bounds_of, plain_behind, plain_bounds, statement_behind};
 
-use crate::tokens::{Input, Piece, mark};
-use rr_parse_expr::{ParseFault, expr_within, is_mark, target_within};
+use rr_parse_expr::{Input, ParseFault, Piece, expr_before, expr_within, is_mark, target_within};
 use rr_parse_stmt::stmt;
 use rr_syntax::{Bounds, Expr, Mark, Stmt};
 
@@ -53,12 +52,8 @@ pub(crate) fn closed<'a>(
     requires is_mark { closing.0 < no_mark }
     ensures { Answers (before_mark (expression_of depth) closing.0) plain_behind input.entry.tokens.now from result }
 {
-    let inner = expression(input, from, depth)?;
-    let next = mark(input.tokens, inner.next, closing)?;
-    Ok(Piece {
-        value: inner.value,
-        next,
-    })
+    let (value, next) = expr_before(input.tokens, from, closing, depth, input.arena)?;
+    Ok(Piece { value, next })
 }
 
 /// The target of an assignment.

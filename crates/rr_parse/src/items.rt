@@ -13,8 +13,8 @@ use crate::events::events;
 use crate::expressions::statement;
 use crate::lists::all;
 use crate::ports::{begins_port, port};
-use crate::tokens::{Input, Piece, mark, name, word};
-use rr_parse_expr::{ParseFault, is_keyword};
+use crate::tokens::{mark, name, word};
+use rr_parse_expr::{Input, ParseFault, Piece, is_keyword};
 use rr_syntax::{Item, Keyword, Mark};
 
 /// Ports that are declared among the items (section 12.3.3).

@@ -1,62 +1,21 @@
-//! Lists of parts, each read by a function that is handed in.
+//! Lists without commas, or with more than commas, whose parts are read by a function that is handed in.
 
-ghost use Rattle.std.specs.Prelude.{◌≡◌, ◌≤◌, ◌<◌, ◌+◌, ◌^◌, ℕ, ◌∷◌, [], ◌++◌, length, IfOk, MatchOption, Ok};
-ghost use Rattle.rr_parse.specs.declared.tokens.Piece.{Piece};
+ghost use Rattle.std.specs.Prelude.{◌≤◌, ◌<◌, ◌+◌, ◌^◌, ℕ, length, MatchOption, Ok};
+ghost use Rattle.rr_parse_expr.specs.declared.lists.Piece.{Piece};
 ghost use Rattle.rr_grammar.specs.Formats.{Finds, FindsNone};
 ghost use Rattle.rr_grammar.specs.Parts.{separator_of};
-ghost use Rattle.rr_parse.specs.Chains.{AnswersAll, AnswersList, AnswersSeparated};
+ghost use Rattle.rr_parse.specs.Chains.{AnswersAll, AnswersSeparated};
 
-use crate::tokens::Piece;
 use bumpalo::Bump;
 use bumpalo::collections::into_bump_slice;
-use rr_parse_expr::{ParseFault, is_keyword, is_mark};
+use rr_parse_expr::{ParseFault, Piece, add, is_keyword, is_mark};
 use rr_syntax::{Keyword, Mark, Token};
-use std::alloc::AllocError;
 
 /// Parts and what stands between them: a comma where `true`, else `or`.
 #[derive(Clone, Copy)]
 pub(crate) struct Separated<'a, T> {
     pub(crate) list: &'a [T],
     pub(crate) commas: &'a [bool],
-}
-
-fn add<'a, T: Copy>(items: &mut Vec<T, &'a Bump>, item: T) -> Result<(), AllocError>
-    ensures { IfOk result (λ _. items.new.items ≡ items.old.items ++ (item ∷ [])) }
-{
-    items.push(item)?;
-    Ok(())
-}
-
-/// One part or more, with commas between. A comma without a part behind it is left.
-pub(crate) fn list<'a, T: Copy, F: Fn(u32) -> Result<Piece<T>, ParseFault>>(
-    tokens: &[Token],
-    from: u32,
-    arena: &'a Bump,
-    read: F,
-) -> Result<Piece<&'a [T]>, ParseFault>
-    requires short { length tokens.now < 2 ^ 32 }
-    requires callable { F.IsAlwaysCallable read }
-    requires moves { (at : ℕ) (p : Piece T) → at < 2 ^ 32 → F.post read at (Ok p) → (at < p.next) × (p.next ≤ length tokens.now) }
-    ensures { AnswersList (F.post read) tokens.now from result }
-{
-    let first = read(from)?;
-    let mut items = Vec::new(arena);
-    add(&mut items, first.value)?;
-    let mut next = first.next;
-    while is_mark(tokens, next, Mark::COMMA) {
-        match read(next + 1) {
-            Ok(more) => {
-                add(&mut items, more.value)?;
-                next = more.next;
-            }
-            Err(ParseFault::Memory) => return Err(ParseFault::Memory),
-            Err(_) => break,
-        }
-    }
-    Ok(Piece {
-        value: into_bump_slice(items),
-        next,
-    })
 }
 
 /// Any number of parts, with nothing between.

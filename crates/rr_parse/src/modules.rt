@@ -11,9 +11,9 @@ use crate::declarations::{heads, names};
 use crate::items::items;
 use crate::lists::all;
 use crate::ports::{begins_port, ports};
-use crate::tokens::{Input, Piece, mark, name, word};
+use crate::tokens::{mark, name, word};
 use bumpalo::collections::into_bump_slice;
-use rr_parse_expr::{ParseFault, is_mark};
+use rr_parse_expr::{Input, ParseFault, Piece, is_mark};
 use rr_syntax::{Group, Keyword, Mark, Module, Named, Params};
 
 /// The depth of an expression in the brackets of a module: the module is one level, and the node

@@ -11,9 +11,7 @@ ghost use Rattle.rr_parse.specs.Answer.{Answers, FindsDirection, the_same};
 ghost use Rattle.rr_parse.specs.Trees.{plain_list_by};
 
 use crate::declarations::{names, typed};
-use crate::lists::list;
-use crate::tokens::{Input, Piece};
-use rr_parse_expr::{ParseFault, is_keyword};
+use rr_parse_expr::{Input, ParseFault, Piece, is_keyword, list};
 use rr_syntax::{Dir, Group, Keyword, Token};
 
 /// Whether port declarations begin at a token.

@@ -4,9 +4,8 @@ ghost use Rattle.std.specs.Prelude.{◌<◌, ◌^◌, length, MatchResult};
 ghost use Rattle.rr_parse.specs.Exact.{IsParsed, IsRefusal, IsSpelled, NotSpelled};
 
 use crate::modules::modules;
-use crate::tokens::Input;
 use bumpalo::Bump;
-use rr_parse_expr::ParseFault;
+use rr_parse_expr::{Input, ParseFault};
 use rr_profile::first_outside;
 use rr_stop::stop;
 use rr_syntax::{Source, Token};

@@ -9,23 +9,8 @@ ghost use Rattle.rr_grammar.specs.Formats.{Finds};
 ghost use Rattle.rr_grammar.specs.Leaves.{choice as choice_of, flag as flag_of, identifier};
 ghost use Rattle.rr_parse.specs.Answer.{Answers, AnswersMark, AnswersWord, the_same};
 
-use bumpalo::Bump;
-use rr_parse_expr::{ParseFault, is_keyword, is_mark};
-use rr_syntax::{Keyword, Kind, Mark, Named, Token};
-
-/// The tokens that are read, and where the trees are put.
-#[derive(Clone, Copy)]
-pub(crate) struct Input<'a> {
-    pub(crate) tokens: &'a [Token<'a>],
-    pub(crate) arena: &'a Bump,
-}
-
-/// A part of a tree and the token after it.
-#[derive(Clone, Copy)]
-pub(crate) struct Piece<T> {
-    pub(crate) value: T,
-    pub(crate) next: u32,
-}
+use rr_parse_expr::{ParseFault, Piece, is_keyword, is_mark, name_at};
+use rr_syntax::{Keyword, Mark, Named, Token};
 
 /// The token after this mark, where it stands at a place.
 pub(crate) fn mark(tokens: &[Token], at: u32, mark: Mark) -> Result<u32, ParseFault>
@@ -105,14 +90,11 @@ pub(crate) fn name<'a>(tokens: &'a [Token<'a>], from: u32) -> Result<Piece<Named
     requires short { length tokens.now < 2 ^ 32 }
     ensures { Answers identifier plain_identifier tokens.now from result }
 {
-    match tokens.get(from as usize) {
-        Some(token) => match token.kind {
-            Kind::Name(name) => Ok(Piece {
-                value: Named { token: from, name },
-                next: from + 1,
-            }),
-            _ => Err(ParseFault::Syntax(from)),
-        },
+    match name_at(tokens, from) {
+        Some(value) => Ok(Piece {
+            value,
+            next: from + 1,
+        }),
         None => Err(ParseFault::Syntax(from)),
     }
 }

@@ -4,6 +4,7 @@ pub mod Complete
 pub mod Exactly
 pub mod Facts
 pub mod FrontMarks
+pub mod Listed
 pub mod Longest
 pub mod Selects
 pub mod Sound

@@ -1,11 +1,13 @@
 -- Which expression begins at a token.
-use Rattle.std.specs.Prelude.{ℕ, ◌+◌, ◌≡◌, ◌≤◌, ◌⊎◌, List, ◌++◌, length, drop, Bool, true, false}
+use Rattle.std.specs.Prelude.{ℕ, ◌+◌, ◌≡◌, ◌≤◌, ◌⊎◌, List, ◌++◌, length, drop, Bool, true, false, Some}
 use Rattle.rr_syntax.specs.declared.token.Token.{Token}
+use Rattle.rr_syntax.specs.declared.token.Mark.{Mark}
 use Rattle.rr_syntax.specs.declared.tree.Expr.{Expr}
 use Rattle.rr_syntax.specs.Words.{Word, words}
 use Rattle.rr_syntax.specs.Tree.{Tree}
 use Rattle.rr_syntax.specs.Expressions.{spell, depth, level, unary_level, is_target, WellFormed, Numbered}
 use Rattle.rr_syntax.specs.View.{plain}
+use Rattle.rr_parse_expr.specs.Fronts.{front_mark}
 use Rattle.rr_parse_expr.specs.declared.expression.ParseFault.{ParseFault}
 use Rattle.rr_parse_expr.specs.declared.expression.ParseFault.TheVariants.{Unsupported, Syntax, Memory}
 
@@ -66,3 +68,22 @@ abbrev pub FailsTarget : ℕ → List Token → ℕ → ParseFault → Type 0
 FailsTarget limit tokens from (Syntax at) = (at ≡ from) × NoTarget limit tokens from
 FailsTarget limit tokens from (Unsupported at) = ⊥
 FailsTarget limit tokens from Memory = Unit {0}
+
+-- the longest expression at the token `from`, with this mark behind it; `next` is the token after the mark
+pub record IsClosed (closing : Mark) (limit : ℕ) (tokens : List Token) (from : ℕ) (e : Expr) (next : ℕ) : Type 0 where
+  pub end : ℕ
+  pub expression : IsLongest IsExpression limit tokens from e end
+  pub closes : front_mark (drop end (words tokens)) ≡ Some closing
+  pub behind : next ≡ end + 1
+  pub within : next ≤ length tokens
+
+-- no expression begins at the token `from`, or the mark is not behind the longest one that does
+abbrev pub NoClosed : Mark → ℕ → List Token → ℕ → Type 0
+NoClosed closing limit tokens from =
+    NoneBegins IsExpression limit tokens from ⊎ ((e : Expr) × (end : ℕ) × IsLongest IsExpression limit tokens from e end × (front_mark (drop end (words tokens)) ≡ Some closing → ⊥))
+
+-- the fault is `Syntax` at the token `from`, where no expression with this mark behind it stands; want of memory is free
+abbrev pub FailsClosed : Mark → ℕ → List Token → ℕ → ParseFault → Type 0
+FailsClosed closing limit tokens from (Syntax at) = (at ≡ from) × NoClosed closing limit tokens from
+FailsClosed closing limit tokens from (Unsupported at) = ⊥
+FailsClosed closing limit tokens from Memory = Unit {0}

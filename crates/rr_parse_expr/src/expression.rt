@@ -1,12 +1,13 @@
 //! The longest expression at a token.
 
 ghost use Rattle.std.specs.Prelude.{◌≡◌, ◌≤◌, ◌<◌, ◌+◌, ◌^◌, length, MatchResult};
-ghost use Rattle.rr_parse_expr.specs.Exact.{IsExpression, IsOperand, IsLongest, IsTarget, Fails, FailsTarget, max_depth};
+ghost use Rattle.rr_parse_expr.specs.Exact.{IsExpression, IsOperand, IsLongest, IsTarget, IsClosed, Fails, FailsTarget, FailsClosed, max_depth};
 
 use crate::marks::UNARY_LEVEL;
 use crate::reader::read_at;
+use crate::tokens::is_mark;
 use bumpalo::Bump;
-use rr_syntax::{Expr, Token, is_target};
+use rr_syntax::{Expr, Mark, Token, is_target};
 use std::alloc::AllocError;
 
 /// The greatest depth of an expression, its root counted as 0.
@@ -79,6 +80,27 @@ pub fn expr_within<'a>(
             Err(_) => Err(ParseFault::Memory),
             Ok(place) => Ok((place, found.next)),
         },
+    }
+}
+
+/// The longest expression of at most a depth that begins at a token, with this mark behind it, and the
+/// token after the mark. `Syntax(from)` comes where no expression begins, or the mark is not behind it.
+pub fn expr_before<'a>(
+    tokens: &'a [Token<'a>],
+    from: u32,
+    closing: Mark,
+    depth: u32,
+    arena: &'a Bump,
+) -> Result<(&'a Expr<'a>, u32), ParseFault>
+    requires short { length tokens.now < 2 ^ 32 }
+    requires shallow { depth ≤ max_depth }
+    ensures { MatchResult result (λ r. IsClosed closing depth tokens.now from r.0.now r.1) (λ fault. FailsClosed closing depth tokens.now from fault) }
+{
+    let (value, end) = expr_within(tokens, from, depth, arena)?;
+    if is_mark(tokens, end, closing) {
+        Ok((value, end + 1))
+    } else {
+        Err(ParseFault::Syntax(from))
     }
 }
 

@@ -1,6 +1,6 @@
 //! Nodes of expressions, made from what was read of their parts.
 
-ghost use Rattle.std.specs.Prelude.{◌≡◌, ◌<◌, ◌+◌, [], ◌∷◌, ◌++◌, max, IfOk};
+ghost use Rattle.std.specs.Prelude.{◌≡◌, ◌<◌, ◌+◌, max, IfOk};
 ghost use Rattle.rr_syntax.specs.Tree.{Bit, Unary, Binary, Cond, Concat, Repeat, Cast, Paren};
 ghost use Rattle.rr_syntax.specs.View.{plain, plain_list};
 ghost use Rattle.rr_parse_expr.specs.Answer.{IsNode};
@@ -202,15 +202,4 @@ pub(crate) fn cond<'a>(
         next: last.next,
         depth: left.depth.max(middle.depth.max(last.depth)) + 1,
     })
-}
-
-/// Adds a part of a list.
-pub(crate) fn add_part<'a>(
-    parts: &mut Vec<Expr<'a>, &'a Bump>,
-    part: Expr<'a>,
-) -> Result<(), AllocError>
-    ensures { IfOk result (λ _. parts.new.items ≡ parts.old.items ++ (part.entry ∷ [])) }
-{
-    parts.push(part)?;
-    Ok(())
 }

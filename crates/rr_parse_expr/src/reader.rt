@@ -6,10 +6,9 @@ ghost use Rattle.rr_syntax.specs.Expressions.{infix_level as infix_of};
 ghost use Rattle.rr_parse_expr.specs.Reading.{mark as mark_of, after_index as after_index_of, after_mark as after_mark_of, below, braces as braces_of, closed as closed_of, named as named_of, no_mark, operand as operand_of, parts_from as parts_from_of, repeated as repeated_of, select as select_of, system as system_of, turn as turn_of};
 ghost use Rattle.rr_parse_expr.specs.Answer.{form, Answers, AnswersBelow, AnswersClosed, Gathers, IsBelow, ReadAs, Steps};
 
+use crate::lists::add;
 use crate::marks::{UNARY_LEVEL, between_at, cast_sign, operator_at};
-use crate::nodes::{
-    End, Read, add_part, binary, bit, cast, concat, cond, paren, part, repeat, unary,
-};
+use crate::nodes::{End, Read, binary, bit, cast, concat, cond, paren, part, repeat, unary};
 use crate::tokens::is_mark;
 use bumpalo::Bump;
 use bumpalo::collections::into_bump_slice;
@@ -321,14 +320,14 @@ fn parts_from<'a>(
     requires first_read { IsBelow tokens.now (from + 1) limit first }
     ensures { IfOk result (λ r. Gathers tokens.now from limit (parts_from_of (below limit) (form first.entry.expr) (drop first.entry.next (words tokens.now))) parts.new.items r) }
 {
-    add_part(parts, first.expr)?;
+    add(parts, first.expr)?;
     let mut next = first.next;
     let mut depth = first.depth + 1;
     while is_mark(tokens, next, Mark::COMMA) {
         match read_at(tokens, next + 1, 1, limit, arena)? {
             None => return Ok(None),
             Some(part) => {
-                add_part(parts, part.expr)?;
+                add(parts, part.expr)?;
                 next = part.next;
                 depth = depth.max(part.depth + 1);
             }

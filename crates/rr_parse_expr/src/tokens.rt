@@ -1,10 +1,10 @@
-//! What stands at a token: a mark or a reserved word.
+//! What stands at a token: a mark, a reserved word or a name.
 
 ghost use Rattle.std.specs.Prelude.{◌≡◌, ◌↔◌, IsTrue, Some, drop};
 ghost use Rattle.rr_syntax.specs.Words.{words};
-ghost use Rattle.rr_parse_expr.specs.Fronts.{front_keyword, front_mark};
+ghost use Rattle.rr_parse_expr.specs.Fronts.{front_keyword, front_mark, IsNameAt};
 
-use rr_syntax::{Keyword, Kind, Mark, Token};
+use rr_syntax::{Keyword, Kind, Mark, Named, Token};
 
 /// The mark that stands at a token (IEEE 1364-2005 sections 3.2 and 5.1), if one does.
 #[tactic(auto, using(crate::proofs::TokenWords::words_at, crate::proofs::TokenWords::words_past), unfolding(crate::specs::Fronts::front_mark))]
@@ -46,4 +46,18 @@ pub fn is_keyword(tokens: &[Token], at: u32, word: Keyword) -> bool
     ensures { IsTrue result ↔ (front_keyword (drop at (words tokens.now)) ≡ Some word) }
 {
     keyword_at(tokens, at) == Some(word)
+}
+
+/// The name that stands at a token (section 3.7), if one does, with that token's number.
+#[tactic(auto, using(crate::proofs::TokenWords::words_at, crate::proofs::TokenWords::words_past), unfolding(crate::specs::Fronts::front_name))]
+pub fn name_at<'a>(tokens: &'a [Token<'a>], at: u32) -> Option<Named<'a>>
+    ensures { IsNameAt tokens.now at result }
+{
+    match tokens.get(at as usize) {
+        Some(token) => match token.kind {
+            Kind::Name(name) => Some(Named { token: at, name }),
+            _ => None,
+        },
+        None => None,
+    }
 }

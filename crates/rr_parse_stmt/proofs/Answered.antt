@@ -2,33 +2,30 @@
 use Rattle.std.proofs.Common.{◌≡◌, ℕ, zero, suc, ◌+◌, ◌≤◌, ◌<◌, List, [], ◌∷◌, ◌++◌, length, drop, refl, ap, ◌∙◌, sym, arith, Option, Some, None, length-append, length-drop, subst}
 use Rattle.std.proofs.Math.Seq.{drop-nil}
 use Rattle.rr_syntax.specs.declared.token.Token.{Token}
-use Rattle.rr_syntax.specs.declared.tree.Expr.{Expr}
 use Rattle.rr_syntax.specs.declared.tree.Stmt.{Stmt}
 use Rattle.rr_syntax.specs.declared.tree.Stmt.TheVariants as stmt
 use Rattle.rr_syntax.specs.declared.tree.Arm.{Arm as Branch}
 use Rattle.rr_syntax.specs.declared.tree.Named.{Named as NamedToken}
-use Rattle.rr_syntax.specs.Words.{Word, words, keyword_end, mark_open_parenthesis, mark_close_parenthesis, mark_comma, mark_colon}
-use Rattle.rr_syntax.specs.Tree.{Tree, Trees, End, More, Identifier, Statement, Statements, Arm, Arms, Block, Done, Then, bare, bare_parts, bare_identifier, bare_label, bare_statement, bare_statements}
-use Rattle.rr_syntax.specs.Expressions.{spell, spell_more, Numbered, NumberedMore}
-use Rattle.rr_syntax.specs.Statements.{spell_label, spell_statement, spell_statements, NumberedLabel, NumberedLabels, NumberedStatement, NumberedStatements}
-use Rattle.rr_syntax.specs.View.{plain, plain_list, plain_identifier, plain_label, plain_statement, plain_statements}
-use Rattle.rr_syntax.proofs.Equations.{spellings, statement_spellings, more-End}
+use Rattle.rr_syntax.specs.Words.{Word, words, keyword_end, mark_open_parenthesis, mark_close_parenthesis, mark_colon}
+use Rattle.rr_syntax.specs.Tree.{Tree, Trees, Identifier, Statement, Statements, Arm, Arms, Block, Done, Then, bare, bare_identifier, bare_label, bare_statement, bare_statements}
+use Rattle.rr_syntax.specs.Statements.{spell_label, spell_statement, spell_statements, NumberedLabel, NumberedStatement, NumberedStatements}
+use Rattle.rr_syntax.specs.View.{plain, plain_identifier, plain_label, plain_statement, plain_statements}
+use Rattle.rr_syntax.proofs.Equations.{statement_spellings}
 use Rattle.rr_syntax.proofs.Nonempty.{spell_statement-some}
 use Rattle.rr_syntax.proofs.Rows.{plain_block}
-use Rattle.rr_parse_expr.specs.Reading.{Found, Reader, chain, mark, rest, no_mark, closed, snoc}
+use Rattle.rr_parse_expr.specs.Reading.{Found, mark, rest, closed}
 use Rattle.rr_parse_expr.specs.Reading as expressions
 use Rattle.rr_parse_expr.proofs.TokenWords.{length_words}
-use Rattle.rr_parse_expr.proofs.Steps.{closed-some, closed-other}
-use Rattle.rr_parse_expr.proofs.Answered.{not_equal, mark_inside, rest_drop}
+use Rattle.rr_parse_expr.proofs.Answered.{not_equal, rest_drop}
 use Rattle.rr_parse_stmt.specs.declared.expressions.Placed.{Placed}
 use Rattle.rr_parse_stmt.specs.declared.expressions.LabelList.{LabelList}
 use Rattle.rr_parse_stmt.specs.declared.nodes.Piece.{Piece}
 use Rattle.rr_parse_stmt.specs.declared.nodes.ArmPiece.{ArmPiece}
 use Rattle.rr_parse_stmt.specs.declared.nodes.LabelPiece.{LabelPiece}
-use Rattle.rr_parse_stmt.specs.Reading.{keyword, no_word, name, label, snoc_statement, body, block, tested, labels_after, labels, below_statement}
-use Rattle.rr_parse_stmt.specs.Answer.{FindsTree, AnswersTree, GathersLabels, AnswersLabelling, FindsLabels, AnswersLabels, FindsStatement, AnswersStatement, FindsArm, AnswersArm, FindsLabel, AnswersLabel, FindsBody, AnswersBody, FindsArms, AnswersArms, AnswersName}
-use Rattle.rr_parse_stmt.specs.Loops.{Labelling, Bodied}
-use Rattle.rr_parse_stmt.proofs.Steps.{body-end, body-next, body-none, label-none, label-some, label-fail, block-some, block-open, tested-some, tested-open, tested-other, labels-end, labels-comma, labels-first}
+use Rattle.rr_parse_stmt.specs.Reading.{keyword, no_word, name, label, snoc_statement, body, block, tested, labels, below_statement}
+use Rattle.rr_parse_stmt.specs.Answer.{FindsTree, AnswersTree, FindsLabels, AnswersLabels, FindsStatement, AnswersStatement, FindsArm, AnswersArm, FindsLabel, AnswersLabel, FindsBody, AnswersBody, FindsArms, AnswersArms, AnswersName}
+use Rattle.rr_parse_stmt.specs.Loops.{Bodied}
+use Rattle.rr_parse_stmt.proofs.Steps.{body-end, body-next, body-none, label-none, label-some, label-fail, block-some, block-open, tested-some, tested-open, tested-other}
 use denote.Ref.{Bor}
 
 -- ---- what an answer says of an option
@@ -83,19 +80,7 @@ keyword_inside [] i k e h = absurd (omega (arith, ap keyword (sym (drop-nil {A =
 keyword_inside (t ∷ ts) zero k e h = omega arith
 keyword_inside (t ∷ ts) (suc i) k e h = omega (arith, keyword_inside ts i k e h)
 
--- ---- expressions with marks around them
-
-pub closed_made : (T : List Token) (from room m : ℕ) (e : Bor Expr) (next : ℕ) → m < no_mark → mark (drop next (words T)) ≡ m → FindsTree T from 0 (expressions.below room 1 (drop from (words T))) (record { expr = e; next = next }) →
-    FindsTree T from 1 (closed (expressions.below room) m (drop from (words T))) (record { expr = e; next = next + 1 })
-closed_made T from room m e next h k f = record {
-  found_is = closed-some (expressions.below room) m (drop from (words T)) (bare (plain e.now), drop next (words T)) f.found_is k ∙ ap (λ (x : List Word). Some (bare (plain e.now), x)) (rest_drop (words T) next);
-  within = omega (arith, mark_inside T next m k h);
-  taken = omega (arith, f.taken);
-  numbered = f.numbered;
-}
-
-pub closed_differs : (T : List Token) (from room m : ℕ) (r : Placed) → (mark (drop r.next (words T)) ≡ m → ⊥) → FindsTree T from 0 (expressions.below room 1 (drop from (words T))) r → closed (expressions.below room) m (drop from (words T)) ≡ None
-closed_differs T from room m r h f = closed-other (expressions.below room) m (drop from (words T)) (bare (plain r.expr.now), drop r.next (words T)) f.found_is (not_equal (mark (drop r.next (words T))) m h)
+-- ---- expressions in brackets
 
 pub tested_is : (T : List Token) (from room : ℕ) (o : Option Placed) → mark (drop from (words T)) ≡ mark_open_parenthesis → AnswersTree T (from + 1) 1 (closed (expressions.below room) mark_close_parenthesis (drop (from + 1) (words T))) o →
     AnswersTree T (from + 1) 1 (tested (expressions.below room) (drop from (words T))) o
@@ -106,128 +91,6 @@ tested_is T from room (Some r) m h =
 
 pub tested_differs : (T : List Token) (from room : ℕ) → (mark (drop from (words T)) ≡ mark_open_parenthesis → ⊥) → tested (expressions.below room) (drop from (words T)) ≡ None
 tested_differs T from room h = tested-other (expressions.below room) (drop from (words T)) (not_equal (mark (drop from (words T))) mark_open_parenthesis h)
-
--- ---- labels
-
-list_snoc : (es : List Expr) (e : Expr) → plain_list (es ++ (e ∷ [])) ≡ snoc (plain_list es) (plain e)
-unfolding plain_list snoc
-list_snoc [] e = refl
-list_snoc (x ∷ es) e = ap (More (plain x)) (list_snoc es e)
-
-bare_snoc : (ts : Trees) (t : Tree) → bare_parts (snoc ts t) ≡ snoc (bare_parts ts) (bare t)
-unfolding bare snoc
-bare_snoc End t = refl
-bare_snoc (More u us) t = ap (More (bare u)) (bare_snoc us t)
-
-more_snoc : (ts : Trees) (t : Tree) → length (spell_more (snoc ts t)) ≡ length (spell_more ts) + 1 + length (spell t)
-unfolding snoc
-more_snoc End t = simp (spellings, length-append) (omega arith)
-more_snoc (More u us) t = simp (spellings, length-append) (omega (arith, more_snoc us t))
-
-more_first : (t : Tree) (ts : Trees) → length (spell_more (More t ts)) ≡ 1 + length (spell t) + length (spell_more ts)
-more_first t ts = simp (spellings, length-append) (omega arith)
-
-numbered_snoc : (ts : Trees) (t : Tree) (at n : ℕ) → n ≡ at + length (spell_more ts) + 1 → NumberedMore ts at → Numbered t n → NumberedMore (snoc ts t) at
-unfolding NumberedMore snoc
-numbered_snoc End t at n h a b = (let P : ℕ → Type 0 = λ (k : ℕ). Numbered t k in let q : n ≡ at + 1 = omega (arith, h, ap length more-End) in subst P q b, tt)
-numbered_snoc (More u us) t at n h a b = (a.0, numbered_snoc us t (at + 1 + length (spell u)) n (omega (arith, h, more_first u us)) a.1 b)
-
-labels_snoc : (ts : Trees) (t u : Tree) (us : Trees) (at n : ℕ) → ts ≡ More u us → n + 1 ≡ at + length (spell_more ts) + 1 → NumberedLabels ts at → Numbered t n → NumberedLabels (snoc ts t) at
-unfolding NumberedLabels snoc
-labels_snoc End t u us at n e h a b = absurd cc
-labels_snoc (More v vs) t u us at n e h a b = (a.0, numbered_snoc vs t (at + length (spell v)) n (omega (arith, h, more_first v vs)) a.1 b)
-
-pub labelling_start : (T : List Token) (from room : ℕ) (r : Placed) (old items : List Expr) → old ≡ [] → items ≡ old ++ (r.expr.now ∷ []) → FindsTree T from 0 (expressions.below room 1 (drop from (words T))) r →
-    Labelling T from room (labels (expressions.below room) (drop from (words T))) items r.next
-unfolding plain_list bare NumberedLabels NumberedMore
-labelling_start T from room r old items z e f = rw (e, z) (record {
-  fuel = suc (length (drop r.next (words T)));
-  enough = omega (arith, length-drop r.next (words T), length_words T, f.within);
-  whole = labels-first (expressions.below room) (drop from (words T)) (bare (plain r.expr.now), drop r.next (words T)) f.found_is;
-  first = plain r.expr.now;
-  others = End;
-  some = refl;
-  within = f.within;
-  taken = simp (spellings, length-append) (omega (arith, f.taken));
-  numbered = (f.numbered, tt);
-})
-
-labelling_turn : (T : List Token) (begin room : ℕ) (found : Found Trees) (items : List Expr) (next : ℕ) (r : Placed) (fuel : ℕ) (c : Labelling T begin room found items next) → c.fuel ≡ fuel → mark (drop next (words T)) ≡ mark_comma →
-    FindsTree T (next + 1) 0 (expressions.below room 1 (drop (next + 1) (words T))) r → Labelling T begin room found (items ++ (r.expr.now ∷ [])) r.next
-unfolding snoc
-labelling_turn T begin room found items next r zero c e m h = absurd (omega (arith, c.enough, c.within))
-labelling_turn T begin room found items next r (suc n) c e m h =
-    let f : expressions.below room 1 (rest (drop next (words T))) ≡ Some (bare (plain r.expr.now), drop r.next (words T)) = rw rest_drop h.found_is in
-    let P : Trees → Type 0 = λ (x : Trees). NumberedLabels x begin in
-    record {
-      fuel = n;
-      enough = omega (arith, c.enough, h.taken);
-      whole = c.whole ∙ ap (λ (k : ℕ). labels_after (expressions.below room) k (bare_parts (plain_list items)) (drop next (words T))) e ∙
-          labels-comma (expressions.below room) n (bare_parts (plain_list items)) (drop next (words T)) (bare (plain r.expr.now), drop r.next (words T)) m f ∙
-          ap (λ (us : Trees). labels_after (expressions.below room) n us (drop r.next (words T))) (sym (ap bare_parts (list_snoc items r.expr.now) ∙ bare_snoc (plain_list items) (plain r.expr.now)));
-      first = c.first;
-      others = snoc c.others (plain r.expr.now);
-      some = list_snoc items r.expr.now ∙ ap (λ (us : Trees). snoc us (plain r.expr.now)) c.some;
-      within = h.within;
-      taken = omega (arith, c.taken, h.taken, ap (λ (us : Trees). length (spell_more us)) (list_snoc items r.expr.now), more_snoc (plain_list items) (plain r.expr.now));
-      numbered = subst P (sym (list_snoc items r.expr.now)) (labels_snoc (plain_list items) (plain r.expr.now) c.first c.others begin (next + 1) c.some (omega (arith, c.taken)) c.numbered h.numbered);
-    }
-
-pub labelling_more : (T : List Token) (begin room : ℕ) (found : Found Trees) (items new : List Expr) (next : ℕ) (r : Placed) → Labelling T begin room found items next → mark (drop next (words T)) ≡ mark_comma →
-    FindsTree T (next + 1) 0 (expressions.below room 1 (drop (next + 1) (words T))) r → new ≡ items ++ (r.expr.now ∷ []) → Labelling T begin room found new r.next
-labelling_more T begin room found items new next r c m h e = rw e (labelling_turn T begin room found items next r c.fuel c refl m h)
-
-labels_fail : (sub : Reader) (fuel : ℕ) (have : Trees) (ws : List Word) → mark ws ≡ mark_comma → sub 1 (rest ws) ≡ None → labels_after sub fuel have ws ≡ None
-unfolding labels_after chain
-labels_fail sub zero have ws e f = refl
-labels_fail sub (suc n) have ws e f = rw (e, f) refl
-
-pub labelling_fail : (T : List Token) (begin room : ℕ) (found : Found Trees) (items : List Expr) (next : ℕ) → Labelling T begin room found items next → mark (drop next (words T)) ≡ mark_comma → expressions.below room 1 (drop (next + 1) (words T)) ≡ None → found ≡ None
-labelling_fail T begin room found items next c m e = c.whole ∙ labels_fail (expressions.below room) c.fuel (bare_parts (plain_list items)) (drop next (words T)) m (rw rest_drop e)
-
-labels_other : (sub : Reader) (fuel : ℕ) (have : Trees) (ws : List Word) → (mark ws ≡ mark_comma → ⊥) → (mark ws ≡ mark_colon → ⊥) → labels_after sub fuel have ws ≡ None
-unfolding labels_after
-labels_other sub zero have ws e f = refl
-labels_other sub (suc n) have ws e f = let a = not_equal (mark ws) mark_comma e in let b = not_equal (mark ws) mark_colon f in rw (b, a) refl
-
-pub labelling_other : (T : List Token) (begin room : ℕ) (found : Found Trees) (items : List Expr) (next : ℕ) → Labelling T begin room found items next → (mark (drop next (words T)) ≡ mark_comma → ⊥) → (mark (drop next (words T)) ≡ mark_colon → ⊥) → found ≡ None
-labelling_other T begin room found items next c a b = c.whole ∙ labels_other (expressions.below room) c.fuel (bare_parts (plain_list items)) (drop next (words T)) a b
-
-labels_close : (T : List Token) (room : ℕ) (us : Trees) (next fuel : ℕ) → 0 < fuel → mark (drop next (words T)) ≡ mark_colon → labels_after (expressions.below room) fuel us (drop next (words T)) ≡ Some (us, drop (next + 1) (words T))
-labels_close T room us next zero h m = absurd (omega arith)
-labels_close T room us next (suc n) h m = labels-end (expressions.below room) n us (drop next (words T)) m ∙ ap (λ (x : List Word). Some (us, x)) (rest_drop (words T) next)
-
-pub labelling_end : (T : List Token) (begin room : ℕ) (found : Found Trees) (items : List Expr) (next : ℕ) → Labelling T begin room found items next → mark (drop next (words T)) ≡ mark_colon →
-    GathersLabels T begin found items (next + 1)
-labelling_end T begin room found items next c m = record {
-  found_is = c.whole ∙ labels_close T room (bare_parts (plain_list items)) next c.fuel (omega (arith, c.enough, c.within)) m;
-  first = c.first;
-  others = c.others;
-  some = c.some;
-  within = omega (arith, mark_inside T next mark_colon m (omega arith));
-  taken = omega (arith, c.taken);
-  numbered = c.numbered;
-}
-
-pub labelling_is : (T : List Token) (begin : ℕ) (found : Found Trees) (items : List Expr) (o : Option ℕ) (next : ℕ) → o ≡ Some next → AnswersLabelling T begin found items o → GathersLabels T begin found items next
-labelling_is T begin found items o next e h = rw e at h
-
-pub labelling_none : (T : List Token) (begin : ℕ) (found : Found Trees) (items : List Expr) (o : Option ℕ) → o ≡ None → AnswersLabelling T begin found items o → found ≡ None
-labelling_none T begin found items o e h = rw e at h
-
-pub made_labels : (T : List Token) (begin : ℕ) (found : Found Trees) (items : List Expr) (next : ℕ) (es : Bor (List Expr)) → es.now ≡ items → GathersLabels T begin found items next → FindsLabels T begin found (record { exprs = es; next = next })
-made_labels T begin found items next es e c =
-    let same : plain_list es.now ≡ plain_list items = ap plain_list e in
-    let P : Trees → Type 0 = λ (x : Trees). NumberedLabels x begin in
-    record {
-      found_is = c.found_is ∙ ap (λ (x : Trees). Some (bare_parts x, drop next (words T))) (sym same);
-      first = c.first;
-      others = c.others;
-      some = same ∙ c.some;
-      within = c.within;
-      taken = omega (arith, c.taken, ap (λ (x : Trees). length (spell_more x)) same);
-      numbered = subst P (sym same) c.numbered;
-    }
 
 -- ---- the name of a block
 

@@ -202,7 +202,7 @@ unfolding count_trees
 count_trees_less End = omega arith
 count_trees_less (More t ts) = simp (spellings, length-append) (omega (arith, count_trees_less ts))
 
-joined_trees : Trees → Trees → Trees
+unfoldable pub joined_trees : Trees → Trees → Trees
 joined_trees have End = have
 joined_trees have (More t ts) = joined_trees (snoc have (bare t)) ts
 
@@ -211,7 +211,7 @@ unfolding joined_trees bare
 joined_trees_is End have = sym (appended-End have)
 joined_trees_is (More t ts) have = joined_trees_is ts (snoc have (bare t)) ∙ appended-snoc have (bare t) (bare_parts ts)
 
-joined_trees_one : (t : Tree) (ts : Trees) → joined_trees (More (bare t) End) ts ≡ bare_parts (More t ts)
+pub joined_trees_one : (t : Tree) (ts : Trees) → joined_trees (More (bare t) End) ts ≡ bare_parts (More t ts)
 unfolding appended bare
 joined_trees_one t ts = joined_trees_is ts (More (bare t) End)
 

@@ -1,10 +1,12 @@
 pub mod Answered
 pub mod Before
 pub mod Choices
+pub mod Closed
 pub mod Complete
 pub mod Exactly
 pub mod FromExpressions
 pub mod FrontWords
+pub mod Labels
 pub mod Names
 pub mod Sound
 pub mod Steps

@@ -1,23 +1,27 @@
 -- What the functions of the reader answer.
-use Rattle.std.specs.Prelude.{ℕ, ◌+◌, ◌≡◌, ◌≤◌, ◌<◌, List, length, drop, Option, Some, None, true}
+use Rattle.std.specs.Prelude.{ℕ, ◌+◌, ◌≡◌, ◌≤◌, ◌<◌, List, length, drop, Option, Some, None, true, Result, Ok, Err}
 use Rattle.rr_syntax.specs.declared.token.Keyword.{Keyword}
 use Rattle.rr_syntax.specs.declared.token.Token.{Token}
 use Rattle.rr_syntax.specs.declared.tree.Expr.{Expr}
 use Rattle.rr_syntax.specs.declared.tree.Stmt.{Stmt}
 use Rattle.rr_syntax.specs.declared.tree.Arm.{Arm as Branch}
 use Rattle.rr_syntax.specs.declared.tree.Named.{Named as NamedToken}
-use Rattle.rr_syntax.specs.Words.{Word, words}
+use Rattle.rr_syntax.specs.Words.{Word, words, mark_colon}
 use Rattle.rr_syntax.specs.Tree.{Tree, Trees, More, Identifier, Statement, Statements, Arm, Arms, bare, bare_parts, bare_statement, bare_statements, bare_arm, bare_arms, bare_label}
 use Rattle.rr_syntax.specs.Expressions.{spell, spell_more, is_target, Numbered}
 use Rattle.rr_syntax.specs.Statements.{is_case, spell_label, spell_statement, spell_statements, spell_arm, spell_arms, NumberedLabel, NumberedLabels, NumberedStatement, NumberedStatements, NumberedArm, NumberedArms}
 use Rattle.rr_syntax.specs.View.{plain, plain_list, plain_label, plain_statement, plain_statements, plain_arm, plain_arms}
-use Rattle.rr_parse_expr.specs.Reading.{Found}
+use Rattle.rr_parse_expr.specs.declared.lists.Piece as Entry
+use Rattle.rr_parse_expr.specs.declared.expression.ParseFault.{ParseFault}
+use Rattle.rr_parse_expr.specs.declared.expression.ParseFault.TheVariants.{Unsupported, Syntax, Memory}
+use Rattle.rr_parse_expr.specs.Reading.{Found, mark}
 use Rattle.rr_parse_stmt.specs.declared.expressions.Placed.{Placed}
 use Rattle.rr_parse_stmt.specs.declared.expressions.LabelList as labelling
 use Rattle.rr_parse_stmt.specs.declared.nodes.Piece.{Piece}
 use Rattle.rr_parse_stmt.specs.declared.nodes.ArmPiece.{ArmPiece}
 use Rattle.rr_parse_stmt.specs.declared.nodes.LabelPiece.{LabelPiece}
 use Rattle.rr_parse_stmt.specs.Reading.{keyword, name}
+use denote.Ref.{Bor}
 
 -- this reserved word stands at the front, and begins a `case`
 pub record IsCaseWord (ws : List Word) (kind : Keyword) : Type 0 where
@@ -49,19 +53,19 @@ abbrev pub AnswersTarget : List Token → ℕ → Found Tree → Option Placed �
 AnswersTarget tokens begin found None = found ≡ None
 AnswersTarget tokens begin found (Some r) = FindsTarget tokens begin found r
 
--- all labels up to their colon, and the token after it
-pub record GathersLabels (tokens : List Token) (begin : ℕ) (found : Found Trees) (items : List Expr) (next : ℕ) : Type 0 where
-  pub found_is : found ≡ Some (bare_parts (plain_list items), drop next (words tokens))
-  pub first : Tree
-  pub others : Trees
-  pub some : plain_list items ≡ More first others
-  pub within : next ≤ length tokens
-  pub taken : next ≡ begin + length (spell_more (plain_list items))
-  pub numbered : NumberedLabels (plain_list items) begin
+-- an expression from the token `begin` on, as an entry of a list
+pub record FindsEntry (tokens : List Token) (begin : ℕ) (found : Found Tree) (p : Entry.Piece Expr) : Type 0 where
+  pub found_is : found ≡ Some (bare (plain p.value), drop p.next (words tokens))
+  pub within : p.next ≤ length tokens
+  pub taken : p.next ≡ begin + length (spell (plain p.value))
+  pub numbered : Numbered (plain p.value) begin
 
-abbrev pub AnswersLabelling : List Token → ℕ → Found Trees → List Expr → Option ℕ → Type 0
-AnswersLabelling tokens begin found items None = found ≡ None
-AnswersLabelling tokens begin found items (Some next) = GathersLabels tokens begin found items next
+-- such an entry, or none; want of memory is free
+abbrev pub AnswersEntry : List Token → ℕ → Found Tree → Result (Entry.Piece Expr) ParseFault → Type 0
+AnswersEntry tokens begin found (Ok p) = FindsEntry tokens begin found p
+AnswersEntry tokens begin found (Err (Syntax at)) = found ≡ None
+AnswersEntry tokens begin found (Err (Unsupported at)) = ⊥
+AnswersEntry tokens begin found (Err Memory) = Unit {0}
 
 -- labels from the token `begin` on, with their colon
 pub record FindsLabels (tokens : List Token) (begin : ℕ) (found : Found Trees) (r : labelling.LabelList) : Type 0 where
@@ -76,6 +80,19 @@ pub record FindsLabels (tokens : List Token) (begin : ℕ) (found : Found Trees)
 abbrev pub AnswersLabels : List Token → ℕ → Found Trees → Option labelling.LabelList → Type 0
 AnswersLabels tokens begin found None = found ≡ None
 AnswersLabels tokens begin found (Some r) = FindsLabels tokens begin found r
+
+-- labels from the token `begin` on: with a colon behind them they are all labels of an arm, and without one none stand there
+pub record FindsList (tokens : List Token) (begin : ℕ) (found : Found Trees) (p : Entry.Piece (Bor (List Expr))) : Type 0 where
+  pub within : p.next ≤ length tokens
+  pub closed : mark (drop p.next (words tokens)) ≡ mark_colon → FindsLabels tokens begin found (record { exprs = p.value; next = p.next + 1 })
+  pub unclosed : (mark (drop p.next (words tokens)) ≡ mark_colon → ⊥) → found ≡ None
+
+-- such labels, or none; want of memory is free
+abbrev pub AnswersList : List Token → ℕ → Found Trees → Result (Entry.Piece (Bor (List Expr))) ParseFault → Type 0
+AnswersList tokens begin found (Ok p) = FindsList tokens begin found p
+AnswersList tokens begin found (Err (Syntax at)) = found ≡ None
+AnswersList tokens begin found (Err (Unsupported at)) = ⊥
+AnswersList tokens begin found (Err Memory) = Unit {0}
 
 -- this statement, and the token after it
 pub record IsPiece (s : Statement) (next : ℕ) (r : Piece) : Type 0 where

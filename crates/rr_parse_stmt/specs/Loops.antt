@@ -1,32 +1,18 @@
 -- What the loops of the reader keep.
 use Rattle.std.specs.Prelude.{ℕ, ◌+◌, ◌≡◌, ◌≤◌, ◌<◌, List, length, drop, if◌then◌else◌, nat_le, Option, Some, None}
 use Rattle.rr_syntax.specs.declared.token.Token.{Token}
-use Rattle.rr_syntax.specs.declared.tree.Expr.{Expr}
 use Rattle.rr_syntax.specs.declared.tree.Stmt.{Stmt}
 use Rattle.rr_syntax.specs.declared.tree.Arm.{Arm as Branch}
 use Rattle.rr_syntax.specs.Words.{words}
-use Rattle.rr_syntax.specs.Tree.{Tree, Trees, More, Statements, Arms, bare_parts, bare_statements, bare_arms}
-use Rattle.rr_syntax.specs.Expressions.{spell_more}
-use Rattle.rr_syntax.specs.Statements.{spell_statements, spell_arms, defaults, NumberedLabels, NumberedStatements, NumberedArms}
-use Rattle.rr_syntax.specs.View.{plain_list, plain_statements, plain_arms}
-use Rattle.rr_parse_expr.specs.Reading.{Found, below}
-use Rattle.rr_parse_stmt.specs.Reading.{labels_after, body, arms, below_statement, below_arm}
+use Rattle.rr_syntax.specs.Tree.{Statements, Arms, bare_statements, bare_arms}
+use Rattle.rr_syntax.specs.Statements.{spell_statements, spell_arms, defaults, NumberedStatements, NumberedArms}
+use Rattle.rr_syntax.specs.View.{plain_statements, plain_arms}
+use Rattle.rr_parse_expr.specs.Reading.{Found}
+use Rattle.rr_parse_stmt.specs.Reading.{body, arms, below_statement, below_arm}
 
 -- a number, where it is at most 1
 unfoldable pub at_most_one : ℕ → Option ℕ
 at_most_one n = if nat_le n 1 then Some n else None
-
--- after some labels
-pub record Labelling (tokens : List Token) (begin room : ℕ) (found : Found Trees) (items : List Expr) (next : ℕ) : Type 0 where
-  pub fuel : ℕ
-  pub enough : length tokens < fuel + next
-  pub whole : found ≡ labels_after (below room) fuel (bare_parts (plain_list items)) (drop next (words tokens))
-  pub first : Tree
-  pub others : Trees
-  pub some : plain_list items ≡ More first others
-  pub within : next ≤ length tokens
-  pub taken : next + 1 ≡ begin + length (spell_more (plain_list items))
-  pub numbered : NumberedLabels (plain_list items) begin
 
 -- after some statements
 pub record Bodied (tokens : List Token) (begin room : ℕ) (found : Found Statements) (items : List Stmt) (next : ℕ) : Type 0 where

@@ -1,15 +1,15 @@
 //! Expressions below statements, with the marks that stand around them.
 
-ghost use Rattle.std.specs.Prelude.{◌≡◌, ◌≤◌, ◌<◌, ◌+◌, ◌^◌, [], length, drop, IfOk};
+ghost use Rattle.std.specs.Prelude.{◌≤◌, ◌<◌, ◌+◌, ◌^◌, length, drop, IfOk};
 ghost use Rattle.rr_syntax.specs.Words.{words};
 ghost use Rattle.rr_parse_expr.specs.Reading.{below, closed as closed_of, no_mark};
 ghost use Rattle.rr_parse_stmt.specs.Reading.{labels as labels_of, target as target_of, tested as tested_of};
-ghost use Rattle.rr_parse_stmt.specs.Answer.{AnswersLabelling, AnswersLabels, AnswersTarget, AnswersTree, FindsTree};
+ghost use Rattle.rr_parse_stmt.specs.Answer.{AnswersEntry, AnswersLabels, AnswersList, AnswersTarget, AnswersTree};
 
-use crate::parts::add_label;
 use bumpalo::Bump;
-use bumpalo::collections::into_bump_slice;
-use rr_parse_expr::{ParseFault, expr_within, is_mark, target_within};
+use rr_parse_expr::{
+    Input, ParseFault, Piece, expr_before, expr_within, is_mark, list, target_within,
+};
 use rr_syntax::{Expr, Mark, Token};
 use std::alloc::AllocError;
 
@@ -27,28 +27,6 @@ pub(crate) struct LabelList<'a> {
     pub(crate) next: u32,
 }
 
-/// An expression of less than a depth.
-pub(crate) fn expression<'a>(
-    tokens: &'a [Token<'a>],
-    from: u32,
-    room: u32,
-    arena: &'a Bump,
-) -> Result<Option<Placed<'a>>, AllocError>
-    requires short { length tokens.now < 2 ^ 32 }
-    requires shallow { room ≤ 501 }
-    ensures { IfOk result (λ r. AnswersTree tokens.now from 0 (below room 1 (drop from (words tokens.now))) r) }
-{
-    if room == 0 {
-        return Ok(None);
-    }
-    match expr_within(tokens, from, room - 1, arena) {
-        Ok((expr, next)) => Ok(Some(Placed { expr, next })),
-        Err(ParseFault::Memory) => Err(AllocError),
-        Err(ParseFault::Syntax(_)) => Ok(None),
-        Err(ParseFault::Unsupported(_)) => Ok(None),
-    }
-}
-
 /// An expression and this mark behind it, which is taken too.
 pub(crate) fn closed<'a>(
     tokens: &'a [Token<'a>],
@@ -62,18 +40,14 @@ pub(crate) fn closed<'a>(
     requires is_mark { mark.0 < no_mark }
     ensures { IfOk result (λ r. AnswersTree tokens.now from 1 (closed_of (below room) mark.0 (drop from (words tokens.now))) r) }
 {
-    match expression(tokens, from, room, arena)? {
-        None => Ok(None),
-        Some(inner) => {
-            if !is_mark(tokens, inner.next, mark) {
-                return Ok(None);
-            }
-            let next = inner.next + 1;
-            Ok(Some(Placed {
-                expr: inner.expr,
-                next,
-            }))
-        }
+    if room == 0 {
+        return Ok(None);
+    }
+    match expr_before(tokens, from, mark, room - 1, arena) {
+        Ok((expr, next)) => Ok(Some(Placed { expr, next })),
+        Err(ParseFault::Memory) => Err(AllocError),
+        Err(ParseFault::Syntax(_)) => Ok(None),
+        Err(ParseFault::Unsupported(_)) => Ok(None),
     }
 }
 
@@ -116,6 +90,32 @@ pub(crate) fn target<'a>(
     }
 }
 
+/// A label of an arm, as an entry of a list.
+fn entry<'a>(input: Input<'a>, from: u32, room: u32) -> Result<Piece<Expr<'a>>, ParseFault>
+    requires short { length input.tokens.now < 2 ^ 32 }
+    requires shallow { room ≤ 501 }
+    ensures { AnswersEntry input.entry.tokens.now from (below room 1 (drop from (words input.entry.tokens.now))) result }
+{
+    if room == 0 {
+        return Err(ParseFault::Syntax(from));
+    }
+    let (expr, next) = expr_within(input.tokens, from, room - 1, input.arena)?;
+    Ok(Piece { value: *expr, next })
+}
+
+/// Labels with commas between; a colon has to stand behind them.
+fn label_list<'a>(
+    input: Input<'a>,
+    from: u32,
+    room: u32,
+) -> Result<Piece<&'a [Expr<'a>]>, ParseFault>
+    requires short { length input.tokens.now < 2 ^ 32 }
+    requires shallow { room ≤ 501 }
+    ensures { AnswersList input.entry.tokens.now from (labels_of (below room) (drop from (words input.entry.tokens.now))) result }
+{
+    list(input.tokens, from, input.arena, |at| entry(input, at, room))
+}
+
 /// The labels of an arm, with commas between, up to and with their colon.
 pub(crate) fn labels<'a>(
     tokens: &'a [Token<'a>],
@@ -127,50 +127,18 @@ pub(crate) fn labels<'a>(
     requires shallow { room ≤ 501 }
     ensures { IfOk result (λ r. AnswersLabels tokens.now from (labels_of (below room) (drop from (words tokens.now))) r) }
 {
-    match expression(tokens, from, room, arena)? {
-        None => Ok(None),
-        Some(first) => {
-            let mut labels = Vec::new(arena);
-            match labels_from(tokens, from, first, &mut labels, room, arena)? {
-                None => Ok(None),
-                Some(next) => Ok(Some(LabelList {
-                    exprs: into_bump_slice(labels),
-                    next,
-                })),
+    match label_list(Input { tokens, arena }, from, room) {
+        Ok(found) => {
+            if !is_mark(tokens, found.next, Mark::COLON) {
+                return Ok(None);
             }
+            Ok(Some(LabelList {
+                exprs: found.value,
+                next: found.next + 1,
+            }))
         }
-    }
-}
-
-/// Puts the first label and those behind it into `labels`, and answers the token after their colon.
-fn labels_from<'a>(
-    tokens: &'a [Token<'a>],
-    from: u32,
-    first: Placed<'a>,
-    labels: &mut Vec<Expr<'a>, &'a Bump>,
-    room: u32,
-    arena: &'a Bump,
-) -> Result<Option<u32>, AllocError>
-    requires short { length tokens.now < 2 ^ 32 }
-    requires shallow { room ≤ 501 }
-    requires empty { labels.old.items ≡ [] }
-    requires first_read { FindsTree tokens.now from 0 (below room 1 (drop from (words tokens.now))) first }
-    ensures { IfOk result (λ r. AnswersLabelling tokens.now from (labels_of (below room) (drop from (words tokens.now))) labels.new.items r) }
-{
-    add_label(labels, *first.expr)?;
-    let mut next = first.next;
-    while is_mark(tokens, next, Mark::COMMA) {
-        match expression(tokens, next + 1, room, arena)? {
-            None => return Ok(None),
-            Some(label) => {
-                add_label(labels, *label.expr)?;
-                next = label.next;
-            }
-        }
-    }
-    if is_mark(tokens, next, Mark::COLON) {
-        Ok(Some(next + 1))
-    } else {
-        Ok(None)
+        Err(ParseFault::Memory) => Err(AllocError),
+        Err(ParseFault::Syntax(_)) => Ok(None),
+        Err(ParseFault::Unsupported(_)) => Ok(None),
     }
 }

@@ -1,18 +1,16 @@
-//! What stands at a token: marks, reserved words and names.
+//! What stands at a token: marks and reserved words.
 
-ghost use Rattle.std.specs.Prelude.{◌≡◌, ◌≤◌, ◌<◌, ◌+◌, [], ◌∷◌, ◌++◌, false, drop, IfOk, MatchOption};
+ghost use Rattle.std.specs.Prelude.{◌≡◌, ◌≤◌, ◌+◌, false, drop, MatchOption};
 ghost use Rattle.rr_syntax.specs.Words.{words};
 ghost use Rattle.rr_syntax.specs.Statements.{defaults as defaults_of, is_case as case_of};
 ghost use Rattle.rr_syntax.specs.Tree.{MoreArms, NoArms};
 ghost use Rattle.rr_syntax.specs.View.{plain_arm};
 ghost use Rattle.rr_parse_stmt.specs.Reading.{keyword, sign};
-ghost use Rattle.rr_parse_stmt.specs.Answer.{AnswersName, IsCaseWord};
+ghost use Rattle.rr_parse_stmt.specs.Answer.{IsCaseWord};
 ghost use Rattle.rr_parse_stmt.specs.Loops.{at_most_one};
 
-use bumpalo::Bump;
 use rr_parse_expr::{is_mark, keyword_at};
-use rr_syntax::{Arm, Expr, Keyword, Kind, Mark, Named, Stmt, Token};
-use std::alloc::AllocError;
+use rr_syntax::{Arm, Keyword, Mark, Token};
 
 /// Whether the mark at a place is `=`, where it is `=` or `<=`.
 #[tactic(auto, unfolding(crate::specs::Reading::sign))]
@@ -46,19 +44,6 @@ pub(crate) fn case_at(tokens: &[Token], at: u32) -> Option<Keyword>
     }
 }
 
-/// The name that stands at a place, if one does.
-pub(crate) fn name_at<'a>(tokens: &'a [Token<'a>], at: u32) -> Option<Named<'a>>
-    ensures { AnswersName tokens.now at result }
-{
-    match tokens.get(at as usize) {
-        Some(token) => match token.kind {
-            Kind::Name(name) => Some(Named { token: at, name }),
-            _ => None,
-        },
-        None => None,
-    }
-}
-
 /// The number of default arms with this one, where it is not the second.
 pub(crate) fn counted(arm: &Arm, defaults: u32) -> Option<u32>
     requires once { defaults ≤ 1 }
@@ -71,31 +56,4 @@ pub(crate) fn counted(arm: &Arm, defaults: u32) -> Option<u32>
     } else {
         None
     }
-}
-
-pub(crate) fn add_label<'a>(
-    labels: &mut Vec<Expr<'a>, &'a Bump>,
-    label: Expr<'a>,
-) -> Result<(), AllocError>
-    ensures { IfOk result (λ _. labels.new.items ≡ labels.old.items ++ (label.entry ∷ [])) }
-{
-    labels.push(label)?;
-    Ok(())
-}
-
-pub(crate) fn add_statement<'a>(
-    body: &mut Vec<Stmt<'a>, &'a Bump>,
-    stmt: Stmt<'a>,
-) -> Result<(), AllocError>
-    ensures { IfOk result (λ _. body.new.items ≡ body.old.items ++ (stmt.entry ∷ [])) }
-{
-    body.push(stmt)?;
-    Ok(())
-}
-
-pub(crate) fn add_arm<'a>(arms: &mut Vec<Arm<'a>, &'a Bump>, arm: Arm<'a>) -> Result<(), AllocError>
-    ensures { IfOk result (λ _. arms.new.items ≡ arms.old.items ++ (arm.entry ∷ [])) }
-{
-    arms.push(arm)?;
-    Ok(())
 }

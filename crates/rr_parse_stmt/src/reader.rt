@@ -9,10 +9,10 @@ ghost use Rattle.rr_parse_stmt.specs.Answer.{AnswersArm, AnswersArms, AnswersBod
 
 use crate::expressions::{LabelList, Placed, closed, labels, target, tested};
 use crate::nodes::{ArmPiece, LabelPiece, Piece, case_item, if_alone, if_else, no_labels};
-use crate::parts::{add_arm, add_statement, case_at, counted, name_at, sign_at};
+use crate::parts::{case_at, counted, sign_at};
 use bumpalo::Bump;
 use bumpalo::collections::into_bump_slice;
-use rr_parse_expr::{is_keyword, is_mark};
+use rr_parse_expr::{add, is_keyword, is_mark, name_at};
 use rr_syntax::{Arm, Keyword, Mark, Stmt, Token};
 use std::alloc::AllocError;
 
@@ -129,7 +129,7 @@ fn statements<'a>(
         match statement(tokens, next, limit, arena)? {
             None => return Ok(None),
             Some(piece) => {
-                add_statement(body, piece.stmt)?;
+                add(body, piece.stmt)?;
                 next = piece.next;
             }
         }
@@ -260,7 +260,7 @@ fn arms_from<'a>(
             None => return Ok(None),
             Some(more) => defaults = more,
         }
-        add_arm(arms, piece.arm)?;
+        add(arms, piece.arm)?;
         next = piece.next;
         if is_keyword(tokens, next, Keyword::ENDCASE) {
             return Ok(Some(next + 1));

@@ -5,8 +5,8 @@ ghost use Rattle.rr_syntax.specs.Words.{words};
 ghost use Rattle.rr_parse_expr.specs.Fronts.{front_keyword, front_mark};
 ghost use Rattle.rr_stop.specs.Going.{Goes, Takes};
 
-use rr_parse_expr::{is_keyword, is_mark};
-use rr_syntax::{Keyword, Kind, Mark, Token};
+use rr_parse_expr::{is_keyword, is_mark, name_at};
+use rr_syntax::{Keyword, Mark, Token};
 
 /// The token that comes next, of those before `end`; those before it are taken.
 #[derive(Drop)]
@@ -33,10 +33,7 @@ impl<'a> Cursor<'a> {
 
     /// Whether a name comes next.
     pub(crate) fn is_name(&self) -> bool {
-        match self.tokens.get(self.at as usize) {
-            Some(token) => matches!(token.kind, Kind::Name(_)),
-            None => false,
-        }
+        name_at(self.tokens, self.at).is_some()
     }
 
     /// Takes the next token, if one is left and it may be taken.

@@ -57,7 +57,7 @@ fn deeper(part: u32, room: u32) -> Option<u32>
 }
 
 /// The room of a part of a node.
-fn inner(room: u32) -> Option<u32>
+pub(crate) fn inner(room: u32) -> Option<u32>
     ensures { IfSome result (λ inside. inside < room) }
 {
     if room < 2 { None } else { Some(room - 1) }

@@ -9,6 +9,7 @@
 
 mod cursor;
 mod expressions;
+mod lists;
 mod modules;
 mod statements;
 

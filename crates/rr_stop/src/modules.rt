@@ -5,7 +5,8 @@ ghost use Rattle.rr_stop.specs.Beginning.{begins_module};
 ghost use Rattle.rr_stop.specs.Going.{Goes, Takes};
 
 use crate::cursor::Cursor;
-use crate::expressions::{expression, list, range, target};
+use crate::expressions::{expression, range, target};
+use crate::lists::listed;
 use crate::statements::statement;
 use rr_parse_expr::is_keyword;
 use rr_syntax::{Keyword, Mark, Token};
@@ -82,16 +83,20 @@ fn parameters_in_head(cursor: &mut Cursor) -> Option<()>
         return Some(());
     }
     cursor.expect(Mark::OPEN_PARENTHESIS)?;
-    cursor.expect_word(Keyword::PARAMETER)?;
-    kind(cursor, BRACKETS)?;
-    setting(cursor, BRACKETS)?;
-    while cursor.take(Mark::COMMA) {
-        if cursor.take_word(Keyword::PARAMETER) {
-            kind(cursor, BRACKETS)?;
-        }
-        setting(cursor, BRACKETS)?;
+    if !cursor.is_keyword(Keyword::PARAMETER) {
+        return None;
     }
-    cursor.expect(Mark::CLOSE_PARENTHESIS)
+    listed(cursor, |part| head_setting(part), Mark::CLOSE_PARENTHESIS)
+}
+
+/// A parameter between the brackets of a module, with its kind where `parameter` stands before it.
+fn head_setting(cursor: &mut Cursor) -> Option<()>
+    ensures { Goes cursor.old cursor.new }
+{
+    if cursor.take_word(Keyword::PARAMETER) {
+        kind(cursor, BRACKETS)?;
+    }
+    setting(cursor, BRACKETS)
 }
 
 /// The kind of a parameter: signed, with or without a range, or `integer`, which has none.
@@ -123,17 +128,17 @@ fn ports(cursor: &mut Cursor) -> Option<()>
         return Some(());
     }
     let declared = is_direction(cursor);
-    if declared {
+    listed(cursor, |part| port(part, declared), Mark::CLOSE_PARENTHESIS)
+}
+
+/// The name of a port, with its direction where ports are declared in the brackets and one stands there.
+fn port(cursor: &mut Cursor, declared: bool) -> Option<()>
+    ensures { Goes cursor.old cursor.new }
+{
+    if declared && is_direction(cursor) {
         direction(cursor, BRACKETS)?;
     }
-    cursor.name()?;
-    while cursor.take(Mark::COMMA) {
-        if declared && is_direction(cursor) {
-            direction(cursor, BRACKETS)?;
-        }
-        cursor.name()?;
-    }
-    cursor.expect(Mark::CLOSE_PARENTHESIS)
+    cursor.name()
 }
 
 fn is_direction(cursor: &Cursor) -> bool {
@@ -160,11 +165,7 @@ fn names(cursor: &mut Cursor) -> Option<()>
     ensures goes { Goes cursor.old cursor.new }
     ensures takes { IfSome result (λ t. Takes cursor.old cursor.new) }
 {
-    cursor.name()?;
-    while cursor.take(Mark::COMMA) {
-        cursor.name()?;
-    }
-    cursor.expect(Mark::SEMICOLON)
+    listed(cursor, |part| part.name(), Mark::SEMICOLON)
 }
 
 fn item(cursor: &mut Cursor) -> Option<()>
@@ -213,11 +214,7 @@ fn nets(cursor: &mut Cursor) -> Option<()>
 {
     cursor.take_word(Keyword::SIGNED);
     range(cursor, ITEM)?;
-    net(cursor)?;
-    while cursor.take(Mark::COMMA) {
-        net(cursor)?;
-    }
-    cursor.expect(Mark::SEMICOLON)
+    listed(cursor, |part| net(part), Mark::SEMICOLON)
 }
 
 /// Behind `parameter` and `localparam`.
@@ -226,11 +223,7 @@ fn parameters(cursor: &mut Cursor) -> Option<()>
     ensures takes { IfSome result (λ t. Takes cursor.old cursor.new) }
 {
     kind(cursor, ITEM)?;
-    setting(cursor, ITEM)?;
-    while cursor.take(Mark::COMMA) {
-        setting(cursor, ITEM)?;
-    }
-    cursor.expect(Mark::SEMICOLON)
+    listed(cursor, |part| setting(part, ITEM), Mark::SEMICOLON)
 }
 
 fn assign(cursor: &mut Cursor) -> Option<()>
@@ -247,11 +240,7 @@ fn assigns(cursor: &mut Cursor) -> Option<()>
     ensures goes { Goes cursor.old cursor.new }
     ensures takes { IfSome result (λ t. Takes cursor.old cursor.new) }
 {
-    assign(cursor)?;
-    while cursor.take(Mark::COMMA) {
-        assign(cursor)?;
-    }
-    cursor.expect(Mark::SEMICOLON)
+    listed(cursor, |part| assign(part), Mark::SEMICOLON)
 }
 
 /// Behind the `@` of an `always`.
@@ -299,14 +288,18 @@ fn connections(cursor: &mut Cursor) -> Option<()>
         return Some(());
     }
     if cursor.is_mark(Mark::DOT) {
-        connection(cursor)?;
-        while cursor.take(Mark::COMMA) {
-            connection(cursor)?;
-        }
+        listed(cursor, |part| connection(part), Mark::CLOSE_PARENTHESIS)
     } else {
-        list(cursor, ITEM)?;
+        listed(cursor, |part| value(part), Mark::CLOSE_PARENTHESIS)
     }
-    cursor.expect(Mark::CLOSE_PARENTHESIS)
+}
+
+/// A connection by position, or an expression of an item.
+fn value(cursor: &mut Cursor) -> Option<()>
+    ensures { Goes cursor.old cursor.new }
+{
+    expression(cursor, ITEM)?;
+    Some(())
 }
 
 /// A connection by name.
@@ -339,9 +332,5 @@ fn instances(cursor: &mut Cursor) -> Option<()>
     if cursor.take(Mark::HASH) {
         connections(cursor)?;
     }
-    instance(cursor)?;
-    while cursor.take(Mark::COMMA) {
-        instance(cursor)?;
-    }
-    cursor.expect(Mark::SEMICOLON)
+    listed(cursor, |part| instance(part), Mark::SEMICOLON)
 }

@@ -1,19 +1,12 @@
 //! Statements (IEEE 1364-2005 annex A.6.4). The room is the greatest depth, the root counted as 0,
 //! and one more.
 
-ghost use Rattle.std.specs.Prelude.{◌<◌, IfSome};
+ghost use Rattle.std.specs.Prelude.{IfSome};
 ghost use Rattle.rr_stop.specs.Going.{Goes, Takes};
 
 use crate::cursor::Cursor;
-use crate::expressions::{expression, list, target};
+use crate::expressions::{expression, inner, list, target};
 use rr_syntax::{Keyword, Mark};
-
-/// The room of a part of a node.
-fn inner(room: u32) -> Option<u32>
-    ensures { IfSome result (λ inside. inside < room) }
-{
-    if room < 2 { None } else { Some(room - 1) }
-}
 
 /// A statement.
 #[cycle(statements)]

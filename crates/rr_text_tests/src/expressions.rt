@@ -3,9 +3,10 @@
 use crate::texts::{push_times, tokens_of};
 use bumpalo::Bump;
 use rr_parse_expr::{
-    ParseFault, expr, expr_within, is_mark, mark_at, operand, operand_within, target_within,
+    ParseFault, expr, expr_before, expr_within, is_mark, mark_at, name_at, operand, operand_within,
+    target_within,
 };
-use rr_syntax::{Expr, MARKS, Mark};
+use rr_syntax::{Expr, MARKS, Mark, Named};
 use std::alloc::{AllocError, Global};
 use std::test::Fail;
 
@@ -301,6 +302,45 @@ fn targets(rt: HostRuntime) -> Result<(), Fail> {
     assert!(rt; target_end(rt.alloc(), "{ a , b [ 2 ] } <= c")? == Some(8));
     for text in ["", "3 = a", "{ a , 3 } = b", "( a ) = b", "- a"] {
         assert!(rt; target_end(rt.alloc(), text)? == None, "{text}");
+    }
+    Ok(())
+}
+
+/// The token after the colon behind the expression at the front, if both stand there.
+fn closed_end(alloc: Global, text: &str) -> Result<Option<u32>, Fail> {
+    let arena = Bump::new(alloc);
+    let tokens = tokens_of(text, &arena)?;
+    match expr_before(tokens, 0, Mark::COLON, 1, &arena) {
+        Ok((_, next)) => Ok(Some(next)),
+        Err(_) => Ok(None),
+    }
+}
+
+#[test]
+fn before_a_mark(rt: HostRuntime) -> Result<(), Fail> {
+    assert!(rt; closed_end(rt.alloc(), "a + b : c")? == Some(4));
+    for text in ["", ": a", "a", "a ; b", "a + b", "a + ( b ) : c"] {
+        assert!(rt; closed_end(rt.alloc(), text)? == None, "{text}");
+    }
+    Ok(())
+}
+
+/// A name is told where one stands, with its token's number, and no other token is taken for one.
+#[test]
+fn names(rt: HostRuntime) -> Result<(), Fail> {
+    let arena = Bump::new(rt.alloc());
+    let tokens = tokens_of("begin a 3 $time ;", &arena)?;
+    assert!(rt;
+        matches!(
+            name_at(tokens, 1),
+            Some(Named {
+                token: 1,
+                name: "a"
+            })
+        )
+    );
+    for at in [0, 2, 3, 4, 5, u32::MAX] {
+        assert!(rt; name_at(tokens, at).is_none());
     }
     Ok(())
 }

@@ -1,7 +1,7 @@
 use Rattle.std.proofs.Common.{rules, arith, Ok, ◌≡◌, ◌∷◌, []}
 use Rattle.rr_grammar.specs.Formats.{Finds, FindsNone}
 use Rattle.rr_grammar.specs.Parts.{separator_of}
-use Rattle.rr_parse.specs.Chains.{Refuses}
+use Rattle.rr_parse_expr.specs.Lists.{Refuses}
 use Rattle.rr_parse.proofs.Chained.{alternate_first, alternate_more}
 use Rattle.rr_parse.proofs.ListsRead.{closes_behind, closes_alone, separated_made}
 use Rattle.rr_parse.proofs.lists.alternating.Goals as goal

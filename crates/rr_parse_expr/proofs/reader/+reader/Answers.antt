@@ -131,7 +131,7 @@ operation-returns-in_ok-binary-in-Some t c =
     made_binary c.args.tokens.now c.args.from c.args.limit c.args.op.0 (c.infix_level.result + 1) c.args.left c.in-Some.right c.in_ok-binary-in-Some.field-0 c.requires.left_read c.requires.room c.requires.is_operator.1 n (picks_below c.args.tokens.now (c.args.left.next + 1) c.args.limit (c.infix_level.result + 1) c.in_ok-read_at.field-0 c.in-Some.right c.in-Some.is c.in_ok-read_at.ensures) c.in_ok-binary-in-Some.ensures
 
 pub parts_from-loop-from-init : goal.parts_from-loop-from-init
-parts_from-loop-from-init t c = collect_start c.args.tokens.now c.args.from c.args.limit c.args.first c.args.parts.now.items c.add_part.new.parts.items c.requires.empty c.in_ok-add_part.ensures c.requires.first_read
+parts_from-loop-from-init t c = collect_start c.args.tokens.now c.args.from c.args.limit c.args.first c.args.parts.now.items c.add.new.items.items c.requires.empty c.in_ok-add.ensures c.requires.first_read
 
 pub parts_from-overflow_add-next : goal.parts_from-overflow_add-next
 parts_from-overflow_add-next t c = let h = mark_inside c.args.tokens.now c.loop-from.next mark_comma (mark_stands _ c.is_mark.ensures c.loop-from-test.true) (omega arith) in omega arith
@@ -140,7 +140,7 @@ pub parts_from-returns-in-None : goal.parts_from-returns-in-None
 parts_from-returns-in-None t c = collect_fail c.args.tokens.now c.args.from c.args.limit (parts_from (below c.args.limit) (form c.args.first.expr) (drop c.args.first.next (words c.args.tokens.now))) c.loop-from.parts.items c.loop-from.next c.loop-from.depth c.loop-from.invariant (mark_stands _ c.is_mark.ensures c.loop-from-test.true) (none_below c.args.tokens.now (c.loop-from.next + 1) c.args.limit 1 c.in_ok-read_at.field-0 c.in-None.is c.in_ok-read_at.ensures)
 
 pub parts_from-loop-from-preserved : goal.parts_from-loop-from-preserved
-parts_from-loop-from-preserved t c = collect_more c.args.tokens.now c.args.from c.args.limit (parts_from (below c.args.limit) (form c.args.first.expr) (drop c.args.first.next (words c.args.tokens.now))) c.loop-from.parts.items c.add_part-in-Some.new.parts.items c.loop-from.next c.loop-from.depth c.max-depth.result c.in-Some.part c.loop-from.invariant (mark_stands _ c.is_mark.ensures c.loop-from-test.true) (picks_below c.args.tokens.now (c.loop-from.next + 1) c.args.limit 1 c.in_ok-read_at.field-0 c.in-Some.part c.in-Some.is c.in_ok-read_at.ensures) c.in_ok-add_part-in-Some.ensures c.max-depth.ensures
+parts_from-loop-from-preserved t c = collect_more c.args.tokens.now c.args.from c.args.limit (parts_from (below c.args.limit) (form c.args.first.expr) (drop c.args.first.next (words c.args.tokens.now))) c.loop-from.parts.items c.add-in-Some.new.items.items c.loop-from.next c.loop-from.depth c.max-depth.result c.in-Some.part c.loop-from.invariant (mark_stands _ c.is_mark.ensures c.loop-from-test.true) (picks_below c.args.tokens.now (c.loop-from.next + 1) c.args.limit 1 c.in_ok-read_at.field-0 c.in-Some.part c.in-Some.is c.in_ok-read_at.ensures) c.in_ok-add-in-Some.ensures c.max-depth.ensures
 
 pub parts_from-overflow_add-result : goal.parts_from-overflow_add-result
 parts_from-overflow_add-result t c = let h = mark_inside c.args.tokens.now c.loop-from.next mark_close_brace (mark_stands _ c.is_mark-2.ensures c.if-is_mark.true) (omega arith) in omega arith

@@ -1,20 +1,26 @@
-use Rattle.std.proofs.Common.{drop, arith}
+use Rattle.std.proofs.Common.{◌<◌, ◌-◌, drop, arith}
 use Rattle.rr_syntax.specs.Words.{words}
 use Rattle.rr_parse_expr.specs.Reading.{below}
-use Rattle.rr_parse_expr.proofs.Answered.{mark_inside}
+use Rattle.rr_parse_expr.proofs.Exactly.{below_zero, below_is}
 use Rattle.rr_parse_expr.proofs.Steps.{closed-none}
-use Rattle.rr_parse_stmt.proofs.Answered.{tree_some, tree_none, closed_made, closed_differs}
-use Rattle.rr_parse_expr.proofs.FrontMarks.{mark_differs, mark_stands}
+use Rattle.rr_parse_stmt.proofs.Closed.{closed_by, no_closed_by, fails_closed}
+use Rattle.rr_parse_stmt.proofs.FromExpressions.{syntax_memory}
 use Rattle.rr_parse_stmt.proofs.expressions.closed.Goals as goal
 
-pub returns-then-not-is_mark : goal.returns-then-not-is_mark
-returns-then-not-is_mark c = closed_differs c.args.tokens.now c.args.from c.args.room c.args.mark.0 c.in-Some.inner (mark_differs _ c.is_mark.ensures c.if-not-is_mark.true c.requires.is_mark) (tree_some c.args.tokens.now c.args.from 0 (below c.args.room 1 (drop c.args.from (words c.args.tokens.now))) c.in_ok-expression.field-0 c.in-Some.inner c.in-Some.is c.in_ok-expression.ensures)
+pub returns-then-room-eq0 : goal.returns-then-room-eq0
+returns-then-room-eq0 c = closed-none (below c.args.room) c.args.mark.0 (drop c.args.from (words c.args.tokens.now)) (below_zero c.args.room 1 (drop c.args.from (words c.args.tokens.now)) c.if-room-eq0.true)
 
-pub overflow_add-next : goal.overflow_add-next
-overflow_add-next c = let h = mark_inside c.args.tokens.now c.in-Some.inner.next c.args.mark.0 (mark_stands _ c.is_mark.ensures c.if-not-is_mark.false) c.requires.is_mark in omega arith
+pub returns-in-Ok : goal.returns-in-Ok
+returns-in-Ok c =
+    let p : 0 < c.args.room = omega arith in
+    record {
+      found_is = closed_by (below c.args.room) (c.args.room - 1) c.args.tokens.now c.args.from c.args.mark c.in-Ok.expr.now c.in-Ok.next (below_is c.args.room 1 (drop c.args.from (words c.args.tokens.now)) p) c.in-Ok.ensures;
+      within = c.in-Ok.ensures.within;
+      taken = omega (arith, c.in-Ok.ensures.behind, c.in-Ok.ensures.expression.taken);
+      numbered = c.in-Ok.ensures.expression.numbered;
+    }
 
-pub returns-in-None : goal.returns-in-None
-returns-in-None c = closed-none (below c.args.room) c.args.mark.0 (drop c.args.from (words c.args.tokens.now)) (tree_none c.args.tokens.now c.args.from 0 (below c.args.room 1 (drop c.args.from (words c.args.tokens.now))) c.in_ok-expression.field-0 c.in-None.is c.in_ok-expression.ensures)
-
-pub returns-else-not-is_mark : goal.returns-else-not-is_mark
-returns-else-not-is_mark c = closed_made c.args.tokens.now c.args.from c.args.room c.args.mark.0 c.in-Some.inner.expr c.in-Some.inner.next c.requires.is_mark (mark_stands _ c.is_mark.ensures c.if-not-is_mark.false) (tree_some c.args.tokens.now c.args.from 0 (below c.args.room 1 (drop c.args.from (words c.args.tokens.now))) c.in_ok-expression.field-0 c.in-Some.inner c.in-Some.is c.in_ok-expression.ensures)
+pub returns-in-Err-Syntax : goal.returns-in-Err-Syntax
+returns-in-Err-Syntax c =
+    let p : 0 < c.args.room = omega arith in
+    no_closed_by (below c.args.room) (c.args.room - 1) c.args.tokens.now c.args.from c.args.mark c.requires.is_mark (below_is c.args.room 1 (drop c.args.from (words c.args.tokens.now)) p) (fails_closed c.args.mark (c.args.room - 1) c.args.tokens.now c.args.from c.in-Err-Syntax.field-0 (λ e. syntax_memory c.in-Err-Syntax.field-0 c.in-Err-Syntax.field-0-0 c.in-Err-Syntax.field-0-is e) c.in-Err-Syntax.ensures)

@@ -42,7 +42,7 @@ arms_from-overflow_add-result t c = let h = keyword_inside c.args.tokens.now c.i
 pub arms_from-returns-then-is_keyword : goal.arms_from-returns-then-is_keyword
 arms_from-returns-then-is_keyword t c =
     let k = at_most_is (c.loop-piece.defaults + defaults (MoreArms (plain_arm c.in-Some.piece.arm) NoArms)) c.in-Some-counted.more (sym c.counted.ensures ∙ c.in-Some-counted.is) in
-    armed_end c.args.tokens.now c.args.from c.args.limit (arms (below_arm c.args.limit) (suc (length (drop c.args.from (words c.args.tokens.now)))) NoArms (drop c.args.from (words c.args.tokens.now))) c.add_arm.new.arms.items c.in-Some.piece.next c.in-Some-counted.more (arm_added c.args.tokens.now c.args.from c.args.limit (arms (below_arm c.args.limit) (suc (length (drop c.args.from (words c.args.tokens.now)))) NoArms (drop c.args.from (words c.args.tokens.now))) c.loop-piece.arms.items c.add_arm.new.arms.items c.loop-piece.next c.loop-piece.defaults c.in-Some-counted.more c.in-Some.piece c.loop-piece.invariant (arm_some c.args.tokens.now c.loop-piece.next (below_arm c.args.limit (drop c.loop-piece.next (words c.args.tokens.now))) c.in_ok-piece.field-0 c.in-Some.piece c.in-Some.is c.in_ok-piece.ensures) c.in_ok-add_arm.ensures k.0 (omega (arith, k.0, k.1))) (keyword_stands _ c.is_keyword.ensures c.if-is_keyword.true)
+    armed_end c.args.tokens.now c.args.from c.args.limit (arms (below_arm c.args.limit) (suc (length (drop c.args.from (words c.args.tokens.now)))) NoArms (drop c.args.from (words c.args.tokens.now))) c.add.new.items.items c.in-Some.piece.next c.in-Some-counted.more (arm_added c.args.tokens.now c.args.from c.args.limit (arms (below_arm c.args.limit) (suc (length (drop c.args.from (words c.args.tokens.now)))) NoArms (drop c.args.from (words c.args.tokens.now))) c.loop-piece.arms.items c.add.new.items.items c.loop-piece.next c.loop-piece.defaults c.in-Some-counted.more c.in-Some.piece c.loop-piece.invariant (arm_some c.args.tokens.now c.loop-piece.next (below_arm c.args.limit (drop c.loop-piece.next (words c.args.tokens.now))) c.in_ok-piece.field-0 c.in-Some.piece c.in-Some.is c.in_ok-piece.ensures) c.in_ok-add.ensures k.0 (omega (arith, k.0, k.1))) (keyword_stands _ c.is_keyword.ensures c.if-is_keyword.true)
 
 pub arms_from-loop-piece-smaller : goal.arms_from-loop-piece-smaller
 arms_from-loop-piece-smaller t c = let f = (arm_some c.args.tokens.now c.loop-piece.next (below_arm c.args.limit (drop c.loop-piece.next (words c.args.tokens.now))) c.in_ok-piece.field-0 c.in-Some.piece c.in-Some.is c.in_ok-piece.ensures) in omega (arith, f.taken, f.within, spell_arm-some (plain_arm c.in-Some.piece.arm))
@@ -50,7 +50,7 @@ arms_from-loop-piece-smaller t c = let f = (arm_some c.args.tokens.now c.loop-pi
 pub arms_from-loop-piece-preserved : goal.arms_from-loop-piece-preserved
 arms_from-loop-piece-preserved t c =
     let k = at_most_is (c.loop-piece.defaults + defaults (MoreArms (plain_arm c.in-Some.piece.arm) NoArms)) c.in-Some-counted.more (sym c.counted.ensures ∙ c.in-Some-counted.is) in
-    armed_next c.args.tokens.now c.args.from c.args.limit (arms (below_arm c.args.limit) (suc (length (drop c.args.from (words c.args.tokens.now)))) NoArms (drop c.args.from (words c.args.tokens.now))) c.add_arm.new.arms.items c.in-Some.piece.next c.in-Some-counted.more (arm_added c.args.tokens.now c.args.from c.args.limit (arms (below_arm c.args.limit) (suc (length (drop c.args.from (words c.args.tokens.now)))) NoArms (drop c.args.from (words c.args.tokens.now))) c.loop-piece.arms.items c.add_arm.new.arms.items c.loop-piece.next c.loop-piece.defaults c.in-Some-counted.more c.in-Some.piece c.loop-piece.invariant (arm_some c.args.tokens.now c.loop-piece.next (below_arm c.args.limit (drop c.loop-piece.next (words c.args.tokens.now))) c.in_ok-piece.field-0 c.in-Some.piece c.in-Some.is c.in_ok-piece.ensures) c.in_ok-add_arm.ensures k.0 (omega (arith, k.0, k.1))) (keyword_differs _ c.is_keyword.ensures c.if-is_keyword.false (lit< tt))
+    armed_next c.args.tokens.now c.args.from c.args.limit (arms (below_arm c.args.limit) (suc (length (drop c.args.from (words c.args.tokens.now)))) NoArms (drop c.args.from (words c.args.tokens.now))) c.add.new.items.items c.in-Some.piece.next c.in-Some-counted.more (arm_added c.args.tokens.now c.args.from c.args.limit (arms (below_arm c.args.limit) (suc (length (drop c.args.from (words c.args.tokens.now)))) NoArms (drop c.args.from (words c.args.tokens.now))) c.loop-piece.arms.items c.add.new.items.items c.loop-piece.next c.loop-piece.defaults c.in-Some-counted.more c.in-Some.piece c.loop-piece.invariant (arm_some c.args.tokens.now c.loop-piece.next (below_arm c.args.limit (drop c.loop-piece.next (words c.args.tokens.now))) c.in_ok-piece.field-0 c.in-Some.piece c.in-Some.is c.in_ok-piece.ensures) c.in_ok-add.ensures k.0 (omega (arith, k.0, k.1))) (keyword_differs _ c.is_keyword.ensures c.if-is_keyword.false (lit< tt))
 
 pub arms_from-returns : goal.arms_from-returns
 arms_from-returns t c = armed_fail c.args.tokens.now c.args.from c.args.limit (arms (below_arm c.args.limit) (suc (length (drop c.args.from (words c.args.tokens.now)))) NoArms (drop c.args.from (words c.args.tokens.now))) c.loop-piece.arms.items c.loop-piece.next c.loop-piece.defaults c.loop-piece.invariant (arm_none c.args.tokens.now c.loop-piece.next (below_arm c.args.limit (drop c.loop-piece.next (words c.args.tokens.now))) c.in_ok-piece.field-0 c.in_default.is c.in_ok-piece.ensures)
@@ -169,7 +169,7 @@ pub statements-loop-from-smaller : goal.statements-loop-from-smaller
 statements-loop-from-smaller t c = let f = (stmt_some c.args.tokens.now c.loop-from.next (below_statement c.args.limit (drop c.loop-from.next (words c.args.tokens.now))) c.in_ok-statement.field-0 c.in-Some.piece c.in-Some.is c.in_ok-statement.ensures) in omega (arith, f.taken, f.within, spell_statement-some (plain_statement c.in-Some.piece.stmt))
 
 pub statements-loop-from-preserved : goal.statements-loop-from-preserved
-statements-loop-from-preserved t c = bodied_more c.args.tokens.now c.args.from c.args.limit (body (below_statement c.args.limit) (suc (length (drop c.args.from (words c.args.tokens.now)))) Done (drop c.args.from (words c.args.tokens.now))) c.loop-from.body.items c.add_statement.new.body.items c.loop-from.next c.in-Some.piece c.loop-from.invariant (keyword_differs _ c.is_keyword.ensures c.loop-from-test.true (lit< tt)) (stmt_some c.args.tokens.now c.loop-from.next (below_statement c.args.limit (drop c.loop-from.next (words c.args.tokens.now))) c.in_ok-statement.field-0 c.in-Some.piece c.in-Some.is c.in_ok-statement.ensures) c.in_ok-add_statement-in-Some.ensures
+statements-loop-from-preserved t c = bodied_more c.args.tokens.now c.args.from c.args.limit (body (below_statement c.args.limit) (suc (length (drop c.args.from (words c.args.tokens.now)))) Done (drop c.args.from (words c.args.tokens.now))) c.loop-from.body.items c.add.new.items.items c.loop-from.next c.in-Some.piece c.loop-from.invariant (keyword_differs _ c.is_keyword.ensures c.loop-from-test.true (lit< tt)) (stmt_some c.args.tokens.now c.loop-from.next (below_statement c.args.limit (drop c.loop-from.next (words c.args.tokens.now))) c.in_ok-statement.field-0 c.in-Some.piece c.in-Some.is c.in_ok-statement.ensures) c.in_ok-add-in-Some.ensures
 
 pub statements-overflow_add-result : goal.statements-overflow_add-result
 statements-overflow_add-result t c = let h = keyword_inside c.args.tokens.now c.loop-from.next keyword_end (keyword_stands _ c.is_keyword.ensures c.loop-from-test.false) (omega arith) in omega arith

@@ -1,0 +1,4 @@
+pub mod Seats
+pub mod Sharing
+pub mod Groups
+pub mod Searched

@@ -1,0 +1,9 @@
+pub mod Flat
+pub mod Standing
+pub mod Lawful
+pub mod Reaching
+pub mod Joining
+pub mod Commuting
+pub mod Interleaving
+pub mod Counting
+pub mod Ordered
