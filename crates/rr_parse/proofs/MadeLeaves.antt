@@ -78,9 +78,9 @@ no_choice {T = T} {from = from} {v = v} {w = w} h i =
 
 -- ---- names
 
-pub name_found : {T : List Token} {from : ℕ} {n : NamedToken} → IsNameAt T from (Some n) → Finds identifier T from (plain_identifier n) (from + 1)
+pub name_found : {T : List Token} {from : ℕ} (n : NamedToken) → IsNameAt T from (Some n) → Finds identifier T from (plain_identifier n) (from + 1)
 unfolding plain_identifier bare_identifier spell_identifier NumberedIdentifier
-name_found {T = T} {from = from} {n = n} h = let a = name_is T from (Some n) h in record { found_is = a.1; within = omega (arith, a.2); taken = omega arith; numbered = a.0 }
+name_found {T = T} {from = from} n h = let a = name_is T from (Some n) h in record { found_is = a.1; within = omega (arith, a.2); taken = omega arith; numbered = a.0 }
 
 pub no_name : {T : List Token} {from : ℕ} → IsNameAt T from None → FindsNone identifier T from
 no_name {T = T} {from = from} h = record { none_is = name_is T from None h }
@@ -111,7 +111,7 @@ no_target k T from Memory h = h
 -- an expression with a mark behind it
 pub closed_found : {m : Mark} {k : ℕ} {T : List Token} {from : ℕ} {e : Expr} {next : ℕ} → IsClosed m k T from e next → Finds (before_mark (expression k) m.0) T from (plain e) next
 closed_found {m = m} {k = k} {T = T} {from = from} {e = e} {next = next} h =
-    finds_before_mark (expression_found h.expression) (h.behind, (mark_found (drop h.end (words T)) (sym h.closes), front_inside T h.end m h.closes))
+    finds_before_mark (expression_found h.expression) (h.behind, mark_found (drop h.end (words T)) (sym h.closes), front_inside T h.end m h.closes)
 
 not_closed : (m : Mark) (k : ℕ) (T : List Token) (from : ℕ) → m.0 < no_mark → NoClosed m k T from → FindsNone (before_mark (expression k) m.0) T from
 not_closed m k T from l (inl n) = record { none_is = chain_none _ (none_read IsExpression 1 expressions_read k T from n) }
