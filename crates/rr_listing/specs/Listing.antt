@@ -1,5 +1,5 @@
 -- The sites of a source: those of the modules that have instances, in the order of the text.
-use Rattle.std.specs.Prelude.{ℕ, ◌<◌, Bool, List, [], ◌∷◌, ◌++◌, length, flat_map, get_or, nat_eq, if◌then◌else◌, None}
+use Rattle.std.specs.Prelude.{ℕ, ◌<◌, Bool, List, [], ◌∷◌, ◌++◌, flat_map, get_or, nat_eq, if◌then◌else◌, None}
 use Rattle.std.specs.List.{AllByRecursion}
 use Rattle.rr_syntax.specs.Tree.{ModuleItem, ModuleDeclaration, SourceText}
 use Rattle.rr_expr.specs.Scopes.{Names}

@@ -1,6 +1,5 @@
-use Rattle.std.proofs.Common.{◌∙◌, sym, ap, subst, ◌++◌, map}
+use Rattle.std.proofs.Common.{◌∙◌, ap, ◌++◌, map}
 use Rattle.std.specs.Prelude.{flat_map}
-use Rattle.std.specs.List.{AllByRecursion}
 use Rattle.rr_syntax.specs.View.{plain_identifier, plain_item}
 use Rattle.rr_instance.specs.View.{plain_sites}
 use Rattle.rr_spots.specs.Spots.{is_clocked, spots_of_item}

@@ -1,14 +1,10 @@
-use Rattle.std.proofs.Common.{◌∙◌, sym, ap, subst, ◌++◌, map, append-nil, IsTrue, List, true, ◌≡◌}
+use Rattle.std.proofs.Common.{◌∙◌, sym, ap, subst, ◌++◌, append-nil}
 use Rattle.std.specs.List.{AllByRecursion}
-use Rattle.rr_syntax.specs.Tree.{ModuleDeclaration}
-use Rattle.rr_syntax.specs.View.{plain_module, plain_source}
-use Rattle.rr_expr.specs.Scopes.{Names}
+use Rattle.rr_syntax.specs.View.{plain_module}
 use Rattle.rr_instance.specs.View.{plain_sites}
 use Rattle.rr_spots.specs.Spots.{IsCountable}
 use Rattle.rr_guard.proofs.Lists.{all_item}
-use Rattle.rr_overwrite.specs.Variables.{AreFit}
 use Rattle.rr_clock.specs.View.{plain_place}
-use Rattle.rr_listing.specs.Listing.{scope_of as scope_in}
 use Rattle.rr_listing.proofs.Places.{none_there, found_there, place_is, put_behind, fit_there, modules_are}
 use Rattle.rr_listing.proofs.listing.add_sites_of_place.Goals as goal
 

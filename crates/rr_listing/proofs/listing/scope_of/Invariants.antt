@@ -1,4 +1,4 @@
-use Rattle.std.proofs.Common.{◌≡◌, ◌-◌, ◌≤◌, drop, min, length}
+use Rattle.std.proofs.Common.{◌≡◌, ◌-◌, drop}
 use Rattle.rr_listing.specs.Listing.{scope_of as scope_in}
 use Rattle.rr_listing.proofs.listing.scope_of.Given as goal
 
