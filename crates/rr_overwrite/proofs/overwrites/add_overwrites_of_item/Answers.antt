@@ -1,0 +1,21 @@
+use Rattle.std.proofs.Common.{◌∙◌, sym, ap, ◌++◌, map}
+use Rattle.std.specs.Prelude.{flat_map}
+use Rattle.rr_syntax.specs.View.{plain_identifier, plain_item}
+use Rattle.rr_instance.specs.View.{plain_sites}
+use Rattle.rr_spots.specs.Spots.{is_clocked, spots_of_item}
+use Rattle.rr_spots.specs.View.{plain_spots}
+use Rattle.rr_guard.specs.Names.{first_names, names_at}
+use Rattle.rr_guard.proofs.Guarded.{flat_map_same}
+use Rattle.rr_overwrite.specs.Overwrites.{overwrites_of}
+use Rattle.rr_overwrite.proofs.Listed.{overwrites_same}
+use Rattle.rr_overwrite.proofs.overwrites.add_overwrites_of_item.Goals as goal
+
+pub returns : goal.returns
+returns c = λ m clocks hv hg.
+    c.in_ok-add_overwrites_at.ensures m hv
+    ∙ ap (λ z. plain_sites c.args.list.now.items ++ z)
+    (ap (λ xs. flat_map (overwrites_of m c.args.«module» c.args.scope.now (first_names (map plain_identifier c.of_item.result.now))) (plain_spots xs)) c.as_slice.ensures.value
+    ∙ (ap (λ ss. flat_map (overwrites_of m c.args.«module» c.args.scope.now (first_names (map plain_identifier c.of_item.result.now))) ss) c.in_ok-spots.ensures
+    ∙ flat_map_same (overwrites_of m c.args.«module» c.args.scope.now (first_names (map plain_identifier c.of_item.result.now))) (overwrites_of m c.args.«module» c.args.scope.now (names_at m clocks (is_clocked (plain_item c.args.item.now))))
+    (overwrites_same m c.args.«module» c.args.scope.now (first_names (map plain_identifier c.of_item.result.now)) (names_at m clocks (is_clocked (plain_item c.args.item.now)))
+    (λ token. c.of_item.ensures m clocks hg token ∙ ap (λ b. names_at m clocks b token) c.is_clocked.ensures)) (spots_of_item (plain_item c.args.item.now))))
