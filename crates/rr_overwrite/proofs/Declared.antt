@@ -1,7 +1,6 @@
 -- The variables of nodes of the arena, one equation for each form.
-use Rattle.std.proofs.Common.{◌≡◌, ◌∙◌, sym, ap, ℕ, ◌+◌, ◌<◌, length, get_or, drop, Bool, true, false, ◌&&◌, ◌||◌, List, [], ◌∷◌, map, Option, refl}
+use Rattle.std.proofs.Common.{◌≡◌, ◌∙◌, ap, ℕ, ◌+◌, ◌<◌, length, get_or, drop, Bool, true, false, ◌&&◌, ◌||◌, List, map, Option, refl}
 use Rattle.std.specs.List.{list_any}
-use Rattle.std.specs.Str.{bytes_eq}
 use Rattle.rr_syntax.specs.declared.tree.Bounds.{Bounds}
 use Rattle.rr_syntax.specs.declared.tree.Conns.{Conns}
 use Rattle.rr_syntax.specs.declared.tree.Dir.TheVariants as dir
@@ -19,7 +18,6 @@ use Rattle.rr_syntax.specs.View.{plain_identifier, plain_item, plain_module, pla
 use Rattle.rr_flat.specs.Signals.{Text}
 use Rattle.rr_guard.proofs.Lists.{any_more}
 use Rattle.rr_guard.specs.Names.{net_name}
-use Rattle.rr_guard.specs.Candidates.{is_among}
 use Rattle.rr_overwrite.specs.Overwrites.{is_reg, is_in, is_open, port_sets, item_sets, port_opens, item_opens, is_variable}
 use denote.Ref.{Bor}
 

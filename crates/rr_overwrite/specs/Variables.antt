@@ -1,7 +1,6 @@
 -- What is kept of a module to tell its variables.
-use Rattle.std.specs.Prelude.{◌≡◌, Bool, true, not, ◌&&◌, ◌||◌, List, [], ◌∷◌, map, filter, flat_map, if◌then◌else◌, IsTrue}
+use Rattle.std.specs.Prelude.{◌≡◌, Bool, true, not, ◌&&◌, ◌||◌, List, IsTrue}
 use Rattle.std.specs.List.{list_any}
-use Rattle.std.specs.Str.{bytes_eq}
 use Rattle.rr_syntax.specs.Tree.{ModuleDeclaration}
 use Rattle.rr_expr.specs.Faults.{is_width}
 use Rattle.rr_expr.specs.Scopes.{Names}
@@ -9,7 +8,7 @@ use Rattle.rr_flat.specs.Signals.{Text}
 use Rattle.rr_guard.specs.Candidates.{is_among}
 use Rattle.rr_overwrite.specs.declared.targets.WholeTarget.{WholeTarget}
 use Rattle.rr_overwrite.specs.declared.variables.Variables.{Variables}
-use Rattle.rr_overwrite.specs.Overwrites.{Target, is_variable, port_opens, item_opens, may_overwrite, width_in}
+use Rattle.rr_overwrite.specs.Overwrites.{Target, is_variable, port_opens, item_opens, width_in}
 
 -- a target in the arena
 abbrev pub plain_whole : WholeTarget → Target

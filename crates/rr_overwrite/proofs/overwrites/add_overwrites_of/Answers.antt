@@ -1,4 +1,4 @@
-use Rattle.std.proofs.Common.{◌∙◌, sym, ap, ◌++◌, ◌∷◌, [], if◌then◌else◌, map}
+use Rattle.std.proofs.Common.{◌∙◌, ap, ◌++◌, ◌∷◌, [], if◌then◌else◌, map}
 use Rattle.rr_syntax.specs.View.{plain_statement, texts}
 use Rattle.rr_instance.specs.View.{plain_sites}
 use Rattle.rr_spots.proofs.Walks.{one_more_at, all_done, flat_map_map}

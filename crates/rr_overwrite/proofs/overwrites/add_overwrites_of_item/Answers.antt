@@ -1,4 +1,4 @@
-use Rattle.std.proofs.Common.{◌∙◌, sym, ap, ◌++◌, map}
+use Rattle.std.proofs.Common.{◌∙◌, ap, ◌++◌, map}
 use Rattle.std.specs.Prelude.{flat_map}
 use Rattle.rr_syntax.specs.View.{plain_identifier, plain_item}
 use Rattle.rr_instance.specs.View.{plain_sites}
