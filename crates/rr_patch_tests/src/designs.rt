@@ -83,7 +83,15 @@ endmodule
         )?
     );
     // Without a change the text is the same.
-    assert!(rt; prints(rt.alloc(), COUNTER, &sites, &[off(), off(), off(), off()], COUNTER)?);
+    assert!(rt;
+        prints(
+            rt.alloc(),
+            COUNTER,
+            &sites,
+            &[off(), off(), off(), off()],
+            COUNTER
+        )?
+    );
     // Where the picks end no site is changed.
     assert!(rt; prints(rt.alloc(), COUNTER, &sites, &[], COUNTER)?);
     Ok(())
@@ -192,7 +200,8 @@ endmodule",
 #[test]
 fn escaped_names(rt: HostRuntime) -> Result<(), Fail> {
     let names = ["end", "a+b", "plain"];
-    let design = "module m(input clk, input \\end , input \\a+b , input \\plain , output reg \\begin );
+    let design =
+        "module m(input clk, input \\end , input \\a+b , input \\plain , output reg \\begin );
   always @(posedge clk) \\begin <= \\end ;
 endmodule
 ";
