@@ -38,32 +38,16 @@ use Rattle.rr_instance.specs.Sites.{Site}
 use Rattle.rr_instance.specs.Choices.{decode, total_bits}
 use Rattle.rr_instance.specs.Instances.{find_pick, is_literal_at, new_literal, number_with, fresh, instance_tree, instance_parts, instance_test}
 use Rattle.rr_instance_laws.specs.Truth.{is_true}
-use Rattle.rr_blast_expr.specs.declared.inputs.Inputs.{Inputs}
+use Rattle.rr_blast_sites.specs.declared.inputs.Inputs.{Inputs}
 use Rattle.rr_word_gates.specs.Carried.{Carries, CarriesBit}
-use Rattle.rr_blast_expr.specs.Signals.{AreSignals, signal_values}
-use Rattle.rr_blast_expr.specs.Instances.{HasWires, World, Reads, Place, place_of, env_in, made_in, worth, own_worth, truth, test_truth, parts_worth, unchanged, new_value, literal_worth, listed}
+use Rattle.rr_blast_sites.specs.Signals.{AreSignals, signal_values}
+use Rattle.rr_blast_sites.specs.Instances.{HasWires, World, Reads, Place, place_of, env_in, made_in, worth, own_worth, truth, test_truth, parts_worth, unchanged, new_value, literal_worth, listed}
 use Rattle.rr_blast_expr.specs.Forms.{placed, name_worth, index_worth, bit_worth, part_worth, indexed_worth, prefix_worth}
 use Rattle.rr_word_gates.proofs.Carrying.{Carries-extends, Carries-same, carried1}
 use Rattle.rr_blast_expr.proofs.Faultless.{none_binary}
 use Rattle.rr_instance_laws.proofs.FormLaws.{form_instance}
 use Rattle.rr_instance_laws.proofs.OffLaws.{keeps_at_no_cost}
-use Rattle.rr_blast_expr.proofs.SignalLaws.{AreSignals-extends, signal_values-extends}
-
--- inputs while the circuit grows
-
-pub HasWires-extends : (old new : Netlist) (i : Inputs) → Extends old new → HasWires old i → HasWires new i
-HasWires-extends old new i e h = record {
-  signals = AreSignals-extends old new i.signals.now e h.signals;
-  choice = AreWires-extends old new i.choice.now e h.choice;
-  room = h.room;
-}
-
-pub Reads-extends : (old new : Netlist) (i : Inputs) (W : World) → Extends old new → Reads old i W → Reads new i W
-Reads-extends old new i W e h = record {
-  wires = HasWires-extends old new i e h.wires;
-  signals = λ input. signal_values-extends old new input i.signals.now e h.wires.signals ∙ h.signals input;
-  choice = Carries-extends old new i.choice.now W.choice e h.choice;
-}
+use Rattle.rr_blast_sites.proofs.GrowthLaws.{HasWires-extends, Reads-extends}
 
 -- without sites an expression is its own instance
 
@@ -182,14 +166,6 @@ Constant-arm p t context input m l r k is none h takes =
     ∙ value_by_named_bits p.names (Binary m l r) nowhere (env_in p input) (λ b n. absurd (elim n [ inl x ↦ constant_names p.names l b left x | inr y ↦ constant_names p.names r b right y ])) context.width context.signed
     ∙ sym (ap (λ u. value p.names u (env_in p input) context.width context.signed) made)
     ∙ sym (ap (λ u. worth p u context input) is)
-
--- the sites of inputs
-
-pub listed_still : (i : Inputs) → i.still ≡ true → listed i ≡ []
-listed_still i e = ap (λ (b : Bool). if b then [] else i.sites.now) e
-
-pub listed_all : (i : Inputs) → i.still ≡ false → listed i ≡ i.sites.now
-listed_all i e = ap (λ (b : Bool). if b then [] else i.sites.now) e
 
 -- the same inputs without sites
 

@@ -14,7 +14,7 @@ use Rattle.rr_expr.specs.Values.{form, value, nowhere}
 use Rattle.rr_bits.specs.Words.{reading}
 use Rattle.rr_word_gates.specs.declared.words.Connective.{Connective}
 use Rattle.rr_word_gates.specs.Gates.{connected}
-use Rattle.rr_blast_expr.specs.Instances.{Place, env_in, worth, own_worth, truth, unchanged}
+use Rattle.rr_blast_sites.specs.Instances.{Place, env_in, worth, own_worth, truth, unchanged}
 
 -- one bit, and a word that stands by itself, in a context
 abbrev pub in_context : Shape → Bool → List Bool

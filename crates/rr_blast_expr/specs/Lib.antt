@@ -1,4 +1,1 @@
-pub mod Signals
-pub mod Instances
 pub mod Forms
-pub mod Finding

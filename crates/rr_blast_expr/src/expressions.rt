@@ -11,15 +11,13 @@ ghost use Rattle.rr_expr.specs.Scopes.{meant, entity_shape as shape_of_entity};
 ghost use Rattle.rr_expr.specs.Selects.{place, repeated as repeated_word};
 ghost use Rattle.rr_expr.specs.Values.{form, widths};
 ghost use Rattle.rr_word_gates.specs.Carried.{Carries, CarriesBit};
-ghost use Rattle.rr_blast_expr.specs.Instances.{World, Reads, place_of, worth, own_worth, truth, parts_worth, test_truth, HasWires};
+ghost use Rattle.rr_blast_sites.specs.Instances.{World, Reads, place_of, worth, own_worth, truth, parts_worth, test_truth, HasWires};
 ghost use Rattle.rr_blast_expr.specs.Forms.{in_context, placed, index_worth, bit_worth, indexed_worth, prefix_worth, operation_worth, shift_worth, relation_worth, logic_worth};
 
-use crate::inputs::Inputs;
-use crate::names::name_word;
 use crate::operands::{
     bit_word, constant_at, constant_word, copies_of, literal_in, name_in, part_select, unsited,
 };
-use crate::sites::test_wire;
+use rr_blast_sites::{Inputs, name_word, test_wire};
 use rr_circuit::{Builder, Wire};
 use rr_expr::{
     Infix, Operation, Prefix, Relation, Shape, Shift, below_index, entity_range, infix_of, joined,

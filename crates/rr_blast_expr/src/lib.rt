@@ -15,26 +15,18 @@ ghost use Rattle.rr_expr.specs.Values.{form, value as value_of, own};
 ghost use Rattle.rr_instance.specs.Choices.{decode, total_bits};
 ghost use Rattle.rr_instance.specs.Instances.{instance_tree, instance_test};
 ghost use Rattle.rr_instance_laws.specs.Truth.{is_true as is_true_in};
-ghost use Rattle.rr_blast_expr.specs.Signals.{AreSignals, signal_values};
+ghost use Rattle.rr_blast_sites.specs.Signals.{AreSignals, signal_values};
 
 mod expressions;
-mod extents;
-mod finding;
-mod guards;
-mod inputs;
-mod names;
 mod operands;
-mod sites;
 
 use expressions::{is_true, own_word, word_in};
-use inputs::Inputs;
 use operands::no_sites;
+use rr_blast_sites::{Inputs, test_wire};
 use rr_circuit::{Builder, Wire};
 use rr_expr::{Scope, Shape};
 use rr_instance::SiteList;
 use rr_syntax::Expr;
-pub use sites::literal_changes;
-use sites::test_wire;
 use std::alloc::{AllocError, Global};
 
 /// The wires of an expression that has a shape, in a context of a width and a sign: for every input the

@@ -9,12 +9,10 @@ ghost use Rattle.rr_expr.specs.Scopes.{meant, entity_shape as shape_of_entity};
 ghost use Rattle.rr_expr.specs.Selects.{integer_with};
 ghost use Rattle.rr_expr.specs.Values.{form, value as value_of, nowhere};
 ghost use Rattle.rr_word_gates.specs.Carried.{Carries};
-ghost use Rattle.rr_blast_expr.specs.Instances.{World, Reads, place_of, literal_worth, HasWires};
+ghost use Rattle.rr_blast_sites.specs.Instances.{World, Reads, place_of, literal_worth, HasWires};
 ghost use Rattle.rr_blast_expr.specs.Forms.{in_context, placed, name_worth, part_worth};
 
-use crate::inputs::Inputs;
-use crate::names::name_word;
-use crate::sites::literal_word;
+use rr_blast_sites::{Inputs, literal_word, name_word};
 use rr_circuit::{Builder, Wire};
 use rr_expr::{Env, Index, Scope, Shape, constant, entity_range, index_of, value};
 use rr_instance::SiteList;

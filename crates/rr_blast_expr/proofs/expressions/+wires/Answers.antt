@@ -11,11 +11,12 @@ use Rattle.rr_expr.specs.Scopes.{entity_shape}
 use Rattle.rr_expr.specs.Selects.{repeated}
 use Rattle.rr_expr.specs.Values.{form}
 use Rattle.rr_word_gates.specs.Gates.{connected}
-use Rattle.rr_blast_expr.specs.Instances.{place_of, worth}
+use Rattle.rr_blast_sites.specs.Instances.{place_of, worth}
 use Rattle.rr_blast_expr.specs.Forms.{in_context}
 use Rattle.rr_word_gates.proofs.Carrying.{Carries-same, Carries-extends, CarriesBit-same, CarriesBit-extends, carried1, carried2, carried_bit1, carried_bit2, carried_bits, carried_word, carried_choice}
 use Rattle.rr_blast_expr.proofs.Faultless.{none-Name, none-Literal, none-Bit, none-Part, none-Indexed, none-Unary, none-Cond, none-Concat, none-Repeat, none-Cast, none-Paren, none_at}
-use Rattle.rr_blast_expr.proofs.Worths.{weaker_to, weaker_constant, listed_still, Name-arm, Literal-arm, Bit-arm, Part-arm, Indexed-arm, Unary-arm, Cond-arm, Concat-arm, Repeat-arm, Cast-arm, Paren-arm, copied-carried, copied_there, part_width, indexed_width, unary_width, cond_width, paren_width, plain_binary, Listed-more, HasWires-extends, HasWires-still, Reads-extends, index-arm, name-carried, wired-bits, constant-bits, bit-carried, indexed-carried, operands, binary_form, Infix-arm, Constant-arm, Listed-none, Listed-all}
+use Rattle.rr_blast_sites.proofs.GrowthLaws.{listed_still, HasWires-extends, Reads-extends}
+use Rattle.rr_blast_expr.proofs.Worths.{weaker_to, weaker_constant, Name-arm, Literal-arm, Bit-arm, Part-arm, Indexed-arm, Unary-arm, Cond-arm, Concat-arm, Repeat-arm, Cast-arm, Paren-arm, copied-carried, copied_there, part_width, indexed_width, unary_width, cond_width, paren_width, plain_binary, Listed-more, HasWires-still, index-arm, name-carried, wired-bits, constant-bits, bit-carried, indexed-carried, operands, binary_form, Infix-arm, Constant-arm, Listed-none, Listed-all}
 use Rattle.rr_blast_expr.proofs.expressions.+wires.Goals as goal
 
 pub own_word-returns-clause-value : goal.own_word-returns-clause-value

@@ -2,7 +2,7 @@ use Rattle.std.proofs.Common.{ap}
 use Rattle.rr_bits.specs.Words.{extend}
 use Rattle.rr_syntax.specs.View.{plain}
 use Rattle.rr_word_gates.proofs.Carrying.{carried1}
-use Rattle.rr_blast_expr.specs.Instances.{place_of}
+use Rattle.rr_blast_sites.specs.Instances.{place_of}
 use Rattle.rr_blast_expr.proofs.Worths.{name-carried, part-carried}
 use Rattle.rr_blast_expr.proofs.operands.part_select.Goals as goal
 

@@ -1,7 +1,0 @@
-use Rattle.std.proofs.Common.{◌≡◌, take}
-use Rattle.rr_instance.specs.Choices.{total_bits}
-use Rattle.rr_instance.specs.View.{plain_sites}
-use Rattle.rr_blast_expr.proofs.finding.bits_before.Given as goal
-
-abbrev pub invariant-loop-i : goal.invariant-loop-i
-invariant-loop-i l = l.total ≡ total_bits (take l.i (plain_sites l.sites))

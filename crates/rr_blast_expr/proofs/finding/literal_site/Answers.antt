@@ -1,5 +1,0 @@
-use Rattle.rr_blast_expr.proofs.FindLaws.{of_literal}
-use Rattle.rr_blast_expr.proofs.finding.literal_site.Goals as goal
-
-pub returns : goal.returns
-returns c = of_literal _ _ _ c.site_in.ensures

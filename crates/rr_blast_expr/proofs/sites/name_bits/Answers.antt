@@ -1,7 +1,0 @@
-use Rattle.std.proofs.Common.{◌∙◌, ◌-◌, ap}
-use Rattle.rr_instance.specs.View.{plain_site}
-use Rattle.rr_blast_expr.proofs.SiteLaws.{name_bits_of}
-use Rattle.rr_blast_expr.proofs.sites.name_bits.Goals as goal
-
-pub returns : goal.returns
-returns c = λ extent guard. c.saturating_sub.ensures ∙ ap (λ k. k - 4) c.site_bits.ensures.value ∙ name_bits_of (plain_site c.args.site.now).kind extent guard
