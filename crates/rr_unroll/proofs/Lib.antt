@@ -1,0 +1,5 @@
+pub mod WordLaws
+pub mod WireLaws
+pub mod AskedLaws
+pub mod FaithfulLaws
+pub mod MatchLaws
