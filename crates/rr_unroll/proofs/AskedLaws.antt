@@ -24,7 +24,7 @@ rest_left : (xs : List Bool) (i : ℕ) → rest (drop i xs) ≡ drop (i + 1) xs
 rest_left xs i = rest_drop (drop i xs) ∙ drop_rest xs i
 
 -- one place more
-agree_step : (ks es bs : List Bool) (i : ℕ) → i < length ks →
+pub agree_step : (ks es bs : List Bool) (i : ℕ) → i < length ks →
     agree (drop i ks) (drop i es) (drop i bs)
     ≡ cond (get_or ks i false) (is_same (get_or es i false) (get_or bs i false) ∷ []) [] ++ agree (drop (i + 1) ks) (drop (i + 1) es) (drop (i + 1) bs)
 unfolding agree

@@ -15,13 +15,13 @@ use Rattle.rr_flat.specs.Writers.{entity_of_signal, signal_bits}
 use Rattle.rr_cycle.specs.Cycles.{Runs, ended, cycle, bit_value, outputs_of, signal_value, zeros}
 use Rattle.rr_cycle.specs.Exec.{Environment}
 use Rattle.rr_cycle.proofs.Wiring.{length_there}
-use Rattle.rr_instance.specs.Choices.{cost, decode, read_pick, site_bits}
+use Rattle.rr_instance.specs.Choices.{cost, decode, read_pick, site_bits, total_bits}
 use Rattle.rr_instance.specs.declared.pick.Pick.{Pick}
 use Rattle.rr_instance.specs.Sites.{Site}
 use Rattle.rr_trace.specs.declared.cell.Cell.{Cell}
 use Rattle.rr_trace.specs.Tables.{Table}
-use Rattle.rr_transition.specs.Cycles.{Design, IsCycle, Cycle, output_bits, switch_places, widths_of}
-use Rattle.rr_unroll.specs.Faithful.{Faithful}
+use Rattle.rr_transition.specs.Cycles.{Design, IsCycle, Cycle, instance_design, output_bits, switch_places, widths_of}
+use Rattle.rr_unroll.specs.Faithful.{Faithful, IsJudged}
 use Rattle.rr_unroll.specs.Questions.{agree_row, agreed, judged}
 use Rattle.rr_transition.specs.Transitions.{Transition, cycle_bits, switched, words}
 use Rattle.rr_unroll.proofs.WordLaws.{drop_head}
@@ -93,6 +93,29 @@ zero_state : (registers : List Bit) → map zeros registers ≡ replicate (lengt
 zero_state [] = refl
 zero_state (b ∷ bs) = ap (λ xs. false ∷ xs) (zero_state bs)
 
+-- the verdicts of the transition are those of the choice's instance
+pub record Judged (t : Transition) (table : Table) (j : Design) (bits : List Bool) : Type 0 where
+  pub judged : IsJudged j table (judged t bits (replicate t.state_bits false) table.inputs table.expected)
+  pub widths : t.output_widths ≡ widths_of judged.flat judged.flat.outputs
+
+pub instance_judged : (t : Transition) (table : Table) (j : Design) (sites : List Site) → Cycle j sites t → (bits : List Bool) → length bits ≡ total_bits sites → Judged t table (instance_design sites (decode sites bits) j) bits
+instance_judged t table j sites stands bits l =
+    let h = stands.instances bits l in
+    let r = ran h.flat h.clock t stands.registers bits stands.state_bits h.output_widths h.cycles zeros table.inputs table.expected in
+    record {
+      judged = record {
+        flat = h.flat;
+        clock = h.clock;
+        design = h.design;
+        outputs = r.outputs;
+        run = (r.last, r.run);
+        verdicts =
+            ap (λ xs. judged t bits xs table.inputs table.expected) (ap (λ n. replicate n false) stands.state_bits ∙ sym (zero_state stands.registers))
+            ∙ r.same ∙ ap (λ ws. agreed ws table.expected r.outputs) h.output_widths;
+      };
+      widths = h.output_widths;
+    }
+
 pub faithful : (t : Transition) (circuit : OutputNetlist) (table : Table) (bound : ℕ) → circuit.netlist.inputs ≡ t.choice_bits →
     ((bits : List Bool) → length bits ≡ t.choice_bits → output_values circuit (given bits)
     ≡ judged t bits (replicate t.state_bits false) table.inputs table.expected ++ is_at_most bound (switched t.switches bits) ∷ []) →
@@ -100,21 +123,12 @@ pub faithful : (t : Transition) (circuit : OutputNetlist) (table : Table) (bound
 faithful t circuit table bound inputs outputs j sites stands = record {
   inputs = inputs ∙ stands.choice_bits;
   answers = λ bits l.
-      let h = stands.instances bits l in
-      let r = ran h.flat h.clock t stands.registers bits stands.state_bits h.output_widths h.cycles zeros table.inputs table.expected in
+      let verdicts : List Bool = judged t bits (replicate t.state_bits false) table.inputs table.expected in
       record {
-        verdicts = agreed t.output_widths table.expected r.outputs;
-        judged = record {
-          flat = h.flat;
-          clock = h.clock;
-          design = h.design;
-          outputs = r.outputs;
-          run = (r.last, r.run);
-          verdicts = ap (λ ws. agreed ws table.expected r.outputs) h.output_widths;
-        };
+        verdicts = verdicts;
+        judged = (instance_judged t table j sites stands bits l).judged;
         outputs = outputs bits (l ∙ sym stands.choice_bits)
-            ∙ ap₂ (λ xs b. xs ++ b ∷ [])
-            (ap (λ xs. judged t bits xs table.inputs table.expected) (ap (λ n. replicate n false) stands.state_bits ∙ sym (zero_state stands.registers)) ∙ r.same)
+            ∙ ap (λ b. verdicts ++ b ∷ [])
             (ap (λ ps. is_at_most bound (switched ps bits)) stands.switches ∙ ap (λ n. not (nat_lt bound n)) (sym (cost_by_switches sites 0 bits)) ∙ at_most_cost bound (cost (decode sites bits)));
       };
 }

@@ -1,6 +1,6 @@
 -- a question's outputs, and whether the known bits of a table agree
 use Rattle.std.proofs.Common.{◌≡◌, ℕ, zero, suc, ◌^◌, ◌<◌, Bool, true, false, ◌&&◌, List, [], ◌∷◌, ◌++◌, length, get_or, drop, map, refl, sym, subst, ◌∙◌, ap, ap₂, arith}
-use Rattle.std.specs.Prelude.{All, Option, Ok, bit_and}
+use Rattle.std.specs.Prelude.{All, Option, Some, None, Ok, bit_and}
 use Rattle.std.proofs.lemmas.List.{same_lists}
 use Rattle.std.proofs.lemmas.List.Elements.{All-nil, All-cons, All-head, All-tail, All-append}
 use Rattle.std.proofs.lemmas.Nat.{and_le_l}
@@ -8,11 +8,13 @@ use Rattle.rr_bits.specs.Fields.{length_word}
 use Rattle.rr_bits.specs.Words.{number, word}
 use Rattle.rr_bits.proofs.Numbers.{number_small}
 use Rattle.rr_bits.proofs.Places.{has, has_and, get_word}
-use Rattle.rr_flat.specs.Plain.{Flat}
+use Rattle.rr_flat.specs.Clocks.{IsChosen, IsDecided}
+use Rattle.rr_flat.specs.Plain.{Block, Flat}
+use Rattle.rr_flat.specs.Signals.{Text}
 use Rattle.rr_cycle.specs.Cycles.{Run, Runs, ended, cycle}
 use Rattle.rr_cycle.specs.Exec.{Environment, first, rest}
 use Rattle.rr_cycle.proofs.Settled.{run_only}
-use Rattle.rr_lawful.proofs.ClockOnce.{one_clock}
+use Rattle.rr_clock.proofs.Clocking.{chosen_same}
 use Rattle.rr_trace.specs.declared.cell.Cell.{Cell}
 use Rattle.rr_trace.specs.Cells.{unknown_cell}
 use Rattle.rr_trace.specs.Misses.{Agree, Agrees, AgreeRows}
@@ -177,8 +179,22 @@ length_runs (cycle env next settled edge more) = ap suc (length_runs more)
 pub same_flat : (j : Design) (f g : Flat) (c d : Option ℕ) → IsLawfulFlat j f c → IsLawfulFlat j g d → f ≡ g
 same_flat j f g c d a b = let both : Ok f ≡ Ok g = sym a.design ∙ b.design in cc
 
+no_other : (flat : Flat) (word : Option Text) (c : ℕ) → IsChosen flat word (Some c) → IsChosen flat word None → ⊥
+no_other flat None c h k = go flat.clocked h k
+  where
+    go : (bs : List Block) → IsDecided flat bs (Some c) → IsDecided flat bs None → ⊥
+    go [] p q = cc
+    go (b ∷ bs) p q = q
+no_other flat (Some name) c h k = k
+
+clock_same : (flat : Flat) (word : Option Text) (c d : Option ℕ) → IsChosen flat word c → IsChosen flat word d → c ≡ d
+clock_same flat word None None h k = refl
+clock_same flat word None (Some d) h k = absurd (no_other flat word d k h)
+clock_same flat word (Some c) None h k = absurd (no_other flat word c h k)
+clock_same flat word (Some c) (Some d) h k = ap Some (chosen_same flat word c d h k)
+
 same_clock : (j : Design) (f : Flat) (c d : Option ℕ) → IsLawfulFlat j f c → IsLawfulFlat j f d → c ≡ d
-same_clock j f c d a b = (one_clock f j.word c d a.rising b.rising a.one_clock b.one_clock).0
+same_clock j f c d a b = clock_same f j.word c d a.one_clock.chosen b.one_clock.chosen
 
 same_runs : (j : Design) (f g : Flat) (c d : Option ℕ) (rows x y : List (List ℕ)) → f ≡ g → IsLawfulFlat j f c → IsLawfulFlat j g d → Run f c rows x → Run g d rows y → x ≡ y
 same_runs j f g c d rows x y e a b p q =

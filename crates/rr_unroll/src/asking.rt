@@ -11,11 +11,11 @@ ghost use Rattle.rr_unroll.specs.Questions.{judged as judged_of};
 ghost use Rattle.rr_transition.specs.Transitions.{switched as switched_of};
 
 use crate::rows::judged;
-use rr_transition::Transition;
 use crate::wires::{inputs, switched};
 use rr_circuit::{Builder, Circuit};
 use rr_count::at_most;
 use rr_trace::Table;
+use rr_transition::Transition;
 use std::alloc::{AllocError, Global};
 
 /// The circuit over the bits of a choice that asks whether its instance runs as a table expects, from

@@ -1,6 +1,6 @@
 //! Whether the instance of one choice runs as a table expects, by evaluation.
 
-ghost use Rattle.std.specs.Prelude.{◌≡◌, ◌↔◌, ◌+◌, ◌++◌, Bool, true, false, All, IfOk, IsTrue, List, length, drop, replicate, take};
+ghost use Rattle.std.specs.Prelude.{◌≡◌, ◌↔◌, ◌+◌, ◌&&◌, Bool, not, true, false, All, IfOk, OnOk, IsTrue, List, length, drop, replicate, take};
 ghost use Rattle.std.specs.List.{list_all, sum};
 ghost use Rattle.rr_instance.specs.Choices.{decode};
 ghost use Rattle.rr_instance.specs.Sites.{Site};
@@ -8,13 +8,20 @@ ghost use Rattle.rr_trace.specs.View.{plain_table};
 ghost use Rattle.rr_transition.specs.Cycles.{Cycle, Design, instance_design};
 ghost use Rattle.rr_transition.specs.Transitions.{cycle_bits};
 ghost use Rattle.rr_unroll.specs.Matches.{FitsOutputs, Matches};
-ghost use Rattle.rr_unroll.specs.Questions.{agree as agree_of, agree_row, judged as judged_of};
+ghost use Rattle.rr_unroll.specs.Questions.{is_same, agree as agree_of, agree_row, judged as judged_of};
 
 use crate::rows::{cells_at, numbers_at};
 use crate::words::words;
 use rr_trace::{Cell, Table};
 use rr_transition::Transition;
 use std::alloc::{AllocError, Global};
+
+// Whether a known bit is not the one that was found.
+fn misses(known: bool, expected: bool, found: bool) -> bool
+    ensures { result ≡ (known && not (is_same expected found)) }
+{
+    known && expected != found
+}
 
 // Whether each known bit is the one that was found.
 fn agree(known: &[bool], expected: &[bool], found: &[bool]) -> bool
@@ -23,7 +30,7 @@ fn agree(known: &[bool], expected: &[bool], found: &[bool]) -> bool
     ensures { result ≡ list_all (λ b. b) (agree_of known.now expected.now found.now) }
 {
     for i in 0..known.len() {
-        if known[i] && expected[i] != found[i] {
+        if misses(known[i], expected[i], found[i]) {
             return false;
         }
     }
@@ -69,23 +76,68 @@ fn cycle(
     Ok(out)
 }
 
-// The state after a row, or none where an output misses a known bit of the cells.
-fn state_after(
+// Moves the state by a row. It answers whether the outputs have the known bits of the cells.
+fn row_turn(
     alloc: Global,
     transition: &Transition,
     choice: &[bool],
-    state: &[bool],
+    state: &mut Vec<bool>,
     row: &[u128],
     cells: &[Cell],
-) -> Result<Option<Vec<bool>>, AllocError>
+) -> Result<bool, AllocError>
+    requires choice { length choice.now ≡ transition.now.choice_bits }
+    requires state { length state.old.items ≡ transition.now.state_bits }
+    ensures state { OnOk result (state.new.items ≡ take transition.now.state_bits (cycle_bits transition.now choice.now state.old.items row.now)) }
+    ensures width { OnOk result (length state.new.items ≡ transition.now.state_bits) }
+    ensures agrees { IfOk result (λ r. r ≡ list_all (λ b. b)
+        (agree_row transition.now.output_widths cells.now (drop transition.now.state_bits (cycle_bits transition.now choice.now state.old.items row.now)))) }
 {
-    let bits = cycle(alloc, transition, choice, state, row)?;
+    let bits = cycle(alloc, transition, choice, state.as_slice(), row)?;
     let (next, found) = bits.as_slice().split_at(transition.state_bits as usize);
+    state.clear();
+    state.extend_from_slice(next)?;
     let agrees = row_agrees(alloc, transition.output_widths.as_slice(), cells, found)?;
-    if !agrees {
-        return Ok(None);
+    Ok(agrees)
+}
+
+// Whether all rows agree, from the state 0 on.
+fn all_agree(
+    alloc: Global,
+    transition: &Transition,
+    table: &Table,
+    choice: &[bool],
+) -> Result<bool, AllocError>
+    requires { length choice.now ≡ transition.now.choice_bits }
+    ensures { IfOk result (λ r. r ≡ list_all (λ b. b)
+        (judged_of transition.now choice.now (replicate transition.now.state_bits false) (plain_table table.now).inputs (plain_table table.now).expected)) }
+{
+    let mut state: Vec<bool> = vec![in alloc; false; transition.state_bits as usize]?;
+    for r in 0..table.inputs.len() {
+        let row = numbers_at(table.inputs.as_slice(), r);
+        let cells = cells_at(table.expected.as_slice(), r);
+        let agrees = row_turn(alloc, transition, choice, &mut state, row, cells)?;
+        if !agrees {
+            return Ok(false);
+        }
     }
-    let mut after = Vec::new(alloc);
-    after.extend_from_slice(next)?;
-    Ok(Some(after))
+    Ok(true)
+}
+
+/// Whether the instance of a choice's bits runs as a table expects, from the state 0 on: row by row by
+/// evaluation, up to the first row that differs. It makes no gate, so it is the cheap test of the
+/// source itself, whose switches are all off, and of a proposal.
+pub fn judges(
+    alloc: Global,
+    transition: &Transition,
+    table: &Table,
+    choice: &[bool],
+) -> Result<bool, AllocError>
+    requires { length choice.now ≡ transition.now.choice_bits }
+    ensures judged { IfOk result (λ r. IsTrue r ↔ All (λ (b : Bool). b ≡ true)
+        (judged_of transition.now choice.now (replicate transition.now.state_bits false) (plain_table table.now).inputs (plain_table table.now).expected)) }
+    ensures matches { IfOk result (λ r. (j : Design) (sites : List Site) → Cycle j sites transition.now → FitsOutputs transition.now.output_widths (plain_table table.now) →
+        (IsTrue r ↔ Matches (instance_design sites (decode sites choice.now) j) (plain_table table.now))) }
+{
+    let all = all_agree(alloc, transition, table, choice)?;
+    Ok(all)
 }

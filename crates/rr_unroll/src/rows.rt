@@ -8,11 +8,11 @@ ghost use Rattle.rr_trace.specs.declared.cell.Cell.{Cell};
 ghost use Rattle.rr_unroll.specs.Questions.{is_same, agree, agree_row, judged as judged_of};
 ghost use Rattle.rr_transition.specs.Transitions.{cycle_bits};
 
-use rr_transition::Transition;
 use crate::wires::{row_inputs, zeros};
 use crate::words::words;
 use rr_circuit::{Builder, Wire};
 use rr_trace::{Cell, Table};
+use rr_transition::Transition;
 use std::alloc::{AllocError, Global};
 
 // Whether a bit is the one that is expected.
@@ -158,8 +158,8 @@ fn push_row(
     Ok(after)
 }
 
-// The numbers of a row, none where it is not there.
-fn numbers_at(rows: &[Vec<u128>], row: usize) -> &[u128]
+/// The numbers of a row, none where it is not there.
+pub(crate) fn numbers_at(rows: &[Vec<u128>], row: usize) -> &[u128]
     ensures { result.now ≡ get_or (map (λ v. v.items) rows.now) row [] }
 {
     match rows.get(row) {
@@ -168,8 +168,8 @@ fn numbers_at(rows: &[Vec<u128>], row: usize) -> &[u128]
     }
 }
 
-// The cells of a row, none where it is not there.
-fn cells_at(rows: &[Vec<Cell>], row: usize) -> &[Cell]
+/// The cells of a row, none where it is not there.
+pub(crate) fn cells_at(rows: &[Vec<Cell>], row: usize) -> &[Cell]
     ensures { result.now ≡ get_or (map (λ v. v.items) rows.now) row [] }
 {
     match rows.get(row) {
