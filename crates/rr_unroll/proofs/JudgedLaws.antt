@@ -46,7 +46,7 @@ agree_all ks es bs i all l h = sym (ap (λ xs. all_true (agree xs (drop i es) (d
 
 -- a row that agrees or not
 module _ (t : Transition) (choice state : List Bool) (rows : List (List ℕ)) (expected : List (List Cell)) (r : ℕ) (here all : Bool) where
-  pub judged_turn : r < length rows →
+  judged_turn : r < length rows →
       here ≡ all_true (agree_row t.output_widths (get_or expected r []) (drop t.state_bits (cycle_bits t choice state (get_or rows r [])))) →
       all_true (judged t choice state (drop r rows) (drop r expected)) ≡ all →
       (here && all_true (judged t choice (take t.state_bits (cycle_bits t choice state (get_or rows r []))) (drop (r + 1) rows) (drop (r + 1) expected))) ≡ all
@@ -57,6 +57,19 @@ module _ (t : Transition) (choice state : List Bool) (rows : List (List ℕ)) (e
       ∙ sym (list_all-append (λ (b : Bool). b) row later)
       ∙ sym (ap all_true (judged_step t choice state rows expected r l))
       ∙ h
+
+  pub judged_stops : r < length rows →
+      here ≡ all_true (agree_row t.output_widths (get_or expected r []) (drop t.state_bits (cycle_bits t choice state (get_or rows r [])))) →
+      all_true (judged t choice state (drop r rows) (drop r expected)) ≡ all → here ≡ false → false ≡ all
+  judged_stops l e h off =
+      sym (ap (λ x. x && all_true (judged t choice (take t.state_bits (cycle_bits t choice state (get_or rows r []))) (drop (r + 1) rows) (drop (r + 1) expected))) off) ∙ judged_turn l e h
+
+  pub judged_goes : r < length rows →
+      here ≡ all_true (agree_row t.output_widths (get_or expected r []) (drop t.state_bits (cycle_bits t choice state (get_or rows r [])))) →
+      all_true (judged t choice state (drop r rows) (drop r expected)) ≡ all → here ≡ true →
+      all_true (judged t choice (take t.state_bits (cycle_bits t choice state (get_or rows r []))) (drop (r + 1) rows) (drop (r + 1) expected)) ≡ all
+  judged_goes l e h on =
+      sym (ap (λ x. x && all_true (judged t choice (take t.state_bits (cycle_bits t choice state (get_or rows r []))) (drop (r + 1) rows) (drop (r + 1) expected))) on) ∙ judged_turn l e h
 
 pub judged_end : (t : Transition) (choice state : List Bool) (rows : List (List ℕ)) (expected : List (List Cell)) (r : ℕ) (all : Bool) → length rows ≤ r →
     all_true (judged t choice state (drop r rows) (drop r expected)) ≡ all → true ≡ all
