@@ -1,5 +1,5 @@
 -- whether the instance of one choice matches
-use Rattle.std.proofs.Common.{◌≡◌, ◌↔◌, Bool, true, false, List, All, length, replicate, sym, subst, ◌∙◌}
+use Rattle.std.proofs.Common.{◌≡◌, ◌↔◌, Bool, true, false, List, All, length, replicate, subst, ◌∙◌}
 use Rattle.rr_instance.specs.Choices.{decode}
 use Rattle.rr_instance.specs.Sites.{Site}
 use Rattle.rr_trace.specs.Tables.{Table}

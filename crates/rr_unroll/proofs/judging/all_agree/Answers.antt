@@ -1,4 +1,4 @@
-use Rattle.std.proofs.Common.{◌≡◌, ◌+◌, [], Bool, List, ℕ, get_or, map, drop, take, ◌∙◌, ap, ap₂, arith}
+use Rattle.std.proofs.Common.{◌+◌, [], Bool, List, ℕ, get_or, map, drop, take, ◌∙◌, ap, ap₂, arith}
 use Rattle.std.proofs.lemmas.List.{length-map}
 use Rattle.rr_trace.specs.View.{plain_table}
 use Rattle.rr_trace.specs.declared.cell.Cell.{Cell}
@@ -32,7 +32,7 @@ loop-r-preserved c =
     record {
       width = c.in_ok-agrees.ensures.width;
       value =
-      ap (λ xs. all_true (judged t choice xs (drop (c.loop-r.r + 1) rows) (drop (c.loop-r.r + 1) expected))) (c.in_ok-agrees.ensures.state ∙ ap (λ r. take t.state_bits (cycle_bits t choice state r)) row)
+          ap (λ xs. all_true (judged t choice xs (drop (c.loop-r.r + 1) rows) (drop (c.loop-r.r + 1) expected))) (c.in_ok-agrees.ensures.state ∙ ap (λ r. take t.state_bits (cycle_bits t choice state r)) row)
           ∙ judged_goes t choice state rows expected c.loop-r.r c.in_ok-agrees.agrees _ (omega arith)
           (c.in_ok-agrees.ensures.agrees ∙ ap₂ (λ cs r. all_true (agree_row t.output_widths cs (drop t.state_bits (cycle_bits t choice state r)))) cells row)
           c.loop-r.invariant.value c.if-not-agrees.false;

@@ -1,4 +1,4 @@
-use Rattle.std.proofs.Common.{◌≡◌, ◌+◌, ◌++◌, length, ◌∙◌, ap, arith, length-append}
+use Rattle.std.proofs.Common.{◌≡◌, ◌++◌, length, ◌∙◌, ap, arith, length-append}
 use Rattle.std.specs.List.{sum}
 use Rattle.rr_transition.proofs.WordLaws.{length_words}
 use Rattle.rr_unroll.proofs.judging.cycle.Goals as goal
