@@ -1,11 +1,9 @@
 -- The cells of a row that was read: no bit past the width of its column is known.
-use Rattle.std.proofs.Common.{◌≡◌, ◌∙◌, ℕ, zero, suc, ◌+◌, ◌-◌, ◌^◌, ◌%◌, ◌<◌, Bool, true, false, not, cond, List, [], ◌∷◌, length, get_or, Option, Some, None, Result, Ok, Err, refl, sym, subst, ap, arith}
-use Rattle.std.specs.Prelude.{All, nat_eq, nat_lt, map}
+use Rattle.std.proofs.Common.{◌≡◌, ℕ, zero, suc, ◌+◌, ◌^◌, ◌<◌, Bool, true, false, not, cond, List, [], ◌∷◌, length, get_or, Option, Some, None, Result, Ok, Err, refl, sym, subst, arith}
+use Rattle.std.specs.Prelude.{All, nat_eq, nat_lt}
 use Rattle.std.proofs.lemmas.List.Elements.{All-nil, All-cons}
 use Rattle.std.proofs.lemmas.Nat.{pow_pos}
 use Rattle.rr_trace.specs.declared.cell.Cell.{Cell}
-use Rattle.rr_trace.specs.declared.cell.CellFault.{CellFault}
-use Rattle.rr_trace.specs.declared.cell.CellFault.TheVariants.{Malformed, TooLarge}
 use Rattle.rr_trace.specs.declared.fault.TableFault.{TableFault}
 use Rattle.rr_trace.specs.declared.fault.TableFault.TheVariants.{RowLength, TooMany}
 use Rattle.rr_flat.specs.declared.fault.Limit.TheVariants.{Rows}
@@ -23,26 +21,23 @@ unknown_narrow : (o : Option ℕ) → IsNarrow o unknown_cell
 unknown_narrow None = refl
 unknown_narrow (Some w) = pow_pos w
 
-numeral_narrow : (w : ℕ) (n : Numeral) (c : Cell) (b : Bool) → cond b (Ok (cell_of_numeral w n)) (Err TooLarge) ≡ Ok c → c.known < 2 ^ w
-numeral_narrow w n c true e =
-    let same : cell_of_numeral w n ≡ c = cc in
+numeral_narrow : (w : ℕ) (n : Numeral) (c : Cell) → cell_of_numeral w n ≡ c → c.known < 2 ^ w
+numeral_narrow w n c same =
     let p = pow_pos w in
     subst (λ (x : Cell). x.known < 2 ^ w) same (omega arith)
-numeral_narrow w n c false e = cc
 
-fitted_narrow : (w : ℕ) (o : Option Written) (c : Cell) → fitted w o ≡ Ok c → c.known < 2 ^ w
-fitted_narrow w None c e = cc
-fitted_narrow w (Some Unknown) c e = let same : unknown_cell ≡ c = cc in subst (λ (x : Cell). x.known < 2 ^ w) same (pow_pos w)
-fitted_narrow w (Some (Number n)) c e = numeral_narrow w n c (nat_lt n.0 (2 ^ w)) e
-
-told_narrow : (row k w : ℕ) (r : Result Cell CellFault) (c : Cell) → ((d : Cell) → r ≡ Ok d → d.known < 2 ^ w) → cell_or_fault row k r ≡ Ok c → c.known < 2 ^ w
-told_narrow row k w (Ok d) c h e = let same : d ≡ c = cc in subst (λ (x : Cell). x.known < 2 ^ w) same (h d refl)
-told_narrow row k w (Err Malformed) c h e = cc
-told_narrow row k w (Err TooLarge) c h e = cc
+told_narrow : (row k w : ℕ) (o : Option Written) (c : Cell) → cell_or_fault row k (fitted w o) ≡ Ok c → c.known < 2 ^ w
+told_narrow row k w None c e = cc
+told_narrow row k w (Some Unknown) c e = let same : unknown_cell ≡ c = cc in subst (λ (x : Cell). x.known < 2 ^ w) same (pow_pos w)
+told_narrow row k w (Some (Number n)) c e = go (nat_lt n.0 (2 ^ w)) refl
+  where
+    go : (b : Bool) → nat_lt n.0 (2 ^ w) ≡ b → c.known < 2 ^ w
+    go true h = let d = rw h at e in numeral_narrow w n c (let same : cell_of_numeral w n ≡ c = cc in same)
+    go false h = let d = rw h at e in cc
 
 cell_narrow : (row k : ℕ) (o : Option ℕ) (field : Text) (c : Cell) → cell_at row k o field ≡ Ok c → IsNarrow o c
 cell_narrow row k None field c e = let same : unknown_cell ≡ c = cc in subst (λ (x : Cell). x.known ≡ 0) same refl
-cell_narrow row k (Some w) field c e = told_narrow row k w (fitted w (written (trimmed field))) c (fitted_narrow w (written (trimmed field))) e
+cell_narrow row k (Some w) field c e = told_narrow row k w (written (trimmed field)) c e
 
 nothing_at : (i : ℕ) → get_or [] i unknown_cell ≡ unknown_cell
 nothing_at i = refl

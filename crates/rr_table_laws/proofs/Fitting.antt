@@ -5,6 +5,7 @@ use Rattle.std.specs.List.{list_any}
 use Rattle.std.specs.Str.{bytes_eq, is_utf8}
 use Rattle.std.proofs.lemmas.List.{length-map, map-append}
 use Rattle.std.proofs.lemmas.List.Elements.{All-nil, All-cons, All-head, All-tail, All-map}
+use Rattle.std.proofs.lemmas.Simd.{map-map}
 use Rattle.std.proofs.lemmas.Nat.{pow_pos}
 use Rattle.std.proofs.lemmas.Slice.Eq.{bytes_eq-Decides}
 use Rattle.rr_syntax.specs.Tree.{SourceText}
@@ -16,9 +17,9 @@ use Rattle.rr_trace.specs.declared.cell.Cell.{Cell}
 use Rattle.rr_trace.specs.declared.fault.TableFault.{TableFault}
 use Rattle.rr_trace.specs.declared.fault.TableFault.TheVariants.{NotUtf8}
 use Rattle.rr_trace.specs.Cells.{unknown_cell}
-use Rattle.rr_trace.specs.Columns.{Header, Ports, and_then, column, columns, header, header_of_names, input_places, is_unread, only_once, place, trimmed, widths_of, width_in}
+use Rattle.rr_trace.specs.Columns.{Header, Port, Ports, and_then, column, columns, header, input_places, is_unread, only_once, place, trimmed, widths_of, width_in}
 use Rattle.rr_trace.specs.Names.{Text, number_of, numbered}
-use Rattle.rr_trace.specs.Rows.{Row, cell_in, row_of_cells, rows}
+use Rattle.rr_trace.specs.Rows.{Row, cell_in, rows}
 use Rattle.rr_trace.specs.Tables.{Table, records_of, table_of, table_of_records, table_of_rows}
 use Rattle.rr_trace.specs.Tops.{name_of, port_of, ports_of}
 use Rattle.rr_transition.specs.Cycles as cycles
@@ -109,7 +110,8 @@ module _ (flat : Flat) (clock : Option ℕ) (names : List Text) (ws : List (Opti
 
   all_widths : widths_of (ports_of flat clock) ≡ map (λ x. (name_of flat x, width_of flat x)) ids
   all_widths =
-      ap (map (λ x. (x.name, x.width))) (sym (map-append (port_of flat) (row_inputs clock flat.inputs) flat.outputs))
+      ap (map (λ (x : Port). (x.name, x.width))) (sym (map-append (port_of flat) (row_inputs clock flat.inputs) flat.outputs))
+      ∙ map-map (λ (x : Port). (x.name, x.width)) (port_of flat) ids
 
   output_narrow : (cs : List Cell) → ((i : ℕ) → IsNarrow (get_or ws i None) (get_or cs i unknown_cell)) → (id : ℕ) → All (λ x. name_of flat x ≡ name_of flat id → x ≡ id) ids →
       (cell_in cs (place (ports_of flat clock) names (port_of flat id))).known < 2 ^ width_of flat id
@@ -185,10 +187,10 @@ module _ (flat : Flat) (clock : Option ℕ) (only : All (λ id. All (λ x. name_
       and_then r (λ widths. and_then s (λ inputs. Ok (record { widths = widths; inputs = inputs; outputs = map (place p names) p.outputs }))) ≡ Ok h → IsOfNames names h
   header_is names h (Err f) s e d = cc
   header_is names h (Ok widths) (Err f) e d = cc
-  header_is names h (Ok widths) (Ok inputs) e d = subst (IsOfNames names) (ok_is d) (record { made = e; outputs = refl })
-    where
-      ok_is : {a b : Header} → Ok {E = TableFault} a ≡ Ok b → a ≡ b
-      ok_is q = cc
+  header_is names h (Ok widths) (Ok inputs) e d =
+      let made : Header = record { widths = widths; inputs = inputs; outputs = map (place p names) p.outputs } in
+      let same : made ≡ h = cc in
+      subst (IsOfNames names) same (record { made = e; outputs = refl })
 
   from_header : (fields : List Text) (rs : List (List Text)) (r : Result Header TableFault) → header p fields ≡ r → and_then r (λ h. and_then (rows h 1 rs) (λ xs. Ok (table_of_rows xs))) ≡ Ok table → Fits table
   from_header fields rs (Err f) e d = cc
@@ -223,5 +225,3 @@ pub tables_fit : (source : SourceText) (top : Option Text) (flat : Flat) → fla
     table_of (ports_of flat clock) bytes ≡ Ok table → FitsOutputs (cycles.widths_of flat flat.outputs) table
 tables_fit source top flat e clock bytes table d =
     from_bytes flat clock (all_alone source top flat e (row_inputs clock flat.inputs ++ flat.outputs) flat.outputs (of_top source top flat e clock) (outputs_of_top source top flat e)) table bytes (is_utf8 bytes) d
-
-pub ruleset tables = (tables_fit)

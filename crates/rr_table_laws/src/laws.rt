@@ -14,7 +14,6 @@ ghost use Rattle.rr_unroll.specs.Matches.{FitsOutputs};
 /// The table of a text for the ports of the top of a source's flat design has a row of cells for each
 /// row of inputs, with a cell for each output, in which no bit past the output's width is known. So it
 /// is a table for the outputs of each transition that stands for the source and some sites.
-#[tactic(auto, using(crate::proofs::Fitting::tables, crate::proofs::Standing::standing))]
 pub fn table_laws()
     ensures read { (source : SourceText) (top : Option Text) (flat : Flat) → flat_of source top ≡ Ok flat → (clock : Option ℕ) (bytes : List ℕ) (table : Table) →
         table_of (ports_of flat clock) bytes ≡ Ok table → FitsOutputs (widths_of flat flat.outputs) table }
