@@ -1,0 +1,4 @@
+pub mod TopPorts
+pub mod Cells
+pub mod Fitting
+pub mod Standing

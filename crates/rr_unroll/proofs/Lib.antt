@@ -1,0 +1,7 @@
+pub mod WordLaws
+pub mod WireLaws
+pub mod AskedLaws
+pub mod JudgedLaws
+pub mod FaithfulLaws
+pub mod MatchLaws
+pub mod InstanceLaws

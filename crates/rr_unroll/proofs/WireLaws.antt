@@ -1,0 +1,52 @@
+-- the turns of lists of wires
+use Rattle.std.proofs.Common.{◌≡◌, ℕ, ◌+◌, ◌<◌, ◌≤◌, Bool, false, List, [], ◌∷◌, ◌++◌, length, get_or, take, drop, map, replicate, sym, ◌∙◌, ap, ap₂, arith, append_assoc, append-nil, length-append}
+use Rattle.std.specs.List.{range_with_len}
+use Rattle.std.proofs.lemmas.List.{take_more, take_all, map_push, map_more, map-append, length-map, get_or-map, replicate_more}
+use Rattle.std.proofs.lemmas.List.FromFn.{map-range_with_len_more}
+use Rattle.rr_circuit.specs.declared.Wire.{Wire}
+use Rattle.rr_circuit.specs.Values.{Netlist, wire_value, wire_values, given}
+use Rattle.rr_circuit.proofs.Netlists.{input_values-given}
+use Rattle.rr_transition.specs.Transitions.{switched}
+
+module _ (n : Netlist) (env : ℕ → Bool) where
+  pub inputs_more : (out : List Wire) (w : Wire) (k : ℕ) → wire_values n env out ≡ map env (range_with_len 0 k) → wire_value n env w ≡ env k → wire_values n env (out ++ w ∷ []) ≡ map env (range_with_len 0 (k + 1))
+  inputs_more out w k h v = map_push (wire_value n env) out w ∙ ap₂ (λ xs x. xs ++ x ∷ []) h v ∙ sym (map-range_with_len_more env 0 k k (omega arith))
+
+  pub zeros_more : (out : List Wire) (w : Wire) (k : ℕ) → wire_values n env out ≡ replicate k false → wire_value n env w ≡ false → wire_values n env (out ++ w ∷ []) ≡ replicate (k + 1) false
+  zeros_more out w k h v = map_push (wire_value n env) out w ∙ ap₂ (λ xs x. xs ++ x ∷ []) h v ∙ replicate_more k false
+
+  pub switched_more : (out choice : List Wire) (places : List ℕ) (i : ℕ) (d : Wire) → i < length places → get_or places i 0 < length choice → wire_values n env out ≡ switched (take i places) (wire_values n env choice) →
+      wire_values n env (out ++ get_or choice (get_or places i 0) d ∷ []) ≡ switched (take (i + 1) places) (wire_values n env choice)
+  switched_more out choice places i d l r h =
+      map_push (wire_value n env) out (get_or choice (get_or places i 0) d)
+      ∙ ap₂ (λ xs x. xs ++ x ∷ []) h (sym (get_or-map (wire_value n env) choice (get_or places i 0) d false r))
+      ∙ sym (map_more (λ k. get_or (wire_values n env choice) k false) places i 0 l)
+
+  module _ (choice state : List Wire) where
+    pub row_first : (bits : List Bool) → wire_values n env (choice ++ state) ≡ wire_values n env choice ++ (wire_values n env state ++ take 0 bits)
+    row_first bits = map-append (wire_value n env) choice state ∙ ap (λ xs. wire_values n env choice ++ xs) (sym (append-nil (wire_values n env state)))
+
+    pub row_more : (inputs : List Wire) (w : Wire) (bits : List Bool) (i : ℕ) → i < length bits → wire_values n env inputs ≡ wire_values n env choice ++ (wire_values n env state ++ take i bits) → wire_value n env w ≡ get_or bits i false →
+        wire_values n env (inputs ++ w ∷ []) ≡ wire_values n env choice ++ (wire_values n env state ++ take (i + 1) bits)
+    row_more inputs w bits i l h v =
+        map_push (wire_value n env) inputs w ∙ ap₂ (λ xs x. xs ++ x ∷ []) h v
+        ∙ append_assoc (wire_values n env choice) (wire_values n env state ++ take i bits) (get_or bits i false ∷ [])
+        ∙ ap (λ xs. wire_values n env choice ++ xs) (append_assoc (wire_values n env state) (take i bits) (get_or bits i false ∷ []) ∙ ap (λ xs. wire_values n env state ++ xs) (sym (take_more bits i false l)))
+
+    pub row_all : (inputs : List Wire) (bits : List Bool) (i : ℕ) → length bits ≤ i → wire_values n env inputs ≡ wire_values n env choice ++ (wire_values n env state ++ take i bits) →
+        wire_values n env inputs ≡ wire_values n env choice ++ (wire_values n env state ++ bits)
+    row_all inputs bits i l h = h ∙ ap (λ bs. wire_values n env choice ++ (wire_values n env state ++ bs)) (take_all i bits l)
+
+pub row_width : (n : Netlist) (choice state inputs : List Wire) (bits : List Bool) → ((env : ℕ → Bool) → wire_values n env inputs ≡ wire_values n env choice ++ (wire_values n env state ++ bits)) → length inputs ≡ length choice + (length state + length bits)
+row_width n choice state inputs bits h =
+    let env : ℕ → Bool = λ k. false in
+    sym (length-map inputs (wire_value n env)) ∙ ap length (h env) ∙ length-append (wire_values n env choice) (wire_values n env state ++ bits)
+    ∙ ap₂ (λ x y. x + y) (length-map choice (wire_value n env)) (length-append (wire_values n env state) bits ∙ ap (λ x. x + length bits) (length-map state (wire_value n env)))
+
+-- as many wires as values
+pub wires_width : (n : Netlist) (ws : List Wire) (values : (ℕ → Bool) → List Bool) (k : ℕ) → ((env : ℕ → Bool) → wire_values n env ws ≡ values env) → length (values (λ i. false)) ≡ k → length ws ≡ k
+wires_width n ws values k h e = sym (length-map ws (wire_value n (λ i. false))) ∙ ap length (h (λ i. false)) ∙ e
+
+-- the inputs that a list gives are the list
+pub given_back : (bits : List Bool) (n : ℕ) → length bits ≡ n → map (given bits) (range_with_len 0 n) ≡ bits
+given_back bits n e = sym (ap (drop 1) (input_values-given bits n e))

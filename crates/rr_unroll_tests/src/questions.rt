@@ -1,0 +1,190 @@
+//! Questions, and whether one choice matches.
+use crate::transitions::{inverted_reset, values, wires};
+use rr_trace::{Cell, Table};
+use rr_transition::Transition;
+use rr_unroll::{judges, question};
+use std::alloc::{AllocError, Global};
+use std::test::Fail;
+
+/// Whether the value may be used by several threads.
+fn shared<T: Send + Sync>(_value: &T) -> bool {
+    true
+}
+
+/// A table of one input and one output in each row.
+fn table(alloc: Global, rows: &[(u128, Cell)]) -> Result<Table, AllocError> {
+    let mut inputs = Vec::new(alloc);
+    let mut expected = Vec::new(alloc);
+    for (input, cell) in rows {
+        inputs.push(vec![in alloc; *input]?)?;
+        expected.push(vec![in alloc; *cell]?)?;
+    }
+    Ok(Table { inputs, expected })
+}
+
+fn bit(value: u128) -> Cell {
+    Cell { value, known: 1 }
+}
+
+const UNKNOWN: Cell = Cell { value: 0, known: 0 };
+
+/// Whether the choice matches.
+fn matches(
+    alloc: Global,
+    transition: &Transition,
+    table: &Table,
+    bits: &[bool],
+) -> Result<bool, Fail> {
+    if bits.len() != transition.choice_bits as usize {
+        return Err(Fail::from("another number of bits"));
+    }
+    Ok(judges(alloc, transition, table, bits)?)
+}
+
+/// The rows `rst,q`: 1,0; 0,0; 0,1; 0,0; 1,1.
+fn reset_rows(alloc: Global) -> Result<Table, AllocError> {
+    table(
+        alloc,
+        &[
+            (1, bit(0)),
+            (0, bit(0)),
+            (0, bit(1)),
+            (0, bit(0)),
+            (1, bit(1)),
+        ],
+    )
+}
+
+const T: bool = true;
+
+const F: bool = false;
+
+/// For each list of choice bits, read as a number with the lowest bit first: whether each row of
+/// `reset_rows` is as expected, and the cost.
+const VERDICTS: [([bool; 5], u32); 8] = [
+    ([T, F, F, T, F], 0),
+    ([T, T, T, T, T], 1),
+    ([T, F, F, T, F], 1),
+    ([T, T, T, T, T], 2),
+    ([T, F, F, T, F], 0),
+    ([T, T, T, T, T], 1),
+    ([T, F, T, F, T], 1),
+    ([T, F, F, F, F], 2),
+];
+
+#[test]
+fn every_choice_is_judged(rt: HostRuntime) -> Result<(), Fail> {
+    let alloc = rt.alloc();
+    let transition = inverted_reset(alloc)?;
+    let rows = reset_rows(alloc)?;
+    for bound in 0..3 {
+        let circuit = question(alloc, &transition, &rows, bound)?;
+        for (number, (verdicts, cost)) in VERDICTS.iter().enumerate() {
+            let bits = [number & 1 == 1, number & 2 == 2, number & 4 == 4];
+            let mut want = Vec::new(alloc);
+            want.extend_from_slice(verdicts)?;
+            want.push(*cost <= bound)?;
+            assert_eq!(rt; values(alloc, &circuit, &bits)?, want, "{number} {bound}");
+        }
+    }
+    Ok(())
+}
+
+#[test]
+fn one_choice_matches_where_each_row_does(rt: HostRuntime) -> Result<(), Fail> {
+    let alloc = rt.alloc();
+    let transition = inverted_reset(alloc)?;
+    let rows = reset_rows(alloc)?;
+    for (number, (verdicts, _)) in VERDICTS.iter().enumerate() {
+        let bits = [number & 1 == 1, number & 2 == 2, number & 4 == 4];
+        assert_eq!(rt;
+            matches(alloc, &transition, &rows, &bits)?,
+            *verdicts == [true; 5],
+            "{number}"
+        );
+    }
+    assert!(rt; shared(&transition));
+    Ok(())
+}
+
+/// Whether the choice of no bits matches, and the outputs of the question.
+fn answers(alloc: Global, table: &Table, bound: u32) -> Result<(bool, Vec<bool>), Fail> {
+    let transition = wires(alloc)?;
+    let circuit = question(alloc, &transition, table, bound)?;
+    Ok((
+        matches(alloc, &transition, table, &[])?,
+        values(alloc, &circuit, &[])?,
+    ))
+}
+
+// The cells `x`, none, and `0b1x01`.
+#[test]
+fn unknown_bits_ask_nothing(rt: HostRuntime) -> Result<(), Fail> {
+    let alloc = rt.alloc();
+    let last = Cell {
+        value: 9,
+        known: 11,
+    };
+    let right = table(alloc, &[(1, UNKNOWN), (2, UNKNOWN), (9, last)])?;
+    let (all, outputs) = answers(alloc, &right, 0)?;
+    assert_eq!(rt; (all, outputs.as_slice()), (true, &[T, T, T, T][..]));
+    let other = Cell {
+        value: 8,
+        known: 11,
+    };
+    let wrong = table(alloc, &[(1, UNKNOWN), (2, UNKNOWN), (9, other)])?;
+    let (all, outputs) = answers(alloc, &wrong, 0)?;
+    assert_eq!(rt; (all, outputs.as_slice()), (false, &[F, T, T, T][..]));
+    Ok(())
+}
+
+#[test]
+fn tables_without_rows_or_known_bits_ask_for_the_cost_alone(rt: HostRuntime) -> Result<(), Fail> {
+    let alloc = rt.alloc();
+    let transition = inverted_reset(alloc)?;
+    for rows in [
+        table(alloc, &[])?,
+        table(alloc, &[(1, UNKNOWN), (0, UNKNOWN)])?,
+    ] {
+        let circuit = question(alloc, &transition, &rows, 1)?;
+        assert_eq!(rt; values(alloc, &circuit, &[T, F, T])?.as_slice(), &[T][..]);
+        assert_eq!(rt; values(alloc, &circuit, &[T, T, F])?.as_slice(), &[F][..]);
+        assert!(rt; matches(alloc, &transition, &rows, &[T, T, F])?);
+    }
+    Ok(())
+}
+
+// In the second row nothing is known, and yet the state moves.
+#[test]
+fn unknown_rows_move_the_state(rt: HostRuntime) -> Result<(), Fail> {
+    let alloc = rt.alloc();
+    let transition = inverted_reset(alloc)?;
+    let rows = table(alloc, &[(1, bit(0)), (1, UNKNOWN), (1, bit(0))])?;
+    let circuit = question(alloc, &transition, &rows, 0)?;
+    assert_eq!(rt;
+        values(alloc, &circuit, &[F, F, F])?.as_slice(),
+        &[T, T, T][..]
+    );
+    assert!(rt; matches(alloc, &transition, &rows, &[F, F, F])?);
+    Ok(())
+}
+
+// The register toggles in each of them.
+#[test]
+fn many_rows_are_asked(rt: HostRuntime) -> Result<(), Fail> {
+    let alloc = rt.alloc();
+    let transition = inverted_reset(alloc)?;
+    let mut rows = table(alloc, &[])?;
+    for row in 0..65_536_u32 {
+        rows.inputs.push(vec![in alloc; 1]?)?;
+        rows.expected
+            .push(vec![in alloc; bit(u128::from(row % 2))]?)?;
+    }
+    assert!(rt; matches(alloc, &transition, &rows, &[F, F, F])?);
+    assert!(rt; !matches(alloc, &transition, &rows, &[T, F, F])?);
+    let circuit = question(alloc, &transition, &rows, 0)?;
+    assert_eq!(rt; circuit.outputs.len(), 65_537);
+    let outputs = values(alloc, &circuit, &[F, F, F])?;
+    assert!(rt; outputs.iter().all(|output| *output));
+    Ok(())
+}
