@@ -1,0 +1,3 @@
+pub mod WordLaws
+pub mod PlacedLaws
+pub mod Example
