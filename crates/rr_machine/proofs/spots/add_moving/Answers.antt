@@ -76,3 +76,6 @@ returns-clause-value c = λ signed widths s w a env vs e.
 
 pub returns-clause-spots : goal.returns-clause-spots
 returns-clause-spots c = λ widths s w a. c.loop-k.invariant.spots widths s w a
+
+pub returns-in_err-when-clause-extends : goal.returns-in_err-when-clause-extends
+returns-in_err-when-clause-extends c = Extends-trans _ _ _ c.loop-k.invariant.extends c.in_err-when.ensures.extends
