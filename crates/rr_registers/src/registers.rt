@@ -38,7 +38,7 @@ fn mark(masks: &mut Vec<u128>, piece: &Piece)
 fn masks(alloc: Global, flat: &Flat) -> Result<Vec<u128>, AllocError>
     ensures env { IfOk result (λ r. (b : FlatBit) → env_of r.items b ≡ any_writes (plain_flat flat.now) (plain_flat flat.now).clocked b) }
     ensures count { IfOk result (λ r. length r.items ≡ length flat.now.signals) }
-    ensures narrow { IfOk result (λ r. (b : FlatBit) → env_of r.items b ≡ true → b.place < (signal_at (plain_flat flat.now).signals b.signal).width) }
+    ensures there { IfOk result (λ r. (b : FlatBit) → env_of r.items b ≡ true → (b.signal < length flat.now.signals) × (b.place < (signal_at (plain_flat flat.now).signals b.signal).width)) }
 {
     let writes = written(alloc, flat)?;
     let mut masks = vec![in alloc; 0u128; flat.signals.len()]?;
@@ -85,6 +85,7 @@ fn add_marked(list: &mut Vec<Bit>, signal: u32, width: u32, mask: u128) -> Resul
 /// The registers of a flat design, signal after signal, the lowest place first.
 pub fn register_bits(alloc: Global, flat: &Flat) -> Result<Vec<Bit>, AllocError>
     ensures value { IfOk result (λ r. r.items ≡ registers_of (plain_flat flat.now)) }
+    ensures there { IfOk result (λ r. All (λ (b : FlatBit). (b.signal < length flat.now.signals) × (b.place < (signal_at (plain_flat flat.now).signals b.signal).width)) r.items) }
     ensures all { IfOk result (λ r. (b : FlatBit) → any_bit r.items b ≡ any_writes (plain_flat flat.now) (plain_flat flat.now).clocked b) }
 {
     let masks = masks(alloc, flat)?;

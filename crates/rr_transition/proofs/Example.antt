@@ -16,7 +16,6 @@ use Rattle.rr_flat.specs.Plain.{Flat}
 use Rattle.rr_walk.specs.Tables.{add_module, instantiated_by, last_free}
 use Rattle.rr_walk.specs.Walk.{begin, enter, enter_by, flat_of, reached_from, top_ports}
 use Rattle.rr_flat.specs.Writers.{Writer, Driven, Clocked, Combinational, Writes, BitNames}
-use Rattle.rr_flat.specs.Inputs.{row_inputs}
 use Rattle.rr_instance.specs.Choices.{decode, total_bits}
 use Rattle.rr_instance.specs.Instances.{instance_source, instance_module}
 use Rattle.rr_instance.specs.Sites.{Site}
@@ -105,7 +104,6 @@ unfolding instance_source instance_module decode
 same choice = refl
 
 performs : (choice : List Bool) → PerformsSteps nothing None true [] no_bits [] choice
-unfolding row_inputs
 performs choice = record {
   flat = empty;
   design = elaborated;

@@ -41,12 +41,12 @@ returns-clause-env c = λ b.
 pub returns-clause-count : goal.returns-clause-count
 returns-clause-count c = c.loop-write.invariant.count
 
-pub returns-clause-narrow : goal.returns-clause-narrow
-returns-clause-narrow c =
+pub returns-clause-there : goal.returns-clause-there
+returns-clause-there c =
     let d = c.args.flat.now in
     let f : IsSound d = subst IsSound c.flat.view_is c.flat.invariant in
     λ b h.
     let e : env_of c.loop-write.masks.items b ≡ any_writes (plain_flat d) (plain_flat d).clocked b =
     marks_done c.deref-write-items.result.now c.loop-write.write-index (env_of c.loop-write.masks.items) (may c.deref-write-items.result.now) c.loop-write-test.false c.loop-write.invariant.env b
     ∙ ap (λ (ws : List Write). may ws b) c.deref-write-items.ensures.value ∙ c.in_ok-writes.ensures b in
-    (registers_there d b f (sym e ∙ h)).1
+    registers_there d b f (sym e ∙ h)
