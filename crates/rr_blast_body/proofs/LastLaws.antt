@@ -123,7 +123,7 @@ assigned_is s e name n k width u q w =
 pub last_made : (s : Names) (l : Last) (vs word : List Bool) (v : Values) (id : ℕ) (range : Option (ℕ × ℕ)) (signed : Bool) (width : ℕ) → meant s l.target.now ≡ Signal id range signed → width ≡ max (range_width range) l.width →
     word ≡ value s (Literal fresh (unsigned_number l.width (last_pick l vs).value)) v.now width false →
     cond (get_or vs 0 false && is_true s (gate (picked_form (texts l.names.now) (last_pick l vs).form) (picked_name (texts l.names.now) (last_pick l vs).name)) v.now)
-    (stored l.now (bits_there (Signal id range signed) (pos 0) (range_width range)) word v) v
+    (stored l.at_once (bits_there (Signal id range signed) (pos 0) (range_width range)) word v) v
     ≡ cond (get_or vs 0 false) (last_ran s (last_kind l) (last_pick l vs) v) v
 unfolding last_ran
 last_made s l vs word v id range signed width q w h =
@@ -131,8 +131,8 @@ last_made s l vs word v id range signed width q w h =
     let n : Number = unsigned_number l.width (last_pick l vs).value in
     twice_if (get_or vs 0 false) g _ v
     ∙ ap (λ (y : Values). cond (get_or vs 0 false) (cond g y v) v)
-    (ap₂ (λ (bs : List (Option Bit)) (us : List Bool). stored l.now bs us v) (sym (named_bits s v.now l.target.now (Signal id range signed) q)) (h ∙ assigned_is s v.now l.target.now n (Signal id range signed) width refl q w)
-    ∙ sym (ran_assign s (named l.target.now) (Literal fresh n) l.now v))
+    (ap₂ (λ (bs : List (Option Bit)) (us : List Bool). stored l.at_once bs us v) (sym (named_bits s v.now l.target.now (Signal id range signed) q)) (h ∙ assigned_is s v.now l.target.now n (Signal id range signed) width refl q w)
+    ∙ sym (ran_assign s (named l.target.now) (Literal fresh n) l.at_once v))
 
 stored_nothing : (now : Bool) (bits : List (Option Bit)) (word : List Bool) (v : Values) → ((us : List Bool) (e : Environment) → write bits us e ≡ e) → stored now bits word v ≡ v
 stored_nothing true bits word v h = ap (λ (f : Environment). made f v.later) (h word v.now)
@@ -143,7 +143,7 @@ last_nowhere : (s : Names) (l : Last) (vs : List Bool) (v : Values) → ((us : L
 unfolding last_ran
 last_nowhere s l vs v h =
     let n : Number = unsigned_number l.width (last_pick l vs).value in
-    sym (none_if (get_or vs 0 false) _ _ v (ran_assign s (named l.target.now) (Literal fresh n) l.now v ∙ stored_nothing l.now (target_bits s v.now (named l.target.now)) (assigned s (named l.target.now) (Literal fresh n) v.now) v h))
+    sym (none_if (get_or vs 0 false) _ _ v (ran_assign s (named l.target.now) (Literal fresh n) l.at_once v ∙ stored_nothing l.at_once (target_bits s v.now (named l.target.now)) (assigned s (named l.target.now) (Literal fresh n) v.now) v h))
 
 pub last_of_constant : (s : Names) (l : Last) (vs : List Bool) (v : Values) (bits : List Bool) (signed : Bool) → meant s l.target.now ≡ Constant bits signed → v ≡ cond (get_or vs 0 false) (last_ran s (last_kind l) (last_pick l vs) v) v
 last_of_constant s l vs v bits signed q = last_nowhere s l vs v (λ us e.
@@ -168,7 +168,7 @@ site_past s token x p v h =
     never true = refl
     never false = refl
 
-pub site_here : (s : Names) (token owner : ℕ) (x : ArenaSite) (l : Last) (vs : List Bool) (v : Values) → x.kind ≡ kind.Overwrite owner l.target l.width l.now l.names → x.token ≡ token →
+pub site_here : (s : Names) (token owner : ℕ) (x : ArenaSite) (l : Last) (vs : List Bool) (v : Values) → x.kind ≡ kind.Overwrite owner l.target l.width l.at_once l.names → x.token ≡ token →
     cond (get_or vs 0 false) (last_ran s (last_kind l) (last_pick l vs) v) v ≡ site_ran s token (plain_site x) (read_pick (plain_site x) vs) v
 unfolding site_ran last_ran
 site_here s token owner x l vs v q e =

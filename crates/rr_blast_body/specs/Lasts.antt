@@ -16,7 +16,7 @@ gated names bits name_truth =
 
 -- what it is for a choice; its module is nothing to it
 abbrev pub last_kind : Last → SiteKind
-last_kind l = Overwrite 0 l.target.now l.width l.now (texts l.names.now)
+last_kind l = Overwrite 0 l.target.now l.width l.at_once (texts l.names.now)
 
 -- the pick that bits write
 abbrev pub last_pick : Last → List Bool → Pick

@@ -1,9 +1,12 @@
 //! Bodies of `always` on wires, with the last assignments that sites add to them.
-ghost use Rattle.std.specs.Prelude.{◌≡◌, ◌≤◌, ℕ, Bool, [], OnOk, get_or};
+ghost use Rattle.std.specs.Prelude.{◌≡◌, ◌≤◌, ◌+◌, ℕ, Bool, [], OnOk, drop, get_or, length};
 ghost use Rattle.rr_circuit.specs.Values.{Extends, AreWires};
 ghost use Rattle.rr_syntax.specs.View.{plain_statement};
 ghost use Rattle.rr_flat.specs.Shapes.{statement_faults};
 ghost use Rattle.rr_instance.specs.Firsts.{first_token as first_token_of};
+ghost use Rattle.rr_instance.specs.Choices.{site_bits as site_bits_of};
+ghost use Rattle.rr_instance.specs.Sites.{IsSite};
+ghost use Rattle.rr_instance.specs.View.{plain_site};
 ghost use Rattle.rr_machine.specs.Words.{Holds, widths_of};
 ghost use Rattle.rr_blast_terms.specs.Choosing.{IsReady, picks_of};
 ghost use Rattle.rr_blast_stmt.specs.Running.{IsMachine, held, ran};
@@ -12,11 +15,28 @@ ghost use Rattle.rr_blast_body.specs.Overwrites.{body_instance, sites_ran};
 use crate::lasts::run_site;
 use rr_blast_stmt::{Machine, execute};
 use rr_blast_terms::ChoiceWires;
-use rr_circuit::Builder;
+use rr_circuit::{Builder, Wire};
 use rr_expr::Scope;
 use rr_instance::{first_token, site_bits};
-use rr_syntax::Stmt;
+use rr_syntax::{Site, Stmt};
 use std::alloc::{AllocError, Global};
+
+/// The wires from a place on.
+fn from_place(wires: &[Wire], at: usize) -> &[Wire]
+    requires { at ≤ length wires.now }
+    ensures { result.now ≡ drop at wires.now }
+{
+    &wires[at..]
+}
+
+/// The place behind the bits of a site that begin at a place; all bits are at most `room`.
+fn behind(site: &Site, at: usize, room: usize) -> usize
+    requires site { IsSite (plain_site site.now) }
+    requires room { at + site_bits_of (plain_site site.now) ≤ room }
+    ensures { result ≡ at + site_bits_of (plain_site site.now) }
+{
+    at + site_bits(site) as usize
+}
 
 /// The last assignments of the sites at a body's first token, one after the other.
 fn run_sites(
@@ -40,9 +60,9 @@ fn run_sites(
     let list = choice.sites.sites();
     let mut at = 0;
     for site in list.iter() {
-        let bits = &choice.wires[at..];
+        let bits = from_place(choice.wires, at);
         run_site(alloc, b, site, token, bits, scope, choice, machine)?;
-        at += site_bits(site) as usize;
+        at = behind(site, at, choice.wires.len());
     }
     Ok(())
 }

@@ -29,13 +29,13 @@ use rr_syntax::{Site, SiteKind};
 use rr_word_gates::extended;
 use std::alloc::{AllocError, Global};
 
-/// A last assignment that a site offers: to a variable of a width, at once where `now`, else later,
+/// A last assignment that a site offers: to a variable of a width, at once or later,
 /// with the names that its condition may be; `places` bits write which.
 #[derive(Clone, Copy)]
 pub(crate) struct Last<'a> {
     pub target: &'a str,
     pub width: u32,
-    pub now: bool,
+    pub at_once: bool,
     pub names: &'a [&'a str],
     pub places: usize,
 }
@@ -125,7 +125,7 @@ fn run_last(
                 machine,
                 spots.as_slice(),
                 word.as_slice(),
-                last.now,
+                last.at_once,
                 guard,
             )?;
             Ok(())
@@ -176,7 +176,7 @@ pub(crate) fn run_site(
             let last = Last {
                 target,
                 width,
-                now,
+                at_once: now,
                 names,
                 places,
             };

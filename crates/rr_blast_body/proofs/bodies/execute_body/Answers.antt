@@ -21,6 +21,7 @@ run_sites-requires c =
       choice = ready-extends c.args.b.now c.execute.new.b c.args.choice.now x.extends c.requires.choice;
       machine = machine_again c.execute.new.b w c.execute.new.machine x.machine;
       holds = holds_again c.args.scope.now c.execute.new.b w c.execute.new.machine x.machine c.requires.holds;
+      narrow = rw x.machine.now_widths c.requires.narrow;
     }
 
 pub returns-clause-machine : goal.returns-clause-machine
