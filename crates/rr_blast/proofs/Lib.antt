@@ -1,0 +1,4 @@
+pub mod PlacedLaws
+pub mod BaseLaws
+pub mod CycleLaws
+pub mod FitLaws

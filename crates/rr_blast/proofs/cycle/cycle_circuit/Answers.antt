@@ -1,0 +1,24 @@
+use Rattle.std.proofs.Common.{◌≡◌, ◌∙◌, sym, ap, arith, refl, List, Bool, ℕ, ◌+◌, ◌++◌, [], false, length}
+use Rattle.std.proofs.lemmas.List.{length-map}
+use Rattle.rr_circuit.specs.Values.{Netlist, OutputNetlist, given, output_values, wire_value, wire_values}
+use Rattle.rr_flat.specs.View.{plain_flat}
+use Rattle.rr_blast_terms.specs.Choosing.{picks_of}
+use Rattle.rr_blast.specs.Circuits.{PerformsCycles}
+use Rattle.rr_blast.proofs.CycleLaws.{given_last, given_middle, same_answers}
+use Rattle.rr_blast.proofs.FitLaws.{answers_length}
+use Rattle.rr_blast.proofs.cycle.cycle_circuit.Goals as goal
+
+pub returns-clause-performs : goal.returns-clause-performs
+unfolding PerformsCycles
+returns-clause-performs c = λ choice state row lc ls lr.
+    let n : Netlist = c.in_ok-b.b in
+    let env : ℕ → Bool = given (choice ++ (state ++ row)) in
+    let k1 : c.bits-first.result ≡ length choice = c.bits-first.ensures ∙ sym lc in
+    let k2 : c.cast-second ≡ length state = ? in
+    let k3 : c.cast-third ≡ length row = ? in
+    ap (λ (o : OutputNetlist). output_values o env) c.finish.ensures.result
+    ∙ c.in_ok-answers.ensures.value env
+    ∙ same_answers (plain_flat c.args.flat.now) c.args.clock c.args.sites.now c.args.steps.now c.args.registers.now _ choice _ state _ row
+    (ap (wire_values n env) c.as_slice.ensures.value ∙ c.in_ok-picks.ensures.value env ∙ given_middle [] choice (state ++ row) 0 c.bits-first.result refl k1)
+    (ap (wire_values n env) c.as_slice-2.ensures.value ∙ c.in_ok-state.ensures.value env ∙ given_middle choice state row c.bits-first.result c.cast-second k1 k2)
+    (ap (wire_values n env) c.as_slice-3.ensures.value ∙ c.in_ok-given.ensures.value env ∙ given_last choice state row (c.bits-first.result + c.cast-second) c.cast-third (omega (arith, k1, k2)) k3)

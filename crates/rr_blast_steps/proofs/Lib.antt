@@ -1,0 +1,5 @@
+pub mod BitLaws
+pub mod SideLaws
+pub mod DesignLaws
+pub mod StepLaws
+pub mod CopyLaws

@@ -1,0 +1,3 @@
+pub mod ShapeLaws
+pub mod RanLaws
+pub mod ArmLaws

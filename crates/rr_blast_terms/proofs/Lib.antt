@@ -1,0 +1,4 @@
+pub mod ChoiceLaws
+pub mod CaseLaws
+pub mod NodeLaws
+pub mod WildLaws

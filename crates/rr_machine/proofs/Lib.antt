@@ -1,0 +1,4 @@
+pub mod WordLaws
+pub mod RunLaws
+pub mod SpotLaws
+pub mod NameLaws
