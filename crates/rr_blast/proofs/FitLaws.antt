@@ -1,9 +1,10 @@
 -- from the circuit of a cycle to what a transition stands for
-use Rattle.std.proofs.Common.{◌≡◌, ◌∙◌, sym, ap, ap₂, refl, ℕ, zero, suc, ◌+◌, ◌<◌, ◌≤◌, Bool, true, List, [], ◌∷◌, ◌++◌, length, map, flat_map, drop, drop-cons, get_or, All, Option, Ok, arith}
+use Rattle.std.proofs.Common.{◌≡◌, ◌∙◌, sym, ap, ap₂, refl, subst, ℕ, zero, suc, ◌+◌, ◌<◌, ◌≤◌, Bool, true, List, [], ◌∷◌, ◌++◌, length, map, flat_map, drop, drop-cons, get_or, All, Option, Ok, arith}
 use Rattle.std.specs.List.{AllByRecursion, range_with_len, sum}
 use Rattle.std.proofs.lemmas.List.{append-nil, append_assoc, drop_all, length-append, length-map}
 use Rattle.std.proofs.lemmas.List.Elements.{All-from_recursion}
 use Rattle.std.proofs.lemmas.List.FromFn.{length-map-range_with_len}
+use Rattle.std.proofs.lemmas.List.Sums.{sum_by-cons}
 use Rattle.rr_circuit.specs.Values.{output_values, given as given_bits}
 use Rattle.rr_syntax.specs.declared.site.Site.{Site as ArenaSite}
 use Rattle.rr_expr.specs.declared.types.Bit.{Bit}
@@ -28,10 +29,14 @@ use Rattle.rr_lawful_instance.proofs.Cycles.{bases_stay, stays_lawful}
 use Rattle.rr_lawful_instance.proofs.Listing.{listed}
 use Rattle.rr_lawful_instance.proofs.Whole.{writers}
 use Rattle.rr_transition.specs.Cycles.{Cycle, Design, instance_design, output_bits, switch_places, widths_of}
-use Rattle.rr_transition.specs.Placed.{any_bit}
+use Rattle.rr_transition.specs.Placed.{any_bit, settled_of}
 use Rattle.rr_transition.specs.Transitions.{Transition}
 use Rattle.rr_transition.proofs.PlacedLaws.{cycles_from_steps}
 use Rattle.rr_registers.specs.Registers.{bits_of_signal}
+use Rattle.rr_flat.specs.View.{Design as View, plain_signal}
+use Rattle.rr_machine.specs.Words.{IsThere}
+use Rattle.rr_blast_steps.specs.Designs.{signal_widths}
+use Rattle.rr_blast_steps.proofs.BitLaws.{whole_there}
 use Rattle.rr_blast.specs.Circuits.{FitsArguments, PerformsCycles, answers_of}
 use Rattle.rr_blast.specs.Rows.{AreNarrow, AreRegisters, BasesStay, bits_of_row}
 
@@ -73,6 +78,7 @@ row_length signals [] = refl
 row_length signals (id ∷ ids) =
     length-append (bits_of_signal signals id) (bits_of_row signals ids)
     ∙ ap₂ (λ (a b : ℕ). a + b) (length-map-range_with_len {X = Bit} (λ (p : ℕ). record { signal = id; place = p }) 0 (signal_at signals id).width) (row_length signals ids)
+    ∙ sym (sum_by-cons (λ (x : ℕ). x) (signal_at signals id).width (map (λ (i : ℕ). (signal_at signals i).width) ids))
 
 value_length : (F : Flat) (id : ℕ) (e : Environment) → length (signal_value F id e) ≡ (signal_at F.signals id).width
 value_length F id e = length-map _ _ ∙ length_there _ _ _
@@ -81,6 +87,7 @@ outputs_length : (F : Flat) (e : Environment) (ids : List ℕ) → length (flat_
 outputs_length F e [] = refl
 outputs_length F e (id ∷ ids) =
     length-append (signal_value F id e) (flat_map (λ (id : ℕ). signal_value F id e) ids) ∙ ap₂ (λ (a b : ℕ). a + b) (value_length F id e) (outputs_length F e ids)
+    ∙ sym (sum_by-cons (λ (x : ℕ). x) (signal_at F.signals id).width (widths_of F ids))
 
 pub answers_length : (F : Flat) (ss : List Site) (ps : List Pick) (registers : List Bit) (e : Environment) → length (answers_of (instance_flat ss ps F) registers e) ≡ length registers + sum (widths_of F F.outputs)
 unfolding instance_flat
@@ -95,16 +102,13 @@ any_from F [] k b l h = absurd (omega arith)
 any_from F (x ∷ xs) zero b l h = or_left (writes_at_all F x b) (any_writes F xs b) h
 any_from F (x ∷ xs) (suc k) b l h = or_right (writes_at_all F x b) (any_writes F xs b) (any_from F xs k b (omega arith) h)
 
+any_default : (xs : List Step) (i : ℕ) (d e : Step) → i < length xs → get_or xs i e ≡ get_or xs i d
+any_default [] i d e l = absurd (omega arith)
+any_default (x ∷ xs) zero d e l = refl
+any_default (x ∷ xs) (suc i) d e l = any_default xs i d e (omega arith)
+
 pub steps_are : (flat : Flat) (word : Option Text) (clock : Option ℕ) (rising : Bool) (steps : List Step) → Ordered flat word clock rising steps → (i : ℕ) (d : Step) → i < length steps → IsStep flat (get_or steps i d)
-steps_are flat word clock rising steps o i d l = rw (same i d l) (o.each i l)
-  where
-    same : (i : ℕ) (d : Step) → i < length steps → get_or steps i d ≡ get_or steps i _
-    same i d l = any_default steps i d _ l
-      where
-        any_default : (xs : List Step) (i : ℕ) (d e : Step) → i < length xs → get_or xs i d ≡ get_or xs i e
-        any_default [] i d e l = absurd (omega arith)
-        any_default (x ∷ xs) zero d e l = refl
-        any_default (x ∷ xs) (suc i) d e l = any_default xs i d e (omega arith)
+steps_are flat word clock rising steps o i d l = subst (IsStep flat) (any_default steps i d _ l) (o.each i l)
 
 -- a design that fits
 
@@ -118,7 +122,7 @@ module _ (F : Flat) (clock : Option ℕ) (rising : Bool) (steps : List Step) (ss
   -- what the calls of the code say of the parts of a transition
   pub record IsMade : Type 0 where
     pub narrow : AreNarrow F.signals
-    pub registers : AreRegisters F registers
+    pub kept : AreRegisters F registers
     pub choice_bits : t.choice_bits ≡ total_bits ss
     pub state_bits : t.state_bits ≡ length registers
     pub switches : t.switches ≡ switch_places 0 ss
@@ -127,12 +131,14 @@ module _ (F : Flat) (clock : Option ℕ) (rising : Bool) (steps : List Step) (ss
     pub performs : PerformsCycles F clock steps ss registers t.circuit
 
   written_stays : (m : IsMade) (j : Design) → FitsArguments j F clock rising steps ss → (ps : List Pick) (k : ℕ) (b : Bit) → Writes (instance_flat ss ps F) (Clocked k) b → any_bit registers b ≡ true
+  unfolding Writes
   written_stays m j f ps k b w =
       let v = (writers F j.word ss ps (listed j.source j.top F j.word ss f.design f.right) (Clocked k) b).1 w in
-      m.registers b ∙ any_from F F.clocked k b v.0 v.1
+      m.kept b ∙ any_from F F.clocked k b v.0 v.1
 
   bits_are : (m : IsMade) (choice : List Bool) → length choice ≡ total_bits ss → (state row : List Bool) → length state ≡ length registers → length row ≡ sum t.input_widths →
-      output_values t.circuit (given_bits (choice ++ (state ++ row))) ≡ _
+      output_values t.circuit (given_bits (choice ++ (state ++ row)))
+      ≡ answers_of (instance_flat ss (decode ss choice) F) registers (settled_of (instance_flat ss (decode ss choice) F) clock steps registers state row)
   unfolding PerformsCycles
   bits_are m choice lc state row ls lr = m.performs choice state row lc ls (lr ∙ ap sum m.input_widths ∙ sym (row_length F.signals (row_inputs clock F.inputs)))
 
@@ -150,8 +156,8 @@ module _ (F : Flat) (clock : Option ℕ) (rising : Bool) (steps : List Step) (ss
         (record {
           flat = instance_flat ss ps F;
           design = law.0;
-          lawful = law.1.0;
-          ordered = law.1.1;
+          lawful = law.1;
+          ordered = law.2;
           input_widths = m.input_widths;
           output_widths = m.output_widths;
           narrow = m.narrow;
@@ -159,3 +165,8 @@ module _ (F : Flat) (clock : Option ℕ) (rising : Bool) (steps : List Step) (ss
           bits = bits_are m choice lc;
         });
   }
+
+-- registers have wires
+
+pub register_wires : (d : View) (list : List Bit) → All (λ (b : Bit). (b.signal < length d.signals) × (b.place < (signal_at (map plain_signal d.signals) b.signal).width)) list → All (IsThere (signal_widths d.signals)) list
+register_wires d list h k x l = let r = h k x l in whole_there d (get_or list k x).signal (get_or list k x).place r.0 r.1
