@@ -1,0 +1,5 @@
+pub mod Members
+pub mod Tops
+pub mod Once
+pub mod Declared
+pub mod Scalars

@@ -1,0 +1,15 @@
+pub mod Tests
+pub mod Known
+pub mod Clocked
+pub mod Blocks
+pub mod ScalarsIn
+pub mod Widths
+pub mod Fit
+pub mod Stands
+pub mod ItemStands
+pub mod Placed
+pub mod Guards
+pub mod Clocks
+pub mod Right
+pub mod Whole
+pub mod Same
