@@ -1,0 +1,40 @@
+//! The files of a certificate.
+ghost use Rattle.std.specs.Prelude.{◌≡◌, ◌++◌, IfOk, map, string_bytes};
+ghost use Rattle.rr_report.specs.Views.{file_of};
+ghost use Rattle.rr_answers.specs.Certified.{certificate};
+
+use rr_circuit::{Circuit, write_aag};
+use rr_cnf::write_dimacs;
+use rr_derive::{Journal, write_lrat};
+use rr_report::File;
+use rr_tseitin::formula_of;
+use std::alloc::{AllocError, Global};
+
+/// A file of the certificate, by the ending of its name.
+fn named(alloc: Global, cert: &str, ending: &str, bytes: Vec<u8>) -> Result<File, AllocError>
+    ensures { IfOk result (λ file. file_of file ≡ (cert.now ++ ending.now, bytes.items)) }
+{
+    let name = format!(in alloc; "{cert}{ending}")?;
+    let file = File::new(alloc, name, bytes)?;
+    Ok(file)
+}
+
+/// The circuit as AIGER, its formula as DIMACS, and the lines of the journal as LRAT, in this order.
+pub(crate) fn certificate(
+    alloc: Global,
+    cert: &str,
+    circuit: &Circuit,
+    journal: &Journal,
+) -> Result<Vec<File>, AllocError>
+    ensures { IfOk result (λ files. map file_of files.items ≡ certificate cert.now circuit.now journal.now) }
+{
+    let aag = write_aag(alloc, circuit)?;
+    let circuit_file = named(alloc, cert, ".aag", aag)?;
+    let formula = formula_of(alloc, circuit)?;
+    let dimacs = write_dimacs(alloc, &formula)?;
+    let formula_file = named(alloc, cert, ".cnf", dimacs)?;
+    let lrat = write_lrat(alloc, journal)?;
+    let proof_file = named(alloc, cert, ".lrat", lrat)?;
+    let files = vec![in alloc; circuit_file, formula_file, proof_file]?;
+    Ok(files)
+}
