@@ -1,6 +1,5 @@
 -- The circuit of a cycle: from a choice, a state and a row of inputs to the next state and the outputs.
-use Rattle.std.specs.Prelude.{◌≡◌, ◌<◌, ◌+◌, ◌^◌, ℕ, List, ◌++◌, length, map, Bool, Option, Ok}
-use Rattle.rr_syntax.specs.Tree.{SourceText}
+use Rattle.std.specs.Prelude.{◌≡◌, ◌+◌, ℕ, List, ◌++◌, length, map, Bool, Option, Ok}
 use Rattle.rr_circuit.specs.Values.{OutputNetlist, output_values, given as given_bits}
 use Rattle.rr_expr.specs.declared.types.Bit.{Bit}
 use Rattle.rr_flat.specs.declared.design.Step.{Step}

@@ -1,8 +1,8 @@
 -- last assignments by the bits that write them
-use Rattle.std.proofs.Common.{◌≡◌, ◌∙◌, sym, ap, ap₂, refl, ℕ, zero, suc, ◌+◌, ◌-◌, ◌%◌, ◌^◌, ◌<◌, ◌≤◌, ◌==◌, min, max, Bool, true, false, cond, not, ◌&&◌, if◌then◌else◌, List, [], ◌∷◌, length, take, drop, drop-cons, get_or, Option, arith, pos, length-drop, length-take}
+use Rattle.std.proofs.Common.{◌≡◌, ◌∙◌, sym, ap, ap₂, refl, ℕ, zero, suc, ◌+◌, ◌-◌, ◌^◌, ◌<◌, ◌≤◌, ◌==◌, min, max, Bool, true, false, cond, not, ◌&&◌, if◌then◌else◌, List, [], ◌∷◌, length, take, drop, drop-cons, get_or, Option, arith, pos}
 use Rattle.std.proofs.lemmas.Bool.{eq-eqb, eqb-true, ne_eqb}
 use Rattle.std.proofs.lemmas.List.{drop_all, drop-drop, drop-map, length-map, take-map}
-use Rattle.std.proofs.lemmas.List.Elements.{All-take, All-drop}
+use Rattle.std.proofs.lemmas.List.Elements.{All-take}
 use Rattle.std.proofs.Math.Nat.{mod-eq_of_lt}
 use denote.Ref.{Bor}
 use Rattle.rr_circuit.specs.declared.Wire.{Wire}
@@ -14,7 +14,7 @@ use Rattle.rr_syntax.specs.declared.site.Site.{Site as ArenaSite}
 use Rattle.rr_syntax.specs.declared.site.SiteKind.{SiteKind as ArenaKind}
 use Rattle.rr_syntax.specs.declared.site.SiteKind.TheVariants as kind
 use Rattle.rr_syntax.specs.declared.token.Number.{Number}
-use Rattle.rr_syntax.specs.Tree.{Literal, Assign}
+use Rattle.rr_syntax.specs.Tree.{Literal}
 use Rattle.rr_syntax.specs.View.{texts}
 use Rattle.rr_expr.specs.declared.types.Bit.{Bit}
 use Rattle.rr_expr.specs.declared.types.Entity.{Entity}
@@ -24,8 +24,8 @@ use Rattle.rr_expr.specs.Values.{form, value}
 use Rattle.rr_flat.specs.Targets.{bits_there, target_bits}
 use Rattle.rr_instance.specs.declared.pick.Pick.{Pick}
 use Rattle.rr_instance.specs.Choices.{decode, name_width, read_pick, site_bits}
-use Rattle.rr_instance.specs.Instances.{fresh, gate, is_overwrite, is_overwrite_at, named, picked_form, picked_name, unsigned_number}
-use Rattle.rr_instance.specs.Sites.{Site, SiteKind, Overwrite}
+use Rattle.rr_instance.specs.Instances.{fresh, gate, is_overwrite, named, picked_form, picked_name, unsigned_number}
+use Rattle.rr_instance.specs.Sites.{Site}
 use Rattle.rr_instance.specs.View.{plain_kind, plain_site, plain_sites}
 use Rattle.rr_instance_laws.specs.Truth.{gate_truth, name_truth}
 use Rattle.rr_instance_laws.proofs.TruthLaws.{truth_of_gates}
@@ -35,7 +35,7 @@ use Rattle.rr_blast_sites.specs.Finding.{name_place}
 use Rattle.rr_blast_sites.specs.Instances.{World, place_of, env_in}
 use Rattle.rr_cycle.specs.Exec.{Environment, assigned, is_true, write}
 use Rattle.rr_machine.proofs.SpotLaws.{none_of_constant, none_of_instance}
-use Rattle.rr_blast_stmt.specs.Running.{Values, ran, stored}
+use Rattle.rr_blast_stmt.specs.Running.{Values, stored}
 use Rattle.rr_blast_stmt.proofs.RanLaws.{made, ran_assign}
 use Rattle.rr_blast_body.specs.declared.lasts.Last.{Last}
 use Rattle.rr_blast_body.specs.Lasts.{gated, last_kind, last_pick}

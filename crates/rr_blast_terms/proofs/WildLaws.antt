@@ -1,5 +1,5 @@
 -- the wild places of a label's instance
-use Rattle.std.proofs.Common.{◌≡◌, ◌∙◌, sym, ap, refl, ℕ, ◌≤◌, ◌==◌, Bool, true, false, cond, if◌then◌else◌, List, [], Option, Some, None, get_or}
+use Rattle.std.proofs.Common.{◌≡◌, ◌∙◌, sym, ap, refl, ℕ, ◌≤◌, ◌==◌, Bool, true, false, cond, if◌then◌else◌, List, Option, Some, None, get_or}
 use Rattle.std.proofs.lemmas.Nat.{pow_pos}
 use denote.Ref.{Bor}
 use Rattle.std.specs.Prelude.{Vec}

@@ -1,4 +1,4 @@
-use Rattle.std.proofs.Common.{◌≡◌, ◌∙◌, sym, ap, subst, arith, ℕ, List, length}
+use Rattle.std.proofs.Common.{◌≡◌, ◌∙◌, sym, ap, subst, arith, List, length}
 use Rattle.std.specs.List.{sum}
 use Rattle.rr_expr.specs.declared.types.Bit.{Bit}
 use Rattle.rr_flat.specs.declared.design.Step.{Step}
@@ -6,7 +6,6 @@ use Rattle.rr_flat.specs.Inputs.{row_inputs}
 use Rattle.rr_flat.specs.View.{Design, plain_flat}
 use Rattle.rr_meaning.proofs.Scoping.{IsSound}
 use Rattle.rr_transition.specs.Cycles.{widths_of}
-use Rattle.rr_registers.specs.Registers.{registers_of}
 use Rattle.rr_blast.specs.Circuits.{PerformsCycles}
 use Rattle.rr_blast.specs.Rows.{bits_of_row}
 use Rattle.rr_blast.proofs.BaseLaws.{narrow_of}

@@ -1,4 +1,4 @@
-use Rattle.std.proofs.Common.{Bool, true, sym}
+use Rattle.std.proofs.Common.{true, sym}
 use Rattle.rr_circuit.specs.Values.{wire_value, wire_values}
 use Rattle.rr_circuit.proofs.Netlists.{Extends-refl}
 use Rattle.rr_bits.specs.Words.{number}

@@ -1,4 +1,4 @@
-use Rattle.std.proofs.Common.{◌≡◌, ◌∙◌, sym, ap, ap₂, refl, arith, ℕ, Bool, List, ◌&&◌, ◌+◌, ◌<◌, length}
+use Rattle.std.proofs.Common.{◌∙◌, sym, ap, ap₂, refl, arith, ℕ, Bool, List, ◌&&◌, ◌+◌, ◌<◌, length}
 use Rattle.std.proofs.lemmas.List.{drop-map}
 use Rattle.std.proofs.lemmas.List.Elements.{All-get_or}
 use Rattle.rr_circuit.specs.Values.{IsWire, wire_value, wire_values}
@@ -25,11 +25,11 @@ returns-clause-value c = λ env.
     let W : World = record { signals = λ input. signal_values n input c.args.words.now; choice = λ input. wire_values n input c.args.choice.now.wires.now } in
     let l : 0 < length bits = omega (arith, c.requires.last.room) in
     let gate = c.in_ok-gate.ensures.value W
-        (record {
-          wires = record { signals = c.requires.words; choice = c.requires.choice.0; room = c.requires.choice.1 };
-          signals = λ input. refl;
-          choice = record { wires = c.requires.choice.0; value = λ input. refl };
-        }) in
+    (record {
+      wires = record { signals = c.requires.words; choice = c.requires.choice.0; room = c.requires.choice.1 };
+      signals = λ input. refl;
+      choice = record { wires = c.requires.choice.0; value = λ input. refl };
+    }) in
     c.in_ok-out.ensures.value env
     ∙ ap₂ (λ (a b : Bool). a && b)
     (c.in_ok-gate.ensures.extends.values env _ (All-get_or (IsWire n) bits 0 _ l c.requires.bits) ∙ value-read n env bits 0 _ l)

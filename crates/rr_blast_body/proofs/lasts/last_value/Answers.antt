@@ -1,4 +1,4 @@
-use Rattle.std.proofs.Common.{◌≡◌, ◌∙◌, sym, ap, arith, ℕ, Bool, List, take, drop, length, length-drop, false}
+use Rattle.std.proofs.Common.{◌∙◌, sym, ap, arith, ℕ, Bool, List, take, drop, length-drop, false}
 use Rattle.std.proofs.lemmas.List.{drop-map, length-map, length-take-le, take-map}
 use Rattle.rr_circuit.specs.declared.Wire.{Wire}
 use Rattle.rr_circuit.specs.Values.{wire_value, wire_values}

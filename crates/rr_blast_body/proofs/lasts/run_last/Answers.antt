@@ -2,7 +2,7 @@ use Rattle.std.proofs.Common.{◌≡◌, ◌∙◌, sym, ap, ap₂, arith, ℕ, 
 use Rattle.std.specs.Prelude.{Vec}
 use Rattle.std.specs.Global.{Global}
 use Rattle.rr_circuit.specs.declared.Wire.{Wire}
-use Rattle.rr_circuit.specs.Values.{wire_value, wire_values}
+use Rattle.rr_circuit.specs.Values.{wire_values}
 use Rattle.rr_circuit.proofs.Netlists.{wire_values-extends}
 use Rattle.rr_syntax.specs.View.{texts}
 use Rattle.rr_expr.specs.declared.types.Bit.{Bit}

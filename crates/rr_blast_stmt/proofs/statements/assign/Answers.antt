@@ -4,7 +4,7 @@ use Rattle.std.specs.Global.{Global}
 use Rattle.rr_circuit.specs.declared.Wire.{Wire}
 use Rattle.rr_circuit.specs.Values.{wire_value, wire_values}
 use Rattle.rr_circuit.proofs.Netlists.{Extends-trans}
-use Rattle.rr_syntax.specs.Tree.{Tree, Assign}
+use Rattle.rr_syntax.specs.Tree.{Tree}
 use Rattle.rr_syntax.specs.View.{plain}
 use Rattle.rr_flat.specs.Targets.{target_bits}
 use Rattle.rr_instance.specs.declared.pick.Pick.{Pick}
@@ -17,7 +17,7 @@ use Rattle.rr_machine.proofs.SpotLaws.{put_spots-extends}
 use Rattle.rr_machine.proofs.WordLaws.{carried-extends}
 use Rattle.rr_blast_terms.specs.Choosing.{picks_of}
 use Rattle.rr_blast_terms.proofs.ChoiceLaws.{picks-extends}
-use Rattle.rr_blast_stmt.specs.Running.{Values, held, ran, stored}
+use Rattle.rr_blast_stmt.specs.Running.{Values, held, stored}
 use Rattle.rr_blast_stmt.proofs.ArmLaws.{held-extends}
 use Rattle.rr_blast_stmt.proofs.RanLaws.{ran_assign}
 use Rattle.rr_blast_stmt.proofs.statements.assign.Goals as goal

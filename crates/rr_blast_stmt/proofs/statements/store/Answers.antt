@@ -1,6 +1,6 @@
-use Rattle.std.proofs.Common.{◌∙◌, ap, ap₂, Bool, List, cond}
+use Rattle.std.proofs.Common.{◌∙◌, ap, ap₂, Bool, cond}
 use Rattle.rr_circuit.specs.Values.{wire_value, wire_values}
-use Rattle.rr_cycle.specs.Exec.{Environment, write}
+use Rattle.rr_cycle.specs.Exec.{Environment}
 use Rattle.rr_machine.specs.Words.{carried}
 use Rattle.rr_machine.proofs.WordLaws.{carried-extends}
 use Rattle.rr_blast_stmt.specs.Running.{held}

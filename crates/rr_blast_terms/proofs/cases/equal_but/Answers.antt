@@ -1,4 +1,4 @@
-use Rattle.std.proofs.Common.{◌∙◌, sym, ap, ap₂, not, length}
+use Rattle.std.proofs.Common.{◌∙◌, ap, ap₂, not}
 use Rattle.rr_bits.specs.Words.{inverted}
 use Rattle.rr_circuit.specs.Values.{wire_values}
 use Rattle.rr_circuit.proofs.Netlists.{wire_values-extends}

@@ -1,4 +1,4 @@
-use Rattle.std.proofs.Common.{◌≡◌, ◌∙◌, sym, ap, Bool, List, false, get_or}
+use Rattle.std.proofs.Common.{◌∙◌, sym, ap, Bool, List, false, get_or}
 use Rattle.std.proofs.lemmas.List.{append-nil}
 use Rattle.rr_bits.specs.Words.{word}
 use Rattle.rr_expr.specs.declared.types.Bit.{Bit}

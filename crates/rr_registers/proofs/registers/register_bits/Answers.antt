@@ -1,4 +1,4 @@
-use Rattle.std.proofs.Common.{◌≡◌, ◌∙◌, sym, ap, arith, ℕ, Bool, List, ◌<◌, ◌++◌, true, length}
+use Rattle.std.proofs.Common.{◌≡◌, ◌∙◌, ap, arith, ℕ, List, ◌<◌, ◌++◌, length}
 use Rattle.std.specs.List.{filter}
 use Rattle.std.proofs.lemmas.List.{get_or_read}
 use Rattle.rr_expr.specs.declared.types.Bit.{Bit}
@@ -6,7 +6,7 @@ use Rattle.rr_flat.specs.Signals as signals
 use Rattle.rr_flat.specs.Signals.{signal_at}
 use Rattle.rr_flat.specs.View.{plain_flat}
 use Rattle.rr_cycle.specs.Performing.{any_writes}
-use Rattle.rr_registers.proofs.ListLaws.{IsThere, masked_run, registers_are, registers_inside, run, signals_all, signals_more}
+use Rattle.rr_registers.proofs.ListLaws.{masked_run, registers_are, registers_inside, run, signals_all, signals_more}
 use Rattle.rr_registers.proofs.registers.register_bits.Goals as goal
 
 pub loop-signal-preserved : goal.loop-signal-preserved
