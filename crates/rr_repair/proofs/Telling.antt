@@ -1,0 +1,156 @@
+-- What the search answered, as what is to be done.
+use Rattle.std.proofs.Common.{◌≡◌, ◌⊎◌, inl, inr, ℕ, suc, ◌+◌, ◌-◌, ◌<◌, ◌≤◌, ◌^◌, min, List, [], ◌∷◌, length, map, refl, sym, ◌∙◌, ap, subst, arith, Option, Ok}
+use Rattle.std.specs.List.{sum}
+use Rattle.std.proofs.lemmas.List.{length-map}
+use Rattle.rr_syntax.specs.Tree.{SourceText}
+use Rattle.rr_syntax.specs.declared.site.Site.{Site as ArenaSite}
+use Rattle.rr_lex.specs.Tokens.{Lexeme}
+use Rattle.rr_grammar.specs.Trees.{IsTree}
+use Rattle.rr_circuit.specs.Values.{OutputNetlist}
+use Rattle.rr_derive.specs.Derive.{Proof}
+use Rattle.rr_flat.specs.Inputs.{row_inputs}
+use Rattle.rr_flat.specs.Plain.{Flat}
+use Rattle.rr_flat.specs.declared.fault.Limit.TheVariants as limit
+use Rattle.rr_trace.specs.Tables.{Table, table_of}
+use Rattle.rr_trace.specs.Tops.{ports_of}
+use Rattle.rr_run.specs.declared.fault.RunFault.{RunFault}
+use Rattle.rr_run.specs.declared.fault.RunFault.TheVariants as run_fault
+use Rattle.rr_run.specs.Refusals.{TooMany, StopsWhere as RunStops}
+use Rattle.rr_run.specs.Runs.{RefusesTable}
+use Rattle.rr_instance.specs.declared.pick.Pick.{Pick}
+use Rattle.rr_instance.specs.Choices.{cost, total_bits, IsChoice}
+use Rattle.rr_instance.specs.Instances.{instance_source}
+use Rattle.rr_instance.specs.Sites.{Site, IsSiteList}
+use Rattle.rr_instance.specs.View.{plain_site, plain_sites}
+use Rattle.rr_instance_laws.proofs.Few.{bits_are_few}
+use Rattle.rr_registers.specs.Registers.{registers_of}
+use Rattle.rr_blast.specs.Circuits.{bit_count}
+use Rattle.rr_blast.specs.Rows.{bits_of_row}
+use Rattle.rr_blast.proofs.FitLaws.{row_length}
+use Rattle.rr_transition.specs.Cycles.{Cycle, Design, widths_of}
+use Rattle.rr_table_laws.proofs.Standing.{tables_stand}
+use Rattle.rr_site_names.proofs.Written.{names_are_written}
+use Rattle.rr_respell.specs.Laws.{AreNamed}
+use Rattle.rr_elaborate.specs.Designs.{IsText}
+use Rattle.rr_walk.specs.Walk.{flat_of}
+use Rattle.rr_sites.specs.Lists.{AreSites}
+use Rattle.rr_respell.specs.Printing.{printed}
+use Rattle.rr_changes.specs.Texts.{report}
+use Rattle.rr_report.specs.Found.{Answer}
+use Rattle.rr_report.specs.Views.{stop_from, StopsWhere}
+use Rattle.rr_search.specs.Answers as search
+use Rattle.rr_search.specs.Answers.{Task, IsTask, IsOf}
+use Rattle.rr_search.specs.Least.{Least}
+use Rattle.rr_unroll.specs.Faithful.{Faithful}
+use Rattle.rr_answers.specs.Certified.{certificate}
+use Rattle.rr_answers.specs.Texts.{beyond_text}
+use Rattle.rr_repair.specs.Repairs.{Wish, AnswersRepair, IsAnswer, IsSited, IsTaken, Refuses, RefusesRepair, design_of, work_of}
+
+pub choice_length : (ss : List Site) (ps : List Pick) → IsChoice ss ps → length ps ≡ length ss
+unfolding IsChoice
+choice_length [] [] h = refl
+choice_length [] (p ∷ ps) h = absurd h
+choice_length (s ∷ ss) [] h = absurd h
+choice_length (s ∷ ss) (p ∷ ps) h = ap suc (choice_length ss ps h.1)
+
+-- answers
+
+module _ (w : Wish) (design : List ℕ) (tokens : List Lexeme) (source : SourceText) (t : Task) (answer : Answer) where
+  pub repair_told : (c : List Pick) (k : ℕ) (circuit : OutputNetlist) (p : Proof) → search.IsRepair (design_of w source) t c k circuit p.lines → answer.files ≡ certificate w.cert circuit p
+      → answer.out ≡ printed design tokens t.sites c source → IsTree answer.out (instance_source t.sites c source) → answer.notes ≡ report tokens t.sites c 0 → answer.status ≡ 0
+      → IsAnswer w design tokens source t.sites t.table answer
+  repair_told c k circuit p r files out tree notes status = inr (inl (record {
+    faulty = r.faulty;
+    choice = c;
+    chosen = r.choice;
+    some = subst (λ (n : ℕ). 1 ≤ n) (sym r.costs) r.some;
+    matches = r.mends;
+    least = subst (λ (n : ℕ). Least (design_of w source) t.sites t.table n) (sym r.costs) r.least;
+    printed = out;
+    tree = tree;
+    circuit = circuit;
+    proof = p;
+    fewer = record { faithful = subst (λ (n : ℕ). Faithful circuit (design_of w source) t.sites t.table (n - 1)) (sym r.costs) r.fewer.faithful; refutes = r.fewer.refuted };
+    files = files;
+    proposals = 0;
+    notes = notes;
+    status = status;
+  }))
+
+  pub beyond_told : (n : ℕ) (circuit : OutputNetlist) (p : Proof) → search.IsBeyondRepair (design_of w source) t circuit p.lines → length t.sites ≡ n → answer.files ≡ certificate w.cert circuit p
+      → answer.out ≡ [] → answer.notes ≡ beyond_text n → answer.status ≡ 1 → IsAnswer w design tokens source t.sites t.table answer
+  beyond_told n circuit p r e files out notes status = inr (inr (inl (record {
+    faulty = r.faulty;
+    none = r.none;
+    circuit = circuit;
+    proof = p;
+    all = record { faithful = r.all.faithful; refutes = r.all.refuted };
+    files = files;
+    printed = out;
+    notes = notes ∙ ap beyond_text (sym e);
+    status = status;
+  })))
+
+pub plain_count : (sites : List ArenaSite) (ss : List Site) → plain_sites sites ≡ ss → length ss ≡ length sites
+plain_count sites ss e = sym (ap (λ (x : List Site). length x) e) ∙ length-map sites plain_site
+
+-- bits of a cycle
+
+pub few_bits : (ss : List Site) → IsSiteList ss → length ss ≤ 1024 → total_bits ss < 4294967296
+few_bits ss h l = let b = bits_are_few ss h in omega (arith, b, l)
+
+capped : (t s r x y n : ℕ) → x ≡ min (t + s) 18446744073709551615 → y ≡ min (x + min r 18446744073709551615) 18446744073709551615 → y < 4294967296 → n ≡ r → t + s + n < 4294967296
+capped t s r x y n e f l g = omega (arith, e, f, l, g)
+
+pub few_cycle : (flat : Flat) (clock : Option ℕ) (ss : List Site) (s row x y : ℕ) → s ≡ length (registers_of flat) → row ≡ min (sum (widths_of flat (row_inputs clock flat.inputs))) 18446744073709551615
+    → x ≡ min (total_bits ss + s) 18446744073709551615 → y ≡ min (x + row) 18446744073709551615 → y < 4294967296 → bit_count flat clock ss < 4294967296
+few_cycle flat clock ss s row x y es er ex ey l =
+    capped (total_bits ss) (length (registers_of flat)) (sum (widths_of flat (row_inputs clock flat.inputs))) x y (length (bits_of_row flat.signals (row_inputs clock flat.inputs)))
+    (ex ∙ ap (λ (n : ℕ). min (total_bits ss + n) 18446744073709551615) es)
+    (ey ∙ ap (λ (n : ℕ). min (x + n) 18446744073709551615) er)
+    l
+    (row_length flat.signals (row_inputs clock flat.inputs))
+
+-- refusals
+
+module _ (w : Wish) (design table : List ℕ) (tokens : List Lexeme) (source : SourceText) (flat : Flat) (clock : Option ℕ) (sites : List Site) (sited : IsSited w design tokens source flat clock sites) where
+  pub stops_table : (f : RunFault) → RunStops (RefusesTable flat clock table) f → StopsWhere (RefusesRepair w design table) (stop_from f)
+  stops_table (run_fault.Refused r) h = inr (inl (record { tokens = tokens; source = source; flat = flat; clock = clock; sites = sites; sited = sited; refused = h }))
+  stops_table run_fault.Memory h = tt
+
+  module _ (rows : Table) (read : table_of (ports_of flat clock) table ≡ Ok rows) (work : ℕ) (e : work ≡ work_of flat rows) where
+    pub much_work : 262144 < work → Refuses w design table (TooMany limit.Work work)
+    much_work l = inr (inr (record {
+      tokens = tokens;
+      source = source;
+      flat = flat;
+      clock = clock;
+      sites = sites;
+      sited = sited;
+      rows = rows;
+      read = read;
+      much = subst (λ (n : ℕ). 262144 < n) e l;
+      told = ap (λ (n : ℕ). TooMany limit.Work n) e;
+    }))
+
+    pub answered : (answer : Answer) → work ≤ 262144 → IsAnswer w design tokens source sites rows answer → AnswersRepair w design table answer
+    answered answer l is = record {
+      tokens = tokens;
+      source = source;
+      sites = sites;
+      rows = rows;
+      taken = record { flat = flat; clock = clock; sited = sited; read = read; small = subst (λ (n : ℕ). n ≤ 262144) e l };
+      is = is;
+    }
+
+-- what is asked of the search
+
+pub task_stands : (t : Task) (j : Design) → Cycle j t.sites t.transition → 1 ≤ t.members → t.members ≤ 8 → 1 ≤ t.budget → IsTask t
+task_stands t j y some most budget = record { bits = y.choice_bits; switches = y.switches; some = some; most = most; budget = budget }
+
+pub task_of_design : (t : Task) (j : Design) → Cycle j t.sites t.transition → (flat : Flat) → flat_of j.source j.top ≡ Ok flat → (clock : Option ℕ) (bytes : List ℕ) → table_of (ports_of flat clock) bytes ≡ Ok t.table → IsOf t j
+task_of_design t j y flat e clock bytes r = record { stands = y; fits = tables_stand j t.sites t.transition y flat e clock bytes t.table r }
+
+pub sites_named : (bytes : List ℕ) (ts : List Lexeme) (source : SourceText) (flat : Flat) (clock : Option ℕ) (ss : List Site) → IsText bytes ts source → AreSites source flat clock ss → AreNamed ss
+sites_named bytes ts source flat clock ss text are =
+    subst AreNamed (sym are.2) (names_are_written bytes ts source text.lexed text.spells.tree.spells flat.scopes flat.owners are.0)

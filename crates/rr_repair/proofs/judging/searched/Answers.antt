@@ -1,0 +1,18 @@
+use Rattle.rr_syntax.specs.View.{plain_source}
+use Rattle.rr_flat.specs.View.{plain_flat}
+use Rattle.rr_repair.specs.Repairs.{design_of}
+use Rattle.rr_repair.specs.Views.{wish_of}
+use Rattle.rr_repair.proofs.Telling.{task_of_design, task_stands}
+use Rattle.rr_repair.proofs.judging.searched.Goals as goal
+
+-- src/judging.rt
+pub least-requires-clause-task : goal.least-requires-clause-task
+least-requires-clause-task g c =
+    let j = design_of (wish_of c.args.asked.now) (plain_source c.args.design.now.source.now) in
+    λ κs o. task_stands _ j (c.in_ok-cycle.ensures j c.requires.fits) c.requires.some c.requires.most c.requires.budget
+
+pub told-requires-clause-found : goal.told-requires-clause-found
+told-requires-clause-found g c =
+    let j = design_of (wish_of c.args.asked.now) (plain_source c.args.design.now.source.now) in
+    c.in_ok-answer.ensures.answer j
+    (task_of_design _ j (c.in_ok-cycle.ensures j c.requires.fits) (plain_flat c.args.design.now.flat) c.requires.fits.design c.args.design.now.order.clock c.requires.read.0 c.requires.read.1)

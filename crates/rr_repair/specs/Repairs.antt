@@ -1,0 +1,183 @@
+-- What the repair of a design is, from the bytes of the design and of its table: the source with the fewest changes whose run
+-- matches each known cell, or that no changes do, or that the search has spent its lines. No search stands in it.
+use Rattle.std.specs.Prelude.{◌≡◌, ◌⊎◌, ℕ, ◌-◌, ◌*◌, ◌<◌, ◌≤◌, min, Bool, List, [], length, map, Option, Ok}
+use Rattle.std.specs.List.{sum}
+use Rattle.rr_syntax.specs.Tree.{SourceText}
+use Rattle.rr_lex.specs.Tokens.{Lexeme}
+use Rattle.rr_grammar.specs.Trees.{IsTree}
+use Rattle.rr_flat.specs.Clocks.{OneClock}
+use Rattle.rr_flat.specs.Lawful.{Lawful}
+use Rattle.rr_flat.specs.Plain.{Flat}
+use Rattle.rr_flat.specs.Signals.{Signal, Text}
+use Rattle.rr_flat.specs.declared.fault.Limit.TheVariants as limit
+use Rattle.rr_elaborate.specs.Designs.{IsDesignOf}
+use Rattle.rr_circuit.specs.Values.{OutputNetlist}
+use Rattle.rr_derive.specs.Derive.{Proof, Refutes}
+use Rattle.rr_trace.specs.Tables.{Table, table_of}
+use Rattle.rr_trace.specs.Tops.{ports_of}
+use Rattle.rr_run.specs.Refusals.{Refusal as RunRefusal, TooMany}
+use Rattle.rr_run.specs.Runs.{RefusesTable}
+use Rattle.rr_instance.specs.declared.pick.Pick.{Pick}
+use Rattle.rr_instance.specs.Choices.{cost, IsChoice}
+use Rattle.rr_instance.specs.Instances.{instance_source}
+use Rattle.rr_instance.specs.Sites.{Site}
+use Rattle.rr_members.specs.Searched.{IsSpent}
+use Rattle.rr_respell.specs.Printing.{printed}
+use Rattle.rr_changes.specs.Texts.{report}
+use Rattle.rr_sites.specs.Lists.{AreSites, RefusesSites}
+use Rattle.rr_transition.specs.Cycles.{Design, instance_design}
+use Rattle.rr_tseitin.specs.Tseitin.{formula_of}
+use Rattle.rr_unroll.specs.Faithful.{Faithful}
+use Rattle.rr_unroll.specs.Matches.{Matches}
+use Rattle.rr_search.specs.Least.{Least, NoneMatches}
+use Rattle.rr_report.specs.Found.{Answer}
+use Rattle.rr_report.specs.Refusals.{Refusal, TooManyBytes, Input, NotBuilt, Flawed}
+use Rattle.rr_answers.specs.Certified.{certificate}
+use Rattle.rr_answers.specs.Texts.{beyond_text, open_text, unchanged_text}
+
+-- what is asked: the top and the clock, each given or not, the name of the certificate's files, and how many lines each of how
+-- many members of a search may learn for one question
+pub record Wish : Type 0 where
+  pub top : Option Text
+  pub clock : Option Text
+  pub cert : List ℕ
+  pub budget : ℕ
+  pub members : ℕ
+
+-- the bits of all signals
+abbrev pub flat_bits : Flat → ℕ
+flat_bits flat = sum (map (λ (s : Signal). s.width) flat.signals)
+
+-- the work of a search, of which a count of 64 bits is kept
+abbrev pub work_of : Flat → Table → ℕ
+work_of flat rows = min (length rows.inputs * flat_bits flat) 18446744073709551615
+
+-- the bytes of a design have these tokens, this tree and this lawful flat design, with at most 1,024 sites
+pub record IsSited (w : Wish) (design : List ℕ) (tokens : List Lexeme) (source : SourceText) (flat : Flat) (clock : Option ℕ) (sites : List Site) : Type 0 where
+  pub tree : IsDesignOf design tokens source w.top flat
+  pub lawful : Lawful flat w.clock
+  pub rising : Bool
+  pub one_clock : OneClock flat w.clock clock rising
+  pub are : AreSites source flat clock sites
+  pub few : length sites ≤ 1024
+
+-- both files are taken: these are the design and its sites, and the rows of its table
+pub record IsTaken (w : Wish) (design table : List ℕ) (tokens : List Lexeme) (source : SourceText) (sites : List Site) (rows : Table) : Type 0 where
+  pub flat : Flat
+  pub clock : Option ℕ
+  pub sited : IsSited w design tokens source flat clock sites
+  pub read : table_of (ports_of flat clock) table ≡ Ok rows
+  pub small : work_of flat rows ≤ 262144
+
+-- the design, with the words for its top and its clock
+abbrev pub design_of : Wish → SourceText → Design
+design_of w source = record { source = source; top = w.top; word = w.clock }
+
+-- ---- answers
+
+-- the design matches as it is: it is printed as it is, and nothing is written
+pub record IsUnchanged (w : Wish) (design : List ℕ) (source : SourceText) (rows : Table) (answer : Answer) : Type 0 where
+  pub matches : Matches (design_of w source) rows
+  pub files : answer.files ≡ []
+  pub printed : answer.out ≡ design
+  pub notes : answer.notes ≡ unchanged_text
+  pub status : answer.status ≡ 0
+
+-- a circuit that is true where at most so many changes match, and lines that refute its formula
+pub record IsRefutation (j : Design) (sites : List Site) (rows : Table) (bound : ℕ) (circuit : OutputNetlist) (proof : Proof) : Type 0 where
+  pub faithful : Faithful circuit j sites rows bound
+  pub refutes : Refutes (formula_of circuit).clauses proof.lines
+
+-- a choice of at least one change whose instance matches, and none of fewer changes does: the source is printed with these
+-- changes, its tree is the instance, and the certificate of fewer changes is written
+pub record IsRepaired (w : Wish) (design : List ℕ) (tokens : List Lexeme) (source : SourceText) (sites : List Site) (rows : Table) (answer : Answer) : Type 0 where
+  pub faulty : Matches (design_of w source) rows → ⊥
+  pub choice : List Pick
+  pub chosen : IsChoice sites choice
+  pub some : 1 ≤ cost choice
+  pub matches : Matches (instance_design sites choice (design_of w source)) rows
+  pub least : Least (design_of w source) sites rows (cost choice)
+  pub printed : answer.out ≡ printed design tokens sites choice source
+  pub tree : IsTree answer.out (instance_source sites choice source)
+  pub circuit : OutputNetlist
+  pub proof : Proof
+  pub fewer : IsRefutation (design_of w source) sites rows (cost choice - 1) circuit proof
+  pub files : answer.files ≡ certificate w.cert circuit proof
+  pub proposals : ℕ
+  pub notes : answer.notes ≡ report tokens sites choice proposals
+  pub status : answer.status ≡ 0
+
+-- no choice gives an instance that matches: the certificate of all changes is written, and nothing is printed
+pub record IsBeyond (w : Wish) (source : SourceText) (sites : List Site) (rows : Table) (answer : Answer) : Type 0 where
+  pub faulty : Matches (design_of w source) rows → ⊥
+  pub none : NoneMatches (design_of w source) sites rows
+  pub circuit : OutputNetlist
+  pub proof : Proof
+  pub all : IsRefutation (design_of w source) sites rows (length sites) circuit proof
+  pub files : answer.files ≡ certificate w.cert circuit proof
+  pub printed : answer.out ≡ []
+  pub notes : answer.notes ≡ beyond_text (length sites)
+  pub status : answer.status ≡ 1
+
+-- whether at most so many changes match is left open: each member has learned exactly as many fresh lines as it may, which are
+-- written with the question, and nothing is printed
+pub record IsOpen (w : Wish) (source : SourceText) (sites : List Site) (rows : Table) (answer : Answer) : Type 0 where
+  pub faulty : Matches (design_of w source) rows → ⊥
+  pub bound : ℕ
+  pub few : bound ≤ length sites
+  pub circuit : OutputNetlist
+  pub proof : Proof
+  pub faithful : Faithful circuit (design_of w source) sites rows bound
+  pub spent : IsSpent (formula_of circuit) circuit.netlist.inputs w.members w.budget proof.lines
+  pub files : answer.files ≡ certificate w.cert circuit proof
+  pub printed : answer.out ≡ []
+  pub notes : answer.notes ≡ open_text w.budget bound
+  pub status : answer.status ≡ 2
+
+abbrev pub IsAnswer : Wish → List ℕ → List Lexeme → SourceText → List Site → Table → Answer → Type 0
+IsAnswer w design tokens source sites rows answer =
+    IsUnchanged w design source rows answer ⊎ (IsRepaired w design tokens source sites rows answer ⊎ (IsBeyond w source sites rows answer ⊎ IsOpen w source sites rows answer))
+
+-- the answer for two files
+pub record AnswersRepair (w : Wish) (design table : List ℕ) (answer : Answer) : Type 0 where
+  pub tokens : List Lexeme
+  pub source : SourceText
+  pub sites : List Site
+  pub rows : Table
+  pub taken : IsTaken w design table tokens source sites rows
+  pub is : IsAnswer w design tokens source sites rows answer
+
+-- ---- refusals
+
+-- the design is taken, and the table is none for its ports
+pub record HasNoTable (w : Wish) (design table : List ℕ) (refusal : RunRefusal) : Type 0 where
+  pub tokens : List Lexeme
+  pub source : SourceText
+  pub flat : Flat
+  pub clock : Option ℕ
+  pub sites : List Site
+  pub sited : IsSited w design tokens source flat clock sites
+  pub refused : RefusesTable flat clock table refusal
+
+-- the table has these rows, and the work is above 262,144, which the refusal tells
+pub record HasMuchWork (w : Wish) (design table : List ℕ) (refusal : RunRefusal) : Type 0 where
+  pub tokens : List Lexeme
+  pub source : SourceText
+  pub flat : Flat
+  pub clock : Option ℕ
+  pub sites : List Site
+  pub sited : IsSited w design tokens source flat clock sites
+  pub rows : Table
+  pub read : table_of (ports_of flat clock) table ≡ Ok rows
+  pub much : 262144 < work_of flat rows
+  pub told : refusal ≡ TooMany limit.Work (work_of flat rows)
+
+-- why two files have no repair: of the design and its sites first, then of the table, then of the work
+abbrev pub Refuses : Wish → List ℕ → List ℕ → RunRefusal → Type 0
+Refuses w design table refusal = RefusesSites design w.top w.clock refusal ⊎ (HasNoTable w design table refusal ⊎ HasMuchWork w design table refusal)
+
+abbrev pub RefusesRepair : Wish → List ℕ → List ℕ → Refusal → Type 0
+RefusesRepair w design table (TooManyBytes count) = ⊥
+RefusesRepair w design table (Input refusal) = Refuses w design table refusal
+RefusesRepair w design table (NotBuilt part) = ⊥
+RefusesRepair w design table (Flawed flaw line) = ⊥

@@ -1,0 +1,274 @@
+//! The answer for a design and its table.
+ghost use Rattle.std.specs.Prelude.{◌≡◌, ◌<◌, ◌≤◌, ◌^◌, ℕ, List, Ok, IfOk, MatchResult, length};
+ghost use Rattle.rr_syntax.specs.Items.{FitLiteralsSource};
+ghost use Rattle.rr_syntax.specs.View.{plain_source};
+ghost use Rattle.rr_lex.specs.Tokens.{lexemes};
+ghost use Rattle.rr_flat.specs.View.{plain_flat};
+ghost use Rattle.rr_clock.specs.Clock.{IsClockInput};
+ghost use Rattle.rr_flat.specs.Clocks.{OneClock};
+ghost use Rattle.rr_elaborate.specs.Designs.{IsDesignOf, IsText};
+ghost use Rattle.rr_blast.specs.Circuits.{FitsArguments};
+ghost use Rattle.rr_transition.specs.Cycles.{Cycle, Design};
+ghost use Rattle.rr_search.specs.Answers.{AnswerIs, task_of};
+ghost use Rattle.rr_respell.specs.Laws.{AreNamed};
+ghost use Rattle.rr_run.specs.Runs.{InOrder};
+ghost use Rattle.rr_trace.specs.Tables.{table_of};
+ghost use Rattle.rr_trace.specs.Tops.{ports_of};
+ghost use Rattle.rr_trace.specs.View.{plain_table};
+ghost use Rattle.rr_report.specs.Views.{plain_answer, StopsWhere};
+ghost use Rattle.rr_repair.specs.Repairs.{AnswersRepair, IsAnswer, IsSited, RefusesRepair, design_of};
+ghost use Rattle.rr_repair.specs.Views.{wish_of};
+
+use crate::asked::Asked;
+use crate::working::{count_row, work_of};
+use bumpalo::Bump;
+use rr_answers::{beyond, left_open, repaired, unchanged};
+use rr_blast::transition;
+use rr_instance::SiteList;
+use rr_registers::register_bits;
+use rr_report::{Found, Refusal, Stop, stop_of};
+use rr_run::{LawfulDesign, Limit, Refusal as RunRefusal, RunFault, lawful_design, read_rows};
+use rr_search::{Answer, Job, least};
+use rr_sites::design_sites;
+use rr_trace::Table;
+use rr_transition::Transition;
+use std::alloc::{AllocError, Global};
+use std::thread::Threads;
+
+/// The most sites of a design.
+const SITE_LIMIT: usize = 1024;
+
+/// The most work of a search.
+const WORK_LIMIT: u64 = 262144;
+
+/// The circuit of one cycle of a design with at most 1,024 sites. A cycle of 2^32 bits or more is want of
+/// memory.
+fn cycle_of(
+    alloc: Global,
+    design: &LawfulDesign<'_>,
+    list: &SiteList<'_>,
+) -> Result<Transition, AllocError>
+    requires fits { (j : Design) × FitsArguments j (plain_flat design.now.flat) design.now.order.clock design.now.order.rising design.now.order.steps.items list.now }
+    requires few { length list.now ≤ 1024 }
+    ensures { IfOk result (λ t. (j : Design) → FitsArguments j (plain_flat design.now.flat) design.now.order.clock design.now.order.rising design.now.order.steps.items list.now → Cycle j list.now t) }
+{
+    // The list keeps that a site has few names and at most 128 bits, so few bits of a choice.
+    list.sites();
+    let registers = register_bits(alloc, &design.flat)?;
+    let ids = design.flat.row_inputs(alloc, design.order.clock)?;
+    let row = count_row(&design.flat, ids.as_slice());
+    let kept = registers.as_slice();
+    let state = kept.len() as u64;
+    let choice = u64::from(list.bits());
+    if choice.saturating_add(state).saturating_add(row) >= 1 << 32 {
+        return Err(AllocError);
+    }
+    let cycle = transition(alloc, &design.flat, &design.order, list)?;
+    Ok(cycle)
+}
+
+/// The answer of a search over the sites of a design, carried into what is to be done.
+fn told<'b>(
+    alloc: Global,
+    bytes: &'b [u8],
+    design: &LawfulDesign<'_>,
+    job: &Job<'_>,
+    asked: &Asked<'_>,
+    answer: &Answer,
+) -> Result<Found<'b>, AllocError>
+    requires small { length bytes.now < 2 ^ 32 }
+    requires text { IsText bytes.now (lexemes design.now.tokens.now) (plain_source design.now.source.now) }
+    requires few { length job.now.list.now ≤ 1024 }
+    requires named { AreNamed job.now.list.now }
+    requires members { job.now.members ≡ asked.now.members }
+    requires budget { job.now.budget ≡ asked.now.budget }
+    requires found { AnswerIs (task_of job.now) (design_of (wish_of asked.now) (plain_source design.now.source.now)) answer.now }
+    ensures { IfOk result (λ found. IsAnswer (wish_of asked.now) bytes.entry.now (lexemes design.now.tokens.now) (plain_source design.now.source.now) job.now.list.now (plain_table job.now.table.now) (plain_answer found)) }
+{
+    match answer {
+        Answer::Unchanged => Ok(unchanged(alloc, bytes)),
+        Answer::Repair {
+            choice,
+            circuit,
+            journal,
+            ..
+        } => {
+            let source = design.source;
+            let cert = asked.cert;
+            let list = job.list;
+            let tokens = design.tokens;
+            let found = repaired(
+                alloc, bytes, tokens, source, list, choice, cert, circuit, journal,
+            )?;
+            Ok(found)
+        }
+        Answer::NoRepair { circuit, journal } => {
+            let sites = job.list.sites().len();
+            let found = beyond(alloc, sites, asked.cert, circuit, journal)?;
+            Ok(found)
+        }
+        Answer::Spent {
+            bound,
+            circuit,
+            journal,
+        } => {
+            let found = left_open(alloc, asked.budget, *bound, asked.cert, circuit, journal)?;
+            Ok(found)
+        }
+    }
+}
+
+/// The answer for a lawful design, its sites and the rows of its table.
+fn searched<'b, R: Threads + Sync>(
+    rt: &R,
+    alloc: Global,
+    bytes: &'b [u8],
+    design: &LawfulDesign<'_>,
+    list: &SiteList<'_>,
+    rows: &Table,
+    asked: &Asked<'_>,
+) -> Result<Found<'b>, AllocError>
+    requires small { length bytes.now < 2 ^ 32 }
+    requires text { IsText bytes.now (lexemes design.now.tokens.now) (plain_source design.now.source.now) }
+    requires few { length list.now ≤ 1024 }
+    requires named { AreNamed list.now }
+    requires some { 1 ≤ asked.now.members }
+    requires most { asked.now.members ≤ 8 }
+    requires budget { 1 ≤ asked.now.budget }
+    requires fits { FitsArguments (design_of (wish_of asked.now) (plain_source design.now.source.now)) (plain_flat design.now.flat) design.now.order.clock design.now.order.rising design.now.order.steps.items list.now }
+    requires read { (table : List ℕ) × (table_of (ports_of (plain_flat design.now.flat) design.now.order.clock) table ≡ Ok (plain_table rows.now)) }
+    ensures { IfOk result (λ found. IsAnswer (wish_of asked.now) bytes.entry.now (lexemes design.now.tokens.now) (plain_source design.now.source.now) list.now (plain_table rows.now) (plain_answer found)) }
+{
+    let cycle = cycle_of(alloc, design, list)?;
+    let job = Job {
+        list,
+        transition: &cycle,
+        table: rows,
+        budget: asked.budget,
+        members: asked.members,
+    };
+    let answer = least(rt, alloc, &job, &[])?;
+    let found = told(alloc, bytes, design, &job, asked, &answer)?;
+    Ok(found)
+}
+
+/// The answer for a lawful design, its sites and the rows of its table, or that the work is too much.
+fn judge_rows<'b, 'a, R: Threads + Sync>(
+    rt: &R,
+    alloc: Global,
+    bytes: &'b [u8],
+    design: &LawfulDesign<'a>,
+    list: &SiteList<'_>,
+    rows: &Table,
+    asked: &Asked<'_>,
+) -> Result<Found<'b>, Stop<'a>>
+    requires small { length bytes.now < 2 ^ 32 }
+    requires text { IsText bytes.now (lexemes design.now.tokens.now) (plain_source design.now.source.now) }
+    requires few { length list.now ≤ 1024 }
+    requires named { AreNamed list.now }
+    requires some { 1 ≤ asked.now.members }
+    requires most { asked.now.members ≤ 8 }
+    requires budget { 1 ≤ asked.now.budget }
+    requires fits { FitsArguments (design_of (wish_of asked.now) (plain_source design.now.source.now)) (plain_flat design.now.flat) design.now.order.clock design.now.order.rising design.now.order.steps.items list.now }
+    requires read { (table : List ℕ) × (table_of (ports_of (plain_flat design.now.flat) design.now.order.clock) table ≡ Ok (plain_table rows.now)) }
+    ensures { (table : List ℕ) → IsSited (wish_of asked.now) bytes.entry.now (lexemes design.now.tokens.now) (plain_source design.now.source.now) (plain_flat design.now.flat) design.now.order.clock list.now
+        → table_of (ports_of (plain_flat design.now.flat) design.now.order.clock) table ≡ Ok (plain_table rows.now)
+        → MatchResult result (λ found. AnswersRepair (wish_of asked.now) bytes.entry.now table (plain_answer found)) (StopsWhere (RefusesRepair (wish_of asked.now) bytes.entry.now table)) }
+{
+    let work = work_of(&design.flat, rows);
+    if work > WORK_LIMIT {
+        let refusal = RunRefusal::TooMany(Limit::Work, work);
+        return Err(Stop::Refused(Refusal::Input(refusal)));
+    }
+    match searched(rt, alloc, bytes, design, list, rows, asked) {
+        Ok(found) => Ok(found),
+        Err(_) => Err(Stop::Memory),
+    }
+}
+
+/// The answer for a lawful design, its sites and the bytes of its table.
+fn judge_table<'b, 'a, R: Threads + Sync>(
+    rt: &R,
+    alloc: Global,
+    bytes: &'b [u8],
+    design: &LawfulDesign<'a>,
+    list: &SiteList<'_>,
+    table: &[u8],
+    asked: &Asked<'_>,
+) -> Result<Found<'b>, Stop<'a>>
+    requires small { length bytes.now < 2 ^ 32 }
+    requires text { IsText bytes.now (lexemes design.now.tokens.now) (plain_source design.now.source.now) }
+    requires few { length list.now ≤ 1024 }
+    requires named { AreNamed list.now }
+    requires some { 1 ≤ asked.now.members }
+    requires most { asked.now.members ≤ 8 }
+    requires budget { 1 ≤ asked.now.budget }
+    requires fits { FitsArguments (design_of (wish_of asked.now) (plain_source design.now.source.now)) (plain_flat design.now.flat) design.now.order.clock design.now.order.rising design.now.order.steps.items list.now }
+    ensures { IsSited (wish_of asked.now) bytes.entry.now (lexemes design.now.tokens.now) (plain_source design.now.source.now) (plain_flat design.now.flat) design.now.order.clock list.now
+        → MatchResult result (λ found. AnswersRepair (wish_of asked.now) bytes.entry.now table.now (plain_answer found)) (StopsWhere (RefusesRepair (wish_of asked.now) bytes.entry.now table.now)) }
+{
+    match read_rows(alloc, design, table) {
+        Ok(rows) => judge_rows(rt, alloc, bytes, design, list, &rows, asked),
+        Err(fault) => Err(stop_of(fault)),
+    }
+}
+
+/// The answer for a lawful design and the bytes of its table, or that it has too many sites.
+fn judge_sites<'b, 'a, R: Threads + Sync>(
+    rt: &R,
+    alloc: Global,
+    bytes: &'b [u8],
+    design: &LawfulDesign<'a>,
+    table: &[u8],
+    asked: &Asked<'_>,
+    arena: &'a Bump,
+) -> Result<Found<'b>, Stop<'a>>
+    requires small { length bytes.now < 2 ^ 32 }
+    requires tree { IsDesignOf bytes.now (lexemes design.now.tokens.now) (plain_source design.now.source.now) (wish_of asked.now).top (plain_flat design.now.flat) }
+    requires input { IsClockInput (plain_flat design.now.flat) design.now.order.clock }
+    requires fit { FitLiteralsSource (plain_source design.now.source.now) }
+    requires few { length design.now.tokens.now < 2 ^ 32 }
+    requires ordered { InOrder design.now.flat design.now.order (wish_of asked.now).clock }
+    requires some { 1 ≤ asked.now.members }
+    requires most { asked.now.members ≤ 8 }
+    requires budget { 1 ≤ asked.now.budget }
+    ensures { OneClock (plain_flat design.now.flat) (wish_of asked.now).clock design.now.order.clock design.now.order.rising
+        → MatchResult result (λ found. AnswersRepair (wish_of asked.now) bytes.entry.now table.now (plain_answer found)) (StopsWhere (RefusesRepair (wish_of asked.now) bytes.entry.now table.now)) }
+{
+    let list = match design_sites(alloc, design, arena) {
+        Ok(list) => list,
+        Err(_) => return Err(Stop::Memory),
+    };
+    let count = list.sites().len();
+    if count > SITE_LIMIT {
+        let refusal = RunRefusal::TooMany(Limit::Sites, count as u64);
+        return Err(Stop::Refused(Refusal::Input(refusal)));
+    }
+    judge_table(rt, alloc, bytes, design, &list, table, asked)
+}
+
+/// The repair of a design of at most 1,048,576 bytes by its table: what is to be printed, reported and
+/// written. Else the first refusal: of the design (1 to 25), that it has more than 1,024 sites (16), of
+/// the table (33, 26 to 32 and 16), and that the rows times the bits of all signals are more than
+/// 262,144 (16). Names in a refusal live in the arena.
+pub fn repair<'b, 'a, R: Threads + Sync>(
+    rt: &R,
+    alloc: Global,
+    design: &'b [u8],
+    table: &[u8],
+    asked: &Asked<'_>,
+    arena: &'a Bump,
+) -> Result<Found<'b>, Stop<'a>>
+    requires small { length design.now ≤ 1048576 }
+    requires some { 1 ≤ asked.now.members }
+    requires most { asked.now.members ≤ 8 }
+    requires budget { 1 ≤ asked.now.budget }
+    ensures { MatchResult result
+        (λ found. AnswersRepair (wish_of asked.now) design.entry.now table.now (plain_answer found))
+        (StopsWhere (RefusesRepair (wish_of asked.now) design.entry.now table.now)) }
+{
+    match lawful_design(alloc, design, asked.top, asked.clock, arena) {
+        Ok(lawful) => judge_sites(rt, alloc, design, &lawful, table, asked, arena),
+        Err(fault) => Err(stop_of(fault)),
+    }
+}

@@ -1,0 +1,36 @@
+//! Designs with faults, and their tables.
+
+pub(crate) const GATE: &str = "module m(input a, output y);\n  assign y = a & 1'b0;\nendmodule\n";
+
+pub(crate) const GATE_TABLE: &str = "a,y\n0,0\n1,1\n";
+
+pub(crate) const COUNTER: &str =
+    "module counter(input clk, input rst, output reg [3:0] q);\n  always @(posedge clk)\n    if (rst) q <= 4'd0;\n    else q <= q + 4'd2;\nendmodule\n";
+
+pub(crate) const COUNTER_TABLE: &str = "rst,q\n1,0\n0,0\n0,1\n0,2\n0,3\n";
+
+pub(crate) const INVERTED: &str =
+    "module m(input clk, input rst, output reg q);\n  always @(posedge clk)\n    if (!rst) q <= 1'b0;\n    else q <= ~q;\nendmodule\n";
+
+pub(crate) const INVERTED_TABLE: &str = "rst,q\n1,0\n0,0\n0,1\n0,0\n1,1\n";
+
+pub(crate) const MISSING: &str =
+    "module m(input clk, input rst, output reg [3:0] q);\n  always @(posedge clk)\n    q <= q + 4'd1;\nendmodule\n";
+
+pub(crate) const MISSING_TABLE: &str = "rst,q\n0,0\n0,1\n1,2\n0,0\n0,1\n";
+
+pub(crate) const TWO: &str =
+    "module m(input clk, output reg [3:0] p, output reg [3:0] q);\n  always @(posedge clk) p <= p + 4'd2;\n  always @(posedge clk) q <= q + 4'd3;\nendmodule\n";
+
+pub(crate) const TWO_TABLE: &str = "p,q\n0,0\n1,1\n2,2\n3,3\n";
+
+pub(crate) const WIRE: &str = "module m(input a, output y); assign y = a; endmodule\n";
+
+pub(crate) const WIRE_TABLE: &str = "a,y\n0,0\n0,1\n";
+
+pub(crate) const CELLS: &str = "module m(input [3:0] a, output [3:0] y); assign y = a; endmodule\n";
+
+pub(crate) const INSTANCES: &str =
+    "module inc(input [3:0] a, output [3:0] y);\n  assign y = a + 4'd2;\nendmodule\nmodule m(input [3:0] a, output [3:0] y);\n  wire [3:0] t;\n  inc u0(.a(a), .y(t));\n  inc u1(.a(t), .y(y));\nendmodule\n";
+
+pub(crate) const INSTANCES_TABLE: &str = "a,y\n0,2\n5,7\n";

@@ -1,0 +1,8 @@
+//! Tests of whole repairs: a design and its table in; the printed source, the report, the status and the
+//! certificate out. Nothing stands on it.
+#![tactic(auto)]
+
+#[cfg(test)]
+mod designs;
+#[cfg(test)]
+mod repairs;
