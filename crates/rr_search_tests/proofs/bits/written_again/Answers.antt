@@ -5,7 +5,7 @@ use Rattle.rr_search_tests.proofs.bits.written_again.Goals as goal
 
 pub bits-requires : goal.bits-requires
 bits-requires c =
-    let few = c.choice_laws.ensures.few c.SiteList_new-list.result c.sites-found.ensures.kept in
+    let few = c.choice_laws.ensures.few c.new-list.result c.sites-found.ensures.kept in
     let same = ap length c.sites-found.ensures.same in
     let count = length-map c.sites-found.result.now plain_site in
     omega (arith, few, same, count, c.if-found-gt1000.false)
