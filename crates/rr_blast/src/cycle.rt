@@ -51,7 +51,7 @@ fn add_bits(list: &mut Vec<Bit>, signal: u32, width: u32) -> Result<(), AllocErr
 }
 
 /// The bits of the inputs of a row, input after input, the lowest first.
-pub(crate) fn row_bits(alloc: Global, flat: &Flat, inputs: &[u32]) -> Result<Vec<Bit>, AllocError>
+pub fn row_bits(alloc: Global, flat: &Flat, inputs: &[u32]) -> Result<Vec<Bit>, AllocError>
     requires inside { All (λ id. id < length flat.now.signals) inputs.now }
     ensures value { IfOk result (λ r. r.items ≡ bits_of_row (plain_flat flat.now).signals inputs.now) }
     ensures there { IfOk result (λ r. All (IsThere (signal_widths flat.now.signals)) r.items) }

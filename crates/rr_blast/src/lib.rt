@@ -8,4 +8,5 @@ mod beginning;
 mod cycle;
 mod making;
 
+pub use cycle::row_bits;
 pub use making::transition;
