@@ -16,7 +16,7 @@ use Rattle.rr_report.specs.Views.{plain_answer, report_text, IsRefusedOrNoMemory
 use Rattle.rr_effects.specs.Outside.{Outside, outside, KeepsShelf, KeepsOut}
 use Rattle.rr_effects.specs.Reads.{Given, StopsReading}
 use Rattle.rr_effects.specs.Delivery.{Delivers}
-use Rattle.rr_top.specs.Commands.{Command, Due, Refuses, WhereTwo}
+use Rattle.rr_top.specs.Commands.{Command, Due, Refuses, WhereOne, WhereTwo}
 use Rattle.rr_top.specs.Endings.{CommandEnds}
 use Rattle.rr_top.specs.Views.{Gives}
 
@@ -48,6 +48,30 @@ first_within told one other [] g = absurd g
 first_within told one other (a ∷ []) g = absurd g.1
 first_within told one other (a ∷ (b ∷ [])) g = g.0.short
 first_within told one other (a ∷ (b ∷ (c ∷ files))) g = absurd g.1.1
+
+-- ---- one file
+module _ (command : Command) (only : List ℕ) where
+  gives_one : (result : Result Found Stop) → MatchResult result (λ found. command.answers (only ∷ []) (plain_answer found)) (StopsWhere (command.refuses (only ∷ []))) → Gives command (only ∷ []) result
+  gives_one (Ok found) g = g
+  gives_one (Err stop) g = g
+
+  pub gives_of_one : (files : List (List ℕ)) (result : Result Found Stop) → files ≡ only ∷ [] → MatchResult result (λ found. command.answers (only ∷ []) (plain_answer found)) (StopsWhere (command.refuses (only ∷ [])))
+      → Gives command files result
+  gives_of_one files result is g = subst (λ (fs : List (List ℕ)). Gives command fs result) (sym is) (gives_one result g)
+
+pub one_file : (files : List (List ℕ)) (P : List ℕ → Type 0) → WhereOne files P → length files ≡ 1
+one_file [] P p = absurd p
+one_file (a ∷ []) P p = refl
+one_file (a ∷ (b ∷ files)) P p = absurd p
+
+pub of_one : (files : List (List ℕ)) (P : List ℕ → Type 0) (only : List ℕ) → files ≡ only ∷ [] → WhereOne files P → P only
+of_one files P only is p = rw is at p
+
+-- a file that was read is one, and within its limit
+pub only_within : (told : Option Held) (one : List ℕ × ℕ) (files : List (List ℕ)) → Given told (one ∷ []) files → WhereOne files (λ only. length only ≤ one.1)
+only_within told one [] g = absurd g
+only_within told one (a ∷ []) g = g.0.short
+only_within told one (a ∷ (b ∷ files)) g = absurd g.1
 
 -- ---- a command that has its files
 module _ (told : Option Held) (faults : ℕ) (out : Option (List ℕ)) (out_faults : ℕ) (command : Command) where

@@ -7,7 +7,8 @@ use Rattle.rr_run.specs.declared.fault.RunFault.TheVariants as run_fault
 use Rattle.rr_run.specs.Refusals.{Refusal as RunRefusal, At, TooMany, NoHeader, UnknownColumn, ColumnTwice, MissingInput, RowLength, BadCell, CellTooLarge, NotUtf8, StopsWhere as RunStops}
 use Rattle.rr_run.specs.Runs.{Refuses as RefusesRun}
 use Rattle.rr_report.specs.Views.{stop_from, StopsWhere}
-use Rattle.rr_top.specs.Commands.{RefusesTexts}
+use Rattle.rr_sites.specs.Lists.{RefusesSites}
+use Rattle.rr_top.specs.Commands.{RefusesSiteList, RefusesTexts}
 use Rattle.rr_top.specs.Expected.{IsSyntax}
 
 other_fault : (a b : Fault) (at offset : ℕ) → (a ≡ b → ⊥) → At a at ≡ At b offset → ⊥
@@ -60,3 +61,8 @@ module _ (top word : Option (List ℕ)) (design table : List ℕ) where
   pub stops_run : (f : RunFault) → RunStops (RefusesRun design table top word) f → StopsWhere (RefusesTexts top word design table) (stop_from f)
   stops_run (run_fault.Refused r) h = h
   stops_run run_fault.Memory h = tt
+
+module _ (top word : Option (List ℕ)) (design : List ℕ) where
+  pub stops_sites : (f : RunFault) → RunStops (RefusesSites design top word) f → StopsWhere (RefusesSiteList top word design) (stop_from f)
+  stops_sites (run_fault.Refused r) h = h
+  stops_sites run_fault.Memory h = tt

@@ -5,3 +5,4 @@ pub mod Table
 pub mod Once
 pub mod Executions
 pub mod Taken
+pub mod Ranges

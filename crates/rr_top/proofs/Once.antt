@@ -4,11 +4,13 @@ use Rattle.rr_edge.specs.Held.{Held}
 use Rattle.rr_run.specs.declared.fault.Fault.TheVariants as fault
 use Rattle.rr_run.specs.Refusals.{Refusal as RunRefusal, At}
 use Rattle.rr_run.specs.Runs.{IsSameRefusal as IsSameRunRefusal}
+use Rattle.rr_report.specs.Found.{Answer}
 use Rattle.rr_report.specs.Refusals.{Refusal, TooManyBytes, Input, NotBuilt, Flawed}
 use Rattle.rr_effects.specs.Reads.{Given, RefusesReads}
 use Rattle.rr_top.specs.Outcomes.{Outcome}
 use Rattle.rr_top.specs.Commands.{Command, HasOneOutcome, IsSameRefusal}
 use Rattle.rr_top.specs.Expected.{Expected, absent, refused, unparsed, done, IsPlaced, Judges}
+use Rattle.rr_top.specs.Execution.{MayStayOpen}
 use Rattle.rr_top.proofs.Readings.{Reading, missing, long, given, IsReading, one_reading}
 
 -- ---- what a refusal lets expect
@@ -93,3 +95,13 @@ module _ (command : Command) (one : HasOneOutcome command) where
 
     pub one_outcome : (v w : Expected) → Judges command held v → Judges command held w → v ≡ w
     one_outcome v w x y = one_decided v w (is_decided v x) (is_decided w y)
+
+    -- an answer that leaves open what the command comes to, where something is expected
+    on_open : (files : List (List ℕ)) (answer : Answer) → command.leaves_open files answer → (v : Expected) → On files v → MayStayOpen v
+    on_open files answer left v (on_refusal r p e) = absurd (one.open_or_refused files answer r left p)
+    on_open files answer left v (on_done x p e) = subst MayStayOpen (sym e) (one.open_outcome files answer x left p)
+
+    pub open_expected : (files : List (List ℕ)) (answer : Answer) → Given (Some held) command.reads files → command.leaves_open files answer → (v : Expected) → Judges command held v → MayStayOpen v
+    open_expected files answer gave left v j =
+        let d = is_decided v j in
+        on_open files answer left v (subst (λ (r : Reading). OnReading r v) (one_reading held command.reads d.reading (given files) d.is gave) d.on)

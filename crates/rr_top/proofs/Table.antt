@@ -1,18 +1,27 @@
--- Each command of the table has one outcome, and writes no file.
+-- Each command of the table has one outcome, and all but `repair` write no file.
 use Rattle.std.proofs.Common.{◌≡◌, ◌∙◌, ◌⊎◌, inl, inr, ℕ, List, [], ◌∷◌, refl, sym, ap, Option}
 use Rattle.rr_words.specs.Plan.{Plan, repair, run, sites, check, make}
+use Rattle.rr_syntax.specs.Tree.{SourceText}
+use Rattle.rr_lex.specs.Tokens.{Lexeme}
+use Rattle.rr_instance.specs.Sites.{Site}
+use Rattle.rr_trace.specs.Tables.{Table}
 use Rattle.rr_run.specs.Runs.{IsRun}
 use Rattle.rr_run.proofs.Once.{one_run, run_or_refusal, one_refused}
+use Rattle.rr_sites.specs.Lists.{IsSiteText}
+use Rattle.rr_sites.proofs.Once as listing
 use Rattle.rr_certify.specs.declared.fault.Flaw.{Flaw}
 use Rattle.rr_certify.specs.Certificates.{IsJudged}
 use Rattle.rr_certify.proofs.Certified.{same_verdict, verdict_or_flaw, same_flaw}
 use Rattle.rr_check.specs.declared.verdict.Verdict.{Verdict}
 use Rattle.rr_report.specs.Found.{Answer}
 use Rattle.rr_report.specs.Refusals.{Refusal, TooManyBytes, Input, NotBuilt, Flawed}
-use Rattle.rr_thin.specs.Repairs.{AnswersRepair, RefusesRepair}
-use Rattle.rr_thin.proofs.Outcomes.{AreOne, same, alike, repairs, despairs, answered, mendable, unmendable as unmended, one_refusal as one_repair_refusal, taken_or_refusal, mendable_or_not}
-use Rattle.rr_top.specs.Outcomes.{Outcome, mended, unmendable, ran, checked, IsToldBy}
-use Rattle.rr_top.specs.Commands.{Command, AnswersCheck, AnswersRun, ComesToCheck, ComesToRepair, ComesToRun, HasOneOutcome, IsSameRefusal, RefusesCertificate, RefusesTexts, WhereTwo, WritesNothing, check_command, command_of_plan, repair_command, run_command, unbuilt_command}
+use Rattle.rr_repair.specs.Repairs.{AnswersRepair, IsTaken, RefusesRepair, Wish}
+use Rattle.rr_repair_laws.specs.Laws.{TellsOutcome}
+use Rattle.rr_repair_laws.specs.Outcomes.{IsLeftOpen}
+use Rattle.rr_repair_laws.proofs.Once.{mendable_or_not, one_refusal as one_repair_refusal, taken_or_refused}
+use Rattle.rr_repair_laws.proofs.Told.{each_answer}
+use Rattle.rr_top.specs.Outcomes.{Outcome, mended, unmendable, ran, listed, checked, IsToldBy}
+use Rattle.rr_top.specs.Commands.{Command, AnswersCheck, AnswersRun, AnswersSites, ComesToCheck, ComesToRepair, ComesToRun, ComesToSites, HasOneOutcome, IsSameRefusal, RefusesCertificate, RefusesSiteList, RefusesTexts, AsksRepair, IsOfRepair, TellsOrLeavesOpen, WhereOne, WhereTwo, WritesNothing, wish, check_command, command_of_plan, repair_command, run_command, sites_command, unbuilt_command}
 
 -- what facts about the same two files give
 both : {X : Type 0} (files : List (List ℕ)) (P Q : List ℕ → List ℕ → Type 0) → WhereTwo files P → WhereTwo files Q → ((a b : List ℕ) → P a b → Q a b → X) → X
@@ -37,53 +46,91 @@ each_two (a ∷ (b ∷ (c ∷ files))) answer P Q p f = absurd p
 of_two : {X : Type 0} (files : List (List ℕ)) (P : List ℕ → List ℕ → Type 0) → WhereTwo files P → ((a b : List ℕ) → P a b → X) → X
 of_two files P p f = both files P P p p (λ a b u v. f a b u)
 
+-- the same of one file
+both_of_one : {X : Type 0} (files : List (List ℕ)) (P Q : List ℕ → Type 0) → WhereOne files P → WhereOne files Q → ((a : List ℕ) → P a → Q a → X) → X
+both_of_one [] P Q p q f = absurd p
+both_of_one (a ∷ []) P Q p q f = f a p q
+both_of_one (a ∷ (b ∷ files)) P Q p q f = absurd p
+
+told_of_one : (files : List (List ℕ)) (answer : Answer) (P : List ℕ → Type 0) (Q : List ℕ → Outcome → Type 0) → WhereOne files P → ((a : List ℕ) → P a → SomeTold answer (Q a))
+    → (outcome : Outcome) × (WhereOne files (λ a. Q a outcome) × IsToldBy outcome answer)
+told_of_one [] answer P Q p f = absurd p
+told_of_one (a ∷ []) answer P Q p f = let some = f a p in (some.outcome, (some.holds, some.told))
+told_of_one (a ∷ (b ∷ files)) answer P Q p f = absurd p
+
 -- ---- `repair`
-module _ (top clock : Option (List ℕ)) (design table : List ℕ) where
-  one_of : (a b : Refusal) → AreOne a b → IsSameRefusal a b
-  one_of a b (same is) = inl is
-  one_of a b (alike r s is_r is_s is) = inr (r, (s, (is_r, (is_s, is))))
+module _ (w : Wish) (design table : List ℕ) where
+  repair_refusals : (a b : Refusal) → RefusesRepair w design table a → RefusesRepair w design table b → IsSameRefusal a b
+  repair_refusals (TooManyBytes n) b p q = absurd p
+  repair_refusals (NotBuilt part) b p q = absurd p
+  repair_refusals (Flawed f n) b p q = absurd p
+  repair_refusals (Input r) (TooManyBytes n) p q = absurd q
+  repair_refusals (Input r) (NotBuilt part) p q = absurd q
+  repair_refusals (Input r) (Flawed f n) p q = absurd q
+  repair_refusals (Input r) (Input s) p q = inr (r, (s, (refl, (refl, one_repair_refusal w design table r s p q))))
 
-  repair_refusals : (a b : Refusal) → RefusesRepair top clock design table a → RefusesRepair top clock design table b → IsSameRefusal a b
-  repair_refusals a b p q = one_of a b (one_repair_refusal top clock design table a b p q)
+  not_refused : {ts : List Lexeme} {source : SourceText} {ss : List Site} {rows : Table} (a : Refusal) → IsTaken w design table ts source ss rows → RefusesRepair w design table a → ⊥
+  not_refused (TooManyBytes n) taken r = r
+  not_refused (NotBuilt part) taken r = r
+  not_refused (Flawed f n) taken r = r
+  not_refused {ts} {source} {ss} {rows} (Input refusal) taken r = taken_or_refused w design table ts source ss rows refusal taken r
 
-  repair_or_refused : (v : Outcome) (a : Refusal) → ComesToRepair top clock design table v → RefusesRepair top clock design table a → ⊥
-  repair_or_refused mended a u r = taken_or_refusal top clock design table u.tokens u.thin u.rows a u.taken r
-  repair_or_refused unmendable a u r = taken_or_refusal top clock design table u.tokens u.thin u.rows a u.taken r
+  repair_or_refused : (v : Outcome) (a : Refusal) → ComesToRepair w design table v → RefusesRepair w design table a → ⊥
+  repair_or_refused mended a u r = not_refused a u.taken r
+  repair_or_refused unmendable a u r = not_refused a u.taken r
   repair_or_refused (ran text) a u r = u
+  repair_or_refused (listed text) a u r = u
   repair_or_refused (checked verdict) a u r = u
 
-  repair_outcome : (v w : Outcome) → ComesToRepair top clock design table v → ComesToRepair top clock design table w → v ≡ w
+  repair_outcome : (v u : Outcome) → ComesToRepair w design table v → ComesToRepair w design table u → v ≡ u
   repair_outcome mended mended p q = refl
-  repair_outcome mended unmendable p q = absurd (mendable_or_not top clock design table p q)
+  repair_outcome mended unmendable p q = absurd (mendable_or_not w design table p q)
   repair_outcome mended (ran text) p q = absurd q
+  repair_outcome mended (listed text) p q = absurd q
   repair_outcome mended (checked verdict) p q = absurd q
-  repair_outcome unmendable mended p q = absurd (mendable_or_not top clock design table q p)
+  repair_outcome unmendable mended p q = absurd (mendable_or_not w design table q p)
   repair_outcome unmendable unmendable p q = refl
   repair_outcome unmendable (ran text) p q = absurd q
+  repair_outcome unmendable (listed text) p q = absurd q
   repair_outcome unmendable (checked verdict) p q = absurd q
-  repair_outcome (ran text) w p q = absurd p
-  repair_outcome (checked verdict) w p q = absurd p
+  repair_outcome (ran text) u p q = absurd p
+  repair_outcome (listed text) u p q = absurd p
+  repair_outcome (checked verdict) u p q = absurd p
 
-  repair_told : (answer : Answer) → AnswersRepair top clock design table answer → SomeTold answer (ComesToRepair top clock design table)
-  repair_told answer a = elim (answered top clock design table answer a) [
-    | repairs is ↦ record { outcome = mended; holds = mendable top clock design table answer is; told = record { status = is.repairs.status; tells = tt } }
-    | despairs is ↦ record { outcome = unmendable; holds = unmended top clock design table answer is; told = record { status = is.despairs.status; tells = is.despairs.printed } }
+  -- an answer tells the outcome or leaves it open
+  repair_told : (answer : Answer) → TellsOutcome w design table answer → SomeTold answer (ComesToRepair w design table) ⊎ IsLeftOpen w design table answer
+  repair_told answer (inl t) = inl (record { outcome = mended; holds = t.1.0; told = record { status = t.1.1; tells = tt } })
+  repair_told answer (inr (inl t)) = inl (record { outcome = unmendable; holds = t.1.0; told = record { status = t.1.1; tells = t.0.is.printed } })
+  repair_told answer (inr (inr t)) = inr t.0
+
+  -- what a repair comes to is an outcome of a repair
+  repair_alone : (v : Outcome) → ComesToRepair w design table v → IsOfRepair v
+  repair_alone mended p = tt
+  repair_alone unmendable p = tt
+  repair_alone (ran text) p = p
+  repair_alone (listed text) p = p
+  repair_alone (checked verdict) p = p
+
+module _ (d t : List ℕ) (w : Wish) where
+  repair_answered : (files : List (List ℕ)) (answer : Answer) → WhereTwo files (λ x y. AnswersRepair w x y answer) → TellsOrLeavesOpen (repair_command d t w) files answer
+  repair_answered [] answer a = absurd a
+  repair_answered (x ∷ []) answer a = absurd a
+  repair_answered (x ∷ (y ∷ [])) answer a = elim (repair_told w x y answer (each_answer w x y answer a)) [
+    | inl some ↦ inl (some.outcome, (some.holds, some.told))
+    | inr left ↦ inr left
   ]
+  repair_answered (x ∷ (y ∷ (z ∷ files))) answer a = absurd a
 
-  repair_files : (answer : Answer) → AnswersRepair top clock design table answer → answer.files ≡ []
-  repair_files answer a = elim (answered top clock design table answer a) [ repairs is ↦ is.repairs.files | despairs is ↦ is.despairs.files ]
-
-module _ (d t : List ℕ) (top clock : Option (List ℕ)) where
-  repair_one : HasOneOutcome (repair_command d t top clock)
+  repair_one : HasOneOutcome (repair_command d t w)
   repair_one = record {
-    one_refusal = λ files a b p q. both files (λ x y. RefusesRepair top clock x y a) (λ x y. RefusesRepair top clock x y b) p q (λ x y u v. repair_refusals top clock x y a b u v);
-    done_or_refused = λ files v a p q. both files (λ x y. ComesToRepair top clock x y v) (λ x y. RefusesRepair top clock x y a) p q (λ x y u r. repair_or_refused top clock x y v a u r);
-    one_outcome = λ files v w p q. both files (λ x y. ComesToRepair top clock x y v) (λ x y. ComesToRepair top clock x y w) p q (λ x y u z. repair_outcome top clock x y v w u z);
-    answered = λ files answer a. each_two files answer (λ x y. AnswersRepair top clock x y answer) (λ x y v. ComesToRepair top clock x y v) a (λ x y u. repair_told top clock x y answer u);
+    one_refusal = λ files a b p q. both files (λ x y. RefusesRepair w x y a) (λ x y. RefusesRepair w x y b) p q (λ x y u v. repair_refusals w x y a b u v);
+    done_or_refused = λ files v a p q. both files (λ x y. ComesToRepair w x y v) (λ x y. RefusesRepair w x y a) p q (λ x y u r. repair_or_refused w x y v a u r);
+    one_outcome = λ files v u p q. both files (λ x y. ComesToRepair w x y v) (λ x y. ComesToRepair w x y u) p q (λ x y a b. repair_outcome w x y v u a b);
+    answered = repair_answered;
+    open_status = λ files answer a. of_two files (λ x y. IsLeftOpen w x y answer) a (λ x y u. (u.is.status, u.is.printed));
+    open_or_refused = λ files answer a p q. both files (λ x y. IsLeftOpen w x y answer) (λ x y. RefusesRepair w x y a) p q (λ x y u r. not_refused w x y a u.taken r);
+    open_outcome = λ files answer v p q. both files (λ x y. IsLeftOpen w x y answer) (λ x y. ComesToRepair w x y v) p q (λ x y u r. repair_alone w x y v r);
   }
-
-  repair_writes : WritesNothing (repair_command d t top clock)
-  repair_writes files answer a = of_two files (λ x y. AnswersRepair top clock x y answer) a (λ x y u. repair_files top clock x y answer u)
 
 -- ---- `run`
 module _ (top clock : Option (List ℕ)) (design table : List ℕ) where
@@ -106,14 +153,17 @@ module _ (top clock : Option (List ℕ)) (design table : List ℕ) where
   run_or_refused mended a u r = u
   run_or_refused unmendable a u r = u
   run_or_refused (ran text) a u r = ran_or_refused text a u r
+  run_or_refused (listed text) a u r = u
   run_or_refused (checked verdict) a u r = u
 
   run_outcome : (v w : Outcome) → ComesToRun top clock design table v → ComesToRun top clock design table w → v ≡ w
   run_outcome mended w p q = absurd p
   run_outcome unmendable w p q = absurd p
+  run_outcome (listed text) w p q = absurd p
   run_outcome (checked verdict) w p q = absurd p
   run_outcome (ran text) mended p q = absurd q
   run_outcome (ran text) unmendable p q = absurd q
+  run_outcome (ran text) (listed other) p q = absurd q
   run_outcome (ran text) (checked verdict) p q = absurd q
   run_outcome (ran text) (ran other) p q = ap (λ (x : List ℕ). ran x) (one_run design table top clock text other p q)
 
@@ -126,11 +176,67 @@ module _ (d t : List ℕ) (top clock : Option (List ℕ)) where
     one_refusal = λ files a b p q. both files (λ x y. RefusesTexts top clock x y a) (λ x y. RefusesTexts top clock x y b) p q (λ x y u v. run_refusals top clock x y a b u v);
     done_or_refused = λ files v a p q. both files (λ x y. ComesToRun top clock x y v) (λ x y. RefusesTexts top clock x y a) p q (λ x y u r. run_or_refused top clock x y v a u r);
     one_outcome = λ files v w p q. both files (λ x y. ComesToRun top clock x y v) (λ x y. ComesToRun top clock x y w) p q (λ x y u z. run_outcome top clock x y v w u z);
-    answered = λ files answer a. each_two files answer (λ x y. AnswersRun top clock x y answer) (λ x y v. ComesToRun top clock x y v) a (λ x y u. run_told top clock x y answer u);
+    answered = λ files answer a. inl (each_two files answer (λ x y. AnswersRun top clock x y answer) (λ x y v. ComesToRun top clock x y v) a (λ x y u. run_told top clock x y answer u));
+    open_status = λ files answer left. absurd left;
+    open_or_refused = λ files answer refusal left refused. left;
+    open_outcome = λ files answer outcome left comes. absurd left;
   }
 
   run_writes : WritesNothing (run_command d t top clock)
-  run_writes files answer a = of_two files (λ x y. AnswersRun top clock x y answer) a (λ x y u. u.files)
+  run_writes = record { files = λ files answer a. of_two files (λ x y. AnswersRun top clock x y answer) a (λ x y u. u.files); decides = λ files answer left. left }
+
+-- ---- `sites`
+module _ (top clock : Option (List ℕ)) (design : List ℕ) where
+  sites_refusals : (a b : Refusal) → RefusesSiteList top clock design a → RefusesSiteList top clock design b → IsSameRefusal a b
+  sites_refusals (TooManyBytes n) b p q = absurd p
+  sites_refusals (NotBuilt part) b p q = absurd p
+  sites_refusals (Flawed f n) b p q = absurd p
+  sites_refusals (Input r) (TooManyBytes n) p q = absurd q
+  sites_refusals (Input r) (NotBuilt part) p q = absurd q
+  sites_refusals (Input r) (Flawed f n) p q = absurd q
+  sites_refusals (Input r) (Input s) p q = inr (r, (s, (refl, (refl, listing.one_refusal design top clock r s p q))))
+
+  listed_or_refused : (text : List ℕ) (a : Refusal) → IsSiteText design top clock text → RefusesSiteList top clock design a → ⊥
+  listed_or_refused text (TooManyBytes n) p q = q
+  listed_or_refused text (NotBuilt part) p q = q
+  listed_or_refused text (Flawed f n) p q = q
+  listed_or_refused text (Input r) p q = listing.text_or_refusal design top clock text r p q
+
+  sites_or_refused : (v : Outcome) (a : Refusal) → ComesToSites top clock design v → RefusesSiteList top clock design a → ⊥
+  sites_or_refused mended a u r = u
+  sites_or_refused unmendable a u r = u
+  sites_or_refused (ran text) a u r = u
+  sites_or_refused (listed text) a u r = listed_or_refused text a u r
+  sites_or_refused (checked verdict) a u r = u
+
+  sites_outcome : (v w : Outcome) → ComesToSites top clock design v → ComesToSites top clock design w → v ≡ w
+  sites_outcome mended w p q = absurd p
+  sites_outcome unmendable w p q = absurd p
+  sites_outcome (ran text) w p q = absurd p
+  sites_outcome (checked verdict) w p q = absurd p
+  sites_outcome (listed text) mended p q = absurd q
+  sites_outcome (listed text) unmendable p q = absurd q
+  sites_outcome (listed text) (ran other) p q = absurd q
+  sites_outcome (listed text) (checked verdict) p q = absurd q
+  sites_outcome (listed text) (listed other) p q = ap (λ (x : List ℕ). listed x) (listing.one_text design top clock text other p q)
+
+  sites_told : (answer : Answer) → AnswersSites top clock design answer → SomeTold answer (ComesToSites top clock design)
+  sites_told answer a = record { outcome = listed answer.out; holds = a.lists; told = record { status = a.status; tells = (refl, a.notes) } }
+
+module _ (d : List ℕ) (top clock : Option (List ℕ)) where
+  sites_one : HasOneOutcome (sites_command d top clock)
+  sites_one = record {
+    one_refusal = λ files a b p q. both_of_one files (λ x. RefusesSiteList top clock x a) (λ x. RefusesSiteList top clock x b) p q (λ x u v. sites_refusals top clock x a b u v);
+    done_or_refused = λ files v a p q. both_of_one files (λ x. ComesToSites top clock x v) (λ x. RefusesSiteList top clock x a) p q (λ x u r. sites_or_refused top clock x v a u r);
+    one_outcome = λ files v w p q. both_of_one files (λ x. ComesToSites top clock x v) (λ x. ComesToSites top clock x w) p q (λ x u z. sites_outcome top clock x v w u z);
+    answered = λ files answer a. inl (told_of_one files answer (λ x. AnswersSites top clock x answer) (λ x v. ComesToSites top clock x v) a (λ x u. sites_told top clock x answer u));
+    open_status = λ files answer left. absurd left;
+    open_or_refused = λ files answer refusal left refused. left;
+    open_outcome = λ files answer outcome left comes. absurd left;
+  }
+
+  sites_writes : WritesNothing (sites_command d top clock)
+  sites_writes = record { files = λ files answer a. both_of_one files (λ x. AnswersSites top clock x answer) (λ x. AnswersSites top clock x answer) a a (λ x u v. u.files); decides = λ files answer left. left }
 
 -- ---- `check`
 module _ (circuit proof : List ℕ) where
@@ -155,15 +261,18 @@ module _ (circuit proof : List ℕ) where
   check_or_refused mended a u r = u
   check_or_refused unmendable a u r = u
   check_or_refused (ran text) a u r = u
+  check_or_refused (listed text) a u r = u
   check_or_refused (checked verdict) a u r = judged_or_refused verdict a u r
 
   check_outcome : (v w : Outcome) → ComesToCheck circuit proof v → ComesToCheck circuit proof w → v ≡ w
   check_outcome mended w p q = absurd p
   check_outcome unmendable w p q = absurd p
   check_outcome (ran text) w p q = absurd p
+  check_outcome (listed text) w p q = absurd p
   check_outcome (checked v) mended p q = absurd q
   check_outcome (checked v) unmendable p q = absurd q
   check_outcome (checked v) (ran text) p q = absurd q
+  check_outcome (checked v) (listed text) p q = absurd q
   check_outcome (checked v) (checked w) p q = ap (λ (x : Verdict). checked x) (same_verdict circuit proof v w p q)
 
   check_told : (answer : Answer) → AnswersCheck circuit proof answer → SomeTold answer (ComesToCheck circuit proof)
@@ -175,11 +284,14 @@ module _ (c f : List ℕ) where
     one_refusal = λ files a b p q. both files (λ x y. RefusesCertificate x y a) (λ x y. RefusesCertificate x y b) p q (λ x y u v. check_refusals x y a b u v);
     done_or_refused = λ files v a p q. both files (λ x y. ComesToCheck x y v) (λ x y. RefusesCertificate x y a) p q (λ x y u r. check_or_refused x y v a u r);
     one_outcome = λ files v w p q. both files (λ x y. ComesToCheck x y v) (λ x y. ComesToCheck x y w) p q (λ x y u z. check_outcome x y v w u z);
-    answered = λ files answer a. each_two files answer (λ x y. AnswersCheck x y answer) (λ x y v. ComesToCheck x y v) a (λ x y u. check_told x y answer u);
+    answered = λ files answer a. inl (each_two files answer (λ x y. AnswersCheck x y answer) (λ x y v. ComesToCheck x y v) a (λ x y u. check_told x y answer u));
+    open_status = λ files answer left. absurd left;
+    open_or_refused = λ files answer refusal left refused. left;
+    open_outcome = λ files answer outcome left comes. absurd left;
   }
 
   check_writes : WritesNothing (check_command c f)
-  check_writes files answer a = of_two files (λ x y. AnswersCheck x y answer) a (λ x y u. u.tells.files)
+  check_writes = record { files = λ files answer a. of_two files (λ x y. AnswersCheck x y answer) a (λ x y u. u.tells.files); decides = λ files answer left. left }
 
 -- ---- a command that is not built
 unbuilt_one : HasOneOutcome unbuilt_command
@@ -188,22 +300,33 @@ unbuilt_one = record {
   done_or_refused = λ files v a p q. p;
   one_outcome = λ files v w p q. absurd p;
   answered = λ files answer a. absurd a;
+  open_status = λ files answer left. absurd left;
+  open_or_refused = λ files answer refusal left refused. left;
+  open_outcome = λ files answer outcome left comes. absurd left;
 }
 
 unbuilt_writes : WritesNothing unbuilt_command
-unbuilt_writes files answer a = absurd a
+unbuilt_writes = record { files = λ files answer a. absurd a; decides = λ files answer left. left }
 
 -- ---- the table
 pub one_in_table : (plan : Plan) → HasOneOutcome (command_of_plan plan)
-one_in_table (repair d t cert top clock budget members) = repair_one d t top clock
+one_in_table (repair d t cert top clock budget members) = repair_one d t (wish cert top clock budget members)
 one_in_table (run d t top clock) = run_one d t top clock
-one_in_table (sites d top clock) = unbuilt_one
+one_in_table (sites d top clock) = sites_one d top clock
 one_in_table (check c p) = check_one c p
 one_in_table (make s c) = unbuilt_one
 
-pub writes_nothing : (plan : Plan) → WritesNothing (command_of_plan plan)
-writes_nothing (repair d t cert top clock budget members) = repair_writes d t top clock
-writes_nothing (run d t top clock) = run_writes d t top clock
-writes_nothing (sites d top clock) = unbuilt_writes
-writes_nothing (check c p) = check_writes c p
-writes_nothing (make s c) = unbuilt_writes
+pub writes_nothing : (plan : Plan) → (AsksRepair plan → ⊥) → WritesNothing (command_of_plan plan)
+writes_nothing (repair d t cert top clock budget members) none = absurd (none tt)
+writes_nothing (run d t top clock) none = run_writes d t top clock
+writes_nothing (sites d top clock) none = sites_writes d top clock
+writes_nothing (check c p) none = check_writes c p
+writes_nothing (make s c) none = unbuilt_writes
+
+-- only `repair` leaves open what it comes to
+pub left_asks : (plan : Plan) (files : List (List ℕ)) (answer : Answer) → (command_of_plan plan).leaves_open files answer → AsksRepair plan
+left_asks (repair d t cert top clock budget members) files answer left = tt
+left_asks (run d t top clock) files answer left = left
+left_asks (sites d top clock) files answer left = left
+left_asks (check c p) files answer left = left
+left_asks (make s c) files answer left = left

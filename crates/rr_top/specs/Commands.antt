@@ -1,9 +1,10 @@
 -- The table of commands: what each reads, what it answers for the files that it read, and why it refuses them.
-use Rattle.std.specs.Prelude.{◌≡◌, ◌⊎◌, ℕ, List, [], ◌∷◌, Option}
+use Rattle.std.specs.Prelude.{◌≡◌, ◌⊎◌, ⊤, ℕ, ◌≤◌, List, [], ◌∷◌, Option}
 use Rattle.rr_edge.specs.Held.{Held}
 use Rattle.rr_words.specs.Plan.{Plan, repair, run, sites, check, make}
 use Rattle.rr_run.specs.Refusals.{Refusal as RunRefusal}
 use Rattle.rr_run.specs.Runs.{IsRun, IsSameRefusal as IsSameRunRefusal, Refuses as RefusesRun}
+use Rattle.rr_sites.specs.Lists.{IsSiteText, RefusesSites}
 use Rattle.rr_certify.specs.Certificates.{FlawIs, IsJudged}
 use Rattle.rr_certify.specs.Texts.{verdict_text}
 use Rattle.rr_check.specs.declared.verdict.Verdict.{Verdict}
@@ -11,17 +12,25 @@ use Rattle.rr_report.specs.declared.refusal.Part.TheVariants as part
 use Rattle.rr_report.specs.Found.{Answer}
 use Rattle.rr_report.specs.Refusals.{Refusal, TooManyBytes, Input, NotBuilt, Flawed}
 use Rattle.rr_effects.specs.Reads.{Gave, Given, RefusesReads}
-use Rattle.rr_thin.specs.Repairs.{AnswersRepair, IsMendable, IsUnmendable, RefusesRepair}
-use Rattle.rr_top.specs.Outcomes.{Outcome, mended, unmendable, ran, checked, IsToldBy, verdict_status}
+use Rattle.rr_repair.specs.Repairs.{AnswersRepair, RefusesRepair, Wish}
+use Rattle.rr_repair_laws.specs.Outcomes.{IsLeftOpen, IsMendable, IsUnmendable}
+use Rattle.rr_top.specs.Outcomes.{Outcome, mended, unmendable, ran, listed, checked, IsToldBy, verdict_status}
 
 -- A command: the names that it reads, in order, each with the most bytes that it may have; the answer for the files that it
 -- read, which tells the files to be written, the piece for standard output, the report and the status; why it refuses
--- them; and what it comes to by them.
+-- them; what it comes to by them; and the answers that leave open what it comes to.
 pub record Command : Type 1 where
   pub reads : List (List ℕ × ℕ)
   pub answers : List (List ℕ) → Answer → Type 0
   pub refuses : List (List ℕ) → Refusal → Type 0
   pub comes_to : List (List ℕ) → Outcome → Type 0
+  pub leaves_open : List (List ℕ) → Answer → Type 0
+
+-- the file is one, of which this holds
+abbrev pub WhereOne : List (List ℕ) → (List ℕ → Type 0) → Type 0
+WhereOne [] P = ⊥
+WhereOne (first ∷ []) P = P first
+WhereOne (first ∷ (second ∷ files)) P = ⊥
 
 -- the files are two, of which this holds
 abbrev pub WhereTwo : List (List ℕ) → (List ℕ → List ℕ → Type 0) → Type 0
@@ -31,18 +40,20 @@ WhereTwo (first ∷ (second ∷ [])) P = P first second
 WhereTwo (first ∷ (second ∷ (third ∷ files))) P = ⊥
 
 -- ---- `repair`: 1 MiB of a design and 16 MiB of a table
-abbrev pub ComesToRepair : Option (List ℕ) → Option (List ℕ) → List ℕ → List ℕ → Outcome → Type 0
-ComesToRepair top clock design table mended = IsMendable top clock design table
-ComesToRepair top clock design table unmendable = IsUnmendable top clock design table
-ComesToRepair top clock design table (ran text) = ⊥
-ComesToRepair top clock design table (checked verdict) = ⊥
+abbrev pub ComesToRepair : Wish → List ℕ → List ℕ → Outcome → Type 0
+ComesToRepair w design table mended = IsMendable w design table
+ComesToRepair w design table unmendable = IsUnmendable w design table
+ComesToRepair w design table (ran text) = ⊥
+ComesToRepair w design table (listed text) = ⊥
+ComesToRepair w design table (checked verdict) = ⊥
 
-abbrev pub repair_command : List ℕ → List ℕ → Option (List ℕ) → Option (List ℕ) → Command
-repair_command design_name table_name top clock = record {
+abbrev pub repair_command : List ℕ → List ℕ → Wish → Command
+repair_command design_name table_name w = record {
   reads = (design_name, 1048576) ∷ ((table_name, 16777216) ∷ []);
-  answers = λ files answer. WhereTwo files (λ design table. AnswersRepair top clock design table answer);
-  refuses = λ files refusal. WhereTwo files (λ design table. RefusesRepair top clock design table refusal);
-  comes_to = λ files outcome. WhereTwo files (λ design table. ComesToRepair top clock design table outcome);
+  answers = λ files answer. WhereTwo files (λ design table. AnswersRepair w design table answer);
+  refuses = λ files refusal. WhereTwo files (λ design table. RefusesRepair w design table refusal);
+  comes_to = λ files outcome. WhereTwo files (λ design table. ComesToRepair w design table outcome);
+  leaves_open = λ files answer. WhereTwo files (λ design table. IsLeftOpen w design table answer);
 }
 
 -- ---- `run`: the same files
@@ -64,6 +75,7 @@ abbrev pub ComesToRun : Option (List ℕ) → Option (List ℕ) → List ℕ →
 ComesToRun top clock design table mended = ⊥
 ComesToRun top clock design table unmendable = ⊥
 ComesToRun top clock design table (ran text) = IsRun design table top clock text
+ComesToRun top clock design table (listed text) = ⊥
 ComesToRun top clock design table (checked verdict) = ⊥
 
 abbrev pub run_command : List ℕ → List ℕ → Option (List ℕ) → Option (List ℕ) → Command
@@ -72,6 +84,37 @@ run_command design_name table_name top clock = record {
   answers = λ files answer. WhereTwo files (λ design table. AnswersRun top clock design table answer);
   refuses = λ files refusal. WhereTwo files (λ design table. RefusesTexts top clock design table refusal);
   comes_to = λ files outcome. WhereTwo files (λ design table. ComesToRun top clock design table outcome);
+  leaves_open = λ files answer. ⊥;
+}
+
+-- ---- `sites`: 1 MiB of a design
+-- the answer: the lines of the design's sites, and nothing to report
+pub record AnswersSites (top clock : Option (List ℕ)) (design : List ℕ) (answer : Answer) : Type 0 where
+  pub lists : IsSiteText design top clock answer.out
+  pub files : answer.files ≡ []
+  pub notes : answer.notes ≡ []
+  pub status : answer.status ≡ 0
+
+abbrev pub RefusesSiteList : Option (List ℕ) → Option (List ℕ) → List ℕ → Refusal → Type 0
+RefusesSiteList top word design (TooManyBytes count) = ⊥
+RefusesSiteList top word design (Input refusal) = RefusesSites design top word refusal
+RefusesSiteList top word design (NotBuilt part) = ⊥
+RefusesSiteList top word design (Flawed flaw line) = ⊥
+
+abbrev pub ComesToSites : Option (List ℕ) → Option (List ℕ) → List ℕ → Outcome → Type 0
+ComesToSites top clock design mended = ⊥
+ComesToSites top clock design unmendable = ⊥
+ComesToSites top clock design (ran text) = ⊥
+ComesToSites top clock design (listed text) = IsSiteText design top clock text
+ComesToSites top clock design (checked verdict) = ⊥
+
+abbrev pub sites_command : List ℕ → Option (List ℕ) → Option (List ℕ) → Command
+sites_command design_name top clock = record {
+  reads = (design_name, 1048576) ∷ [];
+  answers = λ files answer. WhereOne files (λ design. AnswersSites top clock design answer);
+  refuses = λ files refusal. WhereOne files (λ design. RefusesSiteList top clock design refusal);
+  comes_to = λ files outcome. WhereOne files (λ design. ComesToSites top clock design outcome);
+  leaves_open = λ files answer. ⊥;
 }
 
 -- ---- `check`: 256 MiB of a circuit and 1 GiB of its proof
@@ -97,6 +140,7 @@ abbrev pub ComesToCheck : List ℕ → List ℕ → Outcome → Type 0
 ComesToCheck circuit proof mended = ⊥
 ComesToCheck circuit proof unmendable = ⊥
 ComesToCheck circuit proof (ran text) = ⊥
+ComesToCheck circuit proof (listed text) = ⊥
 ComesToCheck circuit proof (checked verdict) = IsJudged circuit proof verdict
 
 abbrev pub check_command : List ℕ → List ℕ → Command
@@ -105,6 +149,7 @@ check_command circuit_name proof_name = record {
   answers = λ files answer. WhereTwo files (λ circuit proof. AnswersCheck circuit proof answer);
   refuses = λ files refusal. WhereTwo files (λ circuit proof. RefusesCertificate circuit proof refusal);
   comes_to = λ files outcome. WhereTwo files (λ circuit proof. ComesToCheck circuit proof outcome);
+  leaves_open = λ files answer. ⊥;
 }
 
 -- ---- a command that is not built yet: it is refused without a read
@@ -114,13 +159,24 @@ unbuilt_command = record {
   answers = λ files answer. ⊥;
   refuses = λ files refusal. refusal ≡ NotBuilt part.Command;
   comes_to = λ files outcome. ⊥;
+  leaves_open = λ files answer. ⊥;
 }
 
 -- ---- the table
+-- what the words of a repair ask for
+abbrev pub wish : List ℕ → Option (List ℕ) → Option (List ℕ) → ℕ → ℕ → Wish
+wish cert top clock budget members = record {
+  top = top;
+  clock = clock;
+  cert = cert;
+  budget = budget;
+  members = members;
+}
+
 abbrev pub command_of_plan : Plan → Command
-command_of_plan (repair design table cert top clock budget members) = repair_command design table top clock
+command_of_plan (repair design table cert top clock budget members) = repair_command design table (wish cert top clock budget members)
 command_of_plan (run design table top clock) = run_command design table top clock
-command_of_plan (sites design top clock) = unbuilt_command
+command_of_plan (sites design top clock) = sites_command design top clock
 command_of_plan (check circuit proof) = check_command circuit proof
 command_of_plan (make seed cert) = unbuilt_command
 
@@ -128,17 +184,49 @@ command_of_plan (make seed cert) = unbuilt_command
 abbrev pub IsSameRefusal : Refusal → Refusal → Type 0
 IsSameRefusal a b = (a ≡ b) ⊎ ((r : RunRefusal) × ((s : RunRefusal) × ((a ≡ Input r) × ((b ≡ Input s) × IsSameRunRefusal r s))))
 
+-- only `repair` leaves open what it comes to, and only `repair` writes files
+abbrev pub AsksRepair : Plan → Type 0
+AsksRepair (repair design table cert top clock budget members) = ⊤
+AsksRepair (run design table top clock) = ⊥
+AsksRepair (sites design top clock) = ⊥
+AsksRepair (check circuit proof) = ⊥
+AsksRepair (make seed cert) = ⊥
+
+-- the numbers of a repair are in their ranges
+abbrev pub InRange : Plan → Type 0
+InRange (repair design table cert top clock budget members) = (1 ≤ budget) × ((1 ≤ members) × (members ≤ 8))
+InRange (run design table top clock) = ⊤
+InRange (sites design top clock) = ⊤
+InRange (check circuit proof) = ⊤
+InRange (make seed cert) = ⊤
+
+-- a repair may come to it
+abbrev pub IsOfRepair : Outcome → Type 0
+IsOfRepair mended = ⊤
+IsOfRepair unmendable = ⊤
+IsOfRepair (ran text) = ⊥
+IsOfRepair (listed text) = ⊥
+IsOfRepair (checked verdict) = ⊥
+
+-- the answer tells an outcome that the command comes to, or leaves it open
+abbrev pub TellsOrLeavesOpen : Command → List (List ℕ) → Answer → Type 0
+TellsOrLeavesOpen command files answer = ((outcome : Outcome) × (command.comes_to files outcome × IsToldBy outcome answer)) ⊎ command.leaves_open files answer
+
 -- Files decide a command once: it has one refusal for them, or it comes to one outcome by them, which each of its answers
--- tells.
+-- tells, but for those that leave open which outcome of a repair it is: these have status 2 and print nothing.
 pub record HasOneOutcome (command : Command) : Type 0 where
   pub one_refusal : (files : List (List ℕ)) (a b : Refusal) → command.refuses files a → command.refuses files b → IsSameRefusal a b
   pub done_or_refused : (files : List (List ℕ)) (outcome : Outcome) (refusal : Refusal) → command.comes_to files outcome → command.refuses files refusal → ⊥
   pub one_outcome : (files : List (List ℕ)) (v w : Outcome) → command.comes_to files v → command.comes_to files w → v ≡ w
-  pub answered : (files : List (List ℕ)) (answer : Answer) → command.answers files answer → (outcome : Outcome) × (command.comes_to files outcome × IsToldBy outcome answer)
+  pub answered : (files : List (List ℕ)) (answer : Answer) → command.answers files answer → TellsOrLeavesOpen command files answer
+  pub open_status : (files : List (List ℕ)) (answer : Answer) → command.leaves_open files answer → (answer.status ≡ 2) × (answer.out ≡ [])
+  pub open_or_refused : (files : List (List ℕ)) (answer : Answer) (refusal : Refusal) → command.leaves_open files answer → command.refuses files refusal → ⊥
+  pub open_outcome : (files : List (List ℕ)) (answer : Answer) (outcome : Outcome) → command.leaves_open files answer → command.comes_to files outcome → IsOfRepair outcome
 
--- no answer writes a file
-abbrev pub WritesNothing : Command → Type 0
-WritesNothing command = (files : List (List ℕ)) (answer : Answer) → command.answers files answer → answer.files ≡ []
+-- no answer writes a file, and none leaves open what it comes to
+pub record WritesNothing (command : Command) : Type 0 where
+  pub files : (files : List (List ℕ)) (answer : Answer) → command.answers files answer → answer.files ≡ []
+  pub decides : (files : List (List ℕ)) (answer : Answer) → command.leaves_open files answer → ⊥
 
 -- ---- what is due, by the reads and then by what they gave
 -- all files were read, and this is the answer for them
@@ -174,8 +262,8 @@ pub record CertificateGiven (told : Option Held) (circuit_name proof_name circui
   pub proof_given : Gave told proof_name 1073741824 proof
 
 -- the plan is one of this command, for whose names and options this holds
-abbrev pub WhereRepair : Plan → (List ℕ → List ℕ → Option (List ℕ) → Option (List ℕ) → Type 0) → Type 0
-WhereRepair (repair design table cert top clock budget members) P = P design table top clock
+abbrev pub WhereRepair : Plan → (List ℕ → List ℕ → Wish → Type 0) → Type 0
+WhereRepair (repair design table cert top clock budget members) P = P design table (wish cert top clock budget members)
 WhereRepair (run design table top clock) P = ⊥
 WhereRepair (sites design top clock) P = ⊥
 WhereRepair (check circuit proof) P = ⊥
@@ -187,6 +275,13 @@ WhereRun (run design table top clock) P = P design table top clock
 WhereRun (sites design top clock) P = ⊥
 WhereRun (check circuit proof) P = ⊥
 WhereRun (make seed cert) P = ⊥
+
+abbrev pub WhereSites : Plan → (List ℕ → Option (List ℕ) → Option (List ℕ) → Type 0) → Type 0
+WhereSites (repair design table cert top clock budget members) P = ⊥
+WhereSites (run design table top clock) P = ⊥
+WhereSites (sites design top clock) P = P design top clock
+WhereSites (check circuit proof) P = ⊥
+WhereSites (make seed cert) P = ⊥
 
 abbrev pub WhereCheck : Plan → (List ℕ → List ℕ → Type 0) → Type 0
 WhereCheck (repair design table cert top clock budget members) P = ⊥

@@ -1,5 +1,5 @@
 -- How a run ends, what it reports, and its status.
-use Rattle.std.specs.Prelude.{◌≡◌, ◌≢◌, ◌⊎◌, ◌<◌, ℕ, List, [], ◌∷◌, length, Option, Some, None, MatchOption, ⊤}
+use Rattle.std.specs.Prelude.{◌≡◌, ◌≢◌, ◌⊎◌, ◌<◌, ℕ, List, [], ◌∷◌, length, take, Option, Some, None, MatchOption, ⊤}
 use Rattle.std.specs.Io.KnownBytes.{Appends}
 use Rattle.rr_edge.specs.Held.{Held}
 use Rattle.rr_edge.specs.Faults.{Faulted, NoFault}
@@ -9,6 +9,7 @@ use Rattle.rr_words.specs.Usage.{usage_text}
 use Rattle.rr_run.specs.declared.fault.Fault.TheVariants.{Syntax}
 use Rattle.rr_run.specs.Refusals.{At}
 use Rattle.rr_run.specs.Runs.{IsRun}
+use Rattle.rr_sites.specs.Lists.{IsSiteText}
 use Rattle.rr_check.specs.declared.verdict.Verdict.{Verdict}
 use Rattle.rr_check.specs.declared.verdict.Verdict.TheVariants as found
 use Rattle.rr_certify.specs.Certificates.{IsNeverTrue}
@@ -22,10 +23,11 @@ use Rattle.rr_report.specs.Texts.{memory_text, refused_text, absent_text, read_f
 use Rattle.rr_effects.specs.Outside.{Outside, KeepsShelf, KeepsOut}
 use Rattle.rr_effects.specs.Reads.{AbsentAt, Gave, IsRead}
 use Rattle.rr_effects.specs.Delivery.{Reports, StopsAtWrite, file_at, with_files}
-use Rattle.rr_thin.specs.Repairs.{IsMatching, IsNoRepair, IsRepair}
-use Rattle.rr_thin.specs.Texts.{unchanged_text}
-use Rattle.rr_top.specs.Outcomes.{Outcome, mended, unmendable, ran, checked}
-use Rattle.rr_top.specs.Commands.{BothGiven, Command, Due, Refuses, WhereRepair, WhereRun, WhereCheck, command_of_plan}
+use Rattle.rr_answers.specs.Texts.{unchanged_text}
+use Rattle.rr_repair.specs.Repairs.{Wish}
+use Rattle.rr_repair_laws.specs.Outcomes.{IsDespaired, IsLeftOpen, IsMatching, IsMended}
+use Rattle.rr_top.specs.Outcomes.{Outcome, mended, unmendable, ran, listed, checked}
+use Rattle.rr_top.specs.Commands.{AsksRepair, BothGiven, Command, Due, IsOfRepair, Refuses, WhereRepair, WhereRun, WhereSites, WhereCheck, command_of_plan, wish}
 use Rattle.rr_top.specs.Expected.{Expected, absent, refused, unparsed, done, IsChecked, expected_status}
 use Rattle.rr_top.specs.Endings.{CommandEnds}
 
@@ -61,28 +63,47 @@ pub record IsExecution (r : Execution) : Type 0 where
   pub ends : Ends r.arguments r.before r.after ending text
   pub reports : Reports r.notes_before r.notes_after r.notes_faults_before r.notes_faults_after text (status_of ending) r.status
 
--- Status 0 of `repair`: the design and the table were read, the output has grown by exactly the source with one choice
--- patched in, whose design matches every expected cell and costs least, and the notes by the report of this choice.
-pub record IsRepaired (r : Execution) (design_name table_name : List ℕ) (top clock : Option (List ℕ)) : Type 0 where
+-- the files of an answer stand on the shelf, in order, all else there stays, and the reads and the writes met no fault
+pub record HoldsFiles (r : Execution) (answer : Answer) : Type 0 where
+  pub held : r.after.held ≡ with_files r.before.held answer.files
+  pub faults : r.after.faults ≡ r.before.faults
+
+-- Status 0 of `repair`: the design and the table were read, the output has grown by exactly the source as it is, or with a
+-- choice printed into it whose instance matches every known cell and costs least; the notes have grown by the report of this
+-- choice, and the shelf holds the certificate that fewer changes do not match.
+pub record IsRepaired (r : Execution) (design_name table_name : List ℕ) (w : Wish) : Type 0 where
   pub design : List ℕ
   pub table : List ℕ
   pub given : BothGiven r.before.held design_name table_name design table
   pub answer : Answer
-  pub repair : IsRepair top clock design table answer
+  pub repair : IsMended w design table answer
   pub printed : Appends r.before.out r.after.out answer.out
   pub reported : Appends r.notes_before r.notes_after answer.notes
-  pub shelf : KeepsShelf r.before r.after
+  pub shelf : HoldsFiles r answer
 
--- Status 1 of `repair`: the design and the table were read, no choice gives a design that matches, and nothing was put out.
-pub record IsBeyondRepair (r : Execution) (design_name table_name : List ℕ) (top clock : Option (List ℕ)) : Type 0 where
+-- Status 1 of `repair`: the design and the table were read, no choice gives an instance that matches, nothing was put out,
+-- and the shelf holds the certificate of this.
+pub record IsBeyondRepair (r : Execution) (design_name table_name : List ℕ) (w : Wish) : Type 0 where
   pub design : List ℕ
   pub table : List ℕ
   pub given : BothGiven r.before.held design_name table_name design table
   pub answer : Answer
-  pub none : IsNoRepair top clock design table answer
+  pub none : IsDespaired w design table answer
   pub printed : Appends r.before.out r.after.out []
   pub reported : Appends r.notes_before r.notes_after answer.notes
-  pub shelf : KeepsShelf r.before r.after
+  pub shelf : HoldsFiles r answer
+
+-- Status 2 of `repair`: the design and the table were read, whether so many changes match is left open, nothing was put out,
+-- and the shelf holds the question with the fresh lines that each member learned.
+pub record IsUnsettled (r : Execution) (design_name table_name : List ℕ) (w : Wish) : Type 0 where
+  pub design : List ℕ
+  pub table : List ℕ
+  pub given : BothGiven r.before.held design_name table_name design table
+  pub answer : Answer
+  pub left : IsLeftOpen w design table answer
+  pub printed : Appends r.before.out r.after.out []
+  pub reported : Appends r.notes_before r.notes_after answer.notes
+  pub shelf : HoldsFiles r answer
 
 -- Status 0 of `check`: both files were read, the proof refutes the circuit's formula, and `accepted` was put out.
 pub record IsAccepted (r : Execution) (circuit_name proof_name : List ℕ) : Type 0 where
@@ -112,6 +133,16 @@ pub record IsSimulated (r : Execution) (design_name table_name : List ℕ) (top 
   pub reported : Appends r.notes_before r.notes_after []
   pub shelf : KeepsShelf r.before r.after
 
+-- Status 0 of `sites`: the design was read, and the output has grown by exactly the lines of its sites.
+pub record IsListed (r : Execution) (design_name : List ℕ) (top clock : Option (List ℕ)) : Type 0 where
+  pub design : List ℕ
+  pub given : Gave r.before.held design_name 1048576 design
+  pub text : List ℕ
+  pub lists : IsSiteText design top clock text
+  pub printed : Appends r.before.out r.after.out text
+  pub reported : Appends r.notes_before r.notes_after []
+  pub shelf : KeepsShelf r.before r.after
+
 -- the file holds a circuit, and no input makes every output of it true
 pub record HoldsNeverTrue (told : Option Held) (circuit_name : List ℕ) : Type 0 where
   pub circuit : List ℕ
@@ -122,13 +153,17 @@ pub record HoldsNeverTrue (told : Option Held) (circuit_name : List ℕ) : Type 
 abbrev pub IsCheck : List (List ℕ) → List ℕ → List ℕ → Type 0
 IsCheck arguments circuit proof = command_of arguments ≡ Some (check circuit proof)
 
--- what `repair` has done, or `run`, or `check`
+-- what `repair` has done, or `run`, or `sites`, or `check`
 abbrev pub HasDone : Execution → Plan → Type 0
-HasDone r plan = WhereRepair plan (IsRepaired r) ⊎ (WhereRun plan (IsSimulated r) ⊎ WhereCheck plan (IsAccepted r))
+HasDone r plan = WhereRepair plan (IsRepaired r) ⊎ (WhereRun plan (IsSimulated r) ⊎ (WhereSites plan (IsListed r) ⊎ WhereCheck plan (IsAccepted r)))
 
 -- what `repair` and `check` found not to be so
 abbrev pub HasFailed : Execution → Plan → Type 0
 HasFailed r plan = WhereRepair plan (IsBeyondRepair r) ⊎ WhereCheck plan (IsRejected r)
+
+-- what `repair` left open
+abbrev pub LeavesOpen : Execution → Plan → Type 0
+LeavesOpen r plan = WhereRepair plan (IsUnsettled r)
 
 -- Status 3: a refusal was due, it is printed, and all else stays.
 pub record IsRefused (r : Execution) (command : Command) : Type 0 where
@@ -174,8 +209,7 @@ pub record IsOutFault (r : Execution) (command : Command) : Type 0 where
   pub due : Due command r.before.held answer
   pub rose : Faulted r.before.out_faults r.after.out_faults
   pub printed : AppendsFront r.before.out r.after.out answer.out
-  pub files : r.after.held ≡ with_files r.before.held answer.files
-  pub shelf : KeepsShelf r.before r.after
+  pub files : HoldsFiles r answer
   pub reported : Appends r.notes_before r.notes_after out_fault_text
 
 -- Status 4 with a put on the notes that failed: their count of faults rose, they have grown by a front of the text that is
@@ -187,10 +221,24 @@ pub record IsReportFault (r : Execution) : Type 0 where
   pub rose : Faulted r.notes_faults_before r.notes_faults_after
   pub reported : AppendsFront r.notes_before r.notes_after text
 
--- Status 5: memory ran out, this is printed, and all else stays.
+-- the first files of an answer stand on the shelf, in order and whole, and all else there stays
+pub record HoldsFirst (r : Execution) (command : Command) : Type 0 where
+  pub answer : Answer
+  pub due : Due command r.before.held answer
+  pub number : ℕ
+  pub within : number < length answer.files
+  pub held : r.after.held ≡ with_files r.before.held (take number answer.files)
+
+-- the arguments name a command of which this holds
+abbrev pub WhereCommand : List (List ℕ) → (Plan → Type 0) → Type 0
+WhereCommand arguments P = (plan : Plan) × (command_of arguments ≡ Some plan) × P plan
+
+-- Status 5: memory ran out, this is printed, nothing was put on the output, and the shelf holds what it held; or, where it
+-- ran out as the files of an answer were written, the first of these.
 pub record IsExhausted (r : Execution) : Type 0 where
   pub reported : Appends r.notes_before r.notes_after memory_text
-  pub shelf : KeepsShelf r.before r.after
+  pub held : (r.after.held ≡ r.before.held) ⊎ WhereCommand r.arguments (λ plan. HoldsFirst r (command_of_plan plan))
+  pub faults : r.after.faults ≡ r.before.faults
   pub out : KeepsOut r.before r.after
 
 -- Status 6: the arguments name no command, the usage is printed, and all else stays.
@@ -199,10 +247,6 @@ pub record IsUnread (r : Execution) : Type 0 where
   pub reported : Appends r.notes_before r.notes_after usage_text
   pub shelf : KeepsShelf r.before r.after
   pub out : KeepsOut r.before r.after
-
--- the arguments name a command of which this holds
-abbrev pub WhereCommand : List (List ℕ) → (Plan → Type 0) → Type 0
-WhereCommand arguments P = (plan : Plan) × (command_of arguments ≡ Some plan) × P plan
 
 -- a count of faults rose in the run, or stands at its type's end
 abbrev pub SomeFault : Execution → Type 0
@@ -221,6 +265,7 @@ abbrev pub ShowsOutcome : Outcome → Execution → Type 0
 ShowsOutcome mended r = ⊤
 ShowsOutcome unmendable r = Appends r.before.out r.after.out []
 ShowsOutcome (ran text) r = Appends r.before.out r.after.out text × Appends r.notes_before r.notes_after []
+ShowsOutcome (listed text) r = Appends r.before.out r.after.out text × Appends r.notes_before r.notes_after []
 ShowsOutcome (checked verdict) r = Appends r.before.out r.after.out (verdict_text verdict) × Appends r.notes_before r.notes_after []
 
 -- the texts that what is expected decides alone
@@ -230,9 +275,16 @@ Shows (refused refusal) r = Appends r.notes_before r.notes_after (refused_text r
 Shows unparsed r = (offset : ℕ) × Appends r.notes_before r.notes_after (refused_text (Input (At Syntax offset)))
 Shows (done outcome) r = ShowsOutcome outcome r
 
--- what is expected was carried out and reported; or memory ran out; or something failed
+-- what is expected of a repair may be left open, with status 2
+abbrev pub MayStayOpen : Expected → Type 0
+MayStayOpen (absent name) = ⊥
+MayStayOpen (refused refusal) = ⊥
+MayStayOpen unparsed = ⊥
+MayStayOpen (done outcome) = IsOfRepair outcome
+
+-- what is expected was carried out and reported; or memory ran out; or something failed; or it was left open
 abbrev pub Follows : Execution → Expected → Type 0
-Follows r v = ((r.status ≡ expected_status v) × Shows v r) ⊎ ((r.status ≡ 5) ⊎ ((r.status ≡ 4) × SomeFault r))
+Follows r v = ((r.status ≡ expected_status v) × Shows v r) ⊎ ((r.status ≡ 5) ⊎ (((r.status ≡ 4) × SomeFault r) ⊎ ((r.status ≡ 2) × MayStayOpen v)))
 
 abbrev pub execution : List (List ℕ) → Outside → Outside → Option (List ℕ) → Option (List ℕ) → ℕ → ℕ → ℕ → Execution
 execution arguments before after notes_before notes_after notes_faults_before notes_faults_after status = record {
@@ -275,8 +327,13 @@ pub record IsMatchingRepair (r : Execution) (design : List ℕ) : Type 0 where
   pub arguments : command_of r.arguments ≡ Some (repair design_name table_name cert top clock budget members)
   pub table : List ℕ
   pub given : BothGiven (Some held) design_name table_name design table
-  pub matching : IsMatching top clock design table
+  pub matching : IsMatching (wish cert top clock budget members) design table
 
--- the source is put out as it was; or memory ran out; or something failed
+-- the source is put out as it was, and the shelf stays; or memory ran out; or something failed
 abbrev pub PrintsAsItWas : Execution → List ℕ → Type 0
-PrintsAsItWas r design = ((r.status ≡ 0) × (Appends r.before.out r.after.out design × Appends r.notes_before r.notes_after unchanged_text)) ⊎ ((r.status ≡ 5) ⊎ ((r.status ≡ 4) × SomeFault r))
+PrintsAsItWas r design = ((r.status ≡ 0) × (Appends r.before.out r.after.out design × (Appends r.notes_before r.notes_after unchanged_text × KeepsShelf r.before r.after)))
+    ⊎ ((r.status ≡ 5) ⊎ ((r.status ≡ 4) × SomeFault r))
+
+-- what `repair` alone may do is not asked for
+abbrev pub AsksNoRepair : List (List ℕ) → Type 0
+AsksNoRepair arguments = WhereCommand arguments AsksRepair → ⊥

@@ -5,11 +5,12 @@ use Rattle.rr_check.specs.declared.verdict.Verdict.{Verdict}
 use Rattle.rr_check.specs.declared.verdict.Verdict.TheVariants as found
 use Rattle.rr_report.specs.Found.{Answer}
 
--- a repair, or that there is none; the text of a run; the verdict on a certificate
+-- a repair, or that there is none; the text of a run; the lines of a list of sites; the verdict on a certificate
 pub data Outcome : Type 0 where
   mended : Outcome
   unmendable : Outcome
   ran : List ℕ → Outcome
+  listed : List ℕ → Outcome
   checked : Verdict → Outcome
 
 abbrev pub verdict_status : Verdict → ℕ
@@ -21,6 +22,7 @@ abbrev pub outcome_status : Outcome → ℕ
 outcome_status mended = 0
 outcome_status unmendable = 1
 outcome_status (ran text) = 0
+outcome_status (listed text) = 0
 outcome_status (checked verdict) = verdict_status verdict
 
 -- what the outcome decides of an answer's texts; which repair of least cost is printed is free
@@ -28,6 +30,7 @@ abbrev pub Tells : Outcome → Answer → Type 0
 Tells mended answer = ⊤
 Tells unmendable answer = answer.out ≡ []
 Tells (ran text) answer = (answer.out ≡ text) × (answer.notes ≡ [])
+Tells (listed text) answer = (answer.out ≡ text) × (answer.notes ≡ [])
 Tells (checked verdict) answer = (answer.out ≡ verdict_text verdict) × (answer.notes ≡ [])
 
 -- the answer has this outcome

@@ -2,11 +2,12 @@
 ghost use Rattle.std.specs.Prelude.{◌≡◌, ◌≤◌, ℕ, List, [], ◌∷◌, IfOk, MatchResult, length};
 ghost use Rattle.rr_words.specs.Plan.{Plan, plan_of, texts_of};
 ghost use Rattle.rr_certify.specs.Certificates.{IsFlawed};
+ghost use Rattle.rr_repair.specs.Views.{wish_of};
 ghost use Rattle.rr_report.specs.Views.{plain_answer, report_text, StopsWhere};
 ghost use Rattle.rr_effects.specs.Outside.{outside};
 ghost use Rattle.rr_effects.specs.Reads.{Given};
 ghost use Rattle.rr_effects.specs.Views.{contents};
-ghost use Rattle.rr_top.specs.Commands.{AnswersCheck, AnswersRun, RefusesCertificate, RefusesTexts, TellsVerdict, WhereTwo, check_command, command_of_plan, repair_command, run_command};
+ghost use Rattle.rr_top.specs.Commands.{AnswersCheck, AnswersRun, AnswersSites, InRange, RefusesCertificate, RefusesSiteList, RefusesTexts, TellsVerdict, WhereOne, WhereTwo, check_command, command_of_plan, repair_command, run_command, sites_command};
 ghost use Rattle.rr_top.specs.Endings.{CommandEnds};
 ghost use Rattle.rr_top.specs.Views.{Gives};
 
@@ -14,8 +15,10 @@ use bumpalo::Bump;
 use rr_certify::{CertificateFault, Verdict, judge, verdict_text};
 use rr_edge::{Shelf, Sink};
 use rr_effects::deliver;
+use rr_repair::{Asked, repair};
 use rr_report::{Found, Part, Piece, Refusal, Report, Stop, Text, stop_of, stopped};
 use rr_run::run_files;
+use rr_sites::list_sites;
 use rr_words::Command;
 use std::alloc::{AllocError, Global};
 use std::thread::Threads;
@@ -40,18 +43,21 @@ fn into_both(files: Vec<Vec<u8>>) -> (Vec<u8>, Vec<u8>)
 }
 
 /// The answer of `repair` for a design and its table. Names in a refusal live in the arena.
-fn repair_files<'b, 'a>(
+fn repair_files<'b, 'a, R: Threads + Sync>(
+    rt: &R,
     alloc: Global,
     files: &'b [Vec<u8>],
-    top: Option<&str>,
-    clock: Option<&str>,
+    asked: &Asked<'_>,
     arena: &'a Bump,
 ) -> Result<Found<'b>, Stop<'a>>
-    requires { WhereTwo (contents files.now) (λ design table. length design ≤ 1048576) }
-    ensures { (design table : List ℕ) → Gives (repair_command design table (texts_of top.entry) (texts_of clock.entry)) (contents files.entry.now) result }
+    requires within { WhereTwo (contents files.now) (λ design table. length design ≤ 1048576) }
+    requires some { 1 ≤ asked.now.members }
+    requires most { asked.now.members ≤ 8 }
+    requires budget { 1 ≤ asked.now.budget }
+    ensures { (design table : List ℕ) → Gives (repair_command design table (wish_of asked.now)) (contents files.entry.now) result }
 {
     let (design, table) = both(files);
-    rr_thin::repair(alloc, design, table, top, clock, arena)
+    repair(rt, alloc, design, table, asked, arena)
 }
 
 /// The answer of `run` for the bytes of a design and of its table.
@@ -92,6 +98,52 @@ fn simulate_files<'b, 'a>(
 {
     let (design, table) = both(files);
     simulate(alloc, design, table, top, clock, arena)
+}
+
+/// The bytes of one file.
+fn only(files: &[Vec<u8>]) -> &[u8]
+    requires { length files.now ≡ 1 }
+    ensures { contents files.now ≡ result.now ∷ [] }
+{
+    files[0].as_slice()
+}
+
+/// The answer of `sites` for the bytes of a design.
+fn list<'b, 'a>(
+    alloc: Global,
+    design: &[u8],
+    top: Option<&str>,
+    clock: Option<&str>,
+    arena: &'a Bump,
+) -> Result<Found<'b>, Stop<'a>>
+    requires { length design.now ≤ 1048576 }
+    ensures { MatchResult result
+        (λ found. AnswersSites (texts_of top.entry) (texts_of clock.entry) design.now (plain_answer found))
+        (StopsWhere (RefusesSiteList (texts_of top.entry) (texts_of clock.entry) design.now)) }
+{
+    match list_sites(alloc, design, top, clock, arena) {
+        Ok(text) => Ok(Found {
+            status: 0,
+            files: Vec::new(alloc),
+            out: Piece::Made(text),
+            notes: Text::Fixed(""),
+        }),
+        Err(fault) => Err(stop_of(fault)),
+    }
+}
+
+/// The answer of `sites` for a design.
+fn list_files<'b, 'a>(
+    alloc: Global,
+    files: &[Vec<u8>],
+    top: Option<&str>,
+    clock: Option<&str>,
+    arena: &'a Bump,
+) -> Result<Found<'b>, Stop<'a>>
+    requires { WhereOne (contents files.now) (λ design. length design ≤ 1048576) }
+    ensures { (design : List ℕ) → Gives (sites_command design (texts_of top.entry) (texts_of clock.entry)) (contents files.now) result }
+{
+    list(alloc, only(files), top, clock, arena)
 }
 
 /// The answer that prints a verdict.
@@ -183,15 +235,30 @@ pub(crate) fn answer_files<'a, R: Threads + Sync, H: Shelf, K: Sink>(
     shelf: &mut H,
     out: &mut K,
 ) -> Report<'a>
-    requires { Given (H.told shelf.old) (command_of_plan (plan_of command)).reads (contents files.items) }
+    requires given { Given (H.told shelf.old) (command_of_plan (plan_of command)).reads (contents files.items) }
+    requires range { InRange (plan_of command) }
     ensures { CommandEnds (command_of_plan (plan_of command.entry))
         (outside (H.told shelf.old) (H.faults shelf.old) (K.written out.old) (K.faults out.old))
         (outside (H.told shelf.new) (H.faults shelf.new) (K.written out.new) (K.faults out.new))
         result.ending (report_text result) }
 {
     match command {
-        Command::Repair { top, clock, .. } => {
-            let answer = repair_files(alloc, &files, top, clock, arena);
+        Command::Repair {
+            cert,
+            top,
+            clock,
+            budget,
+            members,
+            ..
+        } => {
+            let asked = Asked {
+                top,
+                clock,
+                cert,
+                budget,
+                members,
+            };
+            let answer = repair_files(rt, alloc, &files, &asked, arena);
             conclude(alloc, answer, shelf, out)
         }
         Command::Run { top, clock, .. } => {
@@ -202,7 +269,11 @@ pub(crate) fn answer_files<'a, R: Threads + Sync, H: Shelf, K: Sink>(
             let answer = certify_files(rt, alloc, files);
             conclude(alloc, answer, shelf, out)
         }
-        Command::Sites { .. } | Command::Make { .. } => {
+        Command::Sites { top, clock, .. } => {
+            let answer = list_files(alloc, &files, top, clock, arena);
+            conclude(alloc, answer, shelf, out)
+        }
+        Command::Make { .. } => {
             let answer = Err(Stop::Refused(Refusal::NotBuilt(Part::Command)));
             conclude(alloc, answer, shelf, out)
         }

@@ -1,7 +1,7 @@
 //! The top call: it runs the command of a command line over a shelf of files, an output and a report.
 //! It is right where the status, the bytes put out and the report are those that its files decide,
 //! for each command that is built. It stands on `rr_words` for the arguments, on `rr_effects` for the
-//! files, and on one crate for each command: `rr_run`, `rr_certify`, and that of the repair.
+//! files, and on one crate for each command: `rr_repair`, `rr_run`, `rr_sites` and `rr_certify`.
 #![tactic(auto)]
 
 ghost use Rattle.std.specs.Prelude.{◌≡◌, ◌<◌, ◌⊎◌, ℕ, List, Some, map, string_bytes};
@@ -10,10 +10,10 @@ ghost use Rattle.rr_words.specs.Plan.{Plan, command_of, plan_of};
 ghost use Rattle.rr_words.specs.Plain.{IsPlain};
 ghost use Rattle.rr_report.specs.Views.{report_text};
 ghost use Rattle.rr_effects.specs.Outside.{outside};
-ghost use Rattle.rr_top.specs.Commands.{command_of_plan};
+ghost use Rattle.rr_top.specs.Commands.{AsksRepair, InRange, command_of_plan};
 ghost use Rattle.rr_top.specs.Expected.{Expected, Judges};
 ghost use Rattle.rr_top.specs.Endings.{CommandEnds};
-ghost use Rattle.rr_top.specs.Execution.{Ends, execution, IsExecution, HasDone, HasFailed, HoldsNeverTrue, IsCheck, IsRefused, IsAbsent, IsExhausted, IsFailure, IsMatchingRepair, IsUnread, PrintsAsItWas, WhereCommand, SomeFault, Follows, AllGiven, NoneRefuses, NoFaults};
+ghost use Rattle.rr_top.specs.Execution.{Ends, execution, IsExecution, HasDone, HasFailed, HoldsNeverTrue, IsCheck, IsRefused, IsAbsent, IsExhausted, IsFailure, IsMatchingRepair, IsUnread, PrintsAsItWas, WhereCommand, SomeFault, Follows, AllGiven, AsksNoRepair, LeavesOpen, NoneRefuses, NoFaults};
 ghost use Rattle.rr_top.specs.Views.{SaysWhy};
 
 use bumpalo::Bump;
@@ -43,6 +43,7 @@ fn run_command<'a, R: Threads + Sync, H: Shelf, K: Sink>(
     shelf: &mut H,
     out: &mut K,
 ) -> Report<'a>
+    requires { InRange (plan_of command) }
     ensures { CommandEnds (command_of_plan (plan_of command.entry))
         (outside (H.told shelf.old) (H.faults shelf.old) (K.written out.old) (K.faults out.old))
         (outside (H.told shelf.new) (H.faults shelf.new) (K.written out.new) (K.faults out.new))
@@ -106,10 +107,12 @@ fn conduct<R: Threads + Sync, H: Shelf, K: Sink, E: Sink>(
 
 /// Runs the command that the arguments name, the first of which is the program's own name, over a shelf,
 /// an output and a report, and answers the program's status: 0 done, 1 no repair or a certificate that
-/// does not hold, 3 refused input, 4 a fault or an absent name, 5 want of memory, 6 usage.
+/// does not hold, 2 a repair that is left open, 3 refused input, 4 a fault or an absent name, 5 want of
+/// memory, 6 usage.
 ///
-/// Of the commands `repair DESIGN TABLE CERT`, on designs of one form, `run DESIGN TABLE` and
-/// `check CIRCUIT PROOF` are built; the shelf is only read.
+/// The commands are `repair DESIGN TABLE CERT`, `run DESIGN TABLE`, `sites DESIGN` and
+/// `check CIRCUIT PROOF`; `make` is not built. Only `repair` writes to the shelf: the files `CERT.aag`,
+/// `CERT.cnf` and `CERT.lrat`.
 pub fn run<R: Threads + Sync, H: Shelf, K: Sink, E: Sink>(
     rt: &R,
     alloc: Global,
@@ -124,13 +127,15 @@ pub fn run<R: Threads + Sync, H: Shelf, K: Sink, E: Sink>(
         (outside (H.told shelf.new) (H.faults shelf.new) (K.written out.new) (K.faults out.new))
         (E.written notes.old) (E.written notes.new) (E.faults notes.old) (E.faults notes.new) result) }
 
-    // The shelf is only read.
-    ensures kept { H.told shelf.new ≡ H.told shelf.old }
+    // Where no repair is asked for, the shelf is only read.
+    ensures kept { AsksNoRepair (map string_bytes arguments.now) → H.told shelf.new ≡ H.told shelf.old }
 
-    // Status 0. Of `repair`: the bytes put out are the tokens of an instance of the design with k changes, which
-    // matches every expected cell, and no instance with fewer does. Of `run`: the bytes put out are the table of the
-    // rows that were read with the outputs of the one run of the design on them. Of `check`: `accepted` is put out, and
-    // the proof that was read refutes the formula of the circuit that was read.
+    // Status 0. Of `repair`: the bytes put out are the design as it is, which matches every known cell, and the shelf
+    // stays; or they are printed from an instance of the design with k changes, whose tree they have, which matches
+    // every known cell, no instance with fewer does, and the shelf holds the refutation of fewer. Of `run`: the bytes put out are the table of the
+    // rows that were read with the outputs of the one run of the design on them. Of `sites`: the bytes put out are the
+    // lines of the sites of the design that was read. Of `check`: `accepted` is put out, and the proof that was read
+    // refutes the formula of the circuit that was read.
     ensures done { result ≡ 0 → WhereCommand (map string_bytes arguments.now) (HasDone
         (execution (map string_bytes arguments.now)
         (outside (H.told shelf.old) (H.faults shelf.old) (K.written out.old) (K.faults out.old))
@@ -141,8 +146,16 @@ pub fn run<R: Threads + Sync, H: Shelf, K: Sink, E: Sink>(
     ensures certified { result ≡ 0 → (circuit proof : List ℕ) → IsCheck (map string_bytes arguments.now) circuit proof
         → HoldsNeverTrue (H.told shelf.old) circuit }
 
-    // Status 1. Of `repair`: no instance matches. Of `check`: the verdict is put out, and the proof does not refute.
+    // Status 1. Of `repair`: no instance matches, and the shelf holds the refutation. Of `check`: the verdict is put out, and the proof does not refute.
     ensures failed { result ≡ 1 → WhereCommand (map string_bytes arguments.now) (HasFailed
+        (execution (map string_bytes arguments.now)
+        (outside (H.told shelf.old) (H.faults shelf.old) (K.written out.old) (K.faults out.old))
+        (outside (H.told shelf.new) (H.faults shelf.new) (K.written out.new) (K.faults out.new))
+        (E.written notes.old) (E.written notes.new) (E.faults notes.old) (E.faults notes.new) result)) }
+
+    // Status 2, of `repair` alone: whether so many changes match is open, nothing is put out, and the shelf holds the
+    // question, with as many fresh lines of each member as it may learn.
+    ensures left_open { result ≡ 2 → WhereCommand (map string_bytes arguments.now) (LeavesOpen
         (execution (map string_bytes arguments.now)
         (outside (H.told shelf.old) (H.faults shelf.old) (K.written out.old) (K.faults out.old))
         (outside (H.told shelf.new) (H.faults shelf.new) (K.written out.new) (K.faults out.new))
@@ -177,7 +190,7 @@ pub fn run<R: Threads + Sync, H: Shelf, K: Sink, E: Sink>(
         (outside (H.told shelf.new) (H.faults shelf.new) (K.written out.new) (K.faults out.new))
         (E.written notes.old) (E.written notes.new) (E.faults notes.old) (E.faults notes.new) result) }
 
-    // Status 5: memory ran out.
+    // Status 5: memory ran out; the shelf holds what it held, and of `repair` maybe the first of its files, each whole.
     ensures exhausted { result ≡ 5 → IsExhausted
         (execution (map string_bytes arguments.now)
         (outside (H.told shelf.old) (H.faults shelf.old) (K.written out.old) (K.faults out.old))
@@ -197,8 +210,9 @@ pub fn run<R: Threads + Sync, H: Shelf, K: Sink, E: Sink>(
     ensures out_fault { K.faults out.old < K.faults out.new → result ≡ 4 }
     ensures notes_fault { E.faults notes.old < E.faults notes.new → result ≡ 4 }
 
-    // What a told shelf decides comes about: each absent name, each refusal, each verdict on a certificate, and the
-    // statuses 0 and 1, exactly where they are due. Otherwise memory ran out, or the status is 4 and a count of faults rose or stands at its end.
+    // What a told shelf decides comes about: each absent name, each refusal, each list of sites, each verdict on a
+    // certificate, and the statuses 0 and 1, exactly where they are due. Otherwise memory ran out, or the status is 4 and a
+    // count of faults rose or stands at its end, or it is 2, of a repair.
     ensures decided { (plan : Plan) (held : Held) (expected : Expected) → command_of (map string_bytes arguments.now) ≡ Some plan → H.told shelf.old ≡ Some held
         → Judges (command_of_plan plan) held expected → Follows
         (execution (map string_bytes arguments.now)
@@ -206,7 +220,8 @@ pub fn run<R: Threads + Sync, H: Shelf, K: Sink, E: Sink>(
         (outside (H.told shelf.new) (H.faults shelf.new) (K.written out.new) (K.faults out.new))
         (E.written notes.old) (E.written notes.new) (E.faults notes.old) (E.faults notes.new) result) expected }
 
-    // Where the design of a repair matches as it is, it is put out as it was, or memory ran out, or something failed.
+    // Where the design of a repair matches as it is, it is put out as it was and the shelf stays, or memory ran out, or
+    // something failed.
     ensures as_it_was { (design : List ℕ) → IsMatchingRepair
         (execution (map string_bytes arguments.now)
         (outside (H.told shelf.old) (H.faults shelf.old) (K.written out.old) (K.faults out.old))
@@ -217,13 +232,14 @@ pub fn run<R: Threads + Sync, H: Shelf, K: Sink, E: Sink>(
         (outside (H.told shelf.new) (H.faults shelf.new) (K.written out.new) (K.faults out.new))
         (E.written notes.old) (E.written notes.new) (E.faults notes.old) (E.faults notes.new) result) design }
 
-    // Plain arguments, files that are held within their limits, no refusal that is due and no fault: the command is done, or memory ran out.
+    // Plain arguments, files that are held within their limits, no refusal that is due and no fault: the command is done, or
+    // memory ran out, or a repair is left open.
     ensures complete { (plan : Plan) (held : Held) → IsPlain (map string_bytes arguments.now) plan → H.told shelf.old ≡ Some held
         → AllGiven (Some held) (command_of_plan plan).reads → NoneRefuses (command_of_plan plan) (Some held) → NoFaults
         (execution (map string_bytes arguments.now)
         (outside (H.told shelf.old) (H.faults shelf.old) (K.written out.old) (K.faults out.old))
         (outside (H.told shelf.new) (H.faults shelf.new) (K.written out.new) (K.faults out.new))
-        (E.written notes.old) (E.written notes.new) (E.faults notes.old) (E.faults notes.new) result) → (result ≡ 0) ⊎ ((result ≡ 1) ⊎ (result ≡ 5)) }
+        (E.written notes.old) (E.written notes.new) (E.faults notes.old) (E.faults notes.new) result) → (result ≡ 0) ⊎ ((result ≡ 1) ⊎ ((result ≡ 5) ⊎ ((result ≡ 2) × AsksRepair plan))) }
 {
     conduct(rt, alloc, arguments, shelf, out, notes)
 }

@@ -55,6 +55,13 @@ pub(crate) fn fetch_files<'a, H: Shelf>(
             };
             fetch(alloc, shelf, &[circuit, proof])
         }
-        Command::Sites { .. } | Command::Make { .. } => fetch(alloc, shelf, &[]),
+        Command::Sites { design, .. } => {
+            let design = Read {
+                name: design,
+                limit: DESIGN_LIMIT,
+            };
+            fetch(alloc, shelf, &[design])
+        }
+        Command::Make { .. } => fetch(alloc, shelf, &[]),
     }
 }

@@ -1,10 +1,12 @@
-//! The command `repair`: designs that are repaired, kept or beyond repair, refusals, and calls that fail.
+//! The command `repair`: designs that are repaired, kept or beyond repair, with their certificates; refusals,
+//! and calls that fail.
 use rr_edge::{MemoryShelf, MemorySink};
 use rr_top::run;
 use std::process::Abort;
 use std::thread::Threads;
 
-/// A command line with the two files under its names, which calls fail, and what is wanted.
+/// A command line with the two files under its names, which calls fail, and what is wanted: `certified`
+/// counts the files of the certificate that are held in the end, the first ones first.
 #[derive(Clone, Copy)]
 pub(crate) struct Case {
     pub(crate) words: &'static str,
@@ -17,6 +19,7 @@ pub(crate) struct Case {
     pub(crate) status: u8,
     pub(crate) out: &'static str,
     pub(crate) notes: &'static str,
+    pub(crate) certified: usize,
 }
 
 /// No call has this number.
@@ -34,10 +37,18 @@ const FIRST: Case = Case {
     status: 0,
     out: "module m(input a, output y);\n  assign y = a &  1'h1 ;\nendmodule\n",
     notes: "repaired 1\nsite 0 literal 46 1'h1\nproposals 0\n",
+    certified: 3,
 };
 
-/// A case that prints nothing.
-const SILENT: Case = Case { out: "", ..FIRST };
+/// A case that prints and writes nothing.
+const SILENT: Case = Case {
+    out: "",
+    certified: 0,
+    ..FIRST
+};
+
+/// The names of a certificate's files, in the order in which they are written.
+const CERTIFICATE: [&str; 3] = ["c.aag", "c.cnf", "c.lrat"];
 
 const REFUSED: Case = Case {
     status: 3,
@@ -100,7 +111,14 @@ pub(crate) fn check<R: Abort + AllocGlobal + Threads + Sync>(rt: &R, case: &Case
     );
     assert!(rt; shelf.held("d.v") == Some(case.design.as_bytes()));
     assert!(rt; shelf.held("t.csv") == Some(case.table.as_bytes()));
-    assert!(rt; shelf.held("c.aag").is_none());
+    for (number, name) in CERTIFICATE.iter().enumerate() {
+        assert_eq!(rt;
+            shelf.held(name).is_some(),
+            number < case.certified,
+            "{name} of {}",
+            case.design
+        );
+    }
 }
 
 /// A design and a table that are kept as they are.
@@ -116,6 +134,7 @@ fn keeps<R: Abort + AllocGlobal + Threads + Sync>(
             table,
             out: design,
             notes: "unchanged\n",
+            certified: 0,
             ..FIRST
         },
     );
@@ -135,6 +154,7 @@ fn despairs<R: Abort + AllocGlobal + Threads + Sync>(
             table,
             status: 1,
             notes,
+            certified: 3,
             ..SILENT
         },
     );
@@ -167,17 +187,6 @@ fn no_table<R: Abort + AllocGlobal + Threads + Sync>(
     notes: &'static str,
 ) {
     refuses(rt, FIRST.words, FIRST.design, table, notes);
-}
-
-/// A lawful design that is of none of the forms that are repaired.
-fn no_design<R: Abort + AllocGlobal + Threads + Sync>(rt: &R, design: &'static str) {
-    refuses(
-        rt,
-        FIRST.words,
-        design,
-        "a,y\n0,0\n",
-        "refused 0 NotBuilt design\n",
-    );
 }
 
 /// Words that name a command that is not built.
@@ -227,7 +236,7 @@ fn designs_are_repaired(rt: HostRuntime) {
     check(
         &rt,
         &Case {
-            words: "rtl_repair repair --members=2 d.v --budget 1 t.csv c",
+            words: "rtl_repair repair --members=2 d.v --budget 1000 t.csv c",
             design: "/* low */module\\m+ (input(*x*)a,output y);assign y=1'd1;endmodule//",
             table: "a,y\n0,0\n1,0\n",
             out: "/* low */module\\m+ (input(*x*)a,output y);assign y= 1'h0 ;endmodule//",
@@ -293,18 +302,6 @@ fn tables_are_refused(rt: HostRuntime) {
 
 #[test]
 fn designs_are_refused(rt: HostRuntime) {
-    no_design(
-        &rt,
-        "module m(input a, output y);\n  assign y = a && 1'b0;\nendmodule\n",
-    );
-    no_design(
-        &rt,
-        "module m(input a, output y); assign y = a & 1'sb0; endmodule",
-    );
-    no_design(
-        &rt,
-        "module m(input a, output y); assign y = a & 1'bx; endmodule",
-    );
     refuses(
         &rt,
         FIRST.words,
@@ -426,8 +423,7 @@ fn texts_are_refused(rt: HostRuntime) {
 }
 
 #[test]
-fn commands_are_refused(rt: HostRuntime) {
-    unbuilt(&rt, "rtl_repair sites none.v");
+fn a_command_is_not_built(rt: HostRuntime) {
     unbuilt(&rt, "rtl_repair make 1 c");
 }
 
@@ -463,12 +459,32 @@ fn reads_fail(rt: HostRuntime) {
 }
 
 #[test]
+fn writes_fail(rt: HostRuntime) {
+    for (certified, notes) in [
+        (0, "fault write c.aag\n"),
+        (1, "fault write c.cnf\n"),
+        (2, "fault write c.lrat\n"),
+    ] {
+        check(
+            &rt,
+            &Case {
+                shelf_fails: certified as u64 + 2,
+                notes,
+                certified,
+                ..FAULT
+            },
+        );
+    }
+}
+
+#[test]
 fn puts_fail(rt: HostRuntime) {
     check(
         &rt,
         &Case {
             out_fails: 0,
             notes: "fault out\n",
+            certified: 3,
             ..FAULT
         },
     );
@@ -478,6 +494,7 @@ fn puts_fail(rt: HostRuntime) {
             room: 10,
             out: "module m(i",
             notes: "fault out\n",
+            certified: 3,
             ..FAULT
         },
     );
@@ -487,6 +504,7 @@ fn puts_fail(rt: HostRuntime) {
             notes_fails: 0,
             notes: "",
             out: FIRST.out,
+            certified: 3,
             ..FAULT
         },
     );
@@ -547,14 +565,16 @@ fn limits_of_bytes_are_kept(rt: HostRuntime) {
 fn limits_of_rows_are_kept(rt: HostRuntime) {
     let alloc = rt.alloc();
     let mut table = Vec::from_slice(alloc, b"a,y\n".as_slice()).expect(&rt, "room");
-    for _ in 0..65_536 {
+    for _ in 0..65_537 {
         table.extend_from_slice(b"1,1\n").expect(&rt, "room");
     }
-    let design = FIRST.design.as_bytes();
-    assert_eq!(rt; is_told(&rt, design, &table, FIRST.notes), 0);
-    table.extend_from_slice(b"1,1\n").expect(&rt, "room");
     assert_eq!(rt;
-        is_told(&rt, design, &table, "refused 16 TooMany rows 65537\n"),
+        is_told(
+            &rt,
+            FIRST.design.as_bytes(),
+            &table,
+            "refused 16 TooMany rows 65537\n"
+        ),
         3
     );
 }

@@ -1,5 +1,4 @@
 //! The texts of endings and refusals, and the calls of one command each.
-use bumpalo::Bump;
 use rr_certify::{CertificateFault, Flaw, Verdict, judge, verdict_text};
 use rr_report::{Part, Refusal, Stop, absent, out_fault, read_fault, refused, stopped};
 use rr_run::Limit;
@@ -85,28 +84,5 @@ fn certificates_are_judged(rt: HostRuntime) {
         (Verdict::NoEmptyClause, "no empty clause\n"),
     ] {
         assert!(rt; verdict_text(alloc, verdict).expect(&rt, "room").as_str() == text);
-    }
-}
-
-#[test]
-fn designs_are_repaired_by_their_bytes(rt: HostRuntime) {
-    let alloc = rt.alloc();
-    let arena = Bump::new(alloc);
-    let design = b"module m(input a, output y); assign y = 1'b1; endmodule".as_slice();
-    let found = rr_thin::repair(alloc, design, b"a,y\n1,0\n", None, None, &arena);
-    match found {
-        Ok(found) => {
-            assert_eq!(rt; found.status, 0);
-            assert!(rt; found.files.is_empty());
-            assert!(rt;
-                found.out.as_bytes()
-                    == b"module m(input a, output y); assign y =  1'h0 ; endmodule".as_slice()
-            );
-            assert!(rt;
-                found.notes.as_bytes()
-                    == b"repaired 1\nsite 0 literal 40 1'h0\nproposals 0\n".as_slice()
-            );
-        }
-        Err(_) => assert!(rt; false, "refused"),
     }
 }

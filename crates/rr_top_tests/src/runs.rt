@@ -26,6 +26,7 @@ const FIRST: Case = Case {
     status: 0,
     out: CARRY_RUN,
     notes: "",
+    certified: 0,
 };
 
 const FAULT: Case = Case {

@@ -1,4 +1,4 @@
-use Rattle.rr_top.proofs.Executions.{execution_done, execution_certified, execution_failed, execution_refused, execution_faulty, execution_failure, execution_exhausted, execution_usage, execution_not_plain, execution_kept, execution_shelf, execution_out, execution_notes, execution_decided, execution_as_it_was, execution_complete}
+use Rattle.rr_top.proofs.Executions.{execution_done, execution_certified, execution_failed, execution_refused, execution_faulty, execution_failure, execution_left, execution_exhausted, execution_usage, execution_not_plain, execution_kept, execution_shelf, execution_out, execution_notes, execution_decided, execution_as_it_was, execution_complete}
 use Rattle.rr_top.proofs.run.Goals as goal
 
 pub returns-clause-done : goal.returns-clause-done
@@ -9,6 +9,9 @@ returns-clause-certified g c = execution_certified c.conduct.ensures
 
 pub returns-clause-failed : goal.returns-clause-failed
 returns-clause-failed g c = execution_failed c.conduct.ensures
+
+pub returns-clause-left_open : goal.returns-clause-left_open
+returns-clause-left_open g c = execution_left c.conduct.ensures
 
 pub returns-clause-refused : goal.returns-clause-refused
 returns-clause-refused g c = execution_refused c.conduct.ensures

@@ -10,4 +10,4 @@ pub returns-clause-shelf : goal.returns-clause-shelf
 returns-clause-shelf c = λ plan held v w p q. one_outcome (command_of_plan plan) (one_in_table plan) held v w p q
 
 pub returns-clause-writes : goal.returns-clause-writes
-returns-clause-writes c = λ plan. writes_nothing plan
+returns-clause-writes c = λ plan none. writes_nothing plan none

@@ -1,0 +1,178 @@
+-- What two files decide for a repair, they decide once.
+use Rattle.std.proofs.Common.{◌≡◌, ◌∙◌, inl, inr, ℕ, ◌<◌, ◌^◌, ◌+◌, List, [], ◌∷◌, false, cond, refl, sym, ap, subst, arith, Option, Ok, Err}
+use Rattle.std.proofs.lemmas.List.Sums.{sum_by-cons}
+use Rattle.std.proofs.Math.Pow.{ones_lt}
+use Rattle.rr_syntax.specs.Tree.{SourceText}
+use Rattle.rr_lex.specs.Tokens.{Lexeme}
+use Rattle.rr_flat.specs.Plain.{Flat}
+use Rattle.rr_flat.specs.declared.fault.Limit.TheVariants as limit
+use Rattle.rr_elaborate.proofs.Once.{one_text as one_tree}
+use Rattle.rr_instance.specs.declared.pick.Pick.{Pick}
+use Rattle.rr_instance.specs.Choices.{cost, IsChoice}
+use Rattle.rr_instance.specs.Sites.{Site, value_width}
+use Rattle.rr_instance_laws.proofs.OffLaws.{keeps_at_no_cost}
+use Rattle.rr_trace.specs.Tables.{Table, table_of}
+use Rattle.rr_trace.specs.Tops.{ports_of}
+use Rattle.rr_transition.specs.Cycles.{Design, instance_design}
+use Rattle.rr_unroll.specs.Matches.{Matches}
+use Rattle.rr_run.specs.Refusals.{Refusal as RunRefusal, TooMany}
+use Rattle.rr_run.specs.Runs.{HasNoTable as HasNoRows, IsLawfulDesign, IsSameRefusal, RefusesTable}
+use Rattle.rr_run.proofs.Causes.{table_cause}
+use Rattle.rr_run.proofs.Once.{one_lawful, one_refused}
+use Rattle.rr_sites.specs.Lines.{site_lines}
+use Rattle.rr_sites.specs.Lists.{HasSites, RefusesSites}
+use Rattle.rr_sites.proofs.Once.{one_list, text_or_refusal, one_refusal as one_site_refusal}
+use Rattle.rr_repair.specs.Repairs.{HasMuchWork, HasNoTable, IsSited, IsTaken, Refuses, Wish, design_of, work_of}
+use Rattle.rr_repair_laws.specs.Laws.{IsOneTaking, OneTaking, OneRefusal, TakenOrRefused, MendableOrNot, MatchingIsMendable}
+
+module _ (w : Wish) (design : List ℕ) where
+  -- ---- a design with its sites
+  lawful_of : {ts : List Lexeme} {a : SourceText} {flat : Flat} {clock : Option ℕ} {ss : List Site} (s : IsSited w design ts a flat clock ss) → IsLawfulDesign design w.top w.clock ts flat clock s.rising
+  lawful_of {ts} {a} {flat} {clock} {ss} s = record { design = record { tree = a; text = s.tree.text; flat = s.tree.flat }; lawful = s.lawful; one_clock = s.one_clock }
+
+  sites_of_it : {ts : List Lexeme} {a : SourceText} {flat : Flat} {clock : Option ℕ} {ss : List Site} → IsSited w design ts a flat clock ss → HasSites design w.top w.clock ts ss
+  sites_of_it {ts} {a} {flat} {clock} {ss} s = record { source = a; flat = flat; clock = clock; rising = s.rising; design = s.tree; lawful = s.lawful; one_clock = s.one_clock; are = s.are }
+
+  record IsOneSited (ts us : List Lexeme) (a b : SourceText) (f g : Flat) (c d : Option ℕ) (ss rs : List Site) : Type 0 where
+    tokens : ts ≡ us
+    source : a ≡ b
+    flat : f ≡ g
+    clock : c ≡ d
+    sites : ss ≡ rs
+
+  one_sited : {ts us : List Lexeme} {a b : SourceText} {f g : Flat} {c d : Option ℕ} {ss rs : List Site} → IsSited w design ts a f c ss → IsSited w design us b g d rs → IsOneSited ts us a b f g c d ss rs
+  one_sited {ts} {us} {a} {b} {f} {g} {c} {d} {ss} {rs} p q =
+      let lists = one_list design w.top w.clock ts us ss rs (sites_of_it p) (sites_of_it q) in
+      let trees = one_tree design ts us a b p.tree.text q.tree.text in
+      let lawful = one_lawful design w.top w.clock ts us f g c d p.rising q.rising (lawful_of p) (lawful_of q) in
+      record { tokens = lists.0; source = trees.1; flat = lawful.1.0; clock = lawful.1.1.0; sites = lists.1 }
+
+  not_refused : {ts : List Lexeme} {a : SourceText} {flat : Flat} {clock : Option ℕ} {ss : List Site} (r : RunRefusal) → IsSited w design ts a flat clock ss → RefusesSites design w.top w.clock r → ⊥
+  not_refused {ts} {a} {flat} {clock} {ss} r s refuses =
+      text_or_refusal design w.top w.clock (site_lines ts 0 ss) r (record { tokens = ts; sites = ss; has = sites_of_it s; told = (s.few, refl) }) refuses
+
+  -- ---- its table
+  module _ (table : List ℕ) where
+    same_rows : {f g : Flat} {c d : Option ℕ} → f ≡ g → c ≡ d → table_of (ports_of f c) table ≡ table_of (ports_of g d) table
+    same_rows {f} {g} {c} {d} p q = cc
+
+    one_rows : {f g : Flat} {c d : Option ℕ} {x y : Table} → f ≡ g → c ≡ d → table_of (ports_of f c) table ≡ Ok x → table_of (ports_of g d) table ≡ Ok y → x ≡ y
+    one_rows {f} {g} {c} {d} {x} {y} p q a b =
+        let reads : Ok x ≡ Ok y = sym a ∙ (same_rows p q ∙ b) in
+        cc
+
+    no_rows : {f g : Flat} {c d : Option ℕ} {x : Table} {X : Type 0} (r : RunRefusal) → f ≡ g → c ≡ d → table_of (ports_of f c) table ≡ Ok x → RefusesTable g d table r → X
+    no_rows {f} {g} {c} {d} {x} r p q a refuses =
+        let cause = table_cause g d table r refuses in
+        let reads : Ok x ≡ Err cause.0 = sym a ∙ (same_rows p q ∙ cause.1.0) in
+        absurd (cc)
+
+    same_work : {f g : Flat} {x y : Table} → f ≡ g → x ≡ y → work_of f x ≡ work_of g y
+    same_work {f} {g} {x} {y} p q = ap (λ (h : Flat). work_of h x) p ∙ ap (λ (t : Table). work_of g t) q
+
+    no_table_of : (r : RunRefusal) → HasNoTable w design table r → HasNoRows design table w.top w.clock r
+    no_table_of r n = record { tokens = n.tokens; flat = n.flat; clock = n.clock; rising = n.sited.rising; design = lawful_of n.sited; refused = n.refused }
+
+    -- ---- refusals
+    rows_or_none : {X : Type 0} (r s : RunRefusal) → HasMuchWork w design table r → HasNoTable w design table s → X
+    rows_or_none r s m n = let one = one_sited m.sited n.sited in no_rows s one.flat one.clock m.read n.refused
+
+    one_work : (r s : RunRefusal) → HasMuchWork w design table r → HasMuchWork w design table s → r ≡ s
+    one_work r s p q =
+        let one = one_sited p.sited q.sited in
+        let rows = one_rows one.flat one.clock p.read q.read in
+        p.told ∙ (ap (λ (n : ℕ). TooMany limit.Work n) (same_work one.flat rows) ∙ sym q.told)
+
+    one_refused_pair : (r s : RunRefusal) → Refuses w design table r → Refuses w design table s → IsSameRefusal r s
+    one_refused_pair r s (inl p) (inl q) = one_site_refusal design w.top w.clock r s p q
+    one_refused_pair r s (inl p) (inr (inl q)) = absurd (not_refused r q.sited p)
+    one_refused_pair r s (inl p) (inr (inr q)) = absurd (not_refused r q.sited p)
+    one_refused_pair r s (inr (inl p)) (inl q) = absurd (not_refused s p.sited q)
+    one_refused_pair r s (inr (inl p)) (inr (inl q)) = one_refused design table w.top w.clock r s (inr (no_table_of r p)) (inr (no_table_of s q))
+    one_refused_pair r s (inr (inl p)) (inr (inr q)) = rows_or_none s r q p
+    one_refused_pair r s (inr (inr p)) (inl q) = absurd (not_refused s p.sited q)
+    one_refused_pair r s (inr (inr p)) (inr (inl q)) = rows_or_none r s p q
+    one_refused_pair r s (inr (inr p)) (inr (inr q)) = inl (one_work r s p q)
+
+    -- ---- files that are taken
+    one_pair : {ts us : List Lexeme} {a b : SourceText} {ss rs : List Site} {x y : Table} → IsTaken w design table ts a ss x → IsTaken w design table us b rs y → IsOneTaking ts us a b ss rs x y
+    one_pair {ts} {us} {a} {b} {ss} {rs} {x} {y} p q =
+        let one = one_sited p.sited q.sited in
+        record { tokens = one.tokens; source = one.source; sites = one.sites; rows = one_rows one.flat one.clock p.read q.read }
+
+    much_or_little : {X : Type 0} {ts : List Lexeme} {a : SourceText} {ss : List Site} {x : Table} (r : RunRefusal) → IsTaken w design table ts a ss x → HasMuchWork w design table r → X
+    much_or_little {ts = ts} {a = a} {ss = ss} {x = x} r t m =
+        let one = one_sited t.sited m.sited in
+        let works : work_of t.flat x ≡ work_of m.flat m.rows = same_work one.flat (one_rows one.flat one.clock t.read m.read) in
+        let small = t.small in
+        let much = m.much in
+        absurd (omega (arith, works, small, much))
+
+    not_both : {ts : List Lexeme} {a : SourceText} {ss : List Site} {x : Table} (r : RunRefusal) → IsTaken w design table ts a ss x → Refuses w design table r → ⊥
+    not_both r t (inl p) = not_refused r t.sited p
+    not_both r t (inr (inl n)) = let one = one_sited t.sited n.sited in no_rows r one.flat one.clock t.read n.refused
+    not_both r t (inr (inr m)) = much_or_little r t m
+
+pub one_taking : OneTaking
+one_taking w design table ts us a b ss rs x y p q = one_pair w design table p q
+
+pub one_refusal : OneRefusal
+one_refusal w design table r s p q = one_refused_pair w design table r s p q
+
+pub taken_or_refused : TakenOrRefused
+taken_or_refused w design table ts a ss x r t p = not_both w design table r t p
+
+-- ---- outcomes
+-- what matches of one way to take the files, matches of another
+pub moved_choice : (w : Wish) {ts us : List Lexeme} {a b : SourceText} {ss rs : List Site} {x y : Table} (choice : List Pick) → IsOneTaking ts us a b ss rs x y → IsChoice ss choice →
+    Matches (instance_design ss choice (design_of w a)) x → IsChoice rs choice × Matches (instance_design rs choice (design_of w b)) y
+moved_choice w {ts} {us} {a} {b} {ss} {rs} {x} {y} choice one chosen matches =
+    let sites = one.sites in
+    let first : Matches (instance_design rs choice (design_of w a)) x = subst (λ (l : List Site). Matches (instance_design l choice (design_of w a)) x) sites matches in
+    let second : Matches (instance_design rs choice (design_of w b)) x = subst (λ (t : SourceText). Matches (instance_design rs choice (design_of w t)) x) one.source first in
+    (subst (λ (l : List Site). IsChoice l choice) sites chosen, subst (λ (t : Table). Matches (instance_design rs choice (design_of w b)) t) one.rows second)
+
+pub moved_matches : (w : Wish) {ts us : List Lexeme} {a b : SourceText} {ss rs : List Site} {x y : Table} → IsOneTaking ts us a b ss rs x y → Matches (design_of w a) x → Matches (design_of w b) y
+moved_matches w {a = a} {b = b} {x = x} {y = y} one matches =
+    let first : Matches (design_of w b) x = subst (λ (t : SourceText). Matches (design_of w t) x) one.source matches in
+    subst (λ (t : Table). Matches (design_of w b) t) one.rows first
+
+pub mendable_or_not : MendableOrNot
+mendable_or_not w design table m n =
+    let both = moved_choice w m.choice (one_pair w design table m.taken n.taken) m.chosen m.matches in
+    n.none m.choice both.0 both.1
+
+-- the choice that changes nothing
+abbrev off_pick : Pick
+off_pick = record { on = false; value = 0; form = 0; name = 0 }
+
+off_choice : List Site → List Pick
+off_choice [] = []
+off_choice (s ∷ ss) = off_pick ∷ off_choice ss
+
+power_above : (n : ℕ) → 0 < 2 ^ n
+power_above n = let below = ones_lt n in omega (arith, below)
+
+off_chosen : (ss : List Site) → IsChoice ss (off_choice ss)
+unfolding IsChoice off_choice
+off_chosen [] = tt
+off_chosen (s ∷ ss) = (record { value = power_above (value_width s.kind); form = omega arith; name = omega arith }, off_chosen ss)
+
+off_free : (ss : List Site) → cost (off_choice ss) ≡ 0
+unfolding off_choice
+off_free [] = refl
+off_free (s ∷ ss) =
+    let rest : cost (off_choice ss) ≡ 0 = off_free ss in
+    let none : 0 + cost (off_choice ss) ≡ 0 = omega (arith, rest) in
+    sum_by-cons (λ (q : Pick). cond q.on 1 0) off_pick (off_choice ss) ∙ none
+
+off_stays : (j : Design) (ss : List Site) → instance_design ss (off_choice ss) j ≡ j
+off_stays j ss = ap (λ (t : SourceText). record { source = t; top = j.top; word = j.word }) (keeps_at_no_cost.source ss (off_choice ss) j.source (off_free ss))
+
+pub mends_as_it_is : (j : Design) (ss : List Site) (x : Table) → Matches j x → (choice : List Pick) × (IsChoice ss choice × Matches (instance_design ss choice j) x)
+mends_as_it_is j ss x matches = (off_choice ss, (off_chosen ss, subst (λ (d : Design). Matches d x) (sym (off_stays j ss)) matches))
+
+pub matching_mends : MatchingIsMendable
+matching_mends w design table m =
+    let some = mends_as_it_is (design_of w m.source) m.sites m.rows m.matches in
+    record { tokens = m.tokens; source = m.source; sites = m.sites; rows = m.rows; taken = m.taken; choice = some.0; chosen = some.1.0; matches = some.1.1 }

@@ -1,0 +1,55 @@
+-- What an answer tells.
+use Rattle.std.proofs.Common.{inl, inr, ℕ, List}
+use Rattle.rr_syntax.specs.Tree.{SourceText}
+use Rattle.rr_lex.specs.Tokens.{Lexeme}
+use Rattle.rr_instance.specs.Sites.{Site}
+use Rattle.rr_trace.specs.Tables.{Table}
+use Rattle.rr_unroll.specs.Matches.{Matches}
+use Rattle.rr_report.specs.Found.{Answer}
+use Rattle.rr_repair.specs.Repairs.{IsAnswer, IsBeyond, IsOpen, IsRepaired, IsTaken, IsUnchanged, Wish, design_of}
+use Rattle.rr_repair_laws.specs.Outcomes.{IsAsItWas}
+use Rattle.rr_repair_laws.specs.Laws.{EachAnswer, MatchingStays, TellsOutcome}
+use Rattle.rr_repair_laws.proofs.Once.{matching_mends, moved_matches, one_taking}
+
+module _ (w : Wish) (design table : List ℕ) (answer : Answer) (ts : List Lexeme) (a : SourceText) (ss : List Site) (x : Table) (taken : IsTaken w design table ts a ss x) where
+  of_unchanged : IsUnchanged w design a x answer → TellsOutcome w design table answer
+  of_unchanged u = inl (
+    record { tokens = ts; source = a; sites = ss; rows = x; taken = taken; is = inl u },
+    (matching_mends w design table (record { tokens = ts; source = a; sites = ss; rows = x; taken = taken; matches = u.matches }), u.status),
+  )
+
+  of_repaired : IsRepaired w design ts a ss x answer → TellsOutcome w design table answer
+  of_repaired r = inl (
+    record { tokens = ts; source = a; sites = ss; rows = x; taken = taken; is = inr r },
+    (record { tokens = ts; source = a; sites = ss; rows = x; taken = taken; choice = r.choice; chosen = r.chosen; matches = r.matches }, r.status),
+  )
+
+  of_beyond : IsBeyond w a ss x answer → TellsOutcome w design table answer
+  of_beyond b = inr (inl (
+    record { tokens = ts; source = a; sites = ss; rows = x; taken = taken; is = b },
+    (record { tokens = ts; source = a; sites = ss; rows = x; taken = taken; none = b.none }, b.status),
+  ))
+
+  of_open : IsOpen w a ss x answer → TellsOutcome w design table answer
+  of_open o = inr (inr (record { tokens = ts; source = a; sites = ss; rows = x; taken = taken; is = o }, o.status))
+
+  of_answer : IsAnswer w design ts a ss x answer → TellsOutcome w design table answer
+  of_answer (inl u) = of_unchanged u
+  of_answer (inr (inl r)) = of_repaired r
+  of_answer (inr (inr (inl b))) = of_beyond b
+  of_answer (inr (inr (inr o))) = of_open o
+
+  -- no other answer has a design that matches
+  stays : Matches (design_of w a) x → IsAnswer w design ts a ss x answer → IsAsItWas design answer
+  stays matches (inl u) = record { files = u.files; printed = u.printed; notes = u.notes; status = u.status }
+  stays matches (inr (inl r)) = absurd (r.faulty matches)
+  stays matches (inr (inr (inl b))) = absurd (b.faulty matches)
+  stays matches (inr (inr (inr o))) = absurd (o.faulty matches)
+
+pub each_answer : EachAnswer
+each_answer w design table answer a = of_answer w design table answer a.tokens a.source a.sites a.rows a.taken a.is
+
+pub matching_stays : MatchingStays
+matching_stays w design table answer m a =
+    let one = one_taking w design table m.tokens a.tokens m.source a.source m.sites a.sites m.rows a.rows m.taken a.taken in
+    stays w design table answer a.tokens a.source a.sites a.rows a.taken (moved_matches w one m.matches) a.is

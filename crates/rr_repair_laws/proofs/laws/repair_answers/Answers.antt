@@ -1,0 +1,8 @@
+use Rattle.rr_repair_laws.proofs.Told.{each_answer, matching_stays}
+use Rattle.rr_repair_laws.proofs.laws.repair_answers.Goals as goal
+
+pub returns-clause-each : goal.returns-clause-each
+returns-clause-each c = each_answer
+
+pub returns-clause-stays : goal.returns-clause-stays
+returns-clause-stays c = matching_stays

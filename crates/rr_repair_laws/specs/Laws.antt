@@ -1,0 +1,50 @@
+-- Laws of repairs: two files come to one outcome or have one refusal, and each answer tells that outcome or leaves it open.
+use Rattle.std.specs.Prelude.{◌≡◌, ◌⊎◌, ℕ, List}
+use Rattle.rr_syntax.specs.Tree.{SourceText}
+use Rattle.rr_lex.specs.Tokens.{Lexeme}
+use Rattle.rr_instance.specs.Sites.{Site}
+use Rattle.rr_trace.specs.Tables.{Table}
+use Rattle.rr_run.specs.Refusals.{Refusal as RunRefusal}
+use Rattle.rr_run.specs.Runs.{IsSameRefusal}
+use Rattle.rr_report.specs.Found.{Answer}
+use Rattle.rr_repair.specs.Repairs.{AnswersRepair, IsTaken, Refuses, Wish}
+use Rattle.rr_repair_laws.specs.Outcomes.{IsAsItWas, IsDespaired, IsLeftOpen, IsMatching, IsMendable, IsMended, IsUnmendable}
+
+-- two ways to take the files are one
+pub record IsOneTaking (ts us : List Lexeme) (a b : SourceText) (ss rs : List Site) (x y : Table) : Type 0 where
+  pub tokens : ts ≡ us
+  pub source : a ≡ b
+  pub sites : ss ≡ rs
+  pub rows : x ≡ y
+
+abbrev pub OneTaking : Type 0
+OneTaking = (w : Wish) (design table : List ℕ) (ts us : List Lexeme) (a b : SourceText) (ss rs : List Site) (x y : Table) →
+    IsTaken w design table ts a ss x → IsTaken w design table us b rs y → IsOneTaking ts us a b ss rs x y
+
+-- two refusals are one, but for the byte that is told of a text without a tree
+abbrev pub OneRefusal : Type 0
+OneRefusal = (w : Wish) (design table : List ℕ) (r s : RunRefusal) → Refuses w design table r → Refuses w design table s → IsSameRefusal r s
+
+-- files that are taken are not refused
+abbrev pub TakenOrRefused : Type 0
+TakenOrRefused = (w : Wish) (design table : List ℕ) (ts : List Lexeme) (a : SourceText) (ss : List Site) (x : Table) (r : RunRefusal) →
+    IsTaken w design table ts a ss x → Refuses w design table r → ⊥
+
+abbrev pub MendableOrNot : Type 0
+MendableOrNot = (w : Wish) (design table : List ℕ) → IsMendable w design table → IsUnmendable w design table → ⊥
+
+-- a design that matches as it is has a choice that matches: the one that changes nothing
+abbrev pub MatchingIsMendable : Type 0
+MatchingIsMendable = (w : Wish) (design table : List ℕ) → IsMatching w design table → IsMendable w design table
+
+-- of an answer: what the files come to, and the status
+abbrev pub TellsOutcome : Wish → List ℕ → List ℕ → Answer → Type 0
+TellsOutcome w design table answer = (IsMended w design table answer × (IsMendable w design table × (answer.status ≡ 0)))
+    ⊎ ((IsDespaired w design table answer × (IsUnmendable w design table × (answer.status ≡ 1))) ⊎ (IsLeftOpen w design table answer × (answer.status ≡ 2)))
+
+abbrev pub EachAnswer : Type 0
+EachAnswer = (w : Wish) (design table : List ℕ) (answer : Answer) → AnswersRepair w design table answer → TellsOutcome w design table answer
+
+-- where the design matches as it is, each answer prints it so
+abbrev pub MatchingStays : Type 0
+MatchingStays = (w : Wish) (design table : List ℕ) (answer : Answer) → IsMatching w design table → AnswersRepair w design table answer → IsAsItWas design answer

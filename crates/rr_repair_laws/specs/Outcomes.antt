@@ -1,0 +1,79 @@
+-- What a design and its table come to, apart from any answer; and which of these an answer tells.
+use Rattle.std.specs.Prelude.{◌≡◌, ◌⊎◌, ℕ, List, []}
+use Rattle.rr_syntax.specs.Tree.{SourceText}
+use Rattle.rr_lex.specs.Tokens.{Lexeme}
+use Rattle.rr_instance.specs.declared.pick.Pick.{Pick}
+use Rattle.rr_instance.specs.Choices.{IsChoice}
+use Rattle.rr_instance.specs.Sites.{Site}
+use Rattle.rr_trace.specs.Tables.{Table}
+use Rattle.rr_transition.specs.Cycles.{instance_design}
+use Rattle.rr_unroll.specs.Matches.{Matches}
+use Rattle.rr_search.specs.Least.{NoneMatches}
+use Rattle.rr_report.specs.Found.{Answer}
+use Rattle.rr_answers.specs.Texts.{unchanged_text}
+use Rattle.rr_repair.specs.Repairs.{IsBeyond, IsOpen, IsRepaired, IsTaken, IsUnchanged, Wish, design_of}
+
+-- ---- of two files
+-- both are taken, and the design matches as it is
+pub record IsMatching (w : Wish) (design table : List ℕ) : Type 0 where
+  pub tokens : List Lexeme
+  pub source : SourceText
+  pub sites : List Site
+  pub rows : Table
+  pub taken : IsTaken w design table tokens source sites rows
+  pub matches : Matches (design_of w source) rows
+
+-- both are taken, and some choice gives an instance that matches
+pub record IsMendable (w : Wish) (design table : List ℕ) : Type 0 where
+  pub tokens : List Lexeme
+  pub source : SourceText
+  pub sites : List Site
+  pub rows : Table
+  pub taken : IsTaken w design table tokens source sites rows
+  pub choice : List Pick
+  pub chosen : IsChoice sites choice
+  pub matches : Matches (instance_design sites choice (design_of w source)) rows
+
+-- both are taken, and no choice gives an instance that matches
+pub record IsUnmendable (w : Wish) (design table : List ℕ) : Type 0 where
+  pub tokens : List Lexeme
+  pub source : SourceText
+  pub sites : List Site
+  pub rows : Table
+  pub taken : IsTaken w design table tokens source sites rows
+  pub none : NoneMatches (design_of w source) sites rows
+
+-- ---- of an answer
+-- both files are taken, and the answer prints the source as it is, or with the fewest changes that match
+pub record IsMended (w : Wish) (design table : List ℕ) (answer : Answer) : Type 0 where
+  pub tokens : List Lexeme
+  pub source : SourceText
+  pub sites : List Site
+  pub rows : Table
+  pub taken : IsTaken w design table tokens source sites rows
+  pub is : IsUnchanged w design source rows answer ⊎ IsRepaired w design tokens source sites rows answer
+
+-- both files are taken, and the answer tells that no changes match
+pub record IsDespaired (w : Wish) (design table : List ℕ) (answer : Answer) : Type 0 where
+  pub tokens : List Lexeme
+  pub source : SourceText
+  pub sites : List Site
+  pub rows : Table
+  pub taken : IsTaken w design table tokens source sites rows
+  pub is : IsBeyond w source sites rows answer
+
+-- both files are taken, and the answer leaves open whether so many changes match
+pub record IsLeftOpen (w : Wish) (design table : List ℕ) (answer : Answer) : Type 0 where
+  pub tokens : List Lexeme
+  pub source : SourceText
+  pub sites : List Site
+  pub rows : Table
+  pub taken : IsTaken w design table tokens source sites rows
+  pub is : IsOpen w source sites rows answer
+
+-- the design is printed as it is, and no file is written
+pub record IsAsItWas (design : List ℕ) (answer : Answer) : Type 0 where
+  pub files : answer.files ≡ []
+  pub printed : answer.out ≡ design
+  pub notes : answer.notes ≡ unchanged_text
+  pub status : answer.status ≡ 0

@@ -1,0 +1,19 @@
+//! Laws of what files come to, as contracts of functions that do nothing.
+ghost use Rattle.rr_repair_laws.specs.Laws.{EachAnswer, MatchingIsMendable, MatchingStays, MendableOrNot, OneRefusal, OneTaking, TakenOrRefused};
+
+/// Two files are taken in one way or refused by one refusal, but for the byte that is told of a text
+/// without a tree; and not some choice matches where none does.
+pub fn repair_outcomes()
+    ensures taking { OneTaking }
+    ensures refusal { OneRefusal }
+    ensures either { TakenOrRefused }
+    ensures mendable { MendableOrNot }
+    ensures matching { MatchingIsMendable }
+{}
+
+/// Each answer has status 0 where some choice matches, 1 where none does, or 2 where it leaves this
+/// open; and a design that matches as it is is printed as it is.
+pub fn repair_answers()
+    ensures each { EachAnswer }
+    ensures stays { MatchingStays }
+{}

@@ -1,9 +1,0 @@
-pub mod Over
-pub mod Designs
-pub mod Leasts
-pub mod Matching
-pub mod Places
-pub mod Patched
-pub mod Stops
-pub mod Judged
-pub mod Outcomes

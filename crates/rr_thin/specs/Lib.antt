@@ -1,9 +1,0 @@
-pub mod Thin
-pub mod Table
-pub mod Choices
-pub mod Search
-pub mod Patching
-pub mod Texts
-pub mod Answers
-pub mod Repairs
-pub mod Views
