@@ -1,5 +1,7 @@
 //! Repairs of small designs.
 
+ghost use Rattle.std.specs.Prelude.{◌≡◌};
+
 use crate::designs::{
     CELLS, COUNTER, COUNTER_TABLE, GATE, GATE_TABLE, INSTANCES, INSTANCES_TABLE, INVERTED,
     INVERTED_TABLE, MISSING, MISSING_TABLE, TWO, TWO_TABLE, WIRE, WIRE_TABLE,
