@@ -1,12 +1,13 @@
 -- Texts and registers that are written piece by piece.
-use Rattle.std.proofs.Common.{◌≡◌, ◌∙◌, ℕ, suc, ◌+◌, ◌-◌, ◌*◌, ◌<◌, ◌≤◌, List, [], ◌∷◌, ◌++◌, length, drop, get_or, map, replicate, refl, sym, ap, ap₂, arith}
-use Rattle.std.specs.Prelude.{decimal, flat_map}
+use Rattle.std.proofs.Common.{◌≡◌, ◌∙◌, ℕ, suc, ◌+◌, ◌-◌, ◌*◌, ◌/◌, ◌%◌, ◌<◌, ◌≤◌, List, [], ◌∷◌, ◌++◌, length, drop, get_or, map, replicate, refl, sym, ap, ap₂, arith}
+use Rattle.std.specs.Prelude.{codes, decimal, flat_map}
 use Rattle.std.specs.List.{range_with_len}
 use Rattle.std.proofs.lemmas.List.{append_assoc, append-nil, drop_all, drop_more, length-append, length-drop}
+use Rattle.std.proofs.lemmas.Fmt.{decimal_digit}
 use Rattle.std.proofs.lemmas.List.Concat.{flat_map-append}
 use Rattle.std.proofs.lemmas.List.FromFn.{map-range_with_len_more}
 use Rattle.rr_made.specs.Draws.{state}
-use Rattle.rr_made.specs.Made.{all_counted, column_text, counted, enable, line_text, registers, reset, row_text, steps}
+use Rattle.rr_made.specs.Made.{all_counted, column_text, head_text, hex_digit, made_design, counted, enable, line_text, register_text, registers, reset, row_text, steps, written}
 
 -- ---- pieces for numbers from 0 on
 range_more : (n : ℕ) → range_with_len 0 (n + 1) ≡ range_with_len 0 n ++ (n ∷ [])
@@ -155,3 +156,41 @@ module _ (seed : ℕ) where
         let here : line_text (rst ∷ (en ∷ values)) ≡ row_text seed row = rw (r, e, h.held) refl in
         pieces_more (row_text seed) row column_text text longer h.written (line ∙ ap (λ (xs : List ℕ). text ++ xs) here);
   }
+
+-- ---- the length of the design
+register_length : (i k : ℕ) → i < 10 → length (register_text i k) ≡ 85
+register_length i k small =
+    let one : length (decimal i) ≡ 1 = ap length (decimal_digit i small) in
+    let t6 : List ℕ = codes " + 8'h" ++ (hex_digit (k / 16) ∷ (hex_digit (k % 16) ∷ codes ";\n")) in
+    let t5 : List ℕ = decimal i ++ t6 in
+    let t4 : List ℕ = codes " <= r" ++ t5 in
+    let t3 : List ℕ = decimal i ++ t4 in
+    let t2 : List ℕ = codes " <= 8'h00;\n    else if (en) r" ++ t3 in
+    let t1 : List ℕ = decimal i ++ t2 in
+    let l6 : length t6 ≡ 10 = refl in
+    let l5 : length t5 ≡ 11 = length-append (decimal i) t6 ∙ ap₂ (λ (a b : ℕ). a + b) one l6 in
+    let l4 : length t4 ≡ 16 = length-append (codes " <= r") t5 ∙ ap (λ (n : ℕ). 5 + n) l5 in
+    let l3 : length t3 ≡ 17 = length-append (decimal i) t4 ∙ ap₂ (λ (a b : ℕ). a + b) one l4 in
+    let l2 : length t2 ≡ 46 = length-append (codes " <= 8'h00;\n    else if (en) r") t3 ∙ ap (λ (n : ℕ). 29 + n) l3 in
+    let l1 : length t1 ≡ 47 = length-append (decimal i) t2 ∙ ap₂ (λ (a b : ℕ). a + b) one l2 in
+    length-append (codes "  always @(posedge clk)\n    if (rst) r") t1 ∙ ap (λ (n : ℕ). 38 + n) l1
+
+abbrev EachIs : (ℕ → List ℕ) → ℕ → List ℕ → Type 0
+EachIs f n [] = Unit {0}
+EachIs f n (x ∷ xs) = (length (f x) ≡ n) × EachIs f n xs
+
+pieces_length : (f : ℕ → List ℕ) (n : ℕ) (xs : List ℕ) → EachIs f n xs → length (flat_map f xs) ≡ length xs * n
+pieces_length f n [] h = omega arith
+pieces_length f n (x ∷ xs) h =
+    let rest = pieces_length f n xs h.1 in
+    let more : n + length xs * n ≡ suc (length xs) * n = omega arith in
+    length-append (f x) (flat_map f xs) ∙ ap₂ (λ (a b : ℕ). a + b) h.0 rest ∙ more
+
+pub design_length : (seed : ℕ) → length (made_design seed) ≡ 903
+design_length seed =
+    let f : ℕ → List ℕ = λ i. register_text i (written seed i) in
+    let at : (i : ℕ) → i < 10 → length (f i) ≡ 85 = λ i small. register_length i (written seed i) small in
+    let all : EachIs f 85 (range_with_len 0 8) = (at 0 (omega arith), (at 1 (omega arith), (at 2 (omega arith), (at 3 (omega arith), (at 4 (omega arith), (at 5 (omega arith), (at 6 (omega arith), (at 7 (omega arith), tt)))))))) in
+    let pieces = pieces_length f 85 (range_with_len 0 8) all in
+    length-append head_text (flat_map f (range_with_len 0 8) ++ codes "endmodule\n")
+    ∙ ap (λ (n : ℕ). length head_text + n) (length-append (flat_map f (range_with_len 0 8)) (codes "endmodule\n") ∙ ap (λ (n : ℕ). n + 10) pieces)

@@ -1,5 +1,5 @@
 //! Both texts of a seed.
-ghost use Rattle.std.specs.Prelude.{◌≡◌, IfOk, OnOk, string_bytes};
+ghost use Rattle.std.specs.Prelude.{◌≡◌, IfOk, OnOk, length, string_bytes};
 ghost use Rattle.rr_made.specs.Draws.{state};
 ghost use Rattle.rr_made.specs.Made.{made_design, made_table, steps};
 
@@ -31,6 +31,7 @@ fn steps(alloc: Global, draws: &mut Draws) -> Result<Vec<u8>, AllocError>
 /// The texts of the design and of the table that a seed gives.
 pub fn made(alloc: Global, seed: u64) -> Result<Input, AllocError>
     ensures design { IfOk result (λ m. string_bytes m.design ≡ made_design seed) }
+    ensures length { IfOk result (λ m. length (string_bytes m.design) ≡ 903) }
     ensures table { IfOk result (λ m. m.table.items ≡ made_table seed) }
 {
     let mut draws = Draws { state: seed };
