@@ -1,4 +1,4 @@
-//! What the contracts of `rr_bits`, `rr_decimal`, `rr_cnf` and `rr_sort` do not say: values from
+//! What the contracts of `rr_bits`, `rr_decimal`, `rr_made`, `rr_cnf` and `rr_sort` do not say: values from
 //! outside, written texts, and that each call succeeds where memory is left. It has tests alone.
 #![tactic(auto)]
 
@@ -8,5 +8,7 @@ mod bits;
 mod cnf;
 #[cfg(test)]
 mod decimal;
+#[cfg(test)]
+mod made;
 #[cfg(test)]
 mod sort;

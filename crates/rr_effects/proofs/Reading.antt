@@ -10,7 +10,7 @@ use Rattle.rr_report.specs.declared.ending.Ending.{Ending}
 use Rattle.rr_report.specs.declared.ending.Ending.TheVariants.{Usage, NoMemory, Absent, ReadFault, WriteFault, OutFault, Refused, Done}
 use Rattle.rr_report.specs.declared.ending.Report.{Report}
 use Rattle.rr_report.specs.declared.refusal.Refusal.{Refusal as RustRefusal}
-use Rattle.rr_report.specs.Refusals.{Refusal, TooManyBytes, Input, NotBuilt, Flawed, plain_refusal}
+use Rattle.rr_report.specs.Refusals.{Refusal, TooManyBytes, Input, Flawed, plain_refusal}
 use Rattle.rr_report.specs.Texts.{absent_text, memory_text, read_fault_text, refused_text}
 use Rattle.rr_report.specs.Views.{IsRefusedOrNoMemory, Says, report_text}
 use Rattle.rr_effects.specs.declared.reads.Read.{Read}
@@ -68,7 +68,6 @@ module _ (told : Option Held) (read : List ℕ × ℕ) where
     refuses_at : (r : Refusal) → IsTooLong told read.0 read.1 r → RefusesReads told reads r
     refuses_at (TooManyBytes count) long = long_at reads k files within is given count long
     refuses_at (Input refusal) long = absurd long
-    refuses_at (NotBuilt part) long = absurd long
     refuses_at (Flawed flaw line) long = absurd long
 
     -- the next read gives none

@@ -4,7 +4,7 @@ use Rattle.rr_edge.specs.Faults.{Faulted}
 use Rattle.rr_edge.specs.Held.{Held}
 use Rattle.rr_report.specs.declared.ending.Ending.{Ending}
 use Rattle.rr_report.specs.declared.ending.Ending.TheVariants.{Usage, NoMemory, Absent, ReadFault, WriteFault, OutFault, Refused, Done}
-use Rattle.rr_report.specs.Refusals.{Refusal, TooManyBytes, Input, NotBuilt, Flawed, plain_refusal}
+use Rattle.rr_report.specs.Refusals.{Refusal, TooManyBytes, Input, Flawed, plain_refusal}
 use Rattle.rr_report.specs.Texts.{absent_text, read_fault_text, memory_text, refused_text}
 
 -- a read of the name gave these bytes
@@ -39,7 +39,6 @@ IsRead (read ∷ reads) name = (name ≡ read.0) ⊎ IsRead reads name
 abbrev pub RefusesReads : Option Held → List (List ℕ × ℕ) → Refusal → Type 0
 RefusesReads told reads (TooManyBytes count) = TooLongAt told reads count
 RefusesReads told reads (Input refusal) = ⊥
-RefusesReads told reads (NotBuilt part) = ⊥
 RefusesReads told reads (Flawed flaw line) = ⊥
 
 -- how reads end that do not give all files: the count of faults, and the text that reports the ending

@@ -7,7 +7,7 @@ use Rattle.rr_report.specs.declared.ending.Ending.{Ending}
 use Rattle.rr_report.specs.declared.ending.Ending.TheVariants.{Usage, NoMemory, Absent, ReadFault, WriteFault, OutFault, Refused, Done}
 use Rattle.rr_report.specs.declared.ending.Report.{Report}
 use Rattle.rr_report.specs.Found.{File}
-use Rattle.rr_report.specs.Refusals.{Refusal, TooManyBytes, Input, NotBuilt, Flawed, plain_refusal}
+use Rattle.rr_report.specs.Refusals.{Refusal, TooManyBytes, Input, Flawed, plain_refusal}
 use Rattle.rr_report.specs.Texts.{absent_text, read_fault_text, memory_text, refused_text}
 use Rattle.rr_report.specs.Views.{report_text}
 use Rattle.rr_effects.specs.declared.reads.Read.{Read}
@@ -28,7 +28,6 @@ contents = map (λ file. file.items)
 abbrev pub IsTooLong : Option Held → List ℕ → ℕ → Refusal → Type 0
 IsTooLong told name limit (TooManyBytes count) = (limit < count) × IfSome told (λ held. (bytes : List ℕ) × (held name ≡ Some bytes) × (length bytes ≡ count))
 IsTooLong told name limit (Input refusal) = ⊥
-IsTooLong told name limit (NotBuilt part) = ⊥
 IsTooLong told name limit (Flawed flaw line) = ⊥
 
 -- how a read of one name ends that gives no bytes

@@ -38,13 +38,16 @@ use Rattle.rr_respell.specs.Printing.{printed}
 use Rattle.rr_changes.specs.Texts.{report}
 use Rattle.rr_report.specs.Found.{Answer}
 use Rattle.rr_report.specs.Views.{stop_from, StopsWhere}
+use Rattle.rr_search.specs.declared.answer.Answer.{Answer as SearchAnswer}
+use Rattle.rr_search.specs.declared.answer.Answer.TheVariants as found
 use Rattle.rr_search.specs.Answers as search
 use Rattle.rr_search.specs.Answers.{Task, IsTask, IsOf}
 use Rattle.rr_search.specs.Least.{Least}
 use Rattle.rr_unroll.specs.Faithful.{Faithful}
 use Rattle.rr_answers.specs.Certified.{certificate}
 use Rattle.rr_answers.specs.Texts.{beyond_text}
-use Rattle.rr_repair.specs.Repairs.{Wish, AnswersRepair, IsAnswer, IsSited, IsTaken, Refuses, RefusesRepair, design_of, work_of}
+use Rattle.rr_repair.specs.Repairs.{Wish, AnswersRepair, CountsRepair, IsAnswer, IsCounted, IsSited, IsTaken, Refuses, RefusesRepair, design_of, work_of}
+use Rattle.rr_repair.specs.Views.{answer_status, changes_of}
 
 pub choice_length : (ss : List Site) (ps : List Pick) → IsChoice ss ps → length ps ≡ length ss
 unfolding IsChoice
@@ -91,6 +94,15 @@ module _ (w : Wish) (design : List ℕ) (tokens : List Lexeme) (source : SourceT
     status = status;
   })))
 
+-- the number of changes
+module _ (w : Wish) (design : List ℕ) (tokens : List Lexeme) (source : SourceText) (t : Task) (told : Answer) where
+  pub counted_told : (answer : SearchAnswer) → search.AnswerIs t (design_of w source) answer → IsAnswer w design tokens source t.sites t.table told → told.status ≡ answer_status answer
+      → IsCounted w design tokens source t.sites t.table told (changes_of answer)
+  counted_told found.Unchanged r is e = record { is = is; least = λ zero. r.least }
+  counted_told (found.Repair choice k circuit journal) r is e = record { is = is; least = λ zero. r.least }
+  counted_told (found.NoRepair circuit journal) r is e = record { is = is; least = λ zero. absurd (omega (arith, e, zero)) }
+  counted_told (found.Spent bound circuit journal) r is e = record { is = is; least = λ zero. absurd (omega (arith, e, zero)) }
+
 pub plain_count : (sites : List ArenaSite) (ss : List Site) → plain_sites sites ≡ ss → length ss ≡ length sites
 plain_count sites ss e = sym (ap (λ (x : List Site). length x) e) ∙ length-map sites plain_site
 
@@ -133,7 +145,7 @@ module _ (w : Wish) (design table : List ℕ) (tokens : List Lexeme) (source : S
       told = ap (λ (n : ℕ). TooMany limit.Work n) e;
     }))
 
-    pub answered : (answer : Answer) → work ≤ 262144 → IsAnswer w design tokens source sites rows answer → AnswersRepair w design table answer
+    answered : (answer : Answer) → work ≤ 262144 → IsAnswer w design tokens source sites rows answer → AnswersRepair w design table answer
     answered answer l is = record {
       tokens = tokens;
       source = source;
@@ -141,6 +153,19 @@ module _ (w : Wish) (design table : List ℕ) (tokens : List Lexeme) (source : S
       rows = rows;
       taken = record { flat = flat; clock = clock; sited = sited; read = read; small = subst (λ (n : ℕ). n ≤ 262144) e l };
       is = is;
+    }
+
+    pub counted : (answer : Answer) (changes : ℕ) → work ≤ 262144 → IsCounted w design tokens source sites rows answer changes → CountsRepair w design table answer changes
+    counted answer changes l c = record {
+      answers = answered answer l c.is;
+      least = λ zero. record {
+        tokens = tokens;
+        source = source;
+        sites = sites;
+        rows = rows;
+        taken = record { flat = flat; clock = clock; sited = sited; read = read; small = subst (λ (n : ℕ). n ≤ 262144) e l };
+        least = c.least zero;
+      };
     }
 
 -- what is asked of the search

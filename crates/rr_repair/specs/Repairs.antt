@@ -31,7 +31,7 @@ use Rattle.rr_unroll.specs.Faithful.{Faithful}
 use Rattle.rr_unroll.specs.Matches.{Matches}
 use Rattle.rr_search.specs.Least.{Least, NoneMatches}
 use Rattle.rr_report.specs.Found.{Answer}
-use Rattle.rr_report.specs.Refusals.{Refusal, TooManyBytes, Input, NotBuilt, Flawed}
+use Rattle.rr_report.specs.Refusals.{Refusal, TooManyBytes, Input, Flawed}
 use Rattle.rr_answers.specs.Certified.{certificate}
 use Rattle.rr_answers.specs.Texts.{beyond_text, open_text, unchanged_text}
 
@@ -147,6 +147,26 @@ pub record AnswersRepair (w : Wish) (design table : List ℕ) (answer : Answer) 
   pub taken : IsTaken w design table tokens source sites rows
   pub is : IsAnswer w design tokens source sites rows answer
 
+-- ---- the number of changes
+-- an answer, and the least number of changes that match, where it has status 0
+pub record IsCounted (w : Wish) (design : List ℕ) (tokens : List Lexeme) (source : SourceText) (sites : List Site) (rows : Table) (answer : Answer) (changes : ℕ) : Type 0 where
+  pub is : IsAnswer w design tokens source sites rows answer
+  pub least : answer.status ≡ 0 → Least (design_of w source) sites rows changes
+
+-- both files are taken, and this is the least number of changes with which the design matches
+pub record IsLeastCount (w : Wish) (design table : List ℕ) (changes : ℕ) : Type 0 where
+  pub tokens : List Lexeme
+  pub source : SourceText
+  pub sites : List Site
+  pub rows : Table
+  pub taken : IsTaken w design table tokens source sites rows
+  pub least : Least (design_of w source) sites rows changes
+
+-- the answer for two files, and the least number of changes, where it has status 0
+pub record CountsRepair (w : Wish) (design table : List ℕ) (answer : Answer) (changes : ℕ) : Type 0 where
+  pub answers : AnswersRepair w design table answer
+  pub least : answer.status ≡ 0 → IsLeastCount w design table changes
+
 -- ---- refusals
 
 -- the design is taken, and the table is none for its ports
@@ -179,5 +199,4 @@ Refuses w design table refusal = RefusesSites design w.top w.clock refusal ⊎ (
 abbrev pub RefusesRepair : Wish → List ℕ → List ℕ → Refusal → Type 0
 RefusesRepair w design table (TooManyBytes count) = ⊥
 RefusesRepair w design table (Input refusal) = Refuses w design table refusal
-RefusesRepair w design table (NotBuilt part) = ⊥
 RefusesRepair w design table (Flawed flaw line) = ⊥

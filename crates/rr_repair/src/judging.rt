@@ -16,10 +16,11 @@ ghost use Rattle.rr_trace.specs.Tables.{table_of};
 ghost use Rattle.rr_trace.specs.Tops.{ports_of};
 ghost use Rattle.rr_trace.specs.View.{plain_table};
 ghost use Rattle.rr_report.specs.Views.{plain_answer, StopsWhere};
-ghost use Rattle.rr_repair.specs.Repairs.{AnswersRepair, IsAnswer, IsSited, RefusesRepair, design_of};
-ghost use Rattle.rr_repair.specs.Views.{wish_of};
+ghost use Rattle.rr_repair.specs.Repairs.{AnswersRepair, CountsRepair, IsAnswer, IsCounted, IsSited, RefusesRepair, design_of};
+ghost use Rattle.rr_repair.specs.Views.{answer_status, wish_of};
 
 use crate::asked::Asked;
+use crate::counted::{Counted, changes_of};
 use crate::working::{count_row, work_of};
 use bumpalo::Bump;
 use rr_answers::{beyond, left_open, repaired, unchanged};
@@ -83,7 +84,8 @@ fn told<'b>(
     requires members { job.now.members ≡ asked.now.members }
     requires budget { job.now.budget ≡ asked.now.budget }
     requires found { AnswerIs (task_of job.now) (design_of (wish_of asked.now) (plain_source design.now.source.now)) answer.now }
-    ensures { IfOk result (λ found. IsAnswer (wish_of asked.now) bytes.entry.now (lexemes design.now.tokens.now) (plain_source design.now.source.now) job.now.list.now (plain_table job.now.table.now) (plain_answer found)) }
+    ensures answer { IfOk result (λ found. IsAnswer (wish_of asked.now) bytes.entry.now (lexemes design.now.tokens.now) (plain_source design.now.source.now) job.now.list.now (plain_table job.now.table.now) (plain_answer found)) }
+    ensures status { IfOk result (λ found. found.status ≡ answer_status answer.now) }
 {
     match answer {
         Answer::Unchanged => Ok(unchanged(alloc, bytes)),
@@ -127,7 +129,7 @@ fn searched<'b, R: Threads + Sync>(
     list: &SiteList<'_>,
     rows: &Table,
     asked: &Asked<'_>,
-) -> Result<Found<'b>, AllocError>
+) -> Result<Counted<'b>, AllocError>
     requires small { length bytes.now < 2 ^ 32 }
     requires text { IsText bytes.now (lexemes design.now.tokens.now) (plain_source design.now.source.now) }
     requires few { length list.now ≤ 1024 }
@@ -137,7 +139,7 @@ fn searched<'b, R: Threads + Sync>(
     requires budget { 1 ≤ asked.now.budget }
     requires fits { FitsArguments (design_of (wish_of asked.now) (plain_source design.now.source.now)) (plain_flat design.now.flat) design.now.order.clock design.now.order.rising design.now.order.steps.items list.now }
     requires read { (table : List ℕ) × (table_of (ports_of (plain_flat design.now.flat) design.now.order.clock) table ≡ Ok (plain_table rows.now)) }
-    ensures { IfOk result (λ found. IsAnswer (wish_of asked.now) bytes.entry.now (lexemes design.now.tokens.now) (plain_source design.now.source.now) list.now (plain_table rows.now) (plain_answer found)) }
+    ensures { IfOk result (λ c. IsCounted (wish_of asked.now) bytes.entry.now (lexemes design.now.tokens.now) (plain_source design.now.source.now) list.now (plain_table rows.now) (plain_answer c.found) c.changes) }
 {
     let cycle = cycle_of(alloc, design, list)?;
     let job = Job {
@@ -149,7 +151,10 @@ fn searched<'b, R: Threads + Sync>(
     };
     let answer = least(rt, alloc, &job, &[])?;
     let found = told(alloc, bytes, design, &job, asked, &answer)?;
-    Ok(found)
+    Ok(Counted {
+        found,
+        changes: changes_of(&answer),
+    })
 }
 
 /// The answer for a lawful design, its sites and the rows of its table, or that the work is too much.
@@ -161,7 +166,7 @@ fn judge_rows<'b, 'a, R: Threads + Sync>(
     list: &SiteList<'_>,
     rows: &Table,
     asked: &Asked<'_>,
-) -> Result<Found<'b>, Stop<'a>>
+) -> Result<Counted<'b>, Stop<'a>>
     requires small { length bytes.now < 2 ^ 32 }
     requires text { IsText bytes.now (lexemes design.now.tokens.now) (plain_source design.now.source.now) }
     requires few { length list.now ≤ 1024 }
@@ -173,7 +178,7 @@ fn judge_rows<'b, 'a, R: Threads + Sync>(
     requires read { (table : List ℕ) × (table_of (ports_of (plain_flat design.now.flat) design.now.order.clock) table ≡ Ok (plain_table rows.now)) }
     ensures { (table : List ℕ) → IsSited (wish_of asked.now) bytes.entry.now (lexemes design.now.tokens.now) (plain_source design.now.source.now) (plain_flat design.now.flat) design.now.order.clock list.now
         → table_of (ports_of (plain_flat design.now.flat) design.now.order.clock) table ≡ Ok (plain_table rows.now)
-        → MatchResult result (λ found. AnswersRepair (wish_of asked.now) bytes.entry.now table (plain_answer found)) (StopsWhere (RefusesRepair (wish_of asked.now) bytes.entry.now table)) }
+        → MatchResult result (λ c. CountsRepair (wish_of asked.now) bytes.entry.now table (plain_answer c.found) c.changes) (StopsWhere (RefusesRepair (wish_of asked.now) bytes.entry.now table)) }
 {
     let work = work_of(&design.flat, rows);
     if work > WORK_LIMIT {
@@ -181,7 +186,7 @@ fn judge_rows<'b, 'a, R: Threads + Sync>(
         return Err(Stop::Refused(Refusal::Input(refusal)));
     }
     match searched(rt, alloc, bytes, design, list, rows, asked) {
-        Ok(found) => Ok(found),
+        Ok(counted) => Ok(counted),
         Err(_) => Err(Stop::Memory),
     }
 }
@@ -195,7 +200,7 @@ fn judge_table<'b, 'a, R: Threads + Sync>(
     list: &SiteList<'_>,
     table: &[u8],
     asked: &Asked<'_>,
-) -> Result<Found<'b>, Stop<'a>>
+) -> Result<Counted<'b>, Stop<'a>>
     requires small { length bytes.now < 2 ^ 32 }
     requires text { IsText bytes.now (lexemes design.now.tokens.now) (plain_source design.now.source.now) }
     requires few { length list.now ≤ 1024 }
@@ -205,7 +210,7 @@ fn judge_table<'b, 'a, R: Threads + Sync>(
     requires budget { 1 ≤ asked.now.budget }
     requires fits { FitsArguments (design_of (wish_of asked.now) (plain_source design.now.source.now)) (plain_flat design.now.flat) design.now.order.clock design.now.order.rising design.now.order.steps.items list.now }
     ensures { IsSited (wish_of asked.now) bytes.entry.now (lexemes design.now.tokens.now) (plain_source design.now.source.now) (plain_flat design.now.flat) design.now.order.clock list.now
-        → MatchResult result (λ found. AnswersRepair (wish_of asked.now) bytes.entry.now table.now (plain_answer found)) (StopsWhere (RefusesRepair (wish_of asked.now) bytes.entry.now table.now)) }
+        → MatchResult result (λ c. CountsRepair (wish_of asked.now) bytes.entry.now table.now (plain_answer c.found) c.changes) (StopsWhere (RefusesRepair (wish_of asked.now) bytes.entry.now table.now)) }
 {
     match read_rows(alloc, design, table) {
         Ok(rows) => judge_rows(rt, alloc, bytes, design, list, &rows, asked),
@@ -222,7 +227,7 @@ fn judge_sites<'b, 'a, R: Threads + Sync>(
     table: &[u8],
     asked: &Asked<'_>,
     arena: &'a Bump,
-) -> Result<Found<'b>, Stop<'a>>
+) -> Result<Counted<'b>, Stop<'a>>
     requires small { length bytes.now < 2 ^ 32 }
     requires tree { IsDesignOf bytes.now (lexemes design.now.tokens.now) (plain_source design.now.source.now) (wish_of asked.now).top (plain_flat design.now.flat) }
     requires input { IsClockInput (plain_flat design.now.flat) design.now.order.clock }
@@ -233,7 +238,7 @@ fn judge_sites<'b, 'a, R: Threads + Sync>(
     requires most { asked.now.members ≤ 8 }
     requires budget { 1 ≤ asked.now.budget }
     ensures { OneClock (plain_flat design.now.flat) (wish_of asked.now).clock design.now.order.clock design.now.order.rising
-        → MatchResult result (λ found. AnswersRepair (wish_of asked.now) bytes.entry.now table.now (plain_answer found)) (StopsWhere (RefusesRepair (wish_of asked.now) bytes.entry.now table.now)) }
+        → MatchResult result (λ c. CountsRepair (wish_of asked.now) bytes.entry.now table.now (plain_answer c.found) c.changes) (StopsWhere (RefusesRepair (wish_of asked.now) bytes.entry.now table.now)) }
 {
     let list = match design_sites(alloc, design, arena) {
         Ok(list) => list,
@@ -248,9 +253,33 @@ fn judge_sites<'b, 'a, R: Threads + Sync>(
 }
 
 /// The repair of a design of at most 1,048,576 bytes by its table: what is to be printed, reported and
-/// written. Else the first refusal: of the design (1 to 25), that it has more than 1,024 sites (16), of
+/// written, and, where the status is 0, the least number of changes. Else the first refusal: of the design (1 to 25), that it has more than 1,024 sites (16), of
 /// the table (33, 26 to 32 and 16), and that the rows times the bits of all signals are more than
 /// 262,144 (16). Names in a refusal live in the arena.
+pub fn repair_counted<'b, 'a, R: Threads + Sync>(
+    rt: &R,
+    alloc: Global,
+    design: &'b [u8],
+    table: &[u8],
+    asked: &Asked<'_>,
+    arena: &'a Bump,
+) -> Result<Counted<'b>, Stop<'a>>
+    requires small { length design.now ≤ 1048576 }
+    requires some { 1 ≤ asked.now.members }
+    requires most { asked.now.members ≤ 8 }
+    requires budget { 1 ≤ asked.now.budget }
+    ensures { MatchResult result
+        (λ c. CountsRepair (wish_of asked.now) design.entry.now table.now (plain_answer c.found) c.changes)
+        (StopsWhere (RefusesRepair (wish_of asked.now) design.entry.now table.now)) }
+{
+    match lawful_design(alloc, design, asked.top, asked.clock, arena) {
+        Ok(lawful) => judge_sites(rt, alloc, design, &lawful, table, asked, arena),
+        Err(fault) => Err(stop_of(fault)),
+    }
+}
+
+/// The repair of a design of at most 1,048,576 bytes by its table: what is to be printed, reported and
+/// written; or the first refusal, as `repair_counted` tells them.
 pub fn repair<'b, 'a, R: Threads + Sync>(
     rt: &R,
     alloc: Global,
@@ -267,8 +296,8 @@ pub fn repair<'b, 'a, R: Threads + Sync>(
         (λ found. AnswersRepair (wish_of asked.now) design.entry.now table.now (plain_answer found))
         (StopsWhere (RefusesRepair (wish_of asked.now) design.entry.now table.now)) }
 {
-    match lawful_design(alloc, design, asked.top, asked.clock, arena) {
-        Ok(lawful) => judge_sites(rt, alloc, design, &lawful, table, asked, arena),
-        Err(fault) => Err(stop_of(fault)),
+    match repair_counted(rt, alloc, design, table, asked, arena) {
+        Ok(counted) => Ok(counted.found),
+        Err(stop) => Err(stop),
     }
 }

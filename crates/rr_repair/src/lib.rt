@@ -6,8 +6,10 @@
 #![tactic(auto)]
 
 mod asked;
+mod counted;
 mod judging;
 mod working;
 
 pub use asked::Asked;
-pub use judging::repair;
+pub use counted::Counted;
+pub use judging::{repair, repair_counted};

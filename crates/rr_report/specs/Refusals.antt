@@ -1,20 +1,16 @@
--- Why the input is refused: a file past its limit, what is wrong with a design or its table, what is not built yet, or a
--- bad line of a certificate.
+-- Why the input is refused: a file past its limit, what is wrong with a design or its table, or a bad line of a certificate.
 use Rattle.std.specs.Prelude.{ℕ}
 use Rattle.rr_run.specs.Refusals.{Refusal as RunRefusal, plain_refusal as plain_run_refusal}
 use Rattle.rr_certify.specs.declared.fault.Flaw.{Flaw}
-use Rattle.rr_report.specs.declared.refusal.Part.{Part}
 use Rattle.rr_report.specs.declared.refusal.Refusal.{Refusal as RustRefusal}
 use Rattle.rr_report.specs.declared.refusal.Refusal.TheVariants as refusal
 
 pub data Refusal : Type 0 where
   TooManyBytes : ℕ → Refusal
   Input : RunRefusal → Refusal
-  NotBuilt : Part → Refusal
   Flawed : Flaw → ℕ → Refusal
 
 abbrev pub plain_refusal : RustRefusal → Refusal
 plain_refusal (refusal.TooManyBytes count) = TooManyBytes count
 plain_refusal (refusal.Input r) = Input (plain_run_refusal r)
-plain_refusal (refusal.NotBuilt part) = NotBuilt part
 plain_refusal (refusal.Flawed flaw line) = Flawed flaw line

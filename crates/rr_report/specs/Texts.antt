@@ -2,24 +2,16 @@
 use Rattle.std.specs.Prelude.{ℕ, List, [], ◌∷◌, ◌++◌, codes, decimal}
 use Rattle.rr_run.specs.Texts.{refusal_text as run_refusal_text}
 use Rattle.rr_certify.specs.Texts.{flaw_text}
-use Rattle.rr_report.specs.declared.refusal.Part.{Part}
-use Rattle.rr_report.specs.declared.refusal.Part.TheVariants as part
-use Rattle.rr_report.specs.Refusals.{Refusal, TooManyBytes, Input, NotBuilt, Flawed}
+use Rattle.rr_report.specs.Refusals.{Refusal, TooManyBytes, Input, Flawed}
 
 -- a line of its own
 abbrev pub line : List ℕ → List ℕ
 line text = text ++ (10 ∷ [])
 
--- what is not built yet
-abbrev pub part_text : Part → List ℕ
-part_text part.Command = codes "command"
-part_text part.Design = codes "design"
-
 -- number, name and place
 abbrev pub refusal_text : Refusal → List ℕ
 refusal_text (TooManyBytes count) = codes "16 TooMany bytes " ++ decimal count
 refusal_text (Input refusal) = run_refusal_text refusal
-refusal_text (NotBuilt part) = codes "0 NotBuilt " ++ part_text part
 refusal_text (Flawed flaw n) = flaw_text flaw ++ (codes " line " ++ decimal n)
 
 abbrev pub refused_text : Refusal → List ℕ

@@ -15,5 +15,5 @@ pub use ending::{
 };
 pub use file::File;
 pub use found::{Found, Piece};
-pub use refusal::{Part, Refusal, Stop, stop_of};
+pub use refusal::{Refusal, Stop, stop_of};
 pub use text::Text;

@@ -6,29 +6,6 @@ use rr_certify::Flaw;
 use rr_run::RunFault;
 use std::fmt;
 
-/// A part of the work that is not built yet.
-#[derive(Clone, Copy, Debug, PartialEq, Eq)]
-pub enum Part {
-    /// The command that the words name.
-    Command,
-    /// The repair of a lawful design of this form.
-    Design,
-}
-
-impl fmt::Display for Part {
-    ghost use Rattle.std.specs.Prelude.{Some};
-    ghost use Rattle.rr_report.specs.Texts.{part_text};
-
-    ghost output = { λ part. Some (part_text part) };
-
-    fn fmt<W: fmt::Write>(&self, f: &mut fmt::Formatter<W>) -> fmt::Result {
-        match self {
-            Part::Command => write!(f, "command"),
-            Part::Design => write!(f, "design"),
-        }
-    }
-}
-
 /// Why the input is refused.
 #[derive(Clone, Copy, Debug, PartialEq, Eq)]
 pub enum Refusal<'a> {
@@ -37,8 +14,6 @@ pub enum Refusal<'a> {
     /// What is wrong with a design or its table first (1 to 33), with every other count that passes
     /// its limit (16).
     Input(rr_run::Refusal<'a>),
-    /// This part is not built yet (0).
-    NotBuilt(Part),
     /// The first bad line of a certificate is this one, counted from 1 (34 to 36).
     Flawed(Flaw, u64),
 }
@@ -54,7 +29,6 @@ impl fmt::Display for Refusal<'_> {
         match self {
             Refusal::TooManyBytes(count) => write!(f, "16 TooMany bytes {count}"),
             Refusal::Input(refusal) => write!(f, "{refusal}"),
-            Refusal::NotBuilt(part) => write!(f, "0 NotBuilt {part}"),
             Refusal::Flawed(flaw, line) => write!(f, "{flaw} line {line}"),
         }
     }

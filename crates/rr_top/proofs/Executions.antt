@@ -18,7 +18,7 @@ use Rattle.rr_report.specs.declared.ending.Ending.{Ending}
 use Rattle.rr_report.specs.declared.ending.Ending.TheVariants.{Usage, NoMemory, Absent, ReadFault, WriteFault, OutFault, Refused, Done}
 use Rattle.rr_report.specs.Endings.{status_of}
 use Rattle.rr_report.specs.Found.{Answer, File}
-use Rattle.rr_report.specs.Refusals.{Refusal, TooManyBytes, Input, NotBuilt, Flawed, plain_refusal}
+use Rattle.rr_report.specs.Refusals.{Refusal, TooManyBytes, Input, Flawed, plain_refusal}
 use Rattle.rr_report.specs.Texts.{memory_text, refused_text, out_fault_text}
 use Rattle.rr_effects.specs.Outside.{Outside, KeepsShelf, KeepsOut}
 use Rattle.rr_effects.specs.Reads.{AbsentAt, Gave, Given}
@@ -29,11 +29,13 @@ use Rattle.rr_repair_laws.specs.Laws.{TellsOutcome}
 use Rattle.rr_repair_laws.specs.Outcomes.{IsAsItWas}
 use Rattle.rr_repair_laws.proofs.Once.{matching_mends}
 use Rattle.rr_repair_laws.proofs.Told.{each_answer, matching_stays}
-use Rattle.rr_top.specs.Outcomes.{Outcome, mended, unmendable, ran, listed, checked, IsToldBy, Tells, outcome_status, verdict_status}
+use Rattle.rr_make.specs.Makes.{TellsMake}
+use Rattle.rr_make.proofs.Once.{each_make}
+use Rattle.rr_top.specs.Outcomes.{Outcome, mended, unmendable, ran, listed, checked, made, IsToldBy, Tells, outcome_status, verdict_status}
 use Rattle.rr_top.specs.Commands.{AnswersRun, AnswersSites, AnswersCheck, AsksRepair, BothGiven, Command, Due, HasOneOutcome, Refuses, WhereOne, WhereTwo, check_command, command_of_plan, repair_command, run_command, sites_command, wish}
 use Rattle.rr_top.specs.Expected.{Expected, absent, refused, unparsed, done, expected_status, IsChecked, IsPlaced, Judges}
 use Rattle.rr_top.specs.Endings.{CommandEnds}
-use Rattle.rr_top.specs.Execution.{Ends, IsUsage, Execution, IsExecution, IsRepaired, IsBeyondRepair, IsUnsettled, HoldsFiles, HoldsFirst, LeavesOpen, MayStayOpen, AsksNoRepair, IsSimulated, IsListed, IsAccepted, IsRejected, HasDone, HasFailed, HoldsNeverTrue, IsCheck, IsRefused, IsAbsent, IsReadFault, IsWriteFault, IsOutFault, IsReportFault, Fails, IsFailure, IsMatchingRepair, PrintsAsItWas, IsExhausted, IsUnread, WhereCommand, SomeFault, Shows, ShowsOutcome, Follows, AllGiven, NoneRefuses, NoFaults}
+use Rattle.rr_top.specs.Execution.{Ends, IsUsage, Execution, IsExecution, IsRepaired, IsBeyondRepair, IsUnsettled, HoldsFiles, HoldsFirst, LeavesOpen, MayStayOpen, AsksNoRepair, IsSimulated, IsListed, IsSummed, IsNotMade, IsUndecided, IsAccepted, IsRejected, HasDone, HasFailed, HoldsNeverTrue, IsCheck, IsRefused, IsAbsent, IsReadFault, IsWriteFault, IsOutFault, IsReportFault, Fails, IsFailure, IsMatchingRepair, PrintsAsItWas, IsExhausted, IsUnread, WhereCommand, SomeFault, Shows, ShowsOutcome, Follows, AllGiven, NoneRefuses, NoFaults}
 use Rattle.rr_top.proofs.Judging.{placed_or_syntax}
 use Rattle.rr_top.proofs.Readings.{given_given}
 use Rattle.rr_top.proofs.Table.{left_asks, one_in_table, writes_nothing}
@@ -89,7 +91,7 @@ module _ (told : Option Held) (answer : Answer) where
   check_given : (c p : List ℕ) → Due (check_command c p) told answer → GivenCheck told c p answer
   check_given c p due = two_given told (c, 268435456) (p, 1073741824) due.files (λ x y. AnswersCheck x y answer) due.given due.answers
 
-  -- no command but `repair` writes a file
+  -- no command but `repair` and `make` writes a file
   no_files : (plan : Plan) → (AsksRepair plan → ⊥) → Due (command_of_plan plan) told answer → answer.files ≡ []
   no_files plan none due = (writes_nothing plan none).files due.files answer due.answers
 
@@ -270,6 +272,7 @@ outcome_low unmendable = inr refl
 outcome_low (ran text) = inl refl
 outcome_low (listed text) = inl refl
 outcome_low (checked verdict) = status_low verdict
+outcome_low (made text) = inl refl
 
 -- the status that an answer has
 due_status : (plan : Plan) (told : Option Held) (answer : Answer) → Due (command_of_plan plan) told answer → (answer.status ≡ 0) ⊎ ((answer.status ≡ 1) ⊎ ((answer.status ≡ 2) × AsksRepair plan))
@@ -366,6 +369,32 @@ module _ (r : Execution) (answer : Answer) (shelf : HoldsFiles r answer) (out : 
         shelf = keeps tells.files;
       }
 
+  -- a made input
+  made_told : (s : ℕ) (c : List ℕ) → TellsMake s c answer → answer.status ≡ 0 → IsSummed r s c
+  made_told s c (inl told) zero =
+      let m = told.0 in
+      record {
+        changes = m.changes;
+        least = m.least;
+        answer = m.repair;
+        repair = m.mended;
+        printed = rw m.printed at out;
+        reported = rw m.notes at notes;
+        shelf = record { held = rw m.files at shelf.held; faults = shelf.faults };
+      }
+  made_told s c (inr (inl told)) zero = absurd (omega (arith, told.1.1, zero))
+  made_told s c (inr (inr told)) zero = absurd (omega (arith, told.1, zero))
+
+  unmade_told : (s : ℕ) (c : List ℕ) → TellsMake s c answer → answer.status ≡ 1 → IsNotMade r s c
+  unmade_told s c (inl told) one = absurd (omega (arith, told.1.1, one))
+  unmade_told s c (inr (inl told)) one = record { answer = answer; none = told.0; printed = rw told.0.is.printed at out; reported = notes; shelf = shelf }
+  unmade_told s c (inr (inr told)) one = absurd (omega (arith, told.1, one))
+
+  made_open_told : (s : ℕ) (c : List ℕ) → TellsMake s c answer → answer.status ≡ 2 → IsUndecided r s c
+  made_open_told s c (inl told) left = absurd (omega (arith, told.1.1, left))
+  made_open_told s c (inr (inl told)) left = absurd (omega (arith, told.1.1, left))
+  made_open_told s c (inr (inr told)) left = record { answer = answer; left = told.0; printed = rw told.0.is.printed at out; reported = notes; shelf = shelf }
+
   mends_due : (plan : Plan) → Due (command_of_plan plan) r.before.held answer → answer.status ≡ 0 → HasDone r plan
   mends_due (repair d t cert top clock budget members) due zero =
       let w = wish cert top clock budget members in
@@ -373,8 +402,8 @@ module _ (r : Execution) (answer : Answer) (shelf : HoldsFiles r answer) (out : 
       inl (mends_told d t w two (told_in d t w two) zero)
   mends_due (run d t top clock) due zero = inr (inl (simulates_given d t top clock (run_given r.before.held answer d t top clock due)))
   mends_due (sites d top clock) due zero = inr (inr (inl (lists_given d top clock (sites_given r.before.held answer d top clock due))))
-  mends_due (check c p) due zero = inr (inr (inr (accepts_given c p (check_given r.before.held answer c p due) zero)))
-  mends_due (make s c) due zero = absurd due.answers
+  mends_due (check c p) due zero = inr (inr (inr (inl (accepts_given c p (check_given r.before.held answer c p due) zero))))
+  mends_due (make s c) due zero = inr (inr (inr (inr (made_told s c (each_make s c answer due.answers) zero))))
 
   despairs_due : (plan : Plan) → Due (command_of_plan plan) r.before.held answer → answer.status ≡ 1 → HasFailed r plan
   despairs_due (repair d t cert top clock budget members) due one =
@@ -383,20 +412,20 @@ module _ (r : Execution) (answer : Answer) (shelf : HoldsFiles r answer) (out : 
       inl (despairs_told d t w two (told_in d t w two) one)
   despairs_due (run d t top clock) due one = absurd (omega (arith, one, (run_given r.before.held answer d t top clock due).holds.status))
   despairs_due (sites d top clock) due one = absurd (omega (arith, one, (sites_given r.before.held answer d top clock due).holds.status))
-  despairs_due (check c p) due one = inr (rejects_given c p (check_given r.before.held answer c p due) one)
-  despairs_due (make s c) due one = absurd due.answers
+  despairs_due (check c p) due one = inr (inl (rejects_given c p (check_given r.before.held answer c p due) one))
+  despairs_due (make s c) due one = inr (inr (unmade_told s c (each_make s c answer due.answers) one))
 
   opens_due : (plan : Plan) → Due (command_of_plan plan) r.before.held answer → answer.status ≡ 2 → LeavesOpen r plan
   opens_due (repair d t cert top clock budget members) due left =
       let w = wish cert top clock budget members in
       let two = repair_given r.before.held answer d t w due in
-      opens_told d t w two (told_in d t w two) left
+      inl (opens_told d t w two (told_in d t w two) left)
   opens_due (run d t top clock) due left = absurd (omega (arith, left, (run_given r.before.held answer d t top clock due).holds.status))
   opens_due (sites d top clock) due left = absurd (omega (arith, left, (sites_given r.before.held answer d top clock due).holds.status))
   opens_due (check c p) due left =
       let holds = (check_given r.before.held answer c p due).holds in
       not_two holds.verdict (sym holds.tells.status ∙ left)
-  opens_due (make s c) due left = absurd due.answers
+  opens_due (make s c) due left = inr (made_open_told s c (each_make s c answer due.answers) left)
 
 -- what the outcome decides of the answer's texts, the run shows where the answer is carried out
 shown : (r : Execution) (answer : Answer) (v : Outcome) → Tells v answer → Appends r.before.out r.after.out answer.out → Appends r.notes_before r.notes_after answer.notes → ShowsOutcome v r
@@ -405,6 +434,7 @@ shown r answer unmendable tells out notes = rw tells at out
 shown r answer (ran text) tells out notes = (rw tells.0 at out, rw tells.1 at notes)
 shown r answer (listed text) tells out notes = (rw tells.0 at out, rw tells.1 at notes)
 shown r answer (checked verdict) tells out notes = (rw tells.0 at out, rw tells.1 at notes)
+shown r answer (made text) tells out notes = (rw tells.0 at out, rw tells.1 at notes)
 
 some_plan : {X : Type 0} (o : Option Plan) (plan : Plan) → o ≡ Some plan → o ≡ None → X
 some_plan o plan p q = absurd (cc)
@@ -554,7 +584,6 @@ module _ (r : Execution) (o : Option Plan) where
         → Appends r.notes_before r.notes_after (refused_text refusal) → r.status ≡ 3 → Follows r v
     by_refusal v (TooManyBytes count) judged due reported s = placed_follows v (TooManyBytes count) tt judged due reported s
     by_refusal v (Input refusal) judged due reported s = input_follows v refusal judged due reported s
-    by_refusal v (NotBuilt part) judged due reported s = placed_follows v (NotBuilt part) tt judged due reported s
     by_refusal v (Flawed flaw line) judged due reported s = placed_follows v (Flawed flaw line) tt judged due reported s
 
     refused_follows : (v : Expected) → Judges (command_of_plan plan) held v → IsRefused r (command_of_plan plan) → r.status ≡ 3 → Follows r v
@@ -593,7 +622,8 @@ certified : (r : Execution) (c p : List ℕ) → HasDone r (check c p) → Holds
 certified r c p (inl none) = absurd none
 certified r c p (inr (inl none)) = absurd none
 certified r c p (inr (inr (inl none))) = absurd none
-certified r c p (inr (inr (inr accepted))) =
+certified r c p (inr (inr (inr (inr none)))) = absurd none
+certified r c p (inr (inr (inr (inl accepted)))) =
     let k = accepted.accepted in
     record { circuit = k.circuit; given = k.given.circuit_given; never = never_true k.circuit k.proof k.judged }
 

@@ -5,7 +5,7 @@ use Rattle.rr_run.specs.declared.fault.Fault.TheVariants as fault
 use Rattle.rr_run.specs.Refusals.{Refusal as RunRefusal, At}
 use Rattle.rr_run.specs.Runs.{IsSameRefusal as IsSameRunRefusal}
 use Rattle.rr_report.specs.Found.{Answer}
-use Rattle.rr_report.specs.Refusals.{Refusal, TooManyBytes, Input, NotBuilt, Flawed}
+use Rattle.rr_report.specs.Refusals.{Refusal, TooManyBytes, Input, Flawed}
 use Rattle.rr_effects.specs.Reads.{Given, RefusesReads}
 use Rattle.rr_top.specs.Outcomes.{Outcome}
 use Rattle.rr_top.specs.Commands.{Command, HasOneOutcome, IsSameRefusal}
@@ -79,7 +79,6 @@ module _ (command : Command) (one : HasOneOutcome command) where
     by_reads : (r : Refusal) → RefusesReads (Some held) command.reads r → IsDecided (refused r)
     by_reads (TooManyBytes count) is = record { reading = long count; is = is; on = refl }
     by_reads (Input r) is = absurd is
-    by_reads (NotBuilt part) is = absurd is
     by_reads (Flawed f n) is = absurd is
 
     is_decided : (v : Expected) → Judges command held v → IsDecided v

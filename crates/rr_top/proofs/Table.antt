@@ -1,4 +1,4 @@
--- Each command of the table has one outcome, and all but `repair` write no file.
+-- Each command of the table has one outcome, and all but `repair` and `make` write no file.
 use Rattle.std.proofs.Common.{◌≡◌, ◌∙◌, ◌⊎◌, inl, inr, ℕ, List, [], ◌∷◌, refl, sym, ap, Option}
 use Rattle.rr_words.specs.Plan.{Plan, repair, run, sites, check, make}
 use Rattle.rr_syntax.specs.Tree.{SourceText}
@@ -14,14 +14,17 @@ use Rattle.rr_certify.specs.Certificates.{IsJudged}
 use Rattle.rr_certify.proofs.Certified.{same_verdict, verdict_or_flaw, same_flaw}
 use Rattle.rr_check.specs.declared.verdict.Verdict.{Verdict}
 use Rattle.rr_report.specs.Found.{Answer}
-use Rattle.rr_report.specs.Refusals.{Refusal, TooManyBytes, Input, NotBuilt, Flawed}
+use Rattle.rr_report.specs.Refusals.{Refusal, TooManyBytes, Input, Flawed}
 use Rattle.rr_repair.specs.Repairs.{AnswersRepair, IsTaken, RefusesRepair, Wish}
 use Rattle.rr_repair_laws.specs.Laws.{TellsOutcome}
 use Rattle.rr_repair_laws.specs.Outcomes.{IsLeftOpen}
 use Rattle.rr_repair_laws.proofs.Once.{mendable_or_not, one_refusal as one_repair_refusal, taken_or_refused}
 use Rattle.rr_repair_laws.proofs.Told.{each_answer}
-use Rattle.rr_top.specs.Outcomes.{Outcome, mended, unmendable, ran, listed, checked, IsToldBy}
-use Rattle.rr_top.specs.Commands.{Command, AnswersCheck, AnswersRun, AnswersSites, ComesToCheck, ComesToRepair, ComesToRun, ComesToSites, HasOneOutcome, IsSameRefusal, RefusesCertificate, RefusesSiteList, RefusesTexts, AsksRepair, IsOfRepair, TellsOrLeavesOpen, WhereOne, WhereTwo, WritesNothing, wish, check_command, command_of_plan, repair_command, run_command, sites_command, unbuilt_command}
+use Rattle.rr_made.specs.Made.{made_design, made_table}
+use Rattle.rr_make.specs.Makes.{IsMadeOpen, IsNeverMade, IsSummary, RefusesMake, TellsMake, made_wish}
+use Rattle.rr_make.proofs.Once.{each_make, one_summary, summary_or_none}
+use Rattle.rr_top.specs.Outcomes.{Outcome, mended, unmendable, ran, listed, checked, made, IsToldBy}
+use Rattle.rr_top.specs.Commands.{Command, AnswersCheck, AnswersRun, AnswersSites, ComesToCheck, ComesToMake, ComesToRepair, ComesToRun, ComesToSites, HasOneOutcome, IsSameRefusal, RefusesCertificate, RefusesSiteList, RefusesTexts, AsksRepair, IsOfRepair, TellsOrLeavesOpen, WhereOne, WhereTwo, WritesNothing, wish, check_command, command_of_plan, repair_command, run_command, make_command, sites_command}
 
 -- what facts about the same two files give
 both : {X : Type 0} (files : List (List ℕ)) (P Q : List ℕ → List ℕ → Type 0) → WhereTwo files P → WhereTwo files Q → ((a b : List ℕ) → P a b → Q a b → X) → X
@@ -62,16 +65,13 @@ told_of_one (a ∷ (b ∷ files)) answer P Q p f = absurd p
 module _ (w : Wish) (design table : List ℕ) where
   repair_refusals : (a b : Refusal) → RefusesRepair w design table a → RefusesRepair w design table b → IsSameRefusal a b
   repair_refusals (TooManyBytes n) b p q = absurd p
-  repair_refusals (NotBuilt part) b p q = absurd p
   repair_refusals (Flawed f n) b p q = absurd p
   repair_refusals (Input r) (TooManyBytes n) p q = absurd q
-  repair_refusals (Input r) (NotBuilt part) p q = absurd q
   repair_refusals (Input r) (Flawed f n) p q = absurd q
   repair_refusals (Input r) (Input s) p q = inr (r, (s, (refl, (refl, one_repair_refusal w design table r s p q))))
 
   not_refused : {ts : List Lexeme} {source : SourceText} {ss : List Site} {rows : Table} (a : Refusal) → IsTaken w design table ts source ss rows → RefusesRepair w design table a → ⊥
   not_refused (TooManyBytes n) taken r = r
-  not_refused (NotBuilt part) taken r = r
   not_refused (Flawed f n) taken r = r
   not_refused {ts} {source} {ss} {rows} (Input refusal) taken r = taken_or_refused w design table ts source ss rows refusal taken r
 
@@ -81,6 +81,7 @@ module _ (w : Wish) (design table : List ℕ) where
   repair_or_refused (ran text) a u r = u
   repair_or_refused (listed text) a u r = u
   repair_or_refused (checked verdict) a u r = u
+  repair_or_refused (made text) a u r = u
 
   repair_outcome : (v u : Outcome) → ComesToRepair w design table v → ComesToRepair w design table u → v ≡ u
   repair_outcome mended mended p q = refl
@@ -88,14 +89,17 @@ module _ (w : Wish) (design table : List ℕ) where
   repair_outcome mended (ran text) p q = absurd q
   repair_outcome mended (listed text) p q = absurd q
   repair_outcome mended (checked verdict) p q = absurd q
+  repair_outcome mended (made text) p q = absurd q
   repair_outcome unmendable mended p q = absurd (mendable_or_not w design table q p)
   repair_outcome unmendable unmendable p q = refl
   repair_outcome unmendable (ran text) p q = absurd q
   repair_outcome unmendable (listed text) p q = absurd q
   repair_outcome unmendable (checked verdict) p q = absurd q
+  repair_outcome unmendable (made text) p q = absurd q
   repair_outcome (ran text) u p q = absurd p
   repair_outcome (listed text) u p q = absurd p
   repair_outcome (checked verdict) u p q = absurd p
+  repair_outcome (made text) u p q = absurd p
 
   -- an answer tells the outcome or leaves it open
   repair_told : (answer : Answer) → TellsOutcome w design table answer → SomeTold answer (ComesToRepair w design table) ⊎ IsLeftOpen w design table answer
@@ -110,6 +114,7 @@ module _ (w : Wish) (design table : List ℕ) where
   repair_alone (ran text) p = p
   repair_alone (listed text) p = p
   repair_alone (checked verdict) p = p
+  repair_alone (made text) p = absurd p
 
 module _ (d t : List ℕ) (w : Wish) where
   repair_answered : (files : List (List ℕ)) (answer : Answer) → WhereTwo files (λ x y. AnswersRepair w x y answer) → TellsOrLeavesOpen (repair_command d t w) files answer
@@ -136,16 +141,13 @@ module _ (d t : List ℕ) (w : Wish) where
 module _ (top clock : Option (List ℕ)) (design table : List ℕ) where
   run_refusals : (a b : Refusal) → RefusesTexts top clock design table a → RefusesTexts top clock design table b → IsSameRefusal a b
   run_refusals (TooManyBytes n) b p q = absurd p
-  run_refusals (NotBuilt part) b p q = absurd p
   run_refusals (Flawed f n) b p q = absurd p
   run_refusals (Input r) (TooManyBytes n) p q = absurd q
-  run_refusals (Input r) (NotBuilt part) p q = absurd q
   run_refusals (Input r) (Flawed f n) p q = absurd q
   run_refusals (Input r) (Input s) p q = inr (r, (s, (refl, (refl, one_refused design table top clock r s p q))))
 
   ran_or_refused : (text : List ℕ) (a : Refusal) → IsRun design table top clock text → RefusesTexts top clock design table a → ⊥
   ran_or_refused text (TooManyBytes n) p q = q
-  ran_or_refused text (NotBuilt part) p q = q
   ran_or_refused text (Flawed f n) p q = q
   ran_or_refused text (Input r) p q = run_or_refusal design table top clock text r p q
 
@@ -155,16 +157,19 @@ module _ (top clock : Option (List ℕ)) (design table : List ℕ) where
   run_or_refused (ran text) a u r = ran_or_refused text a u r
   run_or_refused (listed text) a u r = u
   run_or_refused (checked verdict) a u r = u
+  run_or_refused (made text) a u r = u
 
   run_outcome : (v w : Outcome) → ComesToRun top clock design table v → ComesToRun top clock design table w → v ≡ w
   run_outcome mended w p q = absurd p
   run_outcome unmendable w p q = absurd p
   run_outcome (listed text) w p q = absurd p
   run_outcome (checked verdict) w p q = absurd p
+  run_outcome (made text) w p q = absurd p
   run_outcome (ran text) mended p q = absurd q
   run_outcome (ran text) unmendable p q = absurd q
   run_outcome (ran text) (listed other) p q = absurd q
   run_outcome (ran text) (checked verdict) p q = absurd q
+  run_outcome (ran text) (made other) p q = absurd q
   run_outcome (ran text) (ran other) p q = ap (λ (x : List ℕ). ran x) (one_run design table top clock text other p q)
 
   run_told : (answer : Answer) → AnswersRun top clock design table answer → SomeTold answer (ComesToRun top clock design table)
@@ -189,16 +194,13 @@ module _ (d t : List ℕ) (top clock : Option (List ℕ)) where
 module _ (top clock : Option (List ℕ)) (design : List ℕ) where
   sites_refusals : (a b : Refusal) → RefusesSiteList top clock design a → RefusesSiteList top clock design b → IsSameRefusal a b
   sites_refusals (TooManyBytes n) b p q = absurd p
-  sites_refusals (NotBuilt part) b p q = absurd p
   sites_refusals (Flawed f n) b p q = absurd p
   sites_refusals (Input r) (TooManyBytes n) p q = absurd q
-  sites_refusals (Input r) (NotBuilt part) p q = absurd q
   sites_refusals (Input r) (Flawed f n) p q = absurd q
   sites_refusals (Input r) (Input s) p q = inr (r, (s, (refl, (refl, listing.one_refusal design top clock r s p q))))
 
   listed_or_refused : (text : List ℕ) (a : Refusal) → IsSiteText design top clock text → RefusesSiteList top clock design a → ⊥
   listed_or_refused text (TooManyBytes n) p q = q
-  listed_or_refused text (NotBuilt part) p q = q
   listed_or_refused text (Flawed f n) p q = q
   listed_or_refused text (Input r) p q = listing.text_or_refusal design top clock text r p q
 
@@ -208,16 +210,19 @@ module _ (top clock : Option (List ℕ)) (design : List ℕ) where
   sites_or_refused (ran text) a u r = u
   sites_or_refused (listed text) a u r = listed_or_refused text a u r
   sites_or_refused (checked verdict) a u r = u
+  sites_or_refused (made text) a u r = u
 
   sites_outcome : (v w : Outcome) → ComesToSites top clock design v → ComesToSites top clock design w → v ≡ w
   sites_outcome mended w p q = absurd p
   sites_outcome unmendable w p q = absurd p
   sites_outcome (ran text) w p q = absurd p
   sites_outcome (checked verdict) w p q = absurd p
+  sites_outcome (made text) w p q = absurd p
   sites_outcome (listed text) mended p q = absurd q
   sites_outcome (listed text) unmendable p q = absurd q
   sites_outcome (listed text) (ran other) p q = absurd q
   sites_outcome (listed text) (checked verdict) p q = absurd q
+  sites_outcome (listed text) (made other) p q = absurd q
   sites_outcome (listed text) (listed other) p q = ap (λ (x : List ℕ). listed x) (listing.one_text design top clock text other p q)
 
   sites_told : (answer : Answer) → AnswersSites top clock design answer → SomeTold answer (ComesToSites top clock design)
@@ -243,10 +248,8 @@ module _ (circuit proof : List ℕ) where
   check_refusals : (a b : Refusal) → RefusesCertificate circuit proof a → RefusesCertificate circuit proof b → IsSameRefusal a b
   check_refusals (TooManyBytes n) b p q = absurd p
   check_refusals (Input r) b p q = absurd p
-  check_refusals (NotBuilt part) b p q = absurd p
   check_refusals (Flawed f n) (TooManyBytes m) p q = absurd q
   check_refusals (Flawed f n) (Input r) p q = absurd q
-  check_refusals (Flawed f n) (NotBuilt part) p q = absurd q
   check_refusals (Flawed f n) (Flawed g m) p q =
       let one = same_flaw circuit proof f g n m p q in
       inl (ap (λ (x : Flaw). Flawed x n) one.flaw ∙ ap (λ (k : ℕ). Flawed g k) one.line)
@@ -254,7 +257,6 @@ module _ (circuit proof : List ℕ) where
   judged_or_refused : (v : Verdict) (a : Refusal) → IsJudged circuit proof v → RefusesCertificate circuit proof a → ⊥
   judged_or_refused v (TooManyBytes n) p q = q
   judged_or_refused v (Input r) p q = q
-  judged_or_refused v (NotBuilt part) p q = q
   judged_or_refused v (Flawed f n) p q = verdict_or_flaw circuit proof v f n p q
 
   check_or_refused : (v : Outcome) (a : Refusal) → ComesToCheck circuit proof v → RefusesCertificate circuit proof a → ⊥
@@ -263,16 +265,19 @@ module _ (circuit proof : List ℕ) where
   check_or_refused (ran text) a u r = u
   check_or_refused (listed text) a u r = u
   check_or_refused (checked verdict) a u r = judged_or_refused verdict a u r
+  check_or_refused (made text) a u r = u
 
   check_outcome : (v w : Outcome) → ComesToCheck circuit proof v → ComesToCheck circuit proof w → v ≡ w
   check_outcome mended w p q = absurd p
   check_outcome unmendable w p q = absurd p
   check_outcome (ran text) w p q = absurd p
   check_outcome (listed text) w p q = absurd p
+  check_outcome (made text) w p q = absurd p
   check_outcome (checked v) mended p q = absurd q
   check_outcome (checked v) unmendable p q = absurd q
   check_outcome (checked v) (ran text) p q = absurd q
   check_outcome (checked v) (listed text) p q = absurd q
+  check_outcome (checked v) (made text) p q = absurd q
   check_outcome (checked v) (checked w) p q = ap (λ (x : Verdict). checked x) (same_verdict circuit proof v w p q)
 
   check_told : (answer : Answer) → AnswersCheck circuit proof answer → SomeTold answer (ComesToCheck circuit proof)
@@ -293,20 +298,61 @@ module _ (c f : List ℕ) where
   check_writes : WritesNothing (check_command c f)
   check_writes = record { files = λ files answer a. of_two files (λ x y. AnswersCheck x y answer) a (λ x y u. u.tells.files); decides = λ files answer left. left }
 
--- ---- a command that is not built
-unbuilt_one : HasOneOutcome unbuilt_command
-unbuilt_one = record {
-  one_refusal = λ files a b p q. inl (p ∙ sym q);
-  done_or_refused = λ files v a p q. p;
-  one_outcome = λ files v w p q. absurd p;
-  answered = λ files answer a. absurd a;
-  open_status = λ files answer left. absurd left;
-  open_or_refused = λ files answer refusal left refused. left;
-  open_outcome = λ files answer outcome left comes. absurd left;
-}
+-- ---- `make`
+module _ (seed : ℕ) (cert : List ℕ) where
+  make_not_refused : {ts : List Lexeme} {source : SourceText} {ss : List Site} {rows : Table} (a : Refusal) → IsTaken (made_wish cert) (made_design seed) (made_table seed) ts source ss rows
+      → RefusesMake seed cert a → ⊥
+  make_not_refused a taken r = not_refused (made_wish cert) (made_design seed) (made_table seed) a taken r
 
-unbuilt_writes : WritesNothing unbuilt_command
-unbuilt_writes = record { files = λ files answer a. absurd a; decides = λ files answer left. left }
+  make_or_refused : (v : Outcome) (a : Refusal) → ComesToMake seed cert v → RefusesMake seed cert a → ⊥
+  make_or_refused mended a u r = u
+  make_or_refused unmendable a u r = make_not_refused a u.taken r
+  make_or_refused (ran text) a u r = u
+  make_or_refused (listed text) a u r = u
+  make_or_refused (checked verdict) a u r = u
+  make_or_refused (made text) a u r = make_not_refused a u.1.1.taken r
+
+  make_outcome : (v w : Outcome) → ComesToMake seed cert v → ComesToMake seed cert w → v ≡ w
+  make_outcome mended w p q = absurd p
+  make_outcome (ran text) w p q = absurd p
+  make_outcome (listed text) w p q = absurd p
+  make_outcome (checked verdict) w p q = absurd p
+  make_outcome unmendable mended p q = absurd q
+  make_outcome unmendable unmendable p q = refl
+  make_outcome unmendable (ran text) p q = absurd q
+  make_outcome unmendable (listed text) p q = absurd q
+  make_outcome unmendable (checked verdict) p q = absurd q
+  make_outcome unmendable (made text) p q = absurd (summary_or_none seed cert text q p)
+  make_outcome (made text) mended p q = absurd q
+  make_outcome (made text) unmendable p q = absurd (summary_or_none seed cert text p q)
+  make_outcome (made text) (ran other) p q = absurd q
+  make_outcome (made text) (listed other) p q = absurd q
+  make_outcome (made text) (checked verdict) p q = absurd q
+  make_outcome (made text) (made other) p q = ap (λ (x : List ℕ). made x) (one_summary seed cert text other p q)
+
+  make_told : (files : List (List ℕ)) (answer : Answer) → TellsMake seed cert answer → TellsOrLeavesOpen (make_command seed cert) files answer
+  make_told files answer (inl t) = inl (made answer.out, (t.1.0, record { status = t.1.1; tells = (refl, t.0.notes) }))
+  make_told files answer (inr (inl t)) = inl (unmendable, (t.1.0, record { status = t.1.1; tells = t.0.is.printed }))
+  make_told files answer (inr (inr t)) = inr t.0
+
+  make_alone : (v : Outcome) → ComesToMake seed cert v → IsOfRepair v
+  make_alone mended p = tt
+  make_alone unmendable p = tt
+  make_alone (ran text) p = p
+  make_alone (listed text) p = p
+  make_alone (checked verdict) p = p
+  make_alone (made text) p = tt
+
+  make_one : HasOneOutcome (make_command seed cert)
+  make_one = record {
+    one_refusal = λ files a b p q. repair_refusals (made_wish cert) (made_design seed) (made_table seed) a b p q;
+    done_or_refused = λ files v a p q. make_or_refused v a p q;
+    one_outcome = λ files v w p q. make_outcome v w p q;
+    answered = λ files answer a. make_told files answer (each_make seed cert answer a);
+    open_status = λ files answer left. (left.is.status, left.is.printed);
+    open_or_refused = λ files answer a left refused. make_not_refused a left.taken refused;
+    open_outcome = λ files answer v left comes. make_alone v comes;
+  }
 
 -- ---- the table
 pub one_in_table : (plan : Plan) → HasOneOutcome (command_of_plan plan)
@@ -314,19 +360,19 @@ one_in_table (repair d t cert top clock budget members) = repair_one d t (wish c
 one_in_table (run d t top clock) = run_one d t top clock
 one_in_table (sites d top clock) = sites_one d top clock
 one_in_table (check c p) = check_one c p
-one_in_table (make s c) = unbuilt_one
+one_in_table (make s c) = make_one s c
 
 pub writes_nothing : (plan : Plan) → (AsksRepair plan → ⊥) → WritesNothing (command_of_plan plan)
 writes_nothing (repair d t cert top clock budget members) none = absurd (none tt)
 writes_nothing (run d t top clock) none = run_writes d t top clock
 writes_nothing (sites d top clock) none = sites_writes d top clock
 writes_nothing (check c p) none = check_writes c p
-writes_nothing (make s c) none = unbuilt_writes
+writes_nothing (make s c) none = absurd (none tt)
 
--- only `repair` leaves open what it comes to
+-- only `repair` and `make` leave open what they come to
 pub left_asks : (plan : Plan) (files : List (List ℕ)) (answer : Answer) → (command_of_plan plan).leaves_open files answer → AsksRepair plan
 left_asks (repair d t cert top clock budget members) files answer left = tt
 left_asks (run d t top clock) files answer left = left
 left_asks (sites d top clock) files answer left = left
 left_asks (check c p) files answer left = left
-left_asks (make s c) files answer left = left
+left_asks (make s c) files answer left = tt

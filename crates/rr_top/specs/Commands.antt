@@ -8,13 +8,13 @@ use Rattle.rr_sites.specs.Lists.{IsSiteText, RefusesSites}
 use Rattle.rr_certify.specs.Certificates.{FlawIs, IsJudged}
 use Rattle.rr_certify.specs.Texts.{verdict_text}
 use Rattle.rr_check.specs.declared.verdict.Verdict.{Verdict}
-use Rattle.rr_report.specs.declared.refusal.Part.TheVariants as part
 use Rattle.rr_report.specs.Found.{Answer}
-use Rattle.rr_report.specs.Refusals.{Refusal, TooManyBytes, Input, NotBuilt, Flawed}
+use Rattle.rr_report.specs.Refusals.{Refusal, TooManyBytes, Input, Flawed}
 use Rattle.rr_effects.specs.Reads.{Gave, Given, RefusesReads}
 use Rattle.rr_repair.specs.Repairs.{AnswersRepair, RefusesRepair, Wish}
 use Rattle.rr_repair_laws.specs.Outcomes.{IsLeftOpen, IsMendable, IsUnmendable}
-use Rattle.rr_top.specs.Outcomes.{Outcome, mended, unmendable, ran, listed, checked, IsToldBy, verdict_status}
+use Rattle.rr_make.specs.Makes.{AnswersMake, IsMadeOpen, IsNeverMade, IsSummary, RefusesMake}
+use Rattle.rr_top.specs.Outcomes.{Outcome, mended, unmendable, ran, listed, checked, made, IsToldBy, verdict_status}
 
 -- A command: the names that it reads, in order, each with the most bytes that it may have; the answer for the files that it
 -- read, which tells the files to be written, the piece for standard output, the report and the status; why it refuses
@@ -46,6 +46,7 @@ ComesToRepair w design table unmendable = IsUnmendable w design table
 ComesToRepair w design table (ran text) = ⊥
 ComesToRepair w design table (listed text) = ⊥
 ComesToRepair w design table (checked verdict) = ⊥
+ComesToRepair w design table (made text) = ⊥
 
 abbrev pub repair_command : List ℕ → List ℕ → Wish → Command
 repair_command design_name table_name w = record {
@@ -68,7 +69,6 @@ pub record AnswersRun (top clock : Option (List ℕ)) (design table : List ℕ) 
 abbrev pub RefusesTexts : Option (List ℕ) → Option (List ℕ) → List ℕ → List ℕ → Refusal → Type 0
 RefusesTexts top word design table (TooManyBytes count) = ⊥
 RefusesTexts top word design table (Input refusal) = RefusesRun design table top word refusal
-RefusesTexts top word design table (NotBuilt part) = ⊥
 RefusesTexts top word design table (Flawed flaw line) = ⊥
 
 abbrev pub ComesToRun : Option (List ℕ) → Option (List ℕ) → List ℕ → List ℕ → Outcome → Type 0
@@ -77,6 +77,7 @@ ComesToRun top clock design table unmendable = ⊥
 ComesToRun top clock design table (ran text) = IsRun design table top clock text
 ComesToRun top clock design table (listed text) = ⊥
 ComesToRun top clock design table (checked verdict) = ⊥
+ComesToRun top clock design table (made text) = ⊥
 
 abbrev pub run_command : List ℕ → List ℕ → Option (List ℕ) → Option (List ℕ) → Command
 run_command design_name table_name top clock = record {
@@ -98,7 +99,6 @@ pub record AnswersSites (top clock : Option (List ℕ)) (design : List ℕ) (ans
 abbrev pub RefusesSiteList : Option (List ℕ) → Option (List ℕ) → List ℕ → Refusal → Type 0
 RefusesSiteList top word design (TooManyBytes count) = ⊥
 RefusesSiteList top word design (Input refusal) = RefusesSites design top word refusal
-RefusesSiteList top word design (NotBuilt part) = ⊥
 RefusesSiteList top word design (Flawed flaw line) = ⊥
 
 abbrev pub ComesToSites : Option (List ℕ) → Option (List ℕ) → List ℕ → Outcome → Type 0
@@ -107,6 +107,7 @@ ComesToSites top clock design unmendable = ⊥
 ComesToSites top clock design (ran text) = ⊥
 ComesToSites top clock design (listed text) = IsSiteText design top clock text
 ComesToSites top clock design (checked verdict) = ⊥
+ComesToSites top clock design (made text) = ⊥
 
 abbrev pub sites_command : List ℕ → Option (List ℕ) → Option (List ℕ) → Command
 sites_command design_name top clock = record {
@@ -133,7 +134,6 @@ pub record AnswersCheck (circuit proof : List ℕ) (answer : Answer) : Type 0 wh
 abbrev pub RefusesCertificate : List ℕ → List ℕ → Refusal → Type 0
 RefusesCertificate circuit proof (TooManyBytes count) = ⊥
 RefusesCertificate circuit proof (Input refusal) = ⊥
-RefusesCertificate circuit proof (NotBuilt part) = ⊥
 RefusesCertificate circuit proof (Flawed flaw line) = FlawIs circuit proof flaw line
 
 abbrev pub ComesToCheck : List ℕ → List ℕ → Outcome → Type 0
@@ -142,6 +142,7 @@ ComesToCheck circuit proof unmendable = ⊥
 ComesToCheck circuit proof (ran text) = ⊥
 ComesToCheck circuit proof (listed text) = ⊥
 ComesToCheck circuit proof (checked verdict) = IsJudged circuit proof verdict
+ComesToCheck circuit proof (made text) = ⊥
 
 abbrev pub check_command : List ℕ → List ℕ → Command
 check_command circuit_name proof_name = record {
@@ -152,14 +153,22 @@ check_command circuit_name proof_name = record {
   leaves_open = λ files answer. ⊥;
 }
 
--- ---- a command that is not built yet: it is refused without a read
-abbrev pub unbuilt_command : Command
-unbuilt_command = record {
+-- ---- `make`: no file is read; the design and the table are those of the seed
+abbrev pub ComesToMake : ℕ → List ℕ → Outcome → Type 0
+ComesToMake seed cert mended = ⊥
+ComesToMake seed cert unmendable = IsNeverMade seed cert
+ComesToMake seed cert (ran text) = ⊥
+ComesToMake seed cert (listed text) = ⊥
+ComesToMake seed cert (checked verdict) = ⊥
+ComesToMake seed cert (made text) = IsSummary seed cert text
+
+abbrev pub make_command : ℕ → List ℕ → Command
+make_command seed cert = record {
   reads = [];
-  answers = λ files answer. ⊥;
-  refuses = λ files refusal. refusal ≡ NotBuilt part.Command;
-  comes_to = λ files outcome. ⊥;
-  leaves_open = λ files answer. ⊥;
+  answers = λ files answer. AnswersMake seed cert answer;
+  refuses = λ files refusal. RefusesMake seed cert refusal;
+  comes_to = λ files outcome. ComesToMake seed cert outcome;
+  leaves_open = λ files answer. IsMadeOpen seed cert answer;
 }
 
 -- ---- the table
@@ -178,19 +187,19 @@ command_of_plan (repair design table cert top clock budget members) = repair_com
 command_of_plan (run design table top clock) = run_command design table top clock
 command_of_plan (sites design top clock) = sites_command design top clock
 command_of_plan (check circuit proof) = check_command circuit proof
-command_of_plan (make seed cert) = unbuilt_command
+command_of_plan (make seed cert) = make_command seed cert
 
 -- two refusals are one, but for the byte that is told of a text without a tree
 abbrev pub IsSameRefusal : Refusal → Refusal → Type 0
 IsSameRefusal a b = (a ≡ b) ⊎ ((r : RunRefusal) × ((s : RunRefusal) × ((a ≡ Input r) × ((b ≡ Input s) × IsSameRunRefusal r s))))
 
--- only `repair` leaves open what it comes to, and only `repair` writes files
+-- only `repair` and `make` leave open what they come to, and only they write files
 abbrev pub AsksRepair : Plan → Type 0
 AsksRepair (repair design table cert top clock budget members) = ⊤
 AsksRepair (run design table top clock) = ⊥
 AsksRepair (sites design top clock) = ⊥
 AsksRepair (check circuit proof) = ⊥
-AsksRepair (make seed cert) = ⊥
+AsksRepair (make seed cert) = ⊤
 
 -- the numbers of a repair are in their ranges
 abbrev pub InRange : Plan → Type 0
@@ -200,13 +209,14 @@ InRange (sites design top clock) = ⊤
 InRange (check circuit proof) = ⊤
 InRange (make seed cert) = ⊤
 
--- a repair may come to it
+-- a repair may come to it, of files or of a made input
 abbrev pub IsOfRepair : Outcome → Type 0
 IsOfRepair mended = ⊤
 IsOfRepair unmendable = ⊤
 IsOfRepair (ran text) = ⊥
 IsOfRepair (listed text) = ⊥
 IsOfRepair (checked verdict) = ⊥
+IsOfRepair (made text) = ⊤
 
 -- the answer tells an outcome that the command comes to, or leaves it open
 abbrev pub TellsOrLeavesOpen : Command → List (List ℕ) → Answer → Type 0
@@ -289,3 +299,10 @@ WhereCheck (run design table top clock) P = ⊥
 WhereCheck (sites design top clock) P = ⊥
 WhereCheck (check circuit proof) P = P circuit proof
 WhereCheck (make seed cert) P = ⊥
+
+abbrev pub WhereMake : Plan → (ℕ → List ℕ → Type 0) → Type 0
+WhereMake (repair design table cert top clock budget members) P = ⊥
+WhereMake (run design table top clock) P = ⊥
+WhereMake (sites design top clock) P = ⊥
+WhereMake (check circuit proof) P = ⊥
+WhereMake (make seed cert) P = P seed cert

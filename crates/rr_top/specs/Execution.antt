@@ -26,8 +26,10 @@ use Rattle.rr_effects.specs.Delivery.{Reports, StopsAtWrite, file_at, with_files
 use Rattle.rr_answers.specs.Texts.{unchanged_text}
 use Rattle.rr_repair.specs.Repairs.{Wish}
 use Rattle.rr_repair_laws.specs.Outcomes.{IsDespaired, IsLeftOpen, IsMatching, IsMended}
-use Rattle.rr_top.specs.Outcomes.{Outcome, mended, unmendable, ran, listed, checked}
-use Rattle.rr_top.specs.Commands.{AsksRepair, BothGiven, Command, Due, IsOfRepair, Refuses, WhereRepair, WhereRun, WhereSites, WhereCheck, command_of_plan, wish}
+use Rattle.rr_made.specs.Made.{made_design, made_table}
+use Rattle.rr_make.specs.Makes.{IsMadeCount, IsMadeOpen, IsUnmade, made_wish, summary}
+use Rattle.rr_top.specs.Outcomes.{Outcome, mended, unmendable, ran, listed, checked, made}
+use Rattle.rr_top.specs.Commands.{AsksRepair, BothGiven, Command, Due, IsOfRepair, Refuses, WhereRepair, WhereRun, WhereSites, WhereCheck, WhereMake, command_of_plan, wish}
 use Rattle.rr_top.specs.Expected.{Expected, absent, refused, unparsed, done, IsChecked, expected_status}
 use Rattle.rr_top.specs.Endings.{CommandEnds}
 
@@ -143,6 +145,35 @@ pub record IsListed (r : Execution) (design_name : List ℕ) (top clock : Option
   pub reported : Appends r.notes_before r.notes_after []
   pub shelf : KeepsShelf r.before r.after
 
+-- Status 0 of `make`: the output has grown by exactly the summary of the seed, which tells the least number of changes with
+-- which its design matches its table, and the shelf holds the files of such a repair.
+pub record IsSummed (r : Execution) (seed : ℕ) (cert : List ℕ) : Type 0 where
+  pub changes : ℕ
+  pub least : IsMadeCount seed cert changes
+  pub answer : Answer
+  pub repair : IsMended (made_wish cert) (made_design seed) (made_table seed) answer
+  pub printed : Appends r.before.out r.after.out (summary seed changes)
+  pub reported : Appends r.notes_before r.notes_after []
+  pub shelf : HoldsFiles r answer
+
+-- Status 1 of `make`: no choice gives an instance of the seed's design that matches, nothing was put out, and the shelf holds
+-- the certificate of this.
+pub record IsNotMade (r : Execution) (seed : ℕ) (cert : List ℕ) : Type 0 where
+  pub answer : Answer
+  pub none : IsUnmade seed cert answer
+  pub printed : Appends r.before.out r.after.out []
+  pub reported : Appends r.notes_before r.notes_after answer.notes
+  pub shelf : HoldsFiles r answer
+
+-- Status 2 of `make`: whether so many changes match is left open, nothing was put out, and the shelf holds the question with
+-- the fresh lines that each member learned.
+pub record IsUndecided (r : Execution) (seed : ℕ) (cert : List ℕ) : Type 0 where
+  pub answer : Answer
+  pub left : IsMadeOpen seed cert answer
+  pub printed : Appends r.before.out r.after.out []
+  pub reported : Appends r.notes_before r.notes_after answer.notes
+  pub shelf : HoldsFiles r answer
+
 -- the file holds a circuit, and no input makes every output of it true
 pub record HoldsNeverTrue (told : Option Held) (circuit_name : List ℕ) : Type 0 where
   pub circuit : List ℕ
@@ -153,17 +184,17 @@ pub record HoldsNeverTrue (told : Option Held) (circuit_name : List ℕ) : Type 
 abbrev pub IsCheck : List (List ℕ) → List ℕ → List ℕ → Type 0
 IsCheck arguments circuit proof = command_of arguments ≡ Some (check circuit proof)
 
--- what `repair` has done, or `run`, or `sites`, or `check`
+-- what `repair` has done, or `run`, or `sites`, or `check`, or `make`
 abbrev pub HasDone : Execution → Plan → Type 0
-HasDone r plan = WhereRepair plan (IsRepaired r) ⊎ (WhereRun plan (IsSimulated r) ⊎ (WhereSites plan (IsListed r) ⊎ WhereCheck plan (IsAccepted r)))
+HasDone r plan = WhereRepair plan (IsRepaired r) ⊎ (WhereRun plan (IsSimulated r) ⊎ (WhereSites plan (IsListed r) ⊎ (WhereCheck plan (IsAccepted r) ⊎ WhereMake plan (IsSummed r))))
 
--- what `repair` and `check` found not to be so
+-- what `repair`, `check` and `make` found not to be so
 abbrev pub HasFailed : Execution → Plan → Type 0
-HasFailed r plan = WhereRepair plan (IsBeyondRepair r) ⊎ WhereCheck plan (IsRejected r)
+HasFailed r plan = WhereRepair plan (IsBeyondRepair r) ⊎ (WhereCheck plan (IsRejected r) ⊎ WhereMake plan (IsNotMade r))
 
--- what `repair` left open
+-- what `repair` or `make` left open
 abbrev pub LeavesOpen : Execution → Plan → Type 0
-LeavesOpen r plan = WhereRepair plan (IsUnsettled r)
+LeavesOpen r plan = WhereRepair plan (IsUnsettled r) ⊎ WhereMake plan (IsUndecided r)
 
 -- Status 3: a refusal was due, it is printed, and all else stays.
 pub record IsRefused (r : Execution) (command : Command) : Type 0 where
@@ -267,6 +298,7 @@ ShowsOutcome unmendable r = Appends r.before.out r.after.out []
 ShowsOutcome (ran text) r = Appends r.before.out r.after.out text × Appends r.notes_before r.notes_after []
 ShowsOutcome (listed text) r = Appends r.before.out r.after.out text × Appends r.notes_before r.notes_after []
 ShowsOutcome (checked verdict) r = Appends r.before.out r.after.out (verdict_text verdict) × Appends r.notes_before r.notes_after []
+ShowsOutcome (made text) r = Appends r.before.out r.after.out text × Appends r.notes_before r.notes_after []
 
 -- the texts that what is expected decides alone
 abbrev pub Shows : Expected → Execution → Type 0
@@ -334,6 +366,6 @@ abbrev pub PrintsAsItWas : Execution → List ℕ → Type 0
 PrintsAsItWas r design = ((r.status ≡ 0) × (Appends r.before.out r.after.out design × (Appends r.notes_before r.notes_after unchanged_text × KeepsShelf r.before r.after)))
     ⊎ ((r.status ≡ 5) ⊎ ((r.status ≡ 4) × SomeFault r))
 
--- what `repair` alone may do is not asked for
+-- what `repair` and `make` alone may do is not asked for
 abbrev pub AsksNoRepair : List (List ℕ) → Type 0
 AsksNoRepair arguments = WhereCommand arguments AsksRepair → ⊥

@@ -5,7 +5,7 @@ use Rattle.rr_run.specs.declared.fault.Fault.TheVariants.{Syntax}
 use Rattle.rr_run.specs.Refusals.{Refusal as RunRefusal, At}
 use Rattle.rr_certify.specs.Certificates.{IsJudged}
 use Rattle.rr_check.specs.declared.verdict.Verdict.{Verdict}
-use Rattle.rr_report.specs.Refusals.{Refusal, TooManyBytes, Input, NotBuilt, Flawed}
+use Rattle.rr_report.specs.Refusals.{Refusal, TooManyBytes, Input, Flawed}
 use Rattle.rr_effects.specs.Reads.{AbsentAt}
 use Rattle.rr_top.specs.Outcomes.{Outcome, outcome_status}
 use Rattle.rr_top.specs.Commands.{CertificateGiven, ComesTo, Command, Refuses}
@@ -24,7 +24,6 @@ IsSyntax refusal = (offset : ℕ) × (refusal ≡ At Syntax offset)
 abbrev pub IsPlaced : Refusal → Type 0
 IsPlaced (TooManyBytes count) = ⊤
 IsPlaced (Input refusal) = IsSyntax refusal → ⊥
-IsPlaced (NotBuilt part) = ⊤
 IsPlaced (Flawed flaw line) = ⊤
 
 -- what a told shelf decides: by the reads in order, and then by what they gave

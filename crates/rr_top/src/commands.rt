@@ -7,7 +7,7 @@ ghost use Rattle.rr_report.specs.Views.{plain_answer, report_text, StopsWhere};
 ghost use Rattle.rr_effects.specs.Outside.{outside};
 ghost use Rattle.rr_effects.specs.Reads.{Given};
 ghost use Rattle.rr_effects.specs.Views.{contents};
-ghost use Rattle.rr_top.specs.Commands.{AnswersCheck, AnswersRun, AnswersSites, InRange, RefusesCertificate, RefusesSiteList, RefusesTexts, TellsVerdict, WhereOne, WhereTwo, check_command, command_of_plan, repair_command, run_command, sites_command};
+ghost use Rattle.rr_top.specs.Commands.{AnswersCheck, AnswersRun, AnswersSites, InRange, RefusesCertificate, RefusesSiteList, RefusesTexts, TellsVerdict, WhereOne, WhereTwo, check_command, command_of_plan, make_command, repair_command, run_command, sites_command};
 ghost use Rattle.rr_top.specs.Endings.{CommandEnds};
 ghost use Rattle.rr_top.specs.Views.{Gives};
 
@@ -15,8 +15,9 @@ use bumpalo::Bump;
 use rr_certify::{CertificateFault, Verdict, judge, verdict_text};
 use rr_edge::{Shelf, Sink};
 use rr_effects::deliver;
+use rr_make::make;
 use rr_repair::{Asked, repair};
-use rr_report::{Found, Part, Piece, Refusal, Report, Stop, Text, stop_of, stopped};
+use rr_report::{Found, Piece, Refusal, Report, Stop, Text, stop_of, stopped};
 use rr_run::run_files;
 use rr_sites::list_sites;
 use rr_words::Command;
@@ -206,6 +207,19 @@ fn certify_files<'b, 'a, R: Threads + Sync>(
     certify(rt, alloc, circuit, proof)
 }
 
+/// The answer of `make`, which has no files. Names in a refusal live in the arena.
+fn make_files<'b, 'a, R: Threads + Sync>(
+    rt: &R,
+    alloc: Global,
+    seed: u64,
+    cert: &str,
+    arena: &'a Bump,
+) -> Result<Found<'b>, Stop<'a>>
+    ensures { (files : List (List ℕ)) → Gives (make_command seed cert.now) files result }
+{
+    make(rt, alloc, seed, cert, arena)
+}
+
 /// Carries an answer out, but for its report; or reports why there is none.
 fn conclude<'a, H: Shelf, K: Sink>(
     alloc: Global,
@@ -273,8 +287,8 @@ pub(crate) fn answer_files<'a, R: Threads + Sync, H: Shelf, K: Sink>(
             let answer = list_files(alloc, &files, top, clock, arena);
             conclude(alloc, answer, shelf, out)
         }
-        Command::Make { .. } => {
-            let answer = Err(Stop::Refused(Refusal::NotBuilt(Part::Command)));
+        Command::Make { seed, cert } => {
+            let answer = make_files(rt, alloc, seed, cert, arena);
             conclude(alloc, answer, shelf, out)
         }
     }

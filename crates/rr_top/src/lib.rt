@@ -1,7 +1,7 @@
 //! The top call: it runs the command of a command line over a shelf of files, an output and a report.
 //! It is right where the status, the bytes put out and the report are those that its files decide,
-//! for each command that is built. It stands on `rr_words` for the arguments, on `rr_effects` for the
-//! files, and on one crate for each command: `rr_repair`, `rr_run`, `rr_sites` and `rr_certify`.
+//! for each command. It stands on `rr_words` for the arguments, on `rr_effects` for the files, and on
+//! one crate for each command: `rr_repair`, `rr_run`, `rr_sites`, `rr_certify` and `rr_make`.
 #![tactic(auto)]
 
 ghost use Rattle.std.specs.Prelude.{◌≡◌, ◌<◌, ◌⊎◌, ℕ, List, Some, map, string_bytes};
@@ -110,9 +110,9 @@ fn conduct<R: Threads + Sync, H: Shelf, K: Sink, E: Sink>(
 /// does not hold, 2 a repair that is left open, 3 refused input, 4 a fault or an absent name, 5 want of
 /// memory, 6 usage.
 ///
-/// The commands are `repair DESIGN TABLE CERT`, `run DESIGN TABLE`, `sites DESIGN` and
-/// `check CIRCUIT PROOF`; `make` is not built. Only `repair` writes to the shelf: the files `CERT.aag`,
-/// `CERT.cnf` and `CERT.lrat`.
+/// The commands are `repair DESIGN TABLE CERT`, `run DESIGN TABLE`, `sites DESIGN`,
+/// `check CIRCUIT PROOF` and `make SEED CERT`, which reads nothing. Only `repair` and `make` write to the
+/// shelf: the files `CERT.aag`, `CERT.cnf` and `CERT.lrat`.
 pub fn run<R: Threads + Sync, H: Shelf, K: Sink, E: Sink>(
     rt: &R,
     alloc: Global,
@@ -135,7 +135,9 @@ pub fn run<R: Threads + Sync, H: Shelf, K: Sink, E: Sink>(
     // every known cell, no instance with fewer does, and the shelf holds the refutation of fewer. Of `run`: the bytes put out are the table of the
     // rows that were read with the outputs of the one run of the design on them. Of `sites`: the bytes put out are the
     // lines of the sites of the design that was read. Of `check`: `accepted` is put out, and the proof that was read
-    // refutes the formula of the circuit that was read.
+    // refutes the formula of the circuit that was read. Of `make`: the bytes put out are the summary of the seed, which
+    // tells the least number of changes with which its design matches its table, and the shelf holds the files of such a
+    // repair.
     ensures done { result ≡ 0 → WhereCommand (map string_bytes arguments.now) (HasDone
         (execution (map string_bytes arguments.now)
         (outside (H.told shelf.old) (H.faults shelf.old) (K.written out.old) (K.faults out.old))
@@ -146,14 +148,15 @@ pub fn run<R: Threads + Sync, H: Shelf, K: Sink, E: Sink>(
     ensures certified { result ≡ 0 → (circuit proof : List ℕ) → IsCheck (map string_bytes arguments.now) circuit proof
         → HoldsNeverTrue (H.told shelf.old) circuit }
 
-    // Status 1. Of `repair`: no instance matches, and the shelf holds the refutation. Of `check`: the verdict is put out, and the proof does not refute.
+    // Status 1. Of `repair`: no instance matches, and the shelf holds the refutation. Of `check`: the verdict is put out,
+    // and the proof does not refute. Of `make`: as of `repair`, for the design and the table of the seed.
     ensures failed { result ≡ 1 → WhereCommand (map string_bytes arguments.now) (HasFailed
         (execution (map string_bytes arguments.now)
         (outside (H.told shelf.old) (H.faults shelf.old) (K.written out.old) (K.faults out.old))
         (outside (H.told shelf.new) (H.faults shelf.new) (K.written out.new) (K.faults out.new))
         (E.written notes.old) (E.written notes.new) (E.faults notes.old) (E.faults notes.new) result)) }
 
-    // Status 2, of `repair` alone: whether so many changes match is open, nothing is put out, and the shelf holds the
+    // Status 2, of `repair` and `make` alone: whether so many changes match is open, nothing is put out, and the shelf holds the
     // question, with as many fresh lines of each member as it may learn.
     ensures left_open { result ≡ 2 → WhereCommand (map string_bytes arguments.now) (LeavesOpen
         (execution (map string_bytes arguments.now)
@@ -190,7 +193,8 @@ pub fn run<R: Threads + Sync, H: Shelf, K: Sink, E: Sink>(
         (outside (H.told shelf.new) (H.faults shelf.new) (K.written out.new) (K.faults out.new))
         (E.written notes.old) (E.written notes.new) (E.faults notes.old) (E.faults notes.new) result) }
 
-    // Status 5: memory ran out; the shelf holds what it held, and of `repair` maybe the first of its files, each whole.
+    // Status 5: memory ran out; the shelf holds what it held, and of `repair` and `make` maybe the first of their files, each
+    // whole.
     ensures exhausted { result ≡ 5 → IsExhausted
         (execution (map string_bytes arguments.now)
         (outside (H.told shelf.old) (H.faults shelf.old) (K.written out.old) (K.faults out.old))

@@ -22,8 +22,8 @@ const CIRCUIT_LIMIT: u64 = 268_435_456;
 /// The most bytes of a certificate's proof.
 const PROOF_LIMIT: u64 = 1_073_741_824;
 
-/// The files that the command reads, in order, or the report of the first read that gives none. A
-/// command that is not built reads nothing.
+/// The files that the command reads, in order, or the report of the first read that gives none. `make`
+/// reads nothing.
 pub(crate) fn fetch_files<'a, H: Shelf>(
     alloc: Global,
     command: Command<'a>,

@@ -189,17 +189,6 @@ fn no_table<R: Abort + AllocGlobal + Threads + Sync>(
     refuses(rt, FIRST.words, FIRST.design, table, notes);
 }
 
-/// Words that name a command that is not built.
-fn unbuilt<R: Abort + AllocGlobal + Threads + Sync>(rt: &R, words: &'static str) {
-    refuses(
-        rt,
-        words,
-        FIRST.design,
-        FIRST.table,
-        "refused 0 NotBuilt command\n",
-    );
-}
-
 /// Words that name no command.
 fn no_words<R: Abort + AllocGlobal + Threads + Sync>(rt: &R, words: &'static str) {
     check(
@@ -420,11 +409,6 @@ fn texts_are_refused(rt: HostRuntime) {
         "",
         "refused 4 Directive at 0\n",
     );
-}
-
-#[test]
-fn a_command_is_not_built(rt: HostRuntime) {
-    unbuilt(&rt, "rtl_repair make 1 c");
 }
 
 #[test]

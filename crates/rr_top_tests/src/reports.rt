@@ -1,6 +1,6 @@
 //! The texts of endings and refusals, and the calls of one command each.
 use rr_certify::{CertificateFault, Flaw, Verdict, judge, verdict_text};
-use rr_report::{Part, Refusal, Stop, absent, out_fault, read_fault, refused, stopped};
+use rr_report::{Refusal, Stop, absent, out_fault, read_fault, refused, stopped};
 use rr_run::Limit;
 use std::process::Abort;
 use std::thread::Threads;
@@ -10,14 +10,6 @@ fn refusals_are_told(rt: HostRuntime) {
     let alloc = rt.alloc();
     for (refusal, text) in [
         (Refusal::TooManyBytes(7), "refused 16 TooMany bytes 7\n"),
-        (
-            Refusal::NotBuilt(Part::Command),
-            "refused 0 NotBuilt command\n",
-        ),
-        (
-            Refusal::NotBuilt(Part::Design),
-            "refused 0 NotBuilt design\n",
-        ),
         (
             Refusal::Flawed(Flaw::Circuit, 1),
             "refused 34 BadCircuit line 1\n",

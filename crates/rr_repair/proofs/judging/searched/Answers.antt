@@ -2,7 +2,7 @@ use Rattle.rr_syntax.specs.View.{plain_source}
 use Rattle.rr_flat.specs.View.{plain_flat}
 use Rattle.rr_repair.specs.Repairs.{design_of}
 use Rattle.rr_repair.specs.Views.{wish_of}
-use Rattle.rr_repair.proofs.Telling.{task_of_design, task_stands}
+use Rattle.rr_repair.proofs.Telling.{counted_told, task_of_design, task_stands}
 use Rattle.rr_repair.proofs.judging.searched.Goals as goal
 
 -- src/judging.rt
@@ -16,3 +16,6 @@ told-requires-clause-found g c =
     let j = design_of (wish_of c.args.asked.now) (plain_source c.args.design.now.source.now) in
     c.in_ok-answer.ensures.answer j
     (task_of_design _ j (c.in_ok-cycle.ensures j c.requires.fits) (plain_flat c.args.design.now.flat) c.requires.fits.design c.args.design.now.order.clock c.requires.read.0 c.requires.read.1)
+
+pub returns : goal.returns
+returns g c = ?

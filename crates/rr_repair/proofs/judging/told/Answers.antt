@@ -15,14 +15,14 @@ repaired-requires-clause-few c =
     let f = c.requires.few in
     omega (arith, n, f)
 
-pub returns-in_ok-found-in-Repair : goal.returns-in_ok-found-in-Repair
-returns-in_ok-found-in-Repair c =
+pub returns-in_ok-found-in-Repair-clause-answer : goal.returns-in_ok-found-in-Repair-clause-answer
+returns-in_ok-found-in-Repair-clause-answer c =
     let e = c.in_ok-found-in-Repair.ensures in
     repair_told (wish_of c.args.asked.now) c.args.bytes.now (lexemes c.args.design.now.tokens.now) (plain_source c.args.design.now.source.now) (task_of c.args.job.now) (plain_answer c.in_ok-found-in-Repair.found)
     c.in-Repair.choice.picks.items c.in-Repair.k c.in-Repair.circuit c.in-Repair.journal (rw c.in-Repair.is at c.requires.found) e.files e.printed e.tree e.notes e.status
 
-pub returns-in_ok-found-in-NoRepair : goal.returns-in_ok-found-in-NoRepair
-returns-in_ok-found-in-NoRepair c =
+pub returns-in_ok-found-in-NoRepair-clause-answer : goal.returns-in_ok-found-in-NoRepair-clause-answer
+returns-in_ok-found-in-NoRepair-clause-answer c =
     let e = c.in_ok-found-in-NoRepair.ensures in
     beyond_told (wish_of c.args.asked.now) c.args.bytes.now (lexemes c.args.design.now.tokens.now) (plain_source c.args.design.now.source.now) (task_of c.args.job.now) (plain_answer c.in_ok-found-in-NoRepair.found)
     _ c.in-NoRepair.circuit c.in-NoRepair.journal (rw c.in-NoRepair.is at c.requires.found) (plain_count c.sites-sites.result.now c.args.job.now.list.now c.sites-sites.ensures.same) e.files e.printed e.notes e.status

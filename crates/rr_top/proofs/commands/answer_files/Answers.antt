@@ -1,4 +1,4 @@
-use Rattle.rr_words.specs.Plan.{repair, run, sites, check, texts_of}
+use Rattle.rr_words.specs.Plan.{repair, run, sites, check, make, texts_of}
 use Rattle.rr_effects.specs.Views.{contents}
 use Rattle.rr_top.proofs.commands.answer_files.Goals as goal
 
@@ -25,3 +25,9 @@ returns-in-Check g c =
     let gives = c.certify_files-answer.ensures c.in-Check.circuit.now c.in-Check.proof.now in
     let plan = check c.in-Check.circuit.now c.in-Check.proof.now in
     rw c.in-Check.is (c.conclude-in-Check.ensures plan (contents c.args.files.items) (rw c.in-Check.is at c.requires.given) gives)
+
+pub returns-in-Make : goal.returns-in-Make
+returns-in-Make g c =
+    let gives = c.make_files-answer.ensures (contents c.args.files.items) in
+    let plan = make c.in-Make.seed c.in-Make.cert.now in
+    rw c.in-Make.is (c.conclude-in-Make.ensures plan (contents c.args.files.items) (rw c.in-Make.is at c.requires.given) gives)

@@ -1,0 +1,71 @@
+-- What the made input of a seed comes to: the least number of changes with which its design matches its table, told by a
+-- summary, or that no changes do; and what an answer tells of it. No search stands in it.
+use Rattle.std.specs.Prelude.{◌≡◌, ◌⊎◌, ℕ, List, [], ◌++◌, None, codes, decimal}
+use Rattle.rr_made.specs.Made.{made_design, made_table}
+use Rattle.rr_report.specs.Found.{Answer}
+use Rattle.rr_report.specs.Refusals.{Refusal}
+use Rattle.rr_report.specs.Texts.{line}
+use Rattle.rr_repair.specs.Repairs.{IsLeastCount, RefusesRepair, Wish}
+use Rattle.rr_repair_laws.specs.Outcomes.{IsDespaired, IsLeftOpen, IsMended, IsUnmendable}
+
+-- what is asked: the top and the clock that the design tells, and 4 members of 20,000 lines
+abbrev pub made_wish : List ℕ → Wish
+made_wish cert = record { top = None; clock = None; cert = cert; budget = 20000; members = 4 }
+
+-- the summary of so many changes, each line ended by LF
+abbrev pub summary : ℕ → ℕ → List ℕ
+summary seed changes = line (codes "seed " ++ decimal seed) ++ (line (codes "rows 256") ++ (line (codes "sites 40") ++ line (codes "changes " ++ decimal changes)))
+
+-- ---- of a seed
+-- so many changes are the least with which the made design matches its table
+abbrev pub IsMadeCount : ℕ → List ℕ → ℕ → Type 0
+IsMadeCount seed cert changes = IsLeastCount (made_wish cert) (made_design seed) (made_table seed) changes
+
+-- .. and this text tells it
+abbrev pub IsSummary : ℕ → List ℕ → List ℕ → Type 0
+IsSummary seed cert text = (changes : ℕ) × ((text ≡ summary seed changes) × IsMadeCount seed cert changes)
+
+-- no changes do
+abbrev pub IsNeverMade : ℕ → List ℕ → Type 0
+IsNeverMade seed cert = IsUnmendable (made_wish cert) (made_design seed) (made_table seed)
+
+-- ---- of an answer
+-- it prints the summary and reports nothing, and its files are those of a repair with so many changes
+pub record IsMade (seed : ℕ) (cert : List ℕ) (answer : Answer) : Type 0 where
+  pub repair : Answer
+  pub mended : IsMended (made_wish cert) (made_design seed) (made_table seed) repair
+  pub changes : ℕ
+  pub least : IsMadeCount seed cert changes
+  pub files : answer.files ≡ repair.files
+  pub printed : answer.out ≡ summary seed changes
+  pub notes : answer.notes ≡ []
+  pub status : answer.status ≡ 0
+
+-- it is a repair's that tells that no changes match, or one's that leaves this open
+abbrev pub IsUnmade : ℕ → List ℕ → Answer → Type 0
+IsUnmade seed cert answer = IsDespaired (made_wish cert) (made_design seed) (made_table seed) answer
+
+abbrev pub IsMadeOpen : ℕ → List ℕ → Answer → Type 0
+IsMadeOpen seed cert answer = IsLeftOpen (made_wish cert) (made_design seed) (made_table seed) answer
+
+abbrev pub AnswersMake : ℕ → List ℕ → Answer → Type 0
+AnswersMake seed cert answer = IsMade seed cert answer ⊎ (IsUnmade seed cert answer ⊎ IsMadeOpen seed cert answer)
+
+-- why it is refused: as a repair of the two texts is
+abbrev pub RefusesMake : ℕ → List ℕ → Refusal → Type 0
+RefusesMake seed cert refusal = RefusesRepair (made_wish cert) (made_design seed) (made_table seed) refusal
+
+-- ---- laws
+abbrev pub OneSummary : Type 0
+OneSummary = (seed : ℕ) (cert text other : List ℕ) → IsSummary seed cert text → IsSummary seed cert other → text ≡ other
+
+abbrev pub SummaryOrNone : Type 0
+SummaryOrNone = (seed : ℕ) (cert text : List ℕ) → IsSummary seed cert text → IsNeverMade seed cert → ⊥
+
+-- an answer with its status, and what it tells of the seed
+abbrev pub TellsMake : ℕ → List ℕ → Answer → Type 0
+TellsMake seed cert answer = (IsMade seed cert answer × (IsSummary seed cert answer.out × (answer.status ≡ 0)))
+    ⊎ ((IsUnmade seed cert answer × (IsNeverMade seed cert × (answer.status ≡ 1))) ⊎ (IsMadeOpen seed cert answer × (answer.status ≡ 2)))
+
+abbrev pub EachMake : Type 0
+EachMake = (seed : ℕ) (cert : List ℕ) (answer : Answer) → AnswersMake seed cert answer → TellsMake seed cert answer
