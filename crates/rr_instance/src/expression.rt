@@ -6,12 +6,10 @@ ghost use Rattle.rr_syntax.specs.Tree.{Cast, Concat, Cond, Repeat, Unary};
 ghost use Rattle.rr_syntax.specs.View.{plain, plain_list};
 ghost use Rattle.rr_instance.specs.Instances.{instance_tree, instance_parts, instance_test};
 
-use crate::finding::find;
 use crate::forms::{in_brackets, new_literal, new_test, operation};
-use crate::list::SiteList;
-use crate::pick::Choice;
 use bumpalo::Bump;
 use bumpalo::collections::into_bump_slice;
+use rr_choice::{Choice, SiteList, find};
 use rr_expr::{first_token, infix_of, takes_constants};
 use rr_syntax::{Expr, Mark, expression_len};
 use std::alloc::AllocError;

@@ -2,14 +2,14 @@
 
 ghost use Rattle.std.specs.Prelude.{◌≡◌, ◌&&◌, true, IfOk};
 ghost use Rattle.rr_syntax.specs.View.{plain, plain_statement};
-ghost use Rattle.rr_instance.specs.Instances.{all_overwritten as all_overwritten_of, followed as followed_of, gate as gate_of, is_overwrite_at as is_overwrite_at_of, new_body as new_body_of, overwritten as overwritten_of, unsigned_number as unsigned_number_of};
-ghost use Rattle.rr_instance.specs.View.{plain_kind, plain_site};
+ghost use Rattle.rr_choice.specs.Places.{is_overwrite_at as is_overwrite_at_of};
+ghost use Rattle.rr_instance.specs.Instances.{all_overwritten as all_overwritten_of, followed as followed_of, gate as gate_of, new_body as new_body_of, overwritten as overwritten_of, unsigned_number as unsigned_number_of};
+ghost use Rattle.rr_choice.specs.View.{plain_kind, plain_site};
 
-use crate::forms::{FRESH, cut, named, negated, picked_form, picked_name};
-use crate::list::SiteList;
-use crate::pick::{Choice, Pick};
+use crate::forms::{FRESH, named, negated};
 use crate::statement::{assign, block, if_then};
 use bumpalo::Bump;
+use rr_choice::{Choice, Pick, SiteList, cut, picked_form, picked_name};
 use rr_syntax::{Expr, Number, Site, SiteKind, Stmt};
 use std::alloc::AllocError;
 

@@ -8,12 +8,11 @@ ghost use Rattle.rr_instance.specs.Instances.{instance_child, instance_connectio
 
 use crate::expression::{expression, expressions};
 use crate::firsts::first_token;
-use crate::list::SiteList;
 use crate::overwrite::all_overwritten;
-use crate::pick::Choice;
 use crate::statement::statement;
 use bumpalo::Bump;
 use bumpalo::collections::into_bump_slice;
+use rr_choice::{Choice, SiteList};
 use rr_syntax::{Connection, Conns, Expr, Instance, Item, Module, NetName, Pair, Source, Stmt};
 use std::alloc::AllocError;
 

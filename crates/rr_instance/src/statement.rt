@@ -8,10 +8,9 @@ ghost use Rattle.rr_syntax.specs.View.{plain, plain_arm, plain_arms, plain_label
 ghost use Rattle.rr_instance.specs.Instances.{instance_arms, instance_statement, instance_statements};
 
 use crate::expression::{condition, expression, expressions};
-use crate::list::SiteList;
-use crate::pick::Choice;
 use bumpalo::Bump;
 use bumpalo::collections::into_bump_slice;
+use rr_choice::{Choice, SiteList};
 use rr_syntax::{Arm, Expr, Keyword, Named, Stmt};
 use std::alloc::AllocError;
 
