@@ -3,4 +3,3 @@ pub mod Overwrites
 pub mod Arms
 pub mod Snocs
 pub mod StatementArms
-pub mod Items

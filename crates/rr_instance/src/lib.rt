@@ -1,14 +1,14 @@
-//! The source that a choice among the changes of its sites makes of a source. It is right where the tree is
-//! the instance of the definition by cases on plain trees. It stands on `rr_choice`, on `rr_syntax`'s trees
-//! and on `rr_expr`'s tables of operators.
+//! The trees that a choice among the changes of a source's sites makes of expressions, statements and bodies
+//! of `always`. They are right where they are the instances of the definition by cases on plain trees. It
+//! stands on `rr_choice`, on `rr_syntax`'s trees and on `rr_expr`'s tables of operators.
 #![tactic(auto)]
 
 mod expression;
 mod firsts;
 mod forms;
 mod overwrite;
-mod source;
 mod statement;
 
+pub use expression::{expression_instance, expression_instances};
 pub use firsts::first_token;
-pub use source::instance;
+pub use overwrite::body_instance;

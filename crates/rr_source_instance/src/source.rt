@@ -6,18 +6,15 @@ ghost use Rattle.rr_syntax.specs.Items.{spell_all, spell_connection, spell_conne
 ghost use Rattle.rr_syntax.specs.View.{plain, plain_connection, plain_connections, plain_instance, plain_item, plain_module, plain_net, plain_pair, plain_source, plain_value};
 ghost use Rattle.rr_instance.specs.Instances.{instance_child, instance_connection, instance_connections, instance_item, instance_module, instance_net, instance_pair, instance_source, instance_value};
 
-use crate::expression::{expression, expressions};
-use crate::firsts::first_token;
-use crate::overwrite::all_overwritten;
-use crate::statement::statement;
 use bumpalo::Bump;
 use bumpalo::collections::into_bump_slice;
 use rr_choice::{Choice, SiteList};
+use rr_instance::{body_instance, expression_instance, expression_instances};
 use rr_syntax::{Connection, Conns, Expr, Instance, Item, Module, NetName, Pair, Source, Stmt};
 use std::alloc::AllocError;
 
 /// A value where there is one.
-#[tactic(auto, unfolding(rr_syntax::specs::View::plain_value, crate::specs::Instances::instance_value))]
+#[tactic(auto, unfolding(rr_syntax::specs::View::plain_value, rr_instance::specs::Instances::instance_value))]
 fn new_value<'a>(
     value: Option<&'a Expr<'a>>,
     sites: &SiteList<'a>,
@@ -30,7 +27,7 @@ fn new_value<'a>(
     match value {
         None => Ok(None),
         Some(expr) => {
-            let new = expression(expr, sites, choice, arena)?;
+            let new = expression_instance(expr, sites, choice, arena)?;
             let place: &'a Expr<'a> = arena.try_alloc(new)?;
             Ok(Some(place))
         }
@@ -38,7 +35,7 @@ fn new_value<'a>(
 }
 
 /// A declared net.
-#[tactic(auto, using(crate::proofs::Items::net_fits), unfolding(rr_syntax::specs::View::plain_net, crate::specs::Instances::instance_net))]
+#[tactic(auto, using(crate::proofs::Items::net_fits), unfolding(rr_syntax::specs::View::plain_net, rr_instance::specs::Instances::instance_net))]
 fn new_net<'a>(
     net: &NetName<'a>,
     sites: &SiteList<'a>,
@@ -57,7 +54,7 @@ fn new_net<'a>(
 }
 
 /// A continuous assignment.
-#[tactic(auto, using(crate::proofs::Items::pair_fits), unfolding(rr_syntax::specs::View::plain_pair, crate::specs::Instances::instance_pair))]
+#[tactic(auto, using(crate::proofs::Items::pair_fits), unfolding(rr_syntax::specs::View::plain_pair, rr_instance::specs::Instances::instance_pair))]
 fn new_pair<'a>(
     pair: &Pair<'a>,
     sites: &SiteList<'a>,
@@ -67,7 +64,7 @@ fn new_pair<'a>(
     requires fits { length (spell_pair (plain_pair pair.now)) < 2 ^ 64 }
     ensures { IfOk result (λ r. plain_pair r ≡ instance_pair sites.now choice.now.picks.items (plain_pair pair.now)) }
 {
-    let new = expression(pair.value, sites, choice, arena)?;
+    let new = expression_instance(pair.value, sites, choice, arena)?;
     let value: &'a Expr<'a> = arena.try_alloc(new)?;
     Ok(Pair {
         target: pair.target,
@@ -76,7 +73,7 @@ fn new_pair<'a>(
 }
 
 /// A connection by name.
-#[tactic(auto, using(crate::proofs::Items::connection_fits), unfolding(rr_syntax::specs::View::plain_connection, crate::specs::Instances::instance_connection))]
+#[tactic(auto, using(crate::proofs::Items::connection_fits), unfolding(rr_syntax::specs::View::plain_connection, rr_instance::specs::Instances::instance_connection))]
 fn new_connection<'a>(
     connection: &Connection<'a>,
     sites: &SiteList<'a>,
@@ -161,7 +158,7 @@ fn new_connections<'a>(
 {
     match conns {
         Conns::Positions(list) => {
-            let new = expressions(list, sites, choice, arena)?;
+            let new = expression_instances(list, sites, choice, arena)?;
             Ok(Conns::Positions(new))
         }
         Conns::Names(list) => {
@@ -172,7 +169,7 @@ fn new_connections<'a>(
 }
 
 /// An instance of a module.
-#[tactic(auto, using(crate::proofs::Items::child_fits), unfolding(rr_syntax::specs::View::plain_instance, crate::specs::Instances::instance_child))]
+#[tactic(auto, using(crate::proofs::Items::child_fits), unfolding(rr_syntax::specs::View::plain_instance, rr_instance::specs::Instances::instance_child))]
 fn new_child<'a>(
     child: &Instance<'a>,
     sites: &SiteList<'a>,
@@ -244,8 +241,7 @@ fn new_item<'a>(
             body,
             token,
         } => {
-            let inner = statement(body, sites, choice, arena)?;
-            let whole = all_overwritten(first_token(body), sites, choice, inner, arena)?;
+            let whole = body_instance(body, sites, choice, arena)?;
             let body: &'a Stmt<'a> = arena.try_alloc(whole)?;
             Ok(Item::Always {
                 events: *events,
@@ -289,7 +285,7 @@ fn new_items<'a>(
 }
 
 /// A module.
-#[tactic(auto, using(crate::proofs::Items::module_fits), unfolding(rr_syntax::specs::View::plain_module, crate::specs::Instances::instance_module))]
+#[tactic(auto, using(crate::proofs::Items::module_fits), unfolding(rr_syntax::specs::View::plain_module, rr_instance::specs::Instances::instance_module))]
 fn new_module<'a>(
     declaration: &Module<'a>,
     sites: &SiteList<'a>,
@@ -330,7 +326,7 @@ fn new_modules<'a>(
 
 /// The source that a choice among the sites makes of a source of fewer than 2^32 tokens. It shares
 /// what is no site with the source.
-#[tactic(auto, using(rr_syntax::proofs::ItemLengths::source_len), unfolding(rr_syntax::specs::View::plain_source, crate::specs::Instances::instance_source))]
+#[tactic(auto, using(rr_syntax::proofs::ItemLengths::source_len), unfolding(rr_syntax::specs::View::plain_source, rr_instance::specs::Instances::instance_source))]
 pub fn instance<'a>(
     source: &Source<'a>,
     sites: &SiteList<'a>,

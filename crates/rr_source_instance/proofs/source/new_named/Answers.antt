@@ -2,8 +2,8 @@ use Rattle.std.proofs.Common.{[], None, arith}
 use Rattle.rr_syntax.specs.Items.{spell_connection}
 use Rattle.rr_syntax.specs.View.{plain_connection}
 use Rattle.rr_instance.specs.Instances.{instance_connection}
-use Rattle.rr_instance.proofs.Items.{each_at, map_none, map_next_at}
-use Rattle.rr_instance.proofs.source.new_named.Goals as goal
+use Rattle.rr_source_instance.proofs.Items.{each_at, map_none, map_next_at}
+use Rattle.rr_source_instance.proofs.source.new_named.Goals as goal
 
 pub loop-one-init : goal.loop-one-init
 loop-one-init c = map_none plain_connection (instance_connection c.args.sites.now c.args.choice.now.picks.items) c.new-list.result.items c.new-list.ensures.items

@@ -3,8 +3,8 @@ use Rattle.rr_syntax.specs.declared.tree.Item.{Item}
 use Rattle.rr_syntax.specs.Items.{spell_item}
 use Rattle.rr_syntax.specs.View.{plain_item}
 use Rattle.rr_instance.specs.Instances.{instance_item}
-use Rattle.rr_instance.proofs.Items.{all_at, map_none, map_next}
-use Rattle.rr_instance.proofs.source.new_items.Goals as goal
+use Rattle.rr_source_instance.proofs.Items.{all_at, map_none, map_next}
+use Rattle.rr_source_instance.proofs.source.new_items.Goals as goal
 
 pub loop-one-init : goal.loop-one-init
 loop-one-init c = map_none plain_item (instance_item c.args.sites.now c.args.choice.now.picks.items) c.new-list.result.items c.new-list.ensures.items

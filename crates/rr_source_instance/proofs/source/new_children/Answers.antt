@@ -3,8 +3,8 @@ use Rattle.rr_syntax.specs.declared.tree.Conns.TheVariants as conns
 use Rattle.rr_syntax.specs.Items.{spell_instance}
 use Rattle.rr_syntax.specs.View.{plain_instance}
 use Rattle.rr_instance.specs.Instances.{instance_child}
-use Rattle.rr_instance.proofs.Items.{each_at, map_none, map_next_at}
-use Rattle.rr_instance.proofs.source.new_children.Goals as goal
+use Rattle.rr_source_instance.proofs.Items.{each_at, map_none, map_next_at}
+use Rattle.rr_source_instance.proofs.source.new_children.Goals as goal
 
 pub loop-one-init : goal.loop-one-init
 loop-one-init c = map_none plain_instance (instance_child c.args.sites.now c.args.choice.now.picks.items) c.new-list.result.items c.new-list.ensures.items

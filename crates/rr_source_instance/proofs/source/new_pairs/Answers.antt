@@ -3,8 +3,8 @@ use Rattle.rr_syntax.specs.declared.tree.Expr as expr
 use Rattle.rr_syntax.specs.Items.{spell_pair}
 use Rattle.rr_syntax.specs.View.{plain_pair}
 use Rattle.rr_instance.specs.Instances.{instance_pair}
-use Rattle.rr_instance.proofs.Items.{each_at, map_none, map_next_at}
-use Rattle.rr_instance.proofs.source.new_pairs.Goals as goal
+use Rattle.rr_source_instance.proofs.Items.{each_at, map_none, map_next_at}
+use Rattle.rr_source_instance.proofs.source.new_pairs.Goals as goal
 
 pub loop-one-init : goal.loop-one-init
 loop-one-init c = map_none plain_pair (instance_pair c.args.sites.now c.args.choice.now.picks.items) c.new-list.result.items c.new-list.ensures.items

@@ -2,8 +2,8 @@ use Rattle.std.proofs.Common.{[], None, arith}
 use Rattle.rr_syntax.specs.Items.{spell_module}
 use Rattle.rr_syntax.specs.View.{plain_module}
 use Rattle.rr_instance.specs.Instances.{instance_module}
-use Rattle.rr_instance.proofs.Items.{all_at, map_none, map_next_at}
-use Rattle.rr_instance.proofs.source.new_modules.Goals as goal
+use Rattle.rr_source_instance.proofs.Items.{all_at, map_none, map_next_at}
+use Rattle.rr_source_instance.proofs.source.new_modules.Goals as goal
 
 pub loop-one-init : goal.loop-one-init
 loop-one-init c = map_none plain_module (instance_module c.args.sites.now c.args.choice.now.picks.items) c.new-list.result.items c.new-list.ensures.items
