@@ -13,6 +13,7 @@ use Rattle.rr_spots.specs.Spots.{has_edges}
 use Rattle.rr_guard.specs.Names.{scalars, firsts, assigned_at_edges, whole_name, is_text, is_now, is_later, writes_now, writes_later, may_guard, guard_names, is_before, first_names, names_at, texts_of}
 use Rattle.rr_place_laws.specs.Declarations.{IsScalar}
 use Rattle.rr_place_laws.specs.GuardNames.{MayGuard, Rising, AreNamesAt}
+use Rattle.rr_place_laws.specs.Laws.{NamesAreThese}
 use Rattle.rr_place_laws.specs.Targets.{IsAssigned, IsOf, IsClockedBlock, IsWrittenNow, IsRegister}
 use Rattle.rr_place_laws.proofs.Assigned.{IsLeaf, assigned_from, assigned_in}
 use Rattle.rr_place_laws.proofs.Declared.{any_from, any_in, scalars_from, scalars_in}
@@ -209,3 +210,7 @@ module _ (m : ModuleDeclaration) (clocks : List Text) (clocked : Bool) where
 
 pub names_are : (m : ModuleDeclaration) (at : ℕ) → WellFormedModule m → NumberedModule m at → (clocks : List Text) (clocked : Bool) (token : ℕ) → AreNamesAt m clocks clocked token (names_at m clocks clocked token)
 names_are m at w n clocks clocked token = names_by m clocks clocked (scalars_rise m at w n) token
+
+pub names_are_these : NamesAreThese
+names_are_these m at w n clocks clocked token names =
+    let r = names_are m at w n clocks clocked token in (r, λ h. one_list m clocks clocked token names (names_at m clocks clocked token) h r)

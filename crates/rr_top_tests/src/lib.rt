@@ -13,6 +13,8 @@ mod effects;
 #[cfg(test)]
 mod limits;
 #[cfg(test)]
+mod listings;
+#[cfg(test)]
 mod repairs;
 #[cfg(test)]
 mod reports;
