@@ -11,3 +11,5 @@ pub mod GuardWords
 pub mod Whole
 pub mod Members
 pub mod Orders
+pub mod Told
+pub mod ToldSites

@@ -212,7 +212,7 @@ module_text [] at k w n l = absurd (omega (arith, l))
 module_text (m ∷ ms) at zero w n l = record { at = at; formed = w.0; numbered = n.0 }
 module_text (m ∷ ms) at (suc k) w n l = module_text ms (at + length (spell_module m)) k w.1 n.1 (omega (arith, l))
 
-owner_there : (n : ℕ) (places : List Place) → AreRising n places → AllByRecursion (λ (p : Place). p.owner < n) places
+pub owner_there : (n : ℕ) (places : List Place) → AreRising n places → AllByRecursion (λ (p : Place). p.owner < n) places
 unfolding AreRising
 owner_there n [] r = tt
 owner_there n (p ∷ ps) r = (r.0, owner_there n ps r.2)

@@ -1,6 +1,6 @@
 -- The laws of the list of sites: it has exactly the sites of the source, in their order, each once.
 use Rattle.std.specs.Prelude.{◌≡◌, ℕ, ◌<◌, Bool, List, length, get_or, Contains}
-use Rattle.rr_syntax.specs.Items.{WellFormedModule, NumberedModule, WellFormedSource, NumberedSource}
+use Rattle.rr_syntax.specs.Items.{spell_source, WellFormedModule, NumberedModule, WellFormedSource, NumberedSource}
 use Rattle.rr_syntax.specs.Tree.{ModuleDeclaration, SourceText}
 use Rattle.rr_expr.specs.Scopes.{Names}
 use Rattle.rr_flat.specs.Signals.{Text}
@@ -11,6 +11,7 @@ use Rattle.rr_listing.specs.Listing.{AreRising, sites_of}
 use Rattle.rr_place_laws.specs.GuardNames.{AreNamesAt}
 use Rattle.rr_place_laws.specs.Kinds.{IsSite}
 use Rattle.rr_place_laws.specs.Order.{ComesBefore, Ordered}
+use Rattle.rr_place_laws.specs.Spelled.{IsSpelled}
 
 -- a source that is well-formed and whose leaves have the numbers of their tokens, with places of its modules in their order
 pub record IsGiven (source : SourceText) (places : List Place) : Type 0 where
@@ -41,3 +42,8 @@ abbrev pub NamesAreThese : Type 0
 NamesAreThese =
     (m : ModuleDeclaration) (at : ℕ) → WellFormedModule m → NumberedModule m at → (clocks : List Text) (clocked : Bool) (token : ℕ) (names : List Text) →
     AreNamesAt m clocks clocked token (names_at m clocks clocked token) × (AreNamesAt m clocks clocked token names → names ≡ names_at m clocks clocked token)
+
+-- at the token of a site its words stand in the source
+abbrev pub SitesAreSpelled : Type 0
+SitesAreSpelled =
+    (source : SourceText) (scopes : List Names) (owners : List ℕ) (places : List Place) → IsGiven source places → (s : Site) → (h : IsSite source scopes owners places s) → IsSpelled (spell_source source) h.is

@@ -5,4 +5,5 @@ pub mod Targets
 pub mod GuardNames
 pub mod Kinds
 pub mod Order
+pub mod Spelled
 pub mod Laws

@@ -1,5 +1,5 @@
 //! Laws of the list of sites, as contracts of functions that do nothing.
-ghost use Rattle.rr_place_laws.specs.Laws.{ListedAreSites, NamesAreThese, SitesAreListed, SitesRise, SitesStandOnce};
+ghost use Rattle.rr_place_laws.specs.Laws.{ListedAreSites, NamesAreThese, SitesAreListed, SitesAreSpelled, SitesRise, SitesStandOnce};
 
 /// The sites that are listed for a source are exactly its sites, each once, in the order of their first
 /// tokens, at one token overwrites before guards, an outer guard before an inner one, and guards before
@@ -7,12 +7,14 @@ ghost use Rattle.rr_place_laws.specs.Laws.{ListedAreSites, NamesAreThese, SitesA
 /// literal without x and z digits, or the test of a `?:`, that stands in a right side, a condition, a
 /// selector, a label or a port connection, outside the constant places; the condition of an `if` in an
 /// `always`; or the body of an `always` with a variable that stands in it as a whole as a target, which
-/// is no `integer` and has no range that names a parameter.
+/// is no `integer` and has no range that names a parameter. From its token on the source has the words of
+/// the literal, of the condition, which are as many as its extent, or of the body.
 pub fn sites_are_exact()
     ensures listed { ListedAreSites }
     ensures every { SitesAreListed }
     ensures order { SitesRise }
     ensures once { SitesStandOnce }
+    ensures spelled { SitesAreSpelled }
 {}
 
 /// The names that a guard may be at a token are one list, the first 64 of those declared before it, in the
