@@ -63,7 +63,6 @@ mutual
   parts_from_all End p c = absurd (none_in p c)
   parts_from_all (More t ts) p c = joined t ts p (λ k. parts_from t p k) (λ k. parts_from_all ts p k) (Contains-append_cases (target_parts t) (targets_parts ts) p c)
 
-
 braced_in : {t : Tree} {ts : Trees} → IsPart t ts → (p : Tree) → Contains (target_parts t) p → Contains (targets_parts ts) p
 unfolding target_parts
 braced_in {t} (first_part {ts}) p c = Contains-append_left (target_parts t) (targets_parts ts) p c

@@ -234,8 +234,7 @@ plain_in m name h = (
 pub may_from : (m : ModuleDeclaration) (t : Target) → may_overwrite m t ≡ true → IsVariable m t.text × IsPlain m t.text
 may_from m t h =
     let a = and_parts (is_variable m t.text) _ h in
-    let b = and_parts (not (list_any (port_opens t.text) m.groups)) (not (list_any (item_opens t.text) m.items)) a.1 in
-    (
+    let b = and_parts (not (list_any (port_opens t.text) m.groups)) (not (list_any (item_opens t.text) m.items)) a.1 in (
       variable_from m t.text a.0,
       plain_from m t.text (
         λ e. both_ways (list_any (port_opens t.text) m.groups) (not-true (list_any (port_opens t.text) m.groups) b.0) e,

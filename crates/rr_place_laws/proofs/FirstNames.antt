@@ -78,8 +78,8 @@ adds [] acc x r c l n = absurd (none_in x c)
 adds (y ∷ ys) acc x r c l n = elim (cases_in y ys x c) [
   | inl e ↦ keeps ys (with_first acc y) x (subst (Contains (with_first acc y)) e (step_adds (step_of acc y) (subst (IsNew acc) (sym e) n)))
   | inr d ↦
-  let after = all_in (λ z. y.token < z.token) ys x r.0 d in
-  adds ys (with_first acc y) x r.1 d (λ z k e. l z (tail_in y ys z k) e) (step_new (step_of acc y) x n (λ e. let b = l y (head_in y ys) e in omega (arith, b, after)))
+      let after = all_in (λ z. y.token < z.token) ys x r.0 d in
+      adds ys (with_first acc y) x r.1 d (λ z k e. l z (tail_in y ys z k) e) (step_new (step_of acc y) x n (λ e. let b = l y (head_in y ys) e in omega (arith, b, after)))
 ]
 
 record IsAdded (acc xs : List Identifier) (x : Identifier) : Type 0 where

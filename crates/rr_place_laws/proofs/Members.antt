@@ -129,9 +129,9 @@ module _ (m : ModuleDeclaration) (owner : ℕ) (scope : Names) (clocks : List Te
   body_is : (x : ModuleItem) → Contains m.items x → (body : Statement) → IsBody body x → (s : Site) → Contains (sites_at m owner scope clocks (is_clocked x) (Body body)) s → Is s
   body_is x c body h s k = elim (Contains-append_cases (map (overwrite_site (is_clocked x) body) (chosen body)) [] s k) [
     | inl d ↦
-    let r = map_from (overwrite_site (is_clocked x) body) (chosen body) s d in
-    let e : is_clocked x ≡ has_edges h.events = ap is_clocked h.is in
-    subst Is (ap (λ b. overwrite_site b body r.0) (sym e) ∙ r.2) (overwrite_is h.events body h.token (subst (Contains m.items) h.is c) r.0 r.1)
+        let r = map_from (overwrite_site (is_clocked x) body) (chosen body) s d in
+        let e : is_clocked x ≡ has_edges h.events = ap is_clocked h.is in
+        subst Is (ap (λ b. overwrite_site b body r.0) (sym e) ∙ r.2) (overwrite_is h.events body h.token (subst (Contains m.items) h.is c) r.0 r.1)
     | inr d ↦ absurd (none_in s d)
   ]
 

@@ -172,22 +172,22 @@ module _ (ms : List ModuleDeclaration) (owner : ℕ) (scope : Names) (clocks : L
       ordered_map (Rises ms) f ts
       (ordered_weaken (AreApart body n.0 n.1) (λ r s. Rises ms (f r) (f s)) ts
       (λ r s j k apart e.
-          let a = targets_from body n.0 n.1 r (filter_from (may_overwrite m) (targets_of body) r j).0 in
-          let b = targets_from body n.0 n.1 s (filter_from (may_overwrite m) (targets_of body) s k).0 in
-          record {
-            events = events;
-            body = body;
-            always = token;
-            there = there;
-            begins = refl;
-            target = a.0;
-            now = r.now;
-            is_target = a.1;
-            later = b.0;
-            later_now = s.now;
-            is_later = b.1;
-            before = apart a.0 b.0 a.1 b.1;
-          })
+      let a = targets_from body n.0 n.1 r (filter_from (may_overwrite m) (targets_of body) r j).0 in
+      let b = targets_from body n.0 n.1 s (filter_from (may_overwrite m) (targets_of body) s k).0 in
+      record {
+        events = events;
+        body = body;
+        always = token;
+        there = there;
+        begins = refl;
+        target = a.0;
+        now = r.now;
+        is_target = a.1;
+        later = b.0;
+        later_now = s.now;
+        is_later = b.1;
+        before = apart a.0 b.0 a.1 b.1;
+      })
       (ordered_filter (AreApart body n.0 n.1) (may_overwrite m) (targets_of body) (targets_follow body n.0 n.1)))
 
   no_always : (x : ModuleItem) → (IsAlways x → ⊥) → Up (item_sites m owner scope clocks x)
@@ -226,9 +226,9 @@ module _ (ms : List ModuleDeclaration) (owner : ℕ) (scope : Names) (clocks : L
       let after = items_in m owner scope clocks xs (at + length (spell_item x)) w.1 n.1 in
       ordered_join (Rises ms) (f x) (flat_map f xs) (item_up x (k x (head_in x xs))) (items_up xs (at + length (spell_item x)) w.1 n.1 (λ y c. k y (tail_in x xs y c)))
       (λ a b c d q.
-          let l = all_in (λ (s : Site). (at ≤ s.token) × (s.token < at + length (spell_all spell_item (x ∷ [])))) (f x ++ []) a here.all (Contains-append_left (f x) [] a c) in
-          let g = all_in (λ (s : Site). (at + length (spell_item x) ≤ s.token) × (s.token < at + length (spell_item x) + length (spell_all spell_item xs))) (flat_map f xs) b after.all d in
-          absurd (omega (arith, e, l, g, q)))
+      let l = all_in (λ (s : Site). (at ≤ s.token) × (s.token < at + length (spell_all spell_item (x ∷ [])))) (f x ++ []) a here.all (Contains-append_left (f x) [] a c) in
+      let g = all_in (λ (s : Site). (at + length (spell_item x) ≤ s.token) × (s.token < at + length (spell_item x) + length (spell_all spell_item xs))) (flat_map f xs) b after.all d in
+      absurd (omega (arith, e, l, g, q)))
 
   module_up : Up (module_sites m owner scope clocks)
   unfolding WellFormedModule NumberedModule module_sites
@@ -272,12 +272,12 @@ module _ (source : SourceText) (scopes : List Names) (owners : List ℕ) (formed
   places_up (p ∷ ps) r t =
       ordered_join (Rises ms) (g p) (flat_map g ps) (module_up ms p.owner (scope_of scopes owners p.owner) p.clocks (t p (head_in p ps))) (places_up ps r.2 (λ q c. t q (tail_in p ps q c)))
       (λ a b c d e.
-          let q = flat_from g ps b d in
-          let l = all_in (λ (q : Place). p.owner < q.owner) ps q.0 r.1 q.1 in
-          let x = window p r.0 a c in
-          let y = window q.0 (all_in (λ (q : Place). q.owner < length ms) ps q.0 (later_there ps r.2) q.1) b q.2 in
-          let z = follows ms p.owner q.0.owner l r.0 in
-          absurd (omega (arith, e, x, y, z)))
+      let q = flat_from g ps b d in
+      let l = all_in (λ (q : Place). p.owner < q.owner) ps q.0 r.1 q.1 in
+      let x = window p r.0 a c in
+      let y = window q.0 (all_in (λ (q : Place). q.owner < length ms) ps q.0 (later_there ps r.2) q.1) b q.2 in
+      let z = follows ms p.owner q.0.owner l r.0 in
+      absurd (omega (arith, e, x, y, z)))
 
 pub sites_rise : SitesRise
 unfolding sites_of

@@ -219,9 +219,9 @@ firsts_from [] r h c = absurd (none_in r c)
 firsts_from (x ∷ xs) r h c = elim (cases_in (forget x) (filter (differs (forget x)) (first_targets (map forget xs))) r c) [
   | inl e ↦ (x, head_first x xs h, e)
   | inr d ↦
-  let f = filter_from (differs (forget x)) (first_targets (map forget xs)) r d in
-  let k = firsts_from xs r h.1 f.0 in
-  (k.0, tail_first x k.0 xs (λ s. other_text x r f.1 (subst (λ (w : Target). w.text ≡ x.text) k.2 s)) k.1, k.2)
+      let f = filter_from (differs (forget x)) (first_targets (map forget xs)) r d in
+      let k = firsts_from xs r h.1 f.0 in
+      (k.0, tail_first x k.0 xs (λ s. other_text x r f.1 (subst (λ (w : Target). w.text ≡ x.text) k.2 s)) k.1, k.2)
 ]
 
 firsts_in : (ts : List At) (t : At) → Rising key ts → IsFirst ts t → Contains (first_targets (map forget ts)) (forget t)
@@ -230,9 +230,9 @@ firsts_in [] t h f = absurd (none_in t f.there)
 firsts_in (x ∷ xs) t h f = elim (cases_in x xs t f.there) [
   | inl e ↦ subst (λ (w : At). Contains (forget x ∷ filter (differs (forget x)) (first_targets (map forget xs))) (forget w)) e (head_in (forget x) (filter (differs (forget x)) (first_targets (map forget xs))))
   | inr d ↦
-  let l = all_in (λ (y : At). x.token < y.token) xs t h.0 d in
-  let n : t.text ≡ x.text → ⊥ = λ e. let b = f.least x (head_in x xs) (sym e) in omega (arith, b, l) in
-  tail_in (forget x) (filter (differs (forget x)) (first_targets (map forget xs))) (forget t) (filter_in (differs (forget x)) (first_targets (map forget xs)) (forget t) (firsts_in xs t h.1 (not_head x t xs n f)) (text_other x (forget t) n))
+      let l = all_in (λ (y : At). x.token < y.token) xs t h.0 d in
+      let n : t.text ≡ x.text → ⊥ = λ e. let b = f.least x (head_in x xs) (sym e) in omega (arith, b, l) in
+      tail_in (forget x) (filter (differs (forget x)) (first_targets (map forget xs))) (forget t) (filter_in (differs (forget x)) (first_targets (map forget xs)) (forget t) (firsts_in xs t h.1 (not_head x t xs n f)) (text_other x (forget t) n))
 ]
 
 -- in the order of their tokens
@@ -274,8 +274,7 @@ unfolding first_targets Rising Ordered
 firsts_follow [] h = tt
 firsts_follow (x ∷ xs) h =
     let rest = filter (differs (forget x)) (first_targets (map forget xs)) in
-    let passes = λ (r : Target) (c : Contains rest r). (filter_from (differs (forget x)) (first_targets (map forget xs)) r c).1 in
-    (
+    let passes = λ (r : Target) (c : Contains rest r). (filter_from (differs (forget x)) (first_targets (map forget xs)) r c).1 in (
       every_in (Follows (x ∷ xs) (forget x)) rest (λ s c. head_follows x xs h s (passes s c)),
       ordered_weaken (Follows xs) (Follows (x ∷ xs)) rest (λ r s c d k. tail_follows x xs r s (passes r c) (passes s d) k) (ordered_filter (Follows xs) (differs (forget x)) (first_targets (map forget xs)) (firsts_follow xs h.1)),
     )

@@ -145,7 +145,10 @@ fn listed<R: Abort + AllocGlobal + Threads + Sync>(rt: &R, last: &str, wanted: (
     let status = run(rt, alloc, &words, &mut shelf, &mut out, &mut notes);
     let (due, lines, text) = wanted;
     assert_eq!(rt; status, due);
-    assert_eq!(rt; out.written().iter().filter(|byte| **byte == b'\n').count(), lines);
+    assert_eq!(rt;
+        out.written().iter().filter(|byte| **byte == b'\n').count(),
+        lines
+    );
     assert!(rt; notes.written() == text.as_bytes());
 }
 
