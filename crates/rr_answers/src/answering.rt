@@ -14,9 +14,9 @@ ghost use Rattle.rr_answers.specs.Texts.{beyond_text, open_text, unchanged_text}
 
 use crate::certifying::certificate;
 use rr_changes::report;
+use rr_choice::{Choice, SiteList};
 use rr_circuit::Circuit;
 use rr_derive::Journal;
-use rr_instance::{Choice, SiteList};
 use rr_patch::print;
 use rr_report::{Found, Piece, Text};
 use rr_syntax::{Source, Token};

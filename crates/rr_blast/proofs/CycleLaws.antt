@@ -12,9 +12,9 @@ use Rattle.rr_flat.specs.Signals.{signal_at}
 use Rattle.rr_flat.specs.declared.design.Step.{Step}
 use Rattle.rr_flat.specs.Plain.{Flat}
 use Rattle.rr_flat.specs.View.{Design, plain_flat}
-use Rattle.rr_instance.specs.declared.pick.Pick.{Pick}
-use Rattle.rr_instance.specs.Choices.{decode}
-use Rattle.rr_instance.specs.Sites.{Site}
+use Rattle.rr_choice.specs.declared.pick.Pick.{Pick}
+use Rattle.rr_choice.specs.Choices.{decode}
+use Rattle.rr_choice.specs.Sites.{Site}
 use Rattle.rr_cycle.specs.Cycles.{signal_value, zeros}
 use Rattle.rr_flat.specs.Inputs.{row_inputs}
 use Rattle.rr_cycle.specs.Exec.{Environment}

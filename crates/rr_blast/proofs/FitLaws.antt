@@ -20,10 +20,10 @@ use Rattle.rr_cycle.specs.Cycles.{signal_value}
 use Rattle.rr_cycle.specs.Exec.{Environment}
 use Rattle.rr_cycle.specs.Performing.{any_writes}
 use Rattle.rr_cycle.proofs.Wiring.{length_there}
-use Rattle.rr_instance.specs.declared.pick.Pick.{Pick}
-use Rattle.rr_instance.specs.Choices.{decode, site_bits, total_bits}
-use Rattle.rr_instance.specs.Sites.{Site}
-use Rattle.rr_instance.specs.View.{plain_site, plain_sites}
+use Rattle.rr_choice.specs.declared.pick.Pick.{Pick}
+use Rattle.rr_choice.specs.Choices.{decode, site_bits, total_bits}
+use Rattle.rr_choice.specs.Sites.{Site}
+use Rattle.rr_choice.specs.View.{plain_site, plain_sites}
 use Rattle.rr_lawful_instance.specs.Laws.{IsRepairable}
 use Rattle.rr_lawful_instance.proofs.Cycles.{bases_stay, stays_lawful}
 use Rattle.rr_lawful_instance.proofs.Listing.{listed}

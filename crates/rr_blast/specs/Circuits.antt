@@ -11,8 +11,8 @@ use Rattle.rr_flat.specs.Plain.{Flat}
 use Rattle.rr_walk.specs.Walk.{flat_of}
 use Rattle.rr_flat_instance.specs.Flats.{instance_flat}
 use Rattle.rr_lawful_instance.specs.Listed.{AreRight}
-use Rattle.rr_instance.specs.Choices.{decode, total_bits}
-use Rattle.rr_instance.specs.Sites.{Site}
+use Rattle.rr_choice.specs.Choices.{decode, total_bits}
+use Rattle.rr_choice.specs.Sites.{Site}
 use Rattle.rr_cycle.specs.Exec.{Environment}
 use Rattle.rr_transition.specs.Cycles.{Design, output_bits}
 use Rattle.rr_transition.specs.Placed.{next_by, settled_of}

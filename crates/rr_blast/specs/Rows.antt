@@ -6,8 +6,8 @@ use Rattle.rr_flat.specs.Plain.{Flat}
 use Rattle.rr_flat_instance.specs.Flats.{instance_flat}
 use Rattle.rr_cycle.specs.Exec.{Environment}
 use Rattle.rr_cycle.specs.Performing.{any_writes, base}
-use Rattle.rr_instance.specs.declared.pick.Pick.{Pick}
-use Rattle.rr_instance.specs.Sites.{Site}
+use Rattle.rr_choice.specs.declared.pick.Pick.{Pick}
+use Rattle.rr_choice.specs.Sites.{Site}
 use Rattle.rr_transition.specs.Placed.{any_bit}
 use Rattle.rr_registers.specs.Registers.{bits_of_signal}
 

@@ -1,13 +1,13 @@
 //! Transitions of flat designs.
 ghost use Rattle.std.specs.Prelude.{◌≡◌, ◌<◌, ◌^◌, ◌++◌, ◌∷◌, [], IfOk, OnOk, All, length};
 ghost use Rattle.rr_flat.specs.View.{plain_flat};
-ghost use Rattle.rr_instance.specs.Choices.{total_bits};
+ghost use Rattle.rr_choice.specs.Choices.{total_bits};
 ghost use Rattle.rr_transition.specs.Cycles.{Cycle, Design, switch_places, widths_of};
 ghost use Rattle.rr_blast.specs.Circuits.{FitsArguments, bit_count};
 
 use crate::cycle::{cycle_circuit, row_bits};
+use rr_choice::{SiteList, site_bits};
 use rr_flat::{Flat, Order};
-use rr_instance::{SiteList, site_bits};
 use rr_registers::register_bits;
 use rr_transition::Transition;
 use std::alloc::{AllocError, Global};

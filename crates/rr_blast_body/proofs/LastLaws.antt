@@ -22,11 +22,12 @@ use Rattle.rr_expr.specs.declared.types.Entity.TheVariants.{Constant, Signal, In
 use Rattle.rr_expr.specs.Scopes.{Names, entity_shape, meant, range_width}
 use Rattle.rr_expr.specs.Values.{form, value}
 use Rattle.rr_flat.specs.Targets.{bits_there, target_bits}
-use Rattle.rr_instance.specs.declared.pick.Pick.{Pick}
-use Rattle.rr_instance.specs.Choices.{decode, name_width, read_pick, site_bits}
-use Rattle.rr_instance.specs.Instances.{fresh, gate, is_overwrite, is_overwrite_at, named, picked_form, picked_name, unsigned_number}
-use Rattle.rr_instance.specs.Sites.{Site, SiteKind, Overwrite}
-use Rattle.rr_instance.specs.View.{plain_kind, plain_site, plain_sites}
+use Rattle.rr_choice.specs.declared.pick.Pick.{Pick}
+use Rattle.rr_choice.specs.Choices.{decode, name_width, read_pick, site_bits, picked_form, picked_name}
+use Rattle.rr_choice.specs.Places.{is_overwrite, is_overwrite_at}
+use Rattle.rr_instance.specs.Instances.{fresh, gate, named, unsigned_number}
+use Rattle.rr_choice.specs.Sites.{Site, SiteKind, Overwrite}
+use Rattle.rr_choice.specs.View.{plain_kind, plain_site, plain_sites}
 use Rattle.rr_instance_laws.specs.Truth.{gate_truth, name_truth}
 use Rattle.rr_instance_laws.proofs.TruthLaws.{truth_of_gates}
 use Rattle.rr_word_gates.specs.Carried.{CarriesBit}

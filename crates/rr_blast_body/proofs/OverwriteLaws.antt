@@ -3,10 +3,12 @@ use Rattle.std.proofs.Common.{◌≡◌, ◌∙◌, ap, refl, ℕ, Bool, true, f
 use Rattle.rr_syntax.specs.declared.token.Number.{Number}
 use Rattle.rr_syntax.specs.Tree.{Tree, Literal, Statement, Assign, Done, If, Then}
 use Rattle.rr_expr.specs.Scopes.{Names}
-use Rattle.rr_instance.specs.declared.pick.Pick.{Pick}
-use Rattle.rr_instance.specs.Instances.{all_overwritten, followed, fresh, gate, is_overwrite_at, named, new_body, overwritten, picked_form, picked_name, unsigned_number}
-use Rattle.rr_instance.specs.Sites as sites
-use Rattle.rr_instance.specs.Sites.{Site, SiteKind}
+use Rattle.rr_choice.specs.declared.pick.Pick.{Pick}
+use Rattle.rr_choice.specs.Choices.{picked_form, picked_name}
+use Rattle.rr_choice.specs.Places.{is_overwrite_at}
+use Rattle.rr_instance.specs.Instances.{all_overwritten, followed, fresh, gate, named, new_body, overwritten, unsigned_number}
+use Rattle.rr_choice.specs.Sites as sites
+use Rattle.rr_choice.specs.Sites.{Site, SiteKind}
 use Rattle.rr_cycle.specs.Exec.{executed, is_true, updates, applied}
 use Rattle.rr_blast_body.specs.Overwrites.{BodiesByTheirSites, last_ran, site_ran, sites_ran}
 use Rattle.rr_blast_stmt.specs.Running.{Values, ran, ran_all}

@@ -2,9 +2,9 @@
 use Rattle.std.specs.Prelude.{ℕ, ◌+◌, ◌-◌, ◌≡◌, ◌≤◌, ◌==◌, min, Bool, true, if◌then◌else◌, List, [], length, get_or, take, drop}
 use Rattle.rr_bits.specs.Words.{number}
 use Rattle.rr_syntax.specs.View.{texts}
-use Rattle.rr_instance.specs.declared.pick.Pick.{Pick}
-use Rattle.rr_instance.specs.Choices.{name_width, read_pick}
-use Rattle.rr_instance.specs.Sites.{SiteKind, Overwrite}
+use Rattle.rr_choice.specs.declared.pick.Pick.{Pick}
+use Rattle.rr_choice.specs.Choices.{name_width, read_pick}
+use Rattle.rr_choice.specs.Sites.{SiteKind, Overwrite}
 use Rattle.rr_instance_laws.specs.Truth.{gate_truth}
 use Rattle.rr_blast_body.specs.declared.lasts.Last.{Last}
 

@@ -3,11 +3,13 @@
 use Rattle.std.specs.Prelude.{◌≡◌, ℕ, List, [], ◌∷◌, cond, ◌&&◌}
 use Rattle.rr_syntax.specs.Tree.{Literal, Statement, Assign}
 use Rattle.rr_expr.specs.Scopes.{Names}
-use Rattle.rr_instance.specs.declared.pick.Pick.{Pick}
+use Rattle.rr_choice.specs.declared.pick.Pick.{Pick}
 use Rattle.rr_instance.specs.Firsts.{first_token}
-use Rattle.rr_instance.specs.Instances.{all_overwritten, fresh, gate, instance_body, is_overwrite_at, named, picked_form, picked_name, unsigned_number}
-use Rattle.rr_instance.specs.Sites as sites
-use Rattle.rr_instance.specs.Sites.{Site, SiteKind}
+use Rattle.rr_choice.specs.Choices.{picked_form, picked_name}
+use Rattle.rr_choice.specs.Places.{is_overwrite_at}
+use Rattle.rr_instance.specs.Instances.{all_overwritten, fresh, gate, instance_body, named, unsigned_number}
+use Rattle.rr_choice.specs.Sites as sites
+use Rattle.rr_choice.specs.Sites.{Site, SiteKind}
 use Rattle.rr_cycle.specs.Exec.{is_true}
 use Rattle.rr_blast_stmt.specs.Running.{Values, ran}
 

@@ -3,7 +3,7 @@ ghost use Rattle.std.specs.Prelude.{◌≡◌, ◌+◌, ◌≤◌, ◌==◌, min
 ghost use Rattle.rr_bits.specs.Words.{number};
 ghost use Rattle.rr_circuit.specs.Values.{IsWire, AreWires, wire_value, wire_values, Extends};
 ghost use Rattle.rr_syntax.specs.View.{texts};
-ghost use Rattle.rr_instance.specs.Choices.{name_width};
+ghost use Rattle.rr_choice.specs.Choices.{name_width};
 ghost use Rattle.rr_instance_laws.specs.Truth.{gate_truth, name_truth};
 ghost use Rattle.rr_word_gates.specs.Carried.{CarriesBit};
 ghost use Rattle.rr_blast_sites.specs.Instances.{World, Reads, place_of, env_in, HasWires};

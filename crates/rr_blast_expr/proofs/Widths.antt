@@ -20,9 +20,10 @@ use Rattle.rr_expr.specs.Scopes.{Names}
 use Rattle.rr_expr.specs.Selects.{count, integer_with}
 use Rattle.rr_expr.specs.Values.{form, widths, value, nowhere, unsigned_of}
 use Rattle.rr_expr.specs.Faults.{takes_constants}
-use Rattle.rr_instance.specs.declared.pick.Pick.{Pick}
-use Rattle.rr_instance.specs.Sites.{Site}
-use Rattle.rr_instance.specs.Instances.{find_pick, is_literal_at, new_literal, number_with, fresh, instance_tree, instance_parts}
+use Rattle.rr_choice.specs.declared.pick.Pick.{Pick}
+use Rattle.rr_choice.specs.Sites.{Site}
+use Rattle.rr_choice.specs.Places.{find_pick, is_literal_at}
+use Rattle.rr_instance.specs.Instances.{new_literal, number_with, fresh, instance_tree, instance_parts}
 
 length_operation : (op : Operation) (xs ys : List Bool) (w : ℕ) → length xs ≡ w → length (operation_value op xs ys) ≡ w
 length_operation Add xs ys w e = length_word (length xs) _ ∙ e

@@ -33,10 +33,11 @@ use Rattle.rr_expr.specs.Selects.{repeated, place, lowest_place, integer_with}
 use Rattle.rr_expr.specs.Values.{form, widths, value, values, nowhere, own}
 use Rattle.rr_expr.specs.Faults.{fault, takes_constants, constant_count, constant_span}
 use Rattle.rr_expr.proofs.NamedBits.{constant_names, value_by_named_bits}
-use Rattle.rr_instance.specs.declared.pick.Pick.{Pick}
-use Rattle.rr_instance.specs.Sites.{Site}
-use Rattle.rr_instance.specs.Choices.{decode, total_bits}
-use Rattle.rr_instance.specs.Instances.{find_pick, is_literal_at, new_literal, number_with, fresh, instance_tree, instance_parts, instance_test}
+use Rattle.rr_choice.specs.declared.pick.Pick.{Pick}
+use Rattle.rr_choice.specs.Sites.{Site}
+use Rattle.rr_choice.specs.Choices.{decode, total_bits}
+use Rattle.rr_choice.specs.Places.{find_pick, is_literal_at}
+use Rattle.rr_instance.specs.Instances.{new_literal, number_with, fresh, instance_tree, instance_parts, instance_test}
 use Rattle.rr_instance_laws.specs.Truth.{is_true}
 use Rattle.rr_blast_sites.specs.declared.inputs.Inputs.{Inputs}
 use Rattle.rr_word_gates.specs.Carried.{Carries, CarriesBit}

@@ -2,7 +2,7 @@
 //! choice among the changes of its sites. It is right where for every input the wires carry the value
 //! that `rr_expr` gives to the instance of the expression, by `rr_instance`'s definition, in the
 //! environment that the signals' wires carry. It stands on `rr_word_gates`' operations on words,
-//! `rr_circuit`'s builder, `rr_expr`'s shapes and constants and `rr_instance`'s sites. After an error,
+//! `rr_circuit`'s builder, `rr_expr`'s shapes and constants and `rr_choice`'s sites. After an error,
 //! which is want of memory or of numbers for gates, the wires that were there keep their values.
 #![tactic(auto)]
 
@@ -12,7 +12,7 @@ ghost use Rattle.rr_syntax.specs.View.{plain};
 ghost use Rattle.rr_expr.specs.Faults.{fault};
 ghost use Rattle.rr_expr.specs.Scopes.{env_of_lists};
 ghost use Rattle.rr_expr.specs.Values.{form, value as value_of, own};
-ghost use Rattle.rr_instance.specs.Choices.{decode, total_bits};
+ghost use Rattle.rr_choice.specs.Choices.{decode, total_bits};
 ghost use Rattle.rr_instance.specs.Instances.{instance_tree, instance_test};
 ghost use Rattle.rr_instance_laws.specs.Truth.{is_true as is_true_in};
 ghost use Rattle.rr_blast_sites.specs.Signals.{AreSignals, signal_values};
@@ -23,9 +23,9 @@ mod operands;
 use expressions::{is_true, own_word, word_in};
 use operands::no_sites;
 use rr_blast_sites::{Inputs, test_wire};
+use rr_choice::SiteList;
 use rr_circuit::{Builder, Wire};
 use rr_expr::{Scope, Shape};
-use rr_instance::SiteList;
 use rr_syntax::Expr;
 use std::alloc::{AllocError, Global};
 

@@ -13,9 +13,9 @@ ghost use Rattle.rr_blast_sites.specs.Instances.{World, Reads, place_of, literal
 ghost use Rattle.rr_blast_expr.specs.Forms.{in_context, placed, name_worth, part_worth};
 
 use rr_blast_sites::{Inputs, literal_word, name_word};
+use rr_choice::SiteList;
 use rr_circuit::{Builder, Wire};
 use rr_expr::{Env, Index, Scope, Shape, constant, entity_range, index_of, value};
-use rr_instance::SiteList;
 use rr_syntax::{Expr, Number};
 use rr_word_gates::{constants, extended, picked_at};
 use std::alloc::{AllocError, Global};

@@ -3,16 +3,16 @@ use Rattle.std.proofs.Common.{◌≡◌, ◌≢◌, ℕ, zero, suc, ◌+◌, ◌
 use Rattle.std.specs.List.{All}
 use Rattle.std.proofs.lemmas.List.{drop-drop, get_or-map, length-map}
 use Rattle.rr_syntax.specs.declared.site.Site.{Site as ArenaSite}
-use Rattle.rr_instance.specs.declared.pick.Pick.{Pick}
-use Rattle.rr_instance.specs.Sites.{Site, IsSite, IsSiteList, IsFirstAt}
-use Rattle.rr_instance.specs.Choices.{decode, read_pick, site_bits, total_bits}
-use Rattle.rr_instance.specs.Instances.{find_pick}
-use Rattle.rr_instance.specs.View.{is_at, plain_site, plain_sites}
-use Rattle.rr_instance.proofs.Finds.{find_from, found_there, found_after, found_never, found_past}
+use Rattle.rr_choice.specs.declared.pick.Pick.{Pick}
+use Rattle.rr_choice.specs.Sites.{Site, IsSite, IsSiteList, IsFirstAt}
+use Rattle.rr_choice.specs.Choices.{decode, read_pick, site_bits, total_bits}
+use Rattle.rr_choice.specs.Places.{find_pick, is_literal_at}
+use Rattle.rr_choice.specs.View.{is_at, plain_site, plain_sites}
+use Rattle.rr_choice.proofs.Finds.{find_from, found_there, found_after, found_never, found_past}
 use Rattle.rr_syntax.specs.Tree.{Tree}
 use Rattle.rr_syntax.specs.Expressions.{spell}
 use Rattle.rr_expr.specs.Faults.{first}
-use Rattle.rr_instance.specs.Instances.{is_literal_at, is_guard_of}
+use Rattle.rr_instance.specs.Instances.{is_guard_of}
 use Rattle.rr_blast_sites.specs.declared.finding.Found.{Found}
 use Rattle.rr_blast_sites.specs.Finding.{Picks, IsFound}
 

@@ -18,7 +18,7 @@ use Rattle.rr_expr.specs.declared.types.Entity.TheVariants.{Constant, Signal, In
 use Rattle.rr_expr.specs.Scopes.{Names, meant, entity_shape, entity_value, range_width}
 use Rattle.rr_expr.specs.Values.{form, value}
 use Rattle.rr_arith.proofs.Ripple.{width-values}
-use Rattle.rr_instance.specs.Choices.{name_width}
+use Rattle.rr_choice.specs.Choices.{name_width}
 use Rattle.rr_instance_laws.specs.Truth.{name_truth, guard_truth}
 use Rattle.rr_syntax.specs.View.{texts}
 use Rattle.rr_blast_sites.specs.declared.inputs.Inputs.{Inputs}

@@ -15,12 +15,13 @@ use Rattle.rr_syntax.specs.declared.token.Number.{Number}
 use Rattle.rr_syntax.specs.declared.site.Site.{Site as ArenaSite}
 use Rattle.rr_expr.specs.declared.types.Shape.{Shape}
 use Rattle.rr_expr.specs.Values.{value}
-use Rattle.rr_instance.specs.Sites.{SiteKind, Site, Literal, Guard, Overwrite, guard_names, value_width}
-use Rattle.rr_instance.specs.Choices.{decode, read_pick, name_width, guard_width, total_bits}
-use Rattle.rr_instance.specs.Instances.{find_pick, is_literal_at, is_guard, is_guard_of}
+use Rattle.rr_choice.specs.Sites.{SiteKind, Site, Literal, Guard, Overwrite, guard_names, value_width}
+use Rattle.rr_choice.specs.Choices.{decode, read_pick, name_width, guard_width, total_bits}
+use Rattle.rr_choice.specs.Places.{find_pick, is_literal_at, is_guard}
+use Rattle.rr_instance.specs.Instances.{is_guard_of}
 use Rattle.rr_instance_laws.specs.Truth.{is_true, name_truth, guard_truth, new_truth}
 use Rattle.rr_syntax.specs.View.{texts}
-use Rattle.rr_instance.specs.View.{plain_site}
+use Rattle.rr_choice.specs.View.{plain_site}
 use Rattle.rr_instance_laws.proofs.TruthLaws.{truth_of_tests}
 use Rattle.rr_blast_sites.specs.declared.inputs.Inputs.{Inputs}
 use Rattle.rr_word_gates.specs.Carried.{Carries, CarriesBit}

@@ -1,12 +1,12 @@
 -- Sites that are found in a list, and what a choice says of them by bits.
 use Rattle.std.specs.Prelude.{◌≡◌, ℕ, ◌+◌, ◌-◌, ◌≤◌, ◌==◌, min, Bool, true, false, not, if◌then◌else◌, List, [], length, get_or, take, drop, Option, Some, None}
 use Rattle.rr_bits.specs.Words.{number}
-use Rattle.rr_instance.specs.declared.pick.Pick.{Pick}
-use Rattle.rr_instance.specs.Sites.{Site, IsSite}
-use Rattle.rr_instance.specs.Choices.{decode, read_pick, site_bits, total_bits, name_width}
-use Rattle.rr_instance.specs.Instances.{find_pick}
+use Rattle.rr_choice.specs.declared.pick.Pick.{Pick}
+use Rattle.rr_choice.specs.Sites.{Site, IsSite}
+use Rattle.rr_choice.specs.Choices.{decode, read_pick, site_bits, total_bits, name_width}
+use Rattle.rr_choice.specs.Places.{find_pick}
 use Rattle.rr_instance_laws.specs.Truth.{guard_truth}
-use Rattle.rr_instance.specs.View.{plain_site}
+use Rattle.rr_choice.specs.View.{plain_site}
 use Rattle.rr_syntax.specs.Expressions.{spell}
 use Rattle.rr_syntax.specs.View.{plain}
 use Rattle.rr_blast_sites.specs.declared.finding.Found.{Found}

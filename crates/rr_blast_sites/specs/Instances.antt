@@ -8,10 +8,11 @@ use Rattle.rr_expr.specs.declared.types.Shape.{Shape}
 use Rattle.rr_expr.specs.Scopes.{Names, env_of_lists}
 use Rattle.rr_expr.specs.Values.{form, value, values}
 use Rattle.rr_syntax.specs.declared.token.Number.{Number}
-use Rattle.rr_instance.specs.declared.pick.Pick.{Pick}
-use Rattle.rr_instance.specs.Sites.{Site}
-use Rattle.rr_instance.specs.Choices.{decode, total_bits}
-use Rattle.rr_instance.specs.Instances.{instance_tree, instance_parts, instance_test, find_pick, is_literal_at}
+use Rattle.rr_choice.specs.declared.pick.Pick.{Pick}
+use Rattle.rr_choice.specs.Sites.{Site}
+use Rattle.rr_choice.specs.Choices.{decode, total_bits}
+use Rattle.rr_choice.specs.Places.{find_pick, is_literal_at}
+use Rattle.rr_instance.specs.Instances.{instance_tree, instance_parts, instance_test}
 use Rattle.rr_instance_laws.specs.Truth.{is_true}
 use Rattle.rr_blast_sites.specs.declared.inputs.Inputs.{Inputs}
 use Rattle.rr_word_gates.specs.Carried.{Carries}

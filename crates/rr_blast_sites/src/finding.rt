@@ -2,17 +2,18 @@
 ghost use Rattle.std.specs.Prelude.{◌≡◌, ◌+◌, ◌-◌, ◌<◌, ◌≤◌, ◌==◌, true, length, take};
 ghost use Rattle.std.specs.List.{All};
 ghost use Rattle.rr_syntax.specs.View.{plain};
-ghost use Rattle.rr_instance.specs.Choices.{total_bits};
-ghost use Rattle.rr_instance.specs.Instances.{is_literal_at as is_literal_there, is_guard_of as is_guard_there};
-ghost use Rattle.rr_instance.specs.Sites.{IsSite};
-ghost use Rattle.rr_instance.specs.View.{is_at, plain_site, plain_sites};
+ghost use Rattle.rr_choice.specs.Choices.{total_bits};
+ghost use Rattle.rr_choice.specs.Places.{is_literal_at as is_literal_there};
+ghost use Rattle.rr_instance.specs.Instances.{is_guard_of as is_guard_there};
+ghost use Rattle.rr_choice.specs.Sites.{IsSite};
+ghost use Rattle.rr_choice.specs.View.{is_at, plain_site, plain_sites};
 ghost use Rattle.rr_blast_sites.specs.Instances.{listed};
 ghost use Rattle.rr_blast_sites.specs.Finding.{IsFound, extent_of};
 
 use crate::extents::has_extent;
 use crate::inputs::Inputs;
+use rr_choice::{SiteList, site_bits};
 use rr_expr::first_token;
-use rr_instance::{SiteList, site_bits};
 use rr_syntax::{Expr, Site, SiteKind};
 
 /// A site, and where its bits begin.

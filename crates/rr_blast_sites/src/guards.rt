@@ -4,7 +4,7 @@ ghost use Rattle.rr_bits.specs.Words.{number};
 ghost use Rattle.rr_circuit.specs.Values.{IsWire, AreWires, wire_value, wire_values, Extends};
 ghost use Rattle.rr_syntax.specs.View.{texts};
 ghost use Rattle.rr_expr.specs.Scopes.{range_width as width_of_range};
-ghost use Rattle.rr_instance.specs.Choices.{name_width as name_width_of};
+ghost use Rattle.rr_choice.specs.Choices.{name_width as name_width_of};
 ghost use Rattle.rr_instance_laws.specs.Truth.{guard_truth, name_truth};
 ghost use Rattle.rr_word_gates.specs.Carried.{CarriesBit};
 ghost use Rattle.rr_blast_sites.specs.Finding.{changed, guarded_by, name_place};

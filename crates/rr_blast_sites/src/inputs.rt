@@ -1,8 +1,8 @@
 //! What the names and the sites of an expression stand for.
 
+use rr_choice::SiteList;
 use rr_circuit::Wire;
 use rr_expr::Scope;
-use rr_instance::SiteList;
 
 /// The names of an expression, the wires of the signals by their numbers, the sites in it and beside
 /// it, and one wire for each bit of a choice among their changes. Where it is still, all stays as it is,

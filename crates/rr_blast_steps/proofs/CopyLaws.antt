@@ -10,8 +10,8 @@ use Rattle.rr_expr.specs.Scopes.{env_of_lists}
 use Rattle.rr_cycle.specs.Exec.{Environment}
 use Rattle.rr_flat.specs.Plain.{Flat}
 use Rattle.rr_flat_instance.specs.Flats.{instance_flat}
-use Rattle.rr_instance.specs.declared.pick.Pick.{Pick}
-use Rattle.rr_instance.specs.Sites.{Site}
+use Rattle.rr_choice.specs.declared.pick.Pick.{Pick}
+use Rattle.rr_choice.specs.Sites.{Site}
 use Rattle.rr_machine.specs.Words.{AreWords, carried, widths_of, word_values}
 use Rattle.rr_transition.specs.Placed.{next_by}
 use Rattle.rr_blast_stmt.specs.Running.{Values}

@@ -19,8 +19,8 @@ use Rattle.rr_flat.specs.Plain as plain
 use Rattle.rr_flat.specs.Sound.{IsScope}
 use Rattle.rr_flat.specs.View.{Design, plain_block, plain_flat}
 use Rattle.rr_flat.specs.Writers.{no_block, scope_at}
-use Rattle.rr_instance.specs.declared.pick.Pick.{Pick}
-use Rattle.rr_instance.specs.Sites.{Site}
+use Rattle.rr_choice.specs.declared.pick.Pick.{Pick}
+use Rattle.rr_choice.specs.Sites.{Site}
 use Rattle.rr_cycle.specs.Cycles.{after_block}
 use Rattle.rr_cycle.specs.Exec.{Environment, applied, executed, updates}
 use Rattle.rr_cycle.specs.Performing.{act, run_blocks, updates_of_blocks}

@@ -22,8 +22,8 @@ use Rattle.rr_flat.specs.Plain as plain
 use Rattle.rr_flat.specs.Targets.{bits_there}
 use Rattle.rr_flat.specs.View.{Design, plain_flat}
 use Rattle.rr_flat.specs.Writers.{signal_bits}
-use Rattle.rr_instance.specs.declared.pick.Pick.{Pick}
-use Rattle.rr_instance.specs.Sites.{Site}
+use Rattle.rr_choice.specs.declared.pick.Pick.{Pick}
+use Rattle.rr_choice.specs.Sites.{Site}
 use Rattle.rr_target.specs.Pieces.{bits_of}
 use Rattle.rr_cycle.specs.Cycles.{bit_value, side_shape, side_value, signal_value}
 use Rattle.rr_cycle.specs.Exec.{Environment}

@@ -11,8 +11,8 @@ use Rattle.rr_flat.specs.Plain.{Side, Written, Whole}
 use Rattle.rr_flat.specs.Plain as plain
 use Rattle.rr_flat.specs.View.{Design, plain_driver, plain_flat}
 use Rattle.rr_flat.specs.Writers.{driven_by, driver_at, no_driver}
-use Rattle.rr_instance.specs.declared.pick.Pick.{Pick}
-use Rattle.rr_instance.specs.Sites.{Site}
+use Rattle.rr_choice.specs.declared.pick.Pick.{Pick}
+use Rattle.rr_choice.specs.Sites.{Site}
 use Rattle.rr_cycle.specs.Cycles.{side_shape, side_value}
 use Rattle.rr_cycle.specs.Exec.{Environment, write}
 use Rattle.rr_cycle.specs.Performing.{act, performed}

@@ -15,9 +15,9 @@ use Rattle.rr_expr.specs.Scopes.{Names}
 use Rattle.rr_expr.specs.Values.{value}
 use Rattle.rr_flat.specs.Shapes.{shape_faults, statement_faults}
 use Rattle.rr_exec.proofs.Nodes.{shaped-If-test, shaped-If-yes, shaped-IfElse-test, shaped-IfElse-yes}
-use Rattle.rr_instance.specs.declared.pick.Pick.{Pick}
+use Rattle.rr_choice.specs.declared.pick.Pick.{Pick}
 use Rattle.rr_instance.specs.Instances.{instance_arms, instance_statement, instance_statements, instance_test, instance_tree}
-use Rattle.rr_instance.specs.Sites.{Site}
+use Rattle.rr_choice.specs.Sites.{Site}
 use Rattle.rr_cycle.specs.Exec.{applied, case_shape, executed, is_true, updates}
 use Rattle.rr_blast_terms.specs.declared.choice.ChoiceWires.{ChoiceWires}
 use Rattle.rr_blast_stmt.specs.declared.statements.Machine.{Machine}

@@ -12,9 +12,9 @@ use Rattle.rr_expr.specs.declared.types.Shape.{Shape}
 use Rattle.rr_expr.specs.Scopes.{Names}
 use Rattle.rr_flat.specs.Latches.{has_labels}
 use Rattle.rr_flat.specs.Targets.{target_bits}
-use Rattle.rr_instance.specs.declared.pick.Pick.{Pick}
+use Rattle.rr_choice.specs.declared.pick.Pick.{Pick}
 use Rattle.rr_instance.specs.Instances.{instance_arms, instance_parts, instance_statement, instance_statements, instance_tree}
-use Rattle.rr_instance.specs.Sites.{Site}
+use Rattle.rr_choice.specs.Sites.{Site}
 use Rattle.rr_cycle.specs.Exec.{Environment, Update, applied, assigned, executed, executed_all, executed_case, executed_default, is_matched, is_true, updates, updates_of_all, updates_of_case, updates_of_default, write}
 use Rattle.rr_cycle.proofs.Applied.{applied_append}
 use Rattle.rr_blast_stmt.specs.Running.{Values, ran, ran_all, ran_arms, ran_default, stored}

@@ -5,9 +5,9 @@ use Rattle.rr_expr.specs.declared.types.Shape.{Shape}
 use Rattle.rr_expr.specs.Operators.{joined}
 use Rattle.rr_expr.specs.Scopes.{Names}
 use Rattle.rr_expr.specs.Values.{form, value}
-use Rattle.rr_instance.specs.declared.pick.Pick.{Pick}
+use Rattle.rr_choice.specs.declared.pick.Pick.{Pick}
 use Rattle.rr_instance.specs.Instances.{instance_arms, instance_parts, instance_statement, instance_tree}
-use Rattle.rr_instance.specs.Sites.{Site}
+use Rattle.rr_choice.specs.Sites.{Site}
 use Rattle.rr_instance_laws.proofs.FormLaws.{form_instance}
 use Rattle.rr_cycle.specs.Exec.{Environment, assigned, case_shape, joined_all, joined_labels}
 

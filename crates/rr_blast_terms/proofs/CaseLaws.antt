@@ -12,9 +12,9 @@ use Rattle.rr_syntax.specs.View.{plain, plain_list}
 use Rattle.rr_expr.specs.declared.types.Shape.{Shape}
 use Rattle.rr_expr.specs.Scopes.{Names}
 use Rattle.rr_expr.specs.Values.{value}
-use Rattle.rr_instance.specs.declared.pick.Pick.{Pick}
+use Rattle.rr_choice.specs.declared.pick.Pick.{Pick}
 use Rattle.rr_instance.specs.Instances.{instance_parts, instance_tree}
-use Rattle.rr_instance.specs.Sites.{Site}
+use Rattle.rr_choice.specs.Sites.{Site}
 use Rattle.rr_cycle.specs.Exec.{Environment, is_equal, is_matched, wild}
 
 twice : (x : Bool) → not (not x) ≡ x

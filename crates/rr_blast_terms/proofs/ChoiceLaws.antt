@@ -2,7 +2,7 @@
 use Rattle.std.proofs.Common.{◌≡◌, ap, ℕ, Bool}
 use Rattle.rr_circuit.specs.Values.{Netlist, Extends}
 use Rattle.rr_circuit.proofs.Netlists.{AreWires-extends, wire_values-extends}
-use Rattle.rr_instance.specs.Choices.{decode}
+use Rattle.rr_choice.specs.Choices.{decode}
 use Rattle.rr_blast_terms.specs.declared.choice.ChoiceWires.{ChoiceWires}
 use Rattle.rr_blast_terms.specs.Choosing.{IsReady, picks_of}
 

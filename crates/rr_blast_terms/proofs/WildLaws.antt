@@ -23,9 +23,10 @@ use Rattle.rr_expr.specs.Scopes.{Names, env_of_lists}
 use Rattle.rr_expr.specs.Values.{form}
 use Rattle.rr_target.proofs.Nodes.{shaped_small, shaped_positive}
 use Rattle.rr_cycle.specs.Exec.{wild, wild_digits}
-use Rattle.rr_instance.specs.declared.pick.Pick.{Pick}
-use Rattle.rr_instance.specs.Instances.{find_pick, fresh, instance_tree, is_literal_at, new_literal, number_with}
-use Rattle.rr_instance.specs.Sites.{Site}
+use Rattle.rr_choice.specs.declared.pick.Pick.{Pick}
+use Rattle.rr_choice.specs.Places.{find_pick, is_literal_at}
+use Rattle.rr_instance.specs.Instances.{fresh, instance_tree, new_literal, number_with}
+use Rattle.rr_choice.specs.Sites.{Site}
 use Rattle.rr_blast_sites.specs.Signals.{signal_values}
 use Rattle.rr_blast_sites.specs.Finding.{is_on}
 use Rattle.rr_blast_terms.specs.Wild.{changes}

@@ -1,8 +1,8 @@
 -- Choices on wires.
 use Rattle.std.specs.Prelude.{◌≡◌, ℕ, Bool, List, length}
 use Rattle.rr_circuit.specs.Values.{Netlist, AreWires, wire_values}
-use Rattle.rr_instance.specs.declared.pick.Pick.{Pick}
-use Rattle.rr_instance.specs.Choices.{decode, total_bits}
+use Rattle.rr_choice.specs.declared.pick.Pick.{Pick}
+use Rattle.rr_choice.specs.Choices.{decode, total_bits}
 use Rattle.rr_blast_terms.specs.declared.choice.ChoiceWires.{ChoiceWires}
 
 -- the picks that the wires of a choice carry

@@ -1,9 +1,9 @@
 -- Labels whose literal a choice changes: a new value has no place that matches anything.
 use Rattle.std.specs.Prelude.{Bool, false, List}
 use Rattle.rr_syntax.specs.Tree.{Tree, Name, Literal, Bit as BitSelect, Part, Indexed, Unary, Binary, Cond, Concat, Repeat, Cast, Paren}
-use Rattle.rr_instance.specs.declared.pick.Pick.{Pick}
-use Rattle.rr_instance.specs.Instances.{find_pick, is_literal_at}
-use Rattle.rr_instance.specs.Sites.{Site}
+use Rattle.rr_choice.specs.declared.pick.Pick.{Pick}
+use Rattle.rr_choice.specs.Places.{find_pick, is_literal_at}
+use Rattle.rr_choice.specs.Sites.{Site}
 use Rattle.rr_blast_sites.specs.Finding.{is_on}
 
 unfoldable pub changes : List Site → List Pick → Tree → Bool

@@ -1,7 +1,7 @@
 //! Choices on wires.
 
+use rr_choice::SiteList;
 use rr_circuit::Wire;
-use rr_instance::SiteList;
 
 /// The sites of a design, and the wires that carry the bits of a choice among their changes: one for
 /// each bit.

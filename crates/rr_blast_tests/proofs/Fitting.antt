@@ -9,9 +9,9 @@ use Rattle.rr_flat.specs.Plain.{Flat}
 use Rattle.rr_flat.specs.Signals.{Text}
 use Rattle.rr_lex.specs.Tokens.{Lexeme}
 use Rattle.rr_elaborate.specs.Designs.{IsDesignOf}
-use Rattle.rr_instance.specs.Choices.{total_bits}
-use Rattle.rr_instance.specs.Sites.{IsSiteList, Site}
-use Rattle.rr_instance.specs.View.{plain_sites}
+use Rattle.rr_choice.specs.Choices.{total_bits}
+use Rattle.rr_choice.specs.Sites.{IsSiteList, Site}
+use Rattle.rr_choice.specs.View.{plain_sites}
 use Rattle.rr_lawful_instance.specs.Listed.{AreRight}
 use Rattle.rr_transition.specs.Cycles.{Design}
 use Rattle.rr_blast.specs.Circuits.{FitsArguments}

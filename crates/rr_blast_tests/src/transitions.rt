@@ -6,7 +6,7 @@ ghost use Rattle.rr_blast.specs.Circuits.{FitsArguments};
 
 use bumpalo::Bump;
 use rr_blast::{row_bits, transition};
-use rr_instance::SiteList;
+use rr_choice::SiteList;
 use rr_registers::register_bits;
 use rr_run::{LawfulDesign, lawful_design};
 use rr_transition::Transition;

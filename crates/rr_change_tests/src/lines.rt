@@ -2,7 +2,7 @@
 
 use bumpalo::Bump;
 use rr_changes::report;
-use rr_instance::{Choice, Pick, SiteList, are_listed};
+use rr_choice::{Choice, Pick, SiteList, are_listed};
 use rr_lex::lex;
 use rr_syntax::{Site, SiteKind};
 use std::alloc::{AllocError, Global};

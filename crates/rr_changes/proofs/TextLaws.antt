@@ -4,9 +4,9 @@ use Rattle.std.specs.List.{All}
 use Rattle.std.proofs.lemmas.List.{append_assoc, append-nil, drop_all, drop_more, get_or-map, length-map}
 use Rattle.rr_syntax.specs.declared.site.Site.{Site as ArenaSite}
 use Rattle.rr_lex.specs.Tokens.{Lexeme}
-use Rattle.rr_instance.specs.declared.pick.Pick.{Pick}
-use Rattle.rr_instance.specs.Sites.{Site, IsSite, IsSiteList}
-use Rattle.rr_instance.specs.View.{plain_site, plain_sites}
+use Rattle.rr_choice.specs.declared.pick.Pick.{Pick}
+use Rattle.rr_choice.specs.Sites.{Site, IsSite, IsSiteList}
+use Rattle.rr_choice.specs.View.{plain_site, plain_sites}
 use Rattle.rr_changes.specs.Texts.{site_line, site_lines}
 use Rattle.rr_lex.specs.Numbers.{hex_byte, hex_text}
 

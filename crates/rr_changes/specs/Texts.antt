@@ -4,10 +4,9 @@ use Rattle.std.specs.Prelude.{ℕ, ◌+◌, ◌/◌, ◌%◌, ◌^◌, ◌==◌,
 use Rattle.rr_syntax.specs.Words.{Marked}
 use Rattle.rr_lex.specs.Numbers.{hex_text}
 use Rattle.rr_lex.specs.Tokens.{Lexeme}
-use Rattle.rr_instance.specs.declared.pick.Pick.{Pick}
-use Rattle.rr_instance.specs.Choices.{cost}
-use Rattle.rr_instance.specs.Instances.{picked_form, picked_name}
-use Rattle.rr_instance.specs.Sites.{SiteKind, Site, Literal, Guard, Overwrite, guard_names}
+use Rattle.rr_choice.specs.declared.pick.Pick.{Pick}
+use Rattle.rr_choice.specs.Choices.{cost, picked_form, picked_name}
+use Rattle.rr_choice.specs.Sites.{SiteKind, Site, Literal, Guard, Overwrite, guard_names}
 
 -- a literal: its width in decimal, its sign, and its value in as many hexadecimal digits as a quarter of the width, rounded up
 abbrev pub literal_text : ℕ → Bool → ℕ → List ℕ

@@ -1,11 +1,11 @@
 //! What one site becomes.
 ghost use Rattle.std.specs.Prelude.{◌≡◌, [], ◌∷◌, ◌++◌, ◌<◌, ◌≤◌, IfOk, codes, decimal, false, if◌then◌else◌, string_bytes};
 ghost use Rattle.rr_lex.specs.Numbers.{hex_byte, hex_text};
-ghost use Rattle.rr_instance.specs.Sites.{IsSite};
-ghost use Rattle.rr_instance.specs.View.{plain_site};
+ghost use Rattle.rr_choice.specs.Sites.{IsSite};
+ghost use Rattle.rr_choice.specs.View.{plain_site};
 ghost use Rattle.rr_changes.specs.Texts.{assign_text, change_text, gate_text, guard_text, kind_text, literal_text};
 
-use rr_instance::{Pick, cut, picked_form, picked_name};
+use rr_choice::{Pick, cut, picked_form, picked_name};
 use rr_syntax::{Site, SiteKind};
 use std::alloc::{AllocError, Global};
 

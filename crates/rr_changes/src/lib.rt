@@ -1,5 +1,5 @@
 //! The report of a repair: what the sites of a source become by a choice, line by line. It is right where
-//! its text has a line for each site that the choice switches on. It stands on `rr_instance`'s choices
+//! its text has a line for each site that the choice switches on. It stands on `rr_choice`'s choices
 //! and on `rr_lex` for the places of tokens.
 #![tactic(auto)]
 

@@ -1,12 +1,12 @@
 //! The report on a choice.
 ghost use Rattle.std.specs.Prelude.{◌≡◌, [], ◌++◌, ◌<◌, ◌^◌, if◌then◌else◌, IfOk, codes, decimal, length, string_bytes};
 ghost use Rattle.rr_lex.specs.Tokens.{lexemes};
-ghost use Rattle.rr_instance.specs.Sites.{IsSite};
-ghost use Rattle.rr_instance.specs.View.{plain_site};
+ghost use Rattle.rr_choice.specs.Sites.{IsSite};
+ghost use Rattle.rr_choice.specs.View.{plain_site};
 ghost use Rattle.rr_changes.specs.Texts.{byte_of, report as report_of, site_line, site_lines};
 
 use crate::change::{kind_of, push_change};
-use rr_instance::{Choice, Pick, SiteList, cost};
+use rr_choice::{Choice, Pick, SiteList, cost};
 use rr_syntax::{Site, Token};
 use std::alloc::{AllocError, Global};
 

@@ -9,10 +9,10 @@ use Rattle.rr_bits.specs.Words.{number, word}
 use Rattle.rr_bits.specs.Fields.{length_word}
 use Rattle.rr_bits.proofs.Numbers.{number_small}
 use Rattle.rr_syntax.specs.declared.site.Site.{Site as ArenaSite}
-use Rattle.rr_instance.specs.declared.pick.Pick.{Pick}
-use Rattle.rr_instance.specs.Sites.{SiteKind, Site, Literal, Guard, Overwrite, guard_names, value_width, last_form, form_width, FewNames, IsSiteList}
-use Rattle.rr_instance.specs.Choices.{IsPickOf, IsChoice, name_width, guard_width, site_bits, total_bits, read_form, read_name, read_pick, greatest_form, decode, cost}
-use Rattle.rr_instance.specs.View.{plain_site, plain_sites}
+use Rattle.rr_choice.specs.declared.pick.Pick.{Pick}
+use Rattle.rr_choice.specs.Sites.{SiteKind, Site, Literal, Guard, Overwrite, guard_names, value_width, last_form, form_width, FewNames, IsSiteList}
+use Rattle.rr_choice.specs.Choices.{IsPickOf, IsChoice, name_width, guard_width, site_bits, total_bits, read_form, read_name, read_pick, greatest_form, decode, cost}
+use Rattle.rr_choice.specs.View.{plain_site, plain_sites}
 use Rattle.rr_encode.specs.Codes.{guard_code, code_of, code}
 
 take_word : (w n : ℕ) (rest : List Bool) → take w (word w n ++ rest) ≡ word w n

@@ -2,9 +2,9 @@
 -- What they mean is what reading them gives: `decode`.
 use Rattle.std.specs.Prelude.{◌==◌, if◌then◌else◌, Bool, List, [], ◌∷◌, ◌++◌, length}
 use Rattle.rr_bits.specs.Words.{word}
-use Rattle.rr_instance.specs.declared.pick.Pick.{Pick}
-use Rattle.rr_instance.specs.Choices.{name_width}
-use Rattle.rr_instance.specs.Sites.{SiteKind, Site, guard_names, value_width, form_width}
+use Rattle.rr_choice.specs.declared.pick.Pick.{Pick}
+use Rattle.rr_choice.specs.Choices.{name_width}
+use Rattle.rr_choice.specs.Sites.{SiteKind, Site, guard_names, value_width, form_width}
 
 -- the bits of a form and of a name, of which a site without names has none
 unfoldable pub guard_code : SiteKind → Pick → List Bool

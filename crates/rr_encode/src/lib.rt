@@ -1,6 +1,6 @@
 //! The bits that write a choice, for circuits whose inputs are choices. It is right where reading the
 //! bits of a choice gives the choice back, and the bits of no change are read to a choice of cost 0.
-//! It stands on `rr_instance`, which reads them, and on the words of `rr_bits`.
+//! It stands on `rr_choice`, which reads them, and on the words of `rr_bits`.
 #![tactic(auto)]
 
 mod writing;

@@ -2,13 +2,13 @@
 
 ghost use Rattle.std.specs.Prelude.{◌≡◌, ℕ, ◌≤◌, ◌++◌, List, false, length, replicate, IfOk, OnOk};
 ghost use Rattle.rr_bits.specs.Words.{word};
-ghost use Rattle.rr_instance.specs.Choices.{IsChoice, cost, decode, total_bits};
-ghost use Rattle.rr_instance.specs.Sites.{IsSite, Site as PlainSite, form_width as form_width_of};
-ghost use Rattle.rr_instance.specs.View.{plain_kind, plain_site};
+ghost use Rattle.rr_choice.specs.Choices.{IsChoice, cost, decode, total_bits};
+ghost use Rattle.rr_choice.specs.Sites.{IsSite, Site as PlainSite, form_width as form_width_of};
+ghost use Rattle.rr_choice.specs.View.{plain_kind, plain_site};
 ghost use Rattle.rr_encode.specs.Codes.{code_of, guard_code};
 
 use rr_bits::Bits;
-use rr_instance::{Choice, Pick, SiteList, guard_names, site_bits, value_width};
+use rr_choice::{Choice, Pick, SiteList, guard_names, site_bits, value_width};
 use rr_syntax::{Site, SiteKind};
 use std::alloc::{AllocError, Global};
 
@@ -66,7 +66,7 @@ fn push_pick(bits: &mut Vec<bool>, site: &Site, pick: Pick) -> Result<(), AllocE
 }
 
 /// The bits that write a choice, site after site, each number lowest bit first, as
-/// `rr_instance::decode` reads them. There are as many as the sites have.
+/// `rr_choice::decode` reads them. There are as many as the sites have.
 pub fn encode(alloc: Global, sites: &SiteList, choice: &Choice) -> Result<Vec<bool>, AllocError>
     requires { IsChoice sites.now choice.now.picks.items }
     ensures count { IfOk result (λ bits. length bits.items ≡ total_bits sites.now) }

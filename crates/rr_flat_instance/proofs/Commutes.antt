@@ -16,9 +16,9 @@ use Rattle.rr_walk.specs.Tables.{place_of}
 use Rattle.rr_walk.specs.Walk.{Walked, scope_at, with_driver, with_block, combined, clocked, assign, net_driver, net_value, net_with, net, event_faults, always}
 use Rattle.rr_flat.specs.Shapes.{shape_faults, statement_faults}
 use Rattle.rr_flat.proofs.Alike.{Alike}
-use Rattle.rr_instance.specs.declared.pick.Pick.{Pick}
+use Rattle.rr_choice.specs.declared.pick.Pick.{Pick}
 use Rattle.rr_instance.specs.Firsts.{first_token}
-use Rattle.rr_instance.specs.Sites.{Site}
+use Rattle.rr_choice.specs.Sites.{Site}
 use Rattle.rr_instance.specs.Instances.{instance_tree, instance_body, instance_value, instance_net, instance_pair}
 use Rattle.rr_instance_laws.specs.Tests.{IsGuardName, IsBodyName}
 use Rattle.rr_instance_laws.specs.Truth.{IsScalar}

@@ -18,8 +18,8 @@ use Rattle.rr_walk.specs.Tables.{place_of, port_names, name_set, at_place}
 use Rattle.rr_walk.specs.Walk.{Walked, scope_at, with_driver, noted, Checked, check_override, fold_trees, check_position, nothing_checked, overrides, twice_faults, value_faults, Connected, check_connection, Joining, place_port, check_port, connections, join_port, join_at, join, join_value, join_named, join_positions, joined, checked}
 use Rattle.rr_flat.specs.Shapes.{shape_faults}
 use Rattle.rr_flat.specs.Writers.{no_driver}
-use Rattle.rr_instance.specs.declared.pick.Pick.{Pick}
-use Rattle.rr_instance.specs.Sites.{Site}
+use Rattle.rr_choice.specs.declared.pick.Pick.{Pick}
+use Rattle.rr_choice.specs.Sites.{Site}
 use Rattle.rr_instance.specs.Instances.{instance_tree, instance_parts, instance_value, instance_connection, instance_connections, instance_child, instance_module}
 use Rattle.rr_instance_laws.specs.Tests.{IsGuardName, IsGuardNameIn}
 use Rattle.rr_instance_laws.specs.Truth.{IsScalar}

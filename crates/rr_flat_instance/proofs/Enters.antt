@@ -12,8 +12,8 @@ use Rattle.rr_head.specs.Heads.{Head, head}
 use Rattle.rr_walk.specs.Tables.{place_of}
 use Rattle.rr_walk.specs.Walk.{Walked, Enter, scope_at, module_at, assign, net, checked, with_instance, joined, instance_of, item, opened, begin, enter_by, enter}
 use Rattle.rr_flat.specs.Writers.{no_driver}
-use Rattle.rr_instance.specs.declared.pick.Pick.{Pick}
-use Rattle.rr_instance.specs.Sites.{Site}
+use Rattle.rr_choice.specs.declared.pick.Pick.{Pick}
+use Rattle.rr_choice.specs.Sites.{Site}
 use Rattle.rr_instance.specs.Instances.{instance_net, instance_pair, instance_connections, instance_child, instance_item, instance_module}
 use Rattle.rr_instance_laws.specs.Truth.{IsScalar}
 use Rattle.rr_flat_instance.specs.Flats.{instance_flat}

@@ -7,8 +7,8 @@ use Rattle.rr_head.specs.Values.{range_in}
 use Rattle.rr_head.specs.Parameters.{add_parameters, add_item_parameters, parameters}
 use Rattle.rr_head.specs.Declarations.{Declarations, know_net, know_ports, know_item, known, know_port_item, add_plain_name, plain_names, brackets, inner_declaration, declare_net, declare_nets, declare_ports, declare_item, declarations}
 use Rattle.rr_head.specs.Heads.{signals_in_order, declared, numbered, head}
-use Rattle.rr_instance.specs.declared.pick.Pick.{Pick}
-use Rattle.rr_instance.specs.Sites.{Site}
+use Rattle.rr_choice.specs.declared.pick.Pick.{Pick}
+use Rattle.rr_choice.specs.Sites.{Site}
 use Rattle.rr_instance.specs.Instances.{instance_net, instance_item, instance_module}
 use Rattle.rr_flat_bare.proofs.Folds.{fold_mapped}
 use Rattle.rr_flat_instance.proofs.Lists.{and_then_same, each_mapped}

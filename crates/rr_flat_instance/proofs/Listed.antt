@@ -10,8 +10,8 @@ use Rattle.rr_flat.specs.Lawful.{DriverTarget}
 use Rattle.rr_flat.specs.Plain.{Side, Written, Whole, Flat}
 use Rattle.rr_walk.specs.Walk.{module_at}
 use Rattle.rr_flat.specs.Writers.{scope_at, driver_at}
-use Rattle.rr_instance.specs.Sites as sites
-use Rattle.rr_instance.specs.Sites.{SiteKind, Site, guard_names}
+use Rattle.rr_choice.specs.Sites as sites
+use Rattle.rr_choice.specs.Sites.{SiteKind, Site, guard_names}
 use Rattle.rr_instance_laws.specs.Truth.{IsScalar}
 use Rattle.rr_instance_laws.proofs.FirstLaws.{first_is}
 use Rattle.rr_flat_instance.specs.Owned.{start_of, IsWithin, IsDeclared, KindFits, SiteFits, AreListed}

@@ -12,10 +12,12 @@ use Rattle.rr_expr.specs.Values.{form}
 use Rattle.rr_flat.specs.declared.fault.FlatFault.{FlatFault}
 use Rattle.rr_flat.specs.Faults.{sooner, fault_or, first_of, first_fault_or, answer_of, faults_in}
 use Rattle.rr_flat.specs.Shapes.{shape, shape_faults, list_faults, statement_faults, statements_faults, arm_faults, arms_faults}
-use Rattle.rr_instance.specs.declared.pick.Pick.{Pick}
-use Rattle.rr_instance.specs.Sites as sites
-use Rattle.rr_instance.specs.Sites.{SiteKind, Site, guard_names}
-use Rattle.rr_instance.specs.Instances.{fresh, named, negated, instance_tree, instance_parts, instance_test, instance_statement, instance_statements, instance_arm, instance_arms, gate, followed, overwritten, new_body, all_overwritten, instance_body, is_overwrite_at, picked_form, picked_name, unsigned_number}
+use Rattle.rr_choice.specs.declared.pick.Pick.{Pick}
+use Rattle.rr_choice.specs.Sites as sites
+use Rattle.rr_choice.specs.Sites.{SiteKind, Site, guard_names}
+use Rattle.rr_choice.specs.Choices.{picked_form, picked_name}
+use Rattle.rr_choice.specs.Places.{is_overwrite_at}
+use Rattle.rr_instance.specs.Instances.{fresh, named, negated, instance_tree, instance_parts, instance_test, instance_statement, instance_statements, instance_arm, instance_arms, gate, followed, overwritten, new_body, all_overwritten, instance_body, unsigned_number}
 use Rattle.rr_instance_laws.specs.Tests.{IsNameAt, IsGuardName, IsGuardNameIn, IsTestName, IsGuardNameOf, IsGuardNameOfAll, IsGuardNameOfArm, IsGuardNameOfArms, IsBodyName}
 use Rattle.rr_instance_laws.specs.Truth.{IsScalar}
 use Rattle.rr_instance_laws.proofs.FormLaws.{no_faults_by_scalars, no_faults_in_tests}

@@ -6,9 +6,9 @@ use Rattle.rr_flat.specs.Plain.{Flat}
 use Rattle.rr_walk.specs.Walk.{flat_of}
 use Rattle.rr_flat_bare.specs.Bare.{HasSameFlat}
 use Rattle.rr_flat_bare.proofs.Designs.{same_flat}
-use Rattle.rr_instance.specs.declared.pick.Pick.{Pick}
+use Rattle.rr_choice.specs.declared.pick.Pick.{Pick}
 use Rattle.rr_instance.specs.Instances.{instance_source}
-use Rattle.rr_instance.specs.Sites.{Site}
+use Rattle.rr_choice.specs.Sites.{Site}
 use Rattle.rr_flat_instance.specs.Flats.{instance_flat}
 use Rattle.rr_flat_instance.specs.Places.{SitesFit}
 use Rattle.rr_flat_instance.proofs.Whole.{instances_flatten}

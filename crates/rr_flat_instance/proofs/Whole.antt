@@ -7,8 +7,8 @@ use Rattle.rr_flat.specs.Signals.{Text}
 use Rattle.rr_flat.specs.Plain.{Flat}
 use Rattle.rr_walk.specs.Tables.{add_module}
 use Rattle.rr_walk.specs.Walk.{Walked, module_at, nothing, finished, top_place, enter_top, enter, flat_of}
-use Rattle.rr_instance.specs.declared.pick.Pick.{Pick}
-use Rattle.rr_instance.specs.Sites.{Site}
+use Rattle.rr_choice.specs.declared.pick.Pick.{Pick}
+use Rattle.rr_choice.specs.Sites.{Site}
 use Rattle.rr_instance.specs.Instances.{instance_module, instance_source}
 use Rattle.rr_flat_instance.specs.Flats.{instance_flat}
 use Rattle.rr_flat_instance.specs.Places.{SitesFit}

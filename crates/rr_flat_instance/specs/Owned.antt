@@ -9,8 +9,8 @@ use Rattle.rr_flat.specs.Lawful.{RightTargets}
 use Rattle.rr_flat.specs.Plain.{Flat}
 use Rattle.rr_walk.specs.Walk.{module_at}
 use Rattle.rr_flat.specs.Writers.{scope_at}
-use Rattle.rr_instance.specs.Sites as sites
-use Rattle.rr_instance.specs.Sites.{SiteKind, Site}
+use Rattle.rr_choice.specs.Sites as sites
+use Rattle.rr_choice.specs.Sites.{SiteKind, Site}
 use Rattle.rr_instance_laws.specs.Truth.{IsScalar}
 use Rattle.rr_flat_instance.specs.Places.{HasWidth, owner_at}
 

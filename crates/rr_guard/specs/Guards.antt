@@ -4,8 +4,8 @@ use Rattle.rr_syntax.specs.Expressions.{spell}
 use Rattle.rr_syntax.specs.Tree.{ModuleDeclaration}
 use Rattle.rr_expr.specs.Faults.{first}
 use Rattle.rr_flat.specs.Signals.{Text}
-use Rattle.rr_instance.specs.Sites as sites
-use Rattle.rr_instance.specs.Sites.{Site}
+use Rattle.rr_choice.specs.Sites as sites
+use Rattle.rr_choice.specs.Sites.{Site}
 use Rattle.rr_spots.specs.Spots.{Spot, Body, Test, Value, is_clocked, spots_of_item}
 use Rattle.rr_guard.specs.Names.{names_at}
 

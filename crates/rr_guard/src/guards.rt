@@ -4,7 +4,7 @@ ghost use Rattle.std.specs.Prelude.{◌≡◌, ◌++◌, IfOk, List, OnOk, flat_
 ghost use Rattle.std.specs.List.{AllByRecursion};
 ghost use Rattle.rr_syntax.specs.Tree.{ModuleDeclaration};
 ghost use Rattle.rr_syntax.specs.View.{plain_identifier, plain_item, plain_module, texts};
-ghost use Rattle.rr_instance.specs.View.{plain_sites};
+ghost use Rattle.rr_choice.specs.View.{plain_sites};
 ghost use Rattle.rr_flat.specs.Signals.{Text};
 ghost use Rattle.rr_spots.specs.Spots.{AreCountable, HasFewTokens, IsCountable, is_clocked as is_clocked_item, spots_of_item as spots_in_item};
 ghost use Rattle.rr_spots.specs.View.{plain_spot, plain_spots};

@@ -1,8 +1,5 @@
 pub mod Beginnings
-pub mod BitsRead
-pub mod Finds
-pub mod Listed
+pub mod Overwrites
 pub mod Arms
 pub mod Snocs
 pub mod StatementArms
-pub mod Items

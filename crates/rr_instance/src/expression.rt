@@ -6,12 +6,10 @@ ghost use Rattle.rr_syntax.specs.Tree.{Cast, Concat, Cond, Repeat, Unary};
 ghost use Rattle.rr_syntax.specs.View.{plain, plain_list};
 ghost use Rattle.rr_instance.specs.Instances.{instance_tree, instance_parts, instance_test};
 
-use crate::finding::find;
 use crate::forms::{in_brackets, new_literal, new_test, operation};
-use crate::list::SiteList;
-use crate::pick::Choice;
 use bumpalo::Bump;
 use bumpalo::collections::into_bump_slice;
+use rr_choice::{Choice, SiteList, find};
 use rr_expr::{first_token, infix_of, takes_constants};
 use rr_syntax::{Expr, Mark, expression_len};
 use std::alloc::AllocError;
@@ -77,7 +75,7 @@ fn add_part<'a>(parts: &mut Vec<Expr<'a>, &'a Bump>, part: Expr<'a>) -> Result<(
 /// An expression of an instance. What `/`, `%` and `**` take, indices, bounds and counts stay.
 #[cycle(instances)]
 #[tactic(auto, using(crate::proofs::Arms::arms))]
-pub(crate) fn expression<'a>(
+pub fn expression_instance<'a>(
     expr: &Expr<'a>,
     sites: &SiteList<'a>,
     choice: &Choice,
@@ -95,7 +93,7 @@ pub(crate) fn expression<'a>(
             Ok(new_literal(found, *token, *number))
         }
         Expr::Unary { op, of } => {
-            let of = expression(of, sites, choice, arena)?;
+            let of = expression_instance(of, sites, choice, arena)?;
             let whole = unary(*op, of, arena)?;
             Ok(whole)
         }
@@ -103,33 +101,33 @@ pub(crate) fn expression<'a>(
             if takes_constants(infix_of(*op)) {
                 return Ok(*expr);
             }
-            let left = expression(left, sites, choice, arena)?;
-            let right = expression(right, sites, choice, arena)?;
+            let left = expression_instance(left, sites, choice, arena)?;
+            let right = expression_instance(right, sites, choice, arena)?;
             let whole = operation(*op, left, right, arena)?;
             Ok(whole)
         }
         Expr::Cond { test, yes, no } => {
             let test = condition(test, sites, choice, arena)?;
-            let yes = expression(yes, sites, choice, arena)?;
-            let no = expression(no, sites, choice, arena)?;
+            let yes = expression_instance(yes, sites, choice, arena)?;
+            let no = expression_instance(no, sites, choice, arena)?;
             let whole = conditional(test, yes, no, arena)?;
             Ok(whole)
         }
         Expr::Concat { parts } => {
-            let list = expressions(parts, sites, choice, arena)?;
+            let list = expression_instances(parts, sites, choice, arena)?;
             Ok(concat(list))
         }
         Expr::Repeat { count, parts } => {
-            let list = expressions(parts, sites, choice, arena)?;
+            let list = expression_instances(parts, sites, choice, arena)?;
             Ok(repeat(count, list))
         }
         Expr::Cast { signed, of } => {
-            let of = expression(of, sites, choice, arena)?;
+            let of = expression_instance(of, sites, choice, arena)?;
             let whole = cast(*signed, of, arena)?;
             Ok(whole)
         }
         Expr::Paren { of } => {
-            let of = expression(of, sites, choice, arena)?;
+            let of = expression_instance(of, sites, choice, arena)?;
             let whole = in_brackets(of, arena)?;
             Ok(whole)
         }
@@ -148,7 +146,7 @@ pub(crate) fn condition<'a>(
     requires fits { length (spell (plain test.now)) < 2 ^ 64 }
     ensures { IfOk result (λ r. plain r ≡ instance_test sites.now choice.now.picks.items (plain test.now)) }
 {
-    let inner = expression(test, sites, choice, arena)?;
+    let inner = expression_instance(test, sites, choice, arena)?;
     let found = find(sites, choice, first_token(test), Some(expression_len(test)));
     let whole = new_test(found, inner, arena)?;
     Ok(whole)
@@ -156,7 +154,7 @@ pub(crate) fn condition<'a>(
 
 /// Several expressions.
 #[cycle(instances)]
-pub(crate) fn expressions<'a>(
+pub fn expression_instances<'a>(
     list: &[Expr<'a>],
     sites: &SiteList<'a>,
     choice: &Choice,
@@ -167,7 +165,7 @@ pub(crate) fn expressions<'a>(
 {
     let mut parts = Vec::new(arena);
     for expr in list.iter() {
-        let part = expression(expr, sites, choice, arena)?;
+        let part = expression_instance(expr, sites, choice, arena)?;
         add_part(&mut parts, part)?;
     }
     Ok(into_bump_slice(parts))

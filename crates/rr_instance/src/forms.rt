@@ -1,31 +1,18 @@
 //! The forms that a choice puts at the sites of expressions.
 
-ghost use Rattle.std.specs.Prelude.{◌≡◌, ◌≤◌, ◌%◌, ◌^◌, IfOk};
+ghost use Rattle.std.specs.Prelude.{◌≡◌, IfOk};
 ghost use Rattle.rr_syntax.specs.Tree.{Binary, Paren, Unary};
-ghost use Rattle.rr_syntax.specs.View.{plain, texts};
-ghost use Rattle.rr_instance.specs.Instances.{fresh, guarded as guarded_of, named as named_of, negated as negated_of, new_literal as new_literal_of, new_test as new_test_of, number_with as number_with_of, picked_form as picked_form_of, picked_name as picked_name_of};
-ghost use Rattle.rr_instance.specs.View.{plain_found};
+ghost use Rattle.rr_syntax.specs.View.{plain};
+ghost use Rattle.rr_instance.specs.Instances.{fresh, guarded as guarded_of, named as named_of, negated as negated_of, new_literal as new_literal_of, new_test as new_test_of, number_with as number_with_of};
+ghost use Rattle.rr_choice.specs.View.{plain_found};
 
-use crate::finding::Found;
-use crate::pick::Pick;
-use crate::sites::guard_names;
 use bumpalo::Bump;
+use rr_choice::{Found, cut, guard_names, picked_form, picked_name};
 use rr_syntax::{Expr, Mark, Number};
 use std::alloc::AllocError;
 
 /// The token number of a leaf that no source has.
 pub(crate) const FRESH: u32 = u32::MAX;
-
-/// The low bits of a value, as many as the width.
-pub fn cut(value: u128, width: u32) -> u128
-    ensures { result ≡ value % 2 ^ width }
-{
-    if width < 128 {
-        value % (1 << width)
-    } else {
-        value
-    }
-}
 
 /// A number with another value, in which each digit is known.
 fn number_with(number: Number, value: u128) -> Number
@@ -130,24 +117,6 @@ pub(crate) fn guarded<'a>(
     }
     let whole = operation(Mark::LOGICAL_OR, test, other, arena)?;
     Ok(whole)
-}
-
-/// The form that a pick means: without names the form is 0.
-pub fn picked_form(names: &[&str], pick: &Pick) -> u8
-    ensures { result ≡ picked_form_of (texts names.now) pick.now.form }
-{
-    if names.len() == 0 { 0 } else { pick.form }
-}
-
-/// The name that a pick means: past the last it is the last.
-pub fn picked_name<'a>(names: &[&'a str], pick: &Pick) -> &'a str
-    ensures { result.now ≡ picked_name_of (texts names.now) pick.now.name }
-{
-    if names.len() == 0 {
-        return "";
-    }
-    let place = (pick.name as usize).min(names.len() - 1);
-    names[place]
 }
 
 /// A condition with the guard of its pick round it.

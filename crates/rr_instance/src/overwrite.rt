@@ -1,15 +1,18 @@
-//! The last assignments that a choice adds to the body of an `always`.
+//! The body of an `always` in an instance, with the last assignments that a choice adds.
 
-ghost use Rattle.std.specs.Prelude.{◌≡◌, ◌&&◌, true, IfOk};
+ghost use Rattle.std.specs.Prelude.{◌≡◌, ◌<◌, ◌^◌, length, IfOk};
+ghost use Rattle.rr_syntax.specs.Statements.{spell_statement};
 ghost use Rattle.rr_syntax.specs.View.{plain, plain_statement};
-ghost use Rattle.rr_instance.specs.Instances.{all_overwritten as all_overwritten_of, followed as followed_of, gate as gate_of, is_overwrite_at as is_overwrite_at_of, new_body as new_body_of, overwritten as overwritten_of, unsigned_number as unsigned_number_of};
-ghost use Rattle.rr_instance.specs.View.{plain_kind, plain_site};
+ghost use Rattle.rr_choice.specs.Places.{is_overwrite_at as is_overwrite_at_of};
+ghost use Rattle.rr_instance.specs.Firsts.{first_token as first_token_of};
+ghost use Rattle.rr_instance.specs.Instances.{all_overwritten as all_overwritten_of, followed as followed_of, gate as gate_of, instance_body, new_body as new_body_of, overwritten as overwritten_of, unsigned_number as unsigned_number_of};
+ghost use Rattle.rr_choice.specs.View.{plain_kind, plain_site};
 
-use crate::forms::{FRESH, cut, named, negated, picked_form, picked_name};
-use crate::list::SiteList;
-use crate::pick::{Choice, Pick};
-use crate::statement::{assign, block, if_then};
+use crate::firsts::first_token;
+use crate::forms::{FRESH, named, negated};
+use crate::statement::{assign, block, if_then, statement};
 use bumpalo::Bump;
+use rr_choice::{Choice, Pick, SiteList, cut, picked_form, picked_name};
 use rr_syntax::{Expr, Number, Site, SiteKind, Stmt};
 use std::alloc::AllocError;
 
@@ -123,7 +126,7 @@ fn new_body<'a>(
 }
 
 /// The body of an `always` with that first token, with all last assignments, the first innermost.
-pub(crate) fn all_overwritten<'a>(
+fn all_overwritten<'a>(
     token: u32,
     sites: &SiteList<'a>,
     choice: &Choice,
@@ -145,5 +148,21 @@ pub(crate) fn all_overwritten<'a>(
         whole = new_body(token, &site, &picks[i], whole, arena)?;
         i += 1;
     }
+    Ok(whole)
+}
+
+/// The body of an `always` in an instance, of fewer than 2^64 tokens: its statement with the changes
+/// inside, and then its last assignments.
+pub fn body_instance<'a>(
+    body: &Stmt<'a>,
+    sites: &SiteList<'a>,
+    choice: &Choice,
+    arena: &'a Bump,
+) -> Result<Stmt<'a>, AllocError>
+    requires fits { length (spell_statement (plain_statement body.now)) < 2 ^ 64 }
+    ensures { IfOk result (λ r. plain_statement r ≡ instance_body sites.now choice.now.picks.items (first_token_of (plain_statement body.now)) (plain_statement body.now)) }
+{
+    let inner = statement(body, sites, choice, arena)?;
+    let whole = all_overwritten(first_token(body), sites, choice, inner, arena)?;
     Ok(whole)
 }

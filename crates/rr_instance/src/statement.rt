@@ -7,11 +7,10 @@ ghost use Rattle.rr_syntax.specs.Tree.{Assign, Block, Case, CaseItem, If, IfElse
 ghost use Rattle.rr_syntax.specs.View.{plain, plain_arm, plain_arms, plain_label, plain_list, plain_statement, plain_statements};
 ghost use Rattle.rr_instance.specs.Instances.{instance_arms, instance_statement, instance_statements};
 
-use crate::expression::{condition, expression, expressions};
-use crate::list::SiteList;
-use crate::pick::Choice;
+use crate::expression::{condition, expression_instance, expression_instances};
 use bumpalo::Bump;
 use bumpalo::collections::into_bump_slice;
+use rr_choice::{Choice, SiteList};
 use rr_syntax::{Arm, Expr, Keyword, Named, Stmt};
 use std::alloc::AllocError;
 
@@ -163,13 +162,13 @@ pub(crate) fn statement<'a>(
             Ok(whole)
         }
         Stmt::Case { kind, on, arms } => {
-            let on = expression(on, sites, choice, arena)?;
+            let on = expression_instance(on, sites, choice, arena)?;
             let list = case_arms(arms, sites, choice, arena)?;
             let whole = case(*kind, on, list, arena)?;
             Ok(whole)
         }
         Stmt::Assign { target, now, value } => {
-            let value = expression(value, sites, choice, arena)?;
+            let value = expression_instance(value, sites, choice, arena)?;
             let whole = assign(target, *now, value, arena)?;
             Ok(whole)
         }
@@ -208,7 +207,7 @@ fn case_arms<'a>(
 {
     let mut list = Vec::new(arena);
     for arm in arms.iter() {
-        let labels = expressions(arm.labels, sites, choice, arena)?;
+        let labels = expression_instances(arm.labels, sites, choice, arena)?;
         let body = statement(arm.body, sites, choice, arena)?;
         let new = arm_of(labels, arm.colon, body, arena)?;
         add_arm(&mut list, new)?;

@@ -2,8 +2,8 @@
 use Rattle.std.proofs.Common.{ℕ, ◌+◌, ◌*◌, ◌≤◌, ◌==◌, Bool, true, false, if◌then◌else◌, List, [], ◌∷◌, length, arith}
 use Rattle.std.specs.List.{All}
 use Rattle.std.proofs.lemmas.List.Elements.{All-head, All-tail}
-use Rattle.rr_instance.specs.Choices.{total_bits, name_width, guard_width}
-use Rattle.rr_instance.specs.Sites.{SiteKind, Site, Literal, Guard, Overwrite, value_width, HasWidth, IsSite, IsSiteList}
+use Rattle.rr_choice.specs.Choices.{total_bits, name_width, guard_width}
+use Rattle.rr_choice.specs.Sites.{SiteKind, Site, Literal, Guard, Overwrite, value_width, HasWidth, IsSite, IsSiteList}
 use Rattle.rr_instance_laws.specs.Laws.{BitsAreFew}
 
 -- a site has at most 138 choice bits

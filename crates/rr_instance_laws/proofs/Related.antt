@@ -6,11 +6,13 @@ use Rattle.rr_syntax.specs.Tree.{Tree, Trees, Name, Literal, Bit, Part, Indexed,
 use Rattle.rr_expr.specs.declared.operators.Infix.TheVariants.{Either}
 use Rattle.rr_expr.specs.Faults.{takes_constants}
 use Rattle.rr_expr.specs.Operators.{infixes}
-use Rattle.rr_instance.specs.declared.pick.Pick.{Pick}
+use Rattle.rr_choice.specs.declared.pick.Pick.{Pick}
 use Rattle.rr_instance.specs.Firsts.{first_token}
-use Rattle.rr_instance.specs.Sites as sites
-use Rattle.rr_instance.specs.Sites.{SiteKind, Site, guard_names}
-use Rattle.rr_instance.specs.Instances.{fresh, is_literal_at, is_guard_of, is_overwrite_at, find_pick, number_with, unsigned_number, new_literal, picked_form, picked_name, named, negated, guarded, gate, followed, overwritten, new_test, new_body, all_overwritten, instance_tree, instance_parts, instance_test, instance_statement, instance_statements, instance_arm, instance_arms, instance_body, instance_value, instance_net, instance_pair, instance_connection, instance_connections, instance_child, instance_item, instance_module, instance_source}
+use Rattle.rr_choice.specs.Sites as sites
+use Rattle.rr_choice.specs.Sites.{SiteKind, Site, guard_names}
+use Rattle.rr_choice.specs.Choices.{picked_form, picked_name}
+use Rattle.rr_choice.specs.Places.{is_literal_at, is_overwrite_at, find_pick}
+use Rattle.rr_instance.specs.Instances.{fresh, is_guard_of, number_with, unsigned_number, new_literal, named, negated, guarded, gate, followed, overwritten, new_test, new_body, all_overwritten, instance_tree, instance_parts, instance_test, instance_statement, instance_statements, instance_arm, instance_arms, instance_body, instance_value, instance_net, instance_pair, instance_connection, instance_connections, instance_child, instance_item, instance_module, instance_source}
 use Rattle.rr_instance_laws.specs.Relation.{Which, InPairs, IsNumber, IsGuarded, IsTest, Stands, StandIn, StandsTest, StandsStatement, StandInOrder, StandsArm, StandInArms, IsOverwritten, AreOverwritten, StandsBody, StandsValue, StandsNet, StandsPair, StandsConnection, StandConnections, StandsInstance, StandsItem, StandsModule, TreesExist, TreesAgree}
 
 -- Choices between two

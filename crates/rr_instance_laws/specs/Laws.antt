@@ -10,10 +10,10 @@ use Rattle.rr_expr.specs.Scopes.{Names, meant}
 use Rattle.rr_expr.specs.Values.{form}
 use Rattle.rr_expr.specs.Faults.{fault, first}
 use Rattle.rr_expr.specs.Reading.{IsBitOf, NamesBit, Occurs}
-use Rattle.rr_instance.specs.declared.pick.Pick.{Pick}
-use Rattle.rr_instance.specs.Sites.{Site, IsSiteList, FewNames, FitWidths}
+use Rattle.rr_choice.specs.declared.pick.Pick.{Pick}
+use Rattle.rr_choice.specs.Sites.{Site, IsSiteList, FewNames, FitWidths}
 use Rattle.rr_instance.specs.Firsts.{told}
-use Rattle.rr_instance.specs.Choices.{IsChoice, cost, total_bits, decode}
+use Rattle.rr_choice.specs.Choices.{IsChoice, cost, total_bits, decode}
 use Rattle.rr_instance.specs.Instances.{guarded, gate, named, new_test, instance_tree, instance_test, instance_statement, instance_body, instance_item, instance_module, instance_source}
 use Rattle.rr_instance_laws.specs.Tests.{IsGuardName, IsTestName}
 use Rattle.rr_instance_laws.specs.Truth.{is_true, guard_truth, gate_truth, new_truth, name_truth, IsScalar}

@@ -6,10 +6,12 @@ use Rattle.rr_syntax.specs.Tree.{Tree, Trees, Name, Literal, Bit, Part, Indexed,
 use Rattle.rr_expr.specs.declared.operators.Infix.TheVariants.{Either}
 use Rattle.rr_expr.specs.Faults.{takes_constants}
 use Rattle.rr_expr.specs.Operators.{infixes}
-use Rattle.rr_instance.specs.declared.pick.Pick.{Pick}
+use Rattle.rr_choice.specs.declared.pick.Pick.{Pick}
 use Rattle.rr_instance.specs.Firsts.{first_token}
-use Rattle.rr_instance.specs.Sites.{Site, guard_names}
-use Rattle.rr_instance.specs.Instances.{is_literal_at, is_guard_of, is_overwrite_at, find_pick, number_with, picked_form, picked_name, guarded, overwritten, instance_source}
+use Rattle.rr_choice.specs.Sites.{Site, guard_names}
+use Rattle.rr_choice.specs.Choices.{picked_form, picked_name}
+use Rattle.rr_choice.specs.Places.{is_literal_at, is_overwrite_at, find_pick}
+use Rattle.rr_instance.specs.Instances.{is_guard_of, number_with, guarded, overwritten, instance_source}
 
 -- the first where the test holds, else the second
 abbrev pub Which : Bool → Type 0 → Type 0 → Type 0

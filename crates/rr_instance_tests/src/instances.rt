@@ -2,8 +2,9 @@
 
 use crate::texts::{shown, source_of};
 use bumpalo::Bump;
-use rr_instance::{Choice, Pick, SiteList, are_listed, cost, decode, find, instance};
+use rr_choice::{Choice, Pick, SiteList, are_listed, cost, decode, find};
 use rr_instance_laws::choice_laws;
+use rr_source_instance::instance;
 use rr_syntax::{Site, SiteKind};
 use std::alloc::{AllocError, Global};
 use std::test::Fail;

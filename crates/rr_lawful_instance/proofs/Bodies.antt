@@ -17,10 +17,12 @@ use Rattle.rr_flat.specs.Lawful.{labels_fit}
 use Rattle.rr_flat.specs.Reads.{Assigned, StatementReads, TargetReads, names_in, names_in_parts, index_names, names_of, names_of_all, names_of_arm, names_of_arms, names_read, assigned_parts, assigned_by, assigned_by_all, assigned_by_arm, assigned_by_arms, writes, write_any, arm_writes, arms_write}
 use Rattle.rr_flat.specs.Targets.{target_bits, target_parts, targets_parts, part_name, is_fixed, has_bit, is_bit_of, may_write}
 use Rattle.rr_flat.proofs.Bits.{or_left, or_right}
-use Rattle.rr_instance.specs.declared.pick.Pick.{Pick}
-use Rattle.rr_instance.specs.Instances.{fresh, unsigned_number, picked_form, picked_name, named, negated, gate, followed, overwritten, is_overwrite_at, new_body, all_overwritten, instance_statement, instance_body}
-use Rattle.rr_instance.specs.Sites as sites
-use Rattle.rr_instance.specs.Sites.{SiteKind, Site, guard_names}
+use Rattle.rr_choice.specs.declared.pick.Pick.{Pick}
+use Rattle.rr_choice.specs.Choices.{picked_form, picked_name}
+use Rattle.rr_choice.specs.Places.{is_overwrite_at}
+use Rattle.rr_instance.specs.Instances.{fresh, unsigned_number, named, negated, gate, followed, overwritten, new_body, all_overwritten, instance_statement, instance_body}
+use Rattle.rr_choice.specs.Sites as sites
+use Rattle.rr_choice.specs.Sites.{SiteKind, Site, guard_names}
 use Rattle.rr_instance_laws.specs.Tests.{IsNameAt, IsBodyName}
 use Rattle.rr_instance_laws.proofs.Rounds.{picked_is_one}
 use Rattle.rr_lawful_instance.specs.AreSites.{IsTargetOf, TargetStands}

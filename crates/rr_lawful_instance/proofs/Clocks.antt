@@ -12,9 +12,9 @@ use Rattle.rr_flat.specs.Plain.{Side, Written, Whole, Driver, Block, Flat}
 use Rattle.rr_flat.specs.Reads.{names_in, names_of}
 use Rattle.rr_flat.specs.Writers.{driver_at, block_at}
 use Rattle.rr_flat.proofs.Bits.{missed, or_none}
-use Rattle.rr_instance.specs.declared.pick.Pick.{Pick}
+use Rattle.rr_choice.specs.declared.pick.Pick.{Pick}
 use Rattle.rr_instance.specs.Instances.{instance_tree, instance_body}
-use Rattle.rr_instance.specs.Sites.{Site}
+use Rattle.rr_choice.specs.Sites.{Site}
 use Rattle.rr_lawful_instance.specs.AreSites.{MayGuard, MayGuardElsewhere, BlockFits, SideFits, AreSitesOf}
 use Rattle.rr_flat_instance.specs.Flats.{instance_side, instance_driver, instance_block}
 use Rattle.rr_instance.specs.Firsts.{first_token}

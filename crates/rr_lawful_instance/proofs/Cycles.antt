@@ -20,8 +20,8 @@ use Rattle.rr_cycle.proofs.Free.{free_inputs}
 use Rattle.rr_cycle.proofs.Ranked.{one_settled, run_once}
 use Rattle.rr_cycle.proofs.Sequence.{next_in_order, only_next}
 use Rattle.rr_cycle.proofs.Settling.{settled_by_steps}
-use Rattle.rr_instance.specs.declared.pick.Pick.{Pick}
-use Rattle.rr_instance.specs.Sites.{Site}
+use Rattle.rr_choice.specs.declared.pick.Pick.{Pick}
+use Rattle.rr_choice.specs.Sites.{Site}
 use Rattle.rr_lawful_instance.specs.AreSites.{MayGuard, BlockFits, AreSitesOf}
 use Rattle.rr_lawful_instance.specs.Cycling.{settled_by, next_after, outputs_by}
 use Rattle.rr_lawful_instance.specs.Laws.{IsRepairable, ListedAreSites, InstancesStayLawful, BasesStay, InstancesSettle, InstancesGoOn, InstancesRun}

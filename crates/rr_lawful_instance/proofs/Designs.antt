@@ -13,8 +13,8 @@ use Rattle.rr_flat.specs.Plain.{Side, Written, Whole, Driver, Block, Flat}
 use Rattle.rr_flat.specs.Reads.{Assigned, writes, assigned_by}
 use Rattle.rr_flat.specs.Targets.{part_name}
 use Rattle.rr_flat.specs.Writers.{scope_at, driver_at, block_at, no_driver, no_block, driven_by, driven, writes_at_all, Writer, Driven, Clocked, Combinational, Writes}
-use Rattle.rr_instance.specs.declared.pick.Pick.{Pick}
-use Rattle.rr_instance.specs.Sites.{Site}
+use Rattle.rr_choice.specs.declared.pick.Pick.{Pick}
+use Rattle.rr_choice.specs.Sites.{Site}
 use Rattle.rr_lawful_instance.specs.AreSites.{MayGuard, MayGuardElsewhere, BlockFits, AreSitesOf}
 use Rattle.rr_flat_instance.specs.Flats.{instance_driver, instance_block}
 use Rattle.rr_instance.specs.Firsts.{first_token}

@@ -32,8 +32,8 @@ use Rattle.rr_expr.specs.Reading.{NamesBit}
 use Rattle.rr_flat.specs.declared.design.Step.{Step}
 use Rattle.rr_flat.specs.declared.design.Step.TheVariants as step
 use Rattle.rr_flat.specs.Ordered.{IsStep, StepWrites, StepNames, step_at, Ordered}
-use Rattle.rr_instance.specs.Sites as sites
-use Rattle.rr_instance.specs.Sites.{Site}
+use Rattle.rr_choice.specs.Sites as sites
+use Rattle.rr_choice.specs.Sites.{Site}
 use Rattle.rr_lawful_instance.specs.AreSites.{MayGuard, MayGuardElsewhere, IsClock, IsTargetOf}
 use Rattle.rr_lawful_instance.specs.Listed.{IsRight, AreRight, StandsIn, item_at, item_start, items_before}
 use Rattle.rr_flat_instance.specs.Owned.{start_of, InEach}

@@ -20,9 +20,9 @@ use Rattle.rr_flat_instance.proofs.Listed.{one_module, listed_sites_fit}
 use Rattle.rr_flat_instance.proofs.Spans as span
 use Rattle.rr_flat_instance.proofs.Windows.{Brings, InOrNone, always_in, item_name}
 use Rattle.rr_instance.specs.Firsts.{first_token}
-use Rattle.rr_instance.specs.Instances.{is_overwrite, is_overwrite_at}
-use Rattle.rr_instance.specs.Sites as sites
-use Rattle.rr_instance.specs.Sites.{SiteKind, Site, guard_names}
+use Rattle.rr_choice.specs.Places.{is_overwrite, is_overwrite_at}
+use Rattle.rr_choice.specs.Sites as sites
+use Rattle.rr_choice.specs.Sites.{SiteKind, Site, guard_names}
 use Rattle.rr_instance_laws.specs.Truth.{IsScalar}
 use Rattle.rr_lawful_instance.specs.AreSites.{TargetStands, BlockFits, SideFits, AreSitesOf}
 use Rattle.rr_lawful_instance.specs.Listed.{has_edges, is_clocked, MayGuardIf, MayGuardIn, items_of, no_item, item_at, items_before, item_start, StandsIn, TargetFits, IsRight, KindIsRight, AreRight}

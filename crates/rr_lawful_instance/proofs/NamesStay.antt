@@ -12,10 +12,12 @@ use Rattle.rr_flat.specs.Signals.{Text}
 use Rattle.rr_flat.specs.Clocks.{is_among}
 use Rattle.rr_flat.specs.Reads.{names_in, names_in_parts, names_of, names_of_all, names_of_arm, names_of_arms}
 use Rattle.rr_flat.proofs.Bits.{or_left, or_right}
-use Rattle.rr_instance.specs.declared.pick.Pick.{Pick}
-use Rattle.rr_instance.specs.Instances.{fresh, find_pick, is_guard_of, gate, followed, instance_tree, instance_parts, instance_test, picked_form, picked_name, unsigned_number, instance_statement, instance_statements, instance_arm, instance_arms, overwritten, is_overwrite_at, new_body, all_overwritten, instance_body}
-use Rattle.rr_instance.specs.Sites as sites
-use Rattle.rr_instance.specs.Sites.{SiteKind, Site}
+use Rattle.rr_choice.specs.declared.pick.Pick.{Pick}
+use Rattle.rr_choice.specs.Choices.{picked_form, picked_name}
+use Rattle.rr_choice.specs.Places.{find_pick, is_overwrite_at}
+use Rattle.rr_instance.specs.Instances.{fresh, is_guard_of, gate, followed, instance_tree, instance_parts, instance_test, unsigned_number, instance_statement, instance_statements, instance_arm, instance_arms, overwritten, new_body, all_overwritten, instance_body}
+use Rattle.rr_choice.specs.Sites as sites
+use Rattle.rr_choice.specs.Sites.{SiteKind, Site}
 use Rattle.rr_instance_laws.proofs.Rounds.{branch_has, found_names, Rounds, guard_term, test_has}
 
 abbrev Any : Text → Type 0

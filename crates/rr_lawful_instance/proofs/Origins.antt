@@ -20,7 +20,7 @@ use Rattle.rr_walk.proofs.HeadOf.{ok_is, not_ok, settled_is, first_ok, fold_over
 use Rattle.rr_flat_instance.specs.Places.{Somewhere, IsNameOfValue, IsNameOfNet, IsNameOfPair, IsNameOfConnection, IsNameOfConnections, IsNameOfInstance, IsNameOfItem}
 use Rattle.rr_flat_instance.proofs.Grown.{EnterGrows, began, inside, entered, enter_grows}
 use Rattle.rr_flat_instance.proofs.Lists.{Begins}
-use Rattle.rr_instance.specs.Sites.{Site}
+use Rattle.rr_choice.specs.Sites.{Site}
 use Rattle.rr_instance_laws.specs.Tests.{IsGuardName, IsGuardNameIn}
 use Rattle.rr_lawful_instance.specs.Listed.{has_edges, is_clocked, items_of}
 use Rattle.rr_lawful_instance.proofs.Lists.{by_element}

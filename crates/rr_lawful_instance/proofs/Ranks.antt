@@ -15,8 +15,8 @@ use Rattle.rr_flat.specs.Plain.{Side, Written, Whole, Driver, Block, Flat}
 use Rattle.rr_flat.specs.Reads.{StatementReads}
 use Rattle.rr_flat.specs.Writers.{scope_at, driver_at, block_at, writes_at_all, SideReads, Driven, Clocked, Combinational, Writes, side_is_wiring, side_taken, side_signed, taken_at, wires, NamesIf, DriverNames, BlockNames, BitNames}
 use Rattle.rr_flat.proofs.Bits.{or_left, or_right}
-use Rattle.rr_instance.specs.declared.pick.Pick.{Pick}
-use Rattle.rr_instance.specs.Sites.{Site}
+use Rattle.rr_choice.specs.declared.pick.Pick.{Pick}
+use Rattle.rr_choice.specs.Sites.{Site}
 use Rattle.rr_instance_laws.proofs.FormLaws.{form_instance}
 use Rattle.rr_instance_laws.proofs.NameLaws.{has_bits}
 use Rattle.rr_lawful_instance.specs.AreSites.{MayGuardElsewhere, SideFits, AreSitesOf}

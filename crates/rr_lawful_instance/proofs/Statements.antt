@@ -15,9 +15,9 @@ use Rattle.rr_flat.specs.Lawful.{all_labels_fit, labels_fit, all_fit, arm_fits, 
 use Rattle.rr_flat.specs.Reads.{StatementReads, StatementsRead, ArmReads, ArmsRead, names_in, names_in_parts, index_names, names_of, names_of_all, names_of_arm, names_of_arms, names_read, names_read_by, names_read_by_arm, names_read_by_arms, assigned_by, assigned_by_all, assigned_by_arm, assigned_by_arms, writes, write_any, arm_writes, arms_write}
 use Rattle.rr_flat.specs.Targets.{assigns_target}
 use Rattle.rr_flat.proofs.Bits.{or_left, or_right}
-use Rattle.rr_instance.specs.declared.pick.Pick.{Pick}
+use Rattle.rr_choice.specs.declared.pick.Pick.{Pick}
 use Rattle.rr_instance.specs.Instances.{instance_tree, instance_parts, instance_test, instance_statement, instance_statements, instance_arm, instance_arms}
-use Rattle.rr_instance.specs.Sites.{Site}
+use Rattle.rr_choice.specs.Sites.{Site}
 use Rattle.rr_instance_laws.specs.Tests.{IsGuardNameOf, IsGuardNameOfAll, IsGuardNameOfArm, IsGuardNameOfArms}
 use Rattle.rr_instance_laws.proofs.NameLaws.{has_bits, have_bits, test_has_bits}
 use Rattle.rr_lawful_instance.proofs.Lists.{both, parts}

@@ -18,9 +18,10 @@ use Rattle.rr_flat.specs.Lawful.{has_wild, no_wild, label_fits, all_labels_fit}
 use Rattle.rr_flat.specs.Plain.{Written, Flat}
 use Rattle.rr_flat.specs.Reads.{LiteralToken, literals_in, literals_in_parts, names_in, names_in_parts}
 use Rattle.rr_flat.specs.Writers.{is_wiring, are_wiring, taken, all_taken, nothing}
-use Rattle.rr_instance.specs.declared.pick.Pick.{Pick}
-use Rattle.rr_instance.specs.Instances.{find_pick, is_literal_at, is_guard_of, number_with, instance_tree, instance_parts, instance_test, fresh}
-use Rattle.rr_instance.specs.Sites.{Site}
+use Rattle.rr_choice.specs.declared.pick.Pick.{Pick}
+use Rattle.rr_choice.specs.Places.{find_pick, is_literal_at}
+use Rattle.rr_instance.specs.Instances.{is_guard_of, number_with, instance_tree, instance_parts, instance_test, fresh}
+use Rattle.rr_choice.specs.Sites.{Site}
 use Rattle.rr_instance_laws.specs.Tests.{IsGuardName, IsGuardNameIn, IsTestName}
 use Rattle.rr_instance_laws.proofs.NameLaws.{has_names, test_has_names}
 use Rattle.rr_instance_laws.proofs.Rounds.{literal_has, branch_has, found_names, Rounds, guard_term, test_has}

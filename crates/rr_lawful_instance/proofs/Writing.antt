@@ -16,8 +16,8 @@ use Rattle.rr_flat.specs.Reads.{names_read, assigned_by, writes}
 use Rattle.rr_flat.specs.Targets.{part_name}
 use Rattle.rr_flat.specs.Writers.{scope_at, driver_at, block_at, writes_now, writes_later, Clocked, Combinational, Writes}
 use Rattle.rr_flat.proofs.Bits.{missed, or_left, or_right, bit_at, bit_eq}
-use Rattle.rr_instance.specs.declared.pick.Pick.{Pick}
-use Rattle.rr_instance.specs.Sites.{Site}
+use Rattle.rr_choice.specs.declared.pick.Pick.{Pick}
+use Rattle.rr_choice.specs.Sites.{Site}
 use Rattle.rr_lawful_instance.specs.AreSites.{MayGuard, MayGuardElsewhere, BlockFits, AreSitesOf}
 use Rattle.rr_flat_instance.specs.Flats.{instance_side, instance_block}
 use Rattle.rr_instance.specs.Firsts.{first_token}

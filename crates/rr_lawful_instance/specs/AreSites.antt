@@ -13,9 +13,9 @@ use Rattle.rr_flat.specs.Plain.{Side, Written, Whole, Block, Flat}
 use Rattle.rr_flat.specs.Reads.{assigned_by}
 use Rattle.rr_flat.specs.Writers.{scope_at, driver_at, block_at, writes_later}
 use Rattle.rr_instance.specs.Firsts.{first_token}
-use Rattle.rr_instance.specs.Instances.{is_overwrite_at}
-use Rattle.rr_instance.specs.Sites as sites
-use Rattle.rr_instance.specs.Sites.{SiteKind, Site}
+use Rattle.rr_choice.specs.Places.{is_overwrite_at}
+use Rattle.rr_choice.specs.Sites as sites
+use Rattle.rr_choice.specs.Sites.{SiteKind, Site}
 use Rattle.rr_instance_laws.specs.Tests.{IsGuardName, IsBodyName}
 
 -- Names

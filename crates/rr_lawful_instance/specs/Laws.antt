@@ -16,10 +16,11 @@ use Rattle.rr_cycle.specs.Exec.{Environment}
 use Rattle.rr_cycle.specs.Performing.{base}
 use Rattle.rr_flat_instance.specs.Flats.{instance_side, instance_flat}
 use Rattle.rr_flat_instance.specs.Places.{SitesFit}
-use Rattle.rr_instance.specs.declared.pick.Pick.{Pick}
-use Rattle.rr_instance.specs.Choices.{cost}
-use Rattle.rr_instance.specs.Instances.{is_literal, is_guard, is_overwrite, instance_source}
-use Rattle.rr_instance.specs.Sites.{Site}
+use Rattle.rr_choice.specs.declared.pick.Pick.{Pick}
+use Rattle.rr_choice.specs.Choices.{cost}
+use Rattle.rr_choice.specs.Places.{is_literal, is_guard, is_overwrite}
+use Rattle.rr_instance.specs.Instances.{instance_source}
+use Rattle.rr_choice.specs.Sites.{Site}
 use Rattle.rr_lawful_instance.specs.AreSites.{AreSitesOf}
 use Rattle.rr_lawful_instance.specs.Listed.{AreRight}
 use Rattle.rr_lawful_instance.specs.Cycling.{settled_by, next_after, run_by}

@@ -9,8 +9,8 @@ use Rattle.rr_flat.specs.Plain.{Flat}
 use Rattle.rr_walk.specs.Walk.{module_at}
 use Rattle.rr_flat_instance.specs.Owned.{start_of, InEach}
 use Rattle.rr_flat_instance.specs.Places.{HasWidth, owner_at}
-use Rattle.rr_instance.specs.Sites as sites
-use Rattle.rr_instance.specs.Sites.{SiteKind, Site, guard_names}
+use Rattle.rr_choice.specs.Sites as sites
+use Rattle.rr_choice.specs.Sites.{SiteKind, Site, guard_names}
 use Rattle.rr_lawful_instance.specs.AreSites.{MayGuard, MayGuardElsewhere, TargetStands}
 
 -- an `always` with edges

@@ -15,7 +15,7 @@ use Rattle.rr_guard.proofs.Guarded.{guard_same}
 use Rattle.rr_overwrite.proofs.Listed.{overwrites_same}
 use Rattle.rr_overwrite.specs.Variables.{AreFit}
 use Rattle.rr_clock.specs.Places.{Place}
-use Rattle.rr_instance.specs.Sites.{Site}
+use Rattle.rr_choice.specs.Sites.{Site}
 use Rattle.rr_listing.specs.Listing.{IsFitPlace, module_at, no_module, item_sites, module_sites, place_sites, scope_of, sites_by, sites_of}
 
 -- three lists behind one another

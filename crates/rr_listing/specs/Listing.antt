@@ -4,7 +4,7 @@ use Rattle.std.specs.List.{AllByRecursion}
 use Rattle.rr_syntax.specs.Tree.{ModuleItem, ModuleDeclaration, SourceText}
 use Rattle.rr_expr.specs.Scopes.{Names}
 use Rattle.rr_flat.specs.Signals.{Text}
-use Rattle.rr_instance.specs.Sites.{Site}
+use Rattle.rr_choice.specs.Sites.{Site}
 use Rattle.rr_spots.specs.Spots.{Spot, is_clocked, spots_of_item}
 use Rattle.rr_literal.specs.Literals.{literal_at}
 use Rattle.rr_guard.specs.Guards.{guard_of}

@@ -6,7 +6,7 @@ ghost use Rattle.rr_syntax.specs.Tree.{ModuleDeclaration};
 ghost use Rattle.rr_syntax.specs.View.{plain_identifier, plain_item, plain_module, plain_source, texts};
 ghost use Rattle.rr_expr.specs.Faults.{is_width};
 ghost use Rattle.rr_flat.specs.Signals.{Text};
-ghost use Rattle.rr_instance.specs.View.{plain_sites};
+ghost use Rattle.rr_choice.specs.View.{plain_sites};
 ghost use Rattle.rr_spots.specs.Spots.{AreCountable, HasFewTokens, IsCountable};
 ghost use Rattle.rr_spots.specs.View.{plain_spot, plain_spots};
 ghost use Rattle.rr_guard.specs.Candidates.{AreGuardNames, is_among};

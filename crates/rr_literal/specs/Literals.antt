@@ -2,8 +2,8 @@
 use Rattle.std.specs.Prelude.{◌==◌, Bool, ◌&&◌, List, [], ◌∷◌, flat_map, if◌then◌else◌}
 use Rattle.rr_syntax.specs.declared.token.Number.{Number}
 use Rattle.rr_syntax.specs.Tree.{ModuleDeclaration}
-use Rattle.rr_instance.specs.Sites as sites
-use Rattle.rr_instance.specs.Sites.{Site}
+use Rattle.rr_choice.specs.Sites as sites
+use Rattle.rr_choice.specs.Sites.{Site}
 use Rattle.rr_spots.specs.Spots.{Spot, Body, Test, Value, spots_of_item}
 
 -- a literal without x or z digits

@@ -2,7 +2,7 @@
 
 ghost use Rattle.std.specs.Prelude.{◌≡◌, ◌++◌, IfOk, OnOk, flat_map};
 ghost use Rattle.rr_syntax.specs.View.{plain_item, plain_module};
-ghost use Rattle.rr_instance.specs.View.{plain_sites};
+ghost use Rattle.rr_choice.specs.View.{plain_sites};
 ghost use Rattle.rr_spots.specs.Spots.{spots_of_item as spots_in_item};
 ghost use Rattle.rr_spots.specs.View.{plain_spot, plain_spots};
 ghost use Rattle.rr_literal.specs.Literals.{literal_at, literal_sites};

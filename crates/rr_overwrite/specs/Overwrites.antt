@@ -9,8 +9,8 @@ use Rattle.rr_expr.specs.Scopes.{Names, meant, entity_shape}
 use Rattle.rr_flat.specs.Reads.{Assigned, assigned_by, names_in}
 use Rattle.rr_flat.specs.Signals.{Text}
 use Rattle.rr_instance.specs.Firsts.{first_token}
-use Rattle.rr_instance.specs.Sites as sites
-use Rattle.rr_instance.specs.Sites.{Site}
+use Rattle.rr_choice.specs.Sites as sites
+use Rattle.rr_choice.specs.Sites.{Site}
 use Rattle.rr_spots.specs.Spots.{Spot, Body, Test, Value, is_clocked, spots_of_item}
 use Rattle.rr_guard.specs.Names.{net_name, names_at, whole_name}
 

@@ -13,14 +13,15 @@ use Rattle.rr_syntax.specs.Words.{keyword_if, keyword_end, mark_open_parenthesis
 use Rattle.rr_syntax.specs.Tree.{Statement}
 use Rattle.rr_syntax.specs.Statements.{spell_statement}
 use Rattle.rr_lex.specs.Patch.{New, new_keyword, new_literal, new_mark, new_name}
-use Rattle.rr_instance.specs.declared.pick.Pick.{Pick}
+use Rattle.rr_choice.specs.declared.pick.Pick.{Pick}
 use Rattle.rr_instance.specs.Firsts.{first_token}
-use Rattle.rr_instance.specs.Sites as sites
-use Rattle.rr_instance.specs.Sites.{SiteKind, Site, IsSiteList, IsFirstAt}
-use Rattle.rr_instance.specs.Instances.{is_overwrite, is_overwrite_at, picked_form, picked_name}
-use Rattle.rr_instance.specs.View.{plain_kind, plain_site, plain_sites}
-use Rattle.rr_instance.proofs.BitsRead.{sites_here}
-use Rattle.rr_instance.proofs.Finds.{all_past}
+use Rattle.rr_choice.specs.Sites as sites
+use Rattle.rr_choice.specs.Sites.{SiteKind, Site, IsSiteList, IsFirstAt}
+use Rattle.rr_choice.specs.Choices.{picked_form, picked_name}
+use Rattle.rr_choice.specs.Places.{is_overwrite, is_overwrite_at}
+use Rattle.rr_choice.specs.View.{plain_kind, plain_site, plain_sites}
+use Rattle.rr_choice.proofs.BitsRead.{sites_here}
+use Rattle.rr_choice.proofs.Finds.{all_past}
 use Rattle.rr_respell.specs.Pieces.{Piece, Put, puts}
 use Rattle.rr_respell.specs.Printing.{gate_words, overwritten_pieces, new_body_pieces, all_overwritten_pieces, body_pieces, statement_pieces}
 use Rattle.rr_respell.proofs.SourceParts.{Free, free, statement_makes}

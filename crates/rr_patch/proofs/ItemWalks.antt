@@ -25,8 +25,8 @@ use Rattle.rr_syntax.proofs.ItemLengths.{separated_len, size-net-none, size-net-
 use Rattle.rr_syntax.proofs.Lengths.{parts_len}
 use Rattle.rr_expr.specs.Faults.{first}
 use Rattle.rr_instance_laws.proofs.FirstLaws.{first_is}
-use Rattle.rr_instance.specs.declared.pick.Pick.{Pick}
-use Rattle.rr_instance.specs.Sites.{Site}
+use Rattle.rr_choice.specs.declared.pick.Pick.{Pick}
+use Rattle.rr_choice.specs.Sites.{Site}
 use Rattle.rr_instance.specs.Firsts.{first_token}
 use Rattle.rr_respell.specs.Pieces.{Piece, Kept, kept}
 use Rattle.rr_respell.specs.Printing.{tree_pieces, more_pieces, part_pieces, body_pieces, each_pieces, separated_pieces, all_pieces, value_pieces, net_pieces, pair_pieces, optional_pieces, connection_pieces, connections_pieces, child_pieces, item_pieces, module_pieces}

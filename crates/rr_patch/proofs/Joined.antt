@@ -7,8 +7,8 @@ use Rattle.rr_syntax.specs.Words.{Word, Named, System, Digits, Reserved, Marked}
 use Rattle.rr_lex.specs.Tokens.{IsSound}
 use Rattle.rr_lex.specs.Patch.{New}
 use Rattle.rr_lex.proofs.Sound.{words_sound}
-use Rattle.rr_instance.specs.Sites as sites
-use Rattle.rr_instance.specs.Sites.{SiteKind, Site, HasFitWidth, FitWidths}
+use Rattle.rr_choice.specs.Sites as sites
+use Rattle.rr_choice.specs.Sites.{SiteKind, Site, HasFitWidth, FitWidths}
 use Rattle.rr_patch.specs.declared.change.Change.{Change as Made}
 use Rattle.rr_patch.specs.declared.change.Added.{Added}
 use Rattle.rr_patch.specs.declared.change.Added.TheVariants as added

@@ -11,9 +11,9 @@ use Rattle.rr_syntax.proofs.ItemLengths.{source_len}
 use Rattle.rr_lex.specs.Tokens.{Lexeme, lexeme, lexemes, AreTokens, words_of}
 use Rattle.rr_lex.proofs.Steps.{lex_few}
 use Rattle.rr_grammar.specs.Trees.{IsTree, Spells}
-use Rattle.rr_instance.specs.declared.pick.Pick.{Pick}
-use Rattle.rr_instance.specs.Sites as sites
-use Rattle.rr_instance.specs.Sites.{SiteKind, Site, HasWidth, HasFitWidth, IsSite, IsSiteList, FitWidths}
+use Rattle.rr_choice.specs.declared.pick.Pick.{Pick}
+use Rattle.rr_choice.specs.Sites as sites
+use Rattle.rr_choice.specs.Sites.{SiteKind, Site, HasWidth, HasFitWidth, IsSite, IsSiteList, FitWidths}
 use Rattle.rr_instance.specs.Instances.{instance_source}
 use Rattle.rr_respell.specs.Laws.{AreNamed}
 use Rattle.rr_respell.specs.Printing.{edits_of, printed, all_pieces, module_pieces, source_pieces}

@@ -2,8 +2,8 @@
 use Rattle.std.proofs.Common.{◌≡◌, List, length, ap}
 use Rattle.rr_syntax.specs.Tree.{NetIdentifier, NetAssignment, NamedConnection, ModuleInstance, ModuleItem, ModuleDeclaration}
 use Rattle.rr_syntax.specs.Items.{spell_net, spell_pair, spell_connection, spell_instance, spell_item, spell_module}
-use Rattle.rr_instance.specs.declared.pick.Pick.{Pick}
-use Rattle.rr_instance.specs.Sites.{Site}
+use Rattle.rr_choice.specs.declared.pick.Pick.{Pick}
+use Rattle.rr_choice.specs.Sites.{Site}
 use Rattle.rr_respell.specs.Pieces.{source_words}
 use Rattle.rr_respell.specs.Printing.{net_pieces, pair_pieces, connection_pieces, child_pieces, item_pieces, module_pieces}
 use Rattle.rr_respell.proofs.SourceParts.{Free, free, net_makes, pair_makes, connection_makes, child_makes, item_makes, module_makes}

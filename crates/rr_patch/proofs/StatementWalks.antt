@@ -15,8 +15,8 @@ use Rattle.rr_syntax.specs.Statements.{spell_label, spell_labels, spell_statemen
 use Rattle.rr_syntax.specs.View.{plain, plain_list, plain_label, plain_statement, plain_statements, plain_arm, plain_arms}
 use Rattle.rr_syntax.proofs.Lengths.{body_len, cases_len, parts_len}
 use Rattle.rr_syntax.proofs.Rows.{plain_block, plain_case}
-use Rattle.rr_instance.specs.declared.pick.Pick.{Pick}
-use Rattle.rr_instance.specs.Sites.{Site}
+use Rattle.rr_choice.specs.declared.pick.Pick.{Pick}
+use Rattle.rr_choice.specs.Sites.{Site}
 use Rattle.rr_respell.specs.Pieces.{Piece, Kept, kept, source_words}
 use Rattle.rr_respell.specs.Printing.{condition_pieces, tree_pieces, part_pieces, more_pieces, label_pieces, statement_pieces, statements_pieces, arm_pieces, arms_pieces}
 use Rattle.rr_patch.specs.Changes.{Change, changes}

@@ -15,9 +15,10 @@ use Rattle.rr_syntax.proofs.Lengths.{more_len}
 use Rattle.rr_expr.specs.declared.operators.Infix.TheVariants.{Either}
 use Rattle.rr_expr.specs.Faults.{takes_constants}
 use Rattle.rr_expr.specs.Operators.{infixes}
-use Rattle.rr_instance.specs.declared.pick.Pick.{Pick}
-use Rattle.rr_instance.specs.Sites.{Site}
-use Rattle.rr_instance.specs.Instances.{find_pick, is_literal_at, is_guard_of}
+use Rattle.rr_choice.specs.declared.pick.Pick.{Pick}
+use Rattle.rr_choice.specs.Sites.{Site}
+use Rattle.rr_choice.specs.Places.{find_pick, is_literal_at}
+use Rattle.rr_instance.specs.Instances.{is_guard_of}
 use Rattle.rr_respell.specs.Pieces.{Piece, Kept, kept, puts, source_words}
 use Rattle.rr_respell.specs.Printing.{literal_pieces, condition_pieces, tree_pieces, part_pieces, more_pieces}
 use Rattle.rr_patch.specs.Changes.{Change, changes}

@@ -4,9 +4,9 @@ use Rattle.std.proofs.lemmas.List.{append_assoc, get_or_default, map-append, tak
 use Rattle.rr_syntax.specs.declared.token.Number.{Number}
 use Rattle.rr_syntax.specs.Words.{Word, Digits, mark_open_parenthesis, mark_close_parenthesis, mark_not, mark_logical_and, mark_logical_or}
 use Rattle.rr_lex.specs.Patch.{New, new_literal, new_mark, new_name}
-use Rattle.rr_instance.specs.declared.pick.Pick.{Pick}
-use Rattle.rr_instance.specs.Sites.{Site, guard_names}
-use Rattle.rr_instance.specs.Instances.{picked_form, picked_name}
+use Rattle.rr_choice.specs.declared.pick.Pick.{Pick}
+use Rattle.rr_choice.specs.Sites.{Site, guard_names}
+use Rattle.rr_choice.specs.Choices.{picked_form, picked_name}
 use Rattle.rr_patch.specs.Walks.{opened, opened_form, closed, closed_form}
 use Rattle.rr_patch.specs.declared.change.Change.{Change as Made}
 use Rattle.rr_patch.specs.declared.change.Added.{Added}

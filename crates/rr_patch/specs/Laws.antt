@@ -2,8 +2,8 @@
 use Rattle.std.specs.Prelude.{◌≡◌, ℕ, List}
 use Rattle.rr_syntax.specs.Tree.{SourceText}
 use Rattle.rr_grammar.specs.Trees.{IsTree}
-use Rattle.rr_instance.specs.declared.pick.Pick.{Pick}
-use Rattle.rr_instance.specs.Sites.{Site, FitWidths}
+use Rattle.rr_choice.specs.declared.pick.Pick.{Pick}
+use Rattle.rr_choice.specs.Sites.{Site, FitWidths}
 use Rattle.rr_respell.specs.Printing.{source_pieces, printed}
 use Rattle.rr_patch.specs.declared.change.Change.{Change}
 use Rattle.rr_patch.specs.Changes.{changes, changed, plain_changes, AreFit}

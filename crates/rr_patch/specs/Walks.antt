@@ -4,9 +4,10 @@ use Rattle.rr_syntax.specs.Words.{keyword_begin, mark_open_parenthesis, mark_clo
 use Rattle.rr_lex.specs.Patch.{New, new_keyword, new_literal, new_mark, new_name}
 use Rattle.rr_syntax.specs.Tree.{NetAssignment, ModuleItem, ModuleDeclaration}
 use Rattle.rr_syntax.specs.Items.{WellFormedPair, WellFormedItem, WellFormedModule, NumberedPair, NumberedItem, NumberedModule}
-use Rattle.rr_instance.specs.declared.pick.Pick.{Pick}
-use Rattle.rr_instance.specs.Sites.{SiteKind, Site, Literal, Guard, Overwrite, guard_names}
-use Rattle.rr_instance.specs.Instances.{is_overwrite_at, picked_form, picked_name}
+use Rattle.rr_choice.specs.declared.pick.Pick.{Pick}
+use Rattle.rr_choice.specs.Sites.{SiteKind, Site, Literal, Guard, Overwrite, guard_names}
+use Rattle.rr_choice.specs.Choices.{picked_form, picked_name}
+use Rattle.rr_choice.specs.Places.{is_overwrite_at}
 use Rattle.rr_respell.specs.Printing.{gate_words, last_assignment, negated_name}
 use Rattle.rr_respell.specs.Pieces.{Piece}
 use Rattle.rr_patch.specs.Changes.{Change, changes}

@@ -5,7 +5,7 @@ ghost use Rattle.rr_syntax.specs.Statements.{spell_statement};
 ghost use Rattle.rr_syntax.specs.View.{plain_statement};
 ghost use Rattle.rr_syntax.specs.Words.{mark_equals, mark_less_or_equal};
 ghost use Rattle.rr_instance.specs.Firsts.{first_token as first_token_of};
-ghost use Rattle.rr_instance.specs.View.{plain_kind};
+ghost use Rattle.rr_choice.specs.View.{plain_kind};
 ghost use Rattle.rr_respell.specs.Pieces.{puts};
 ghost use Rattle.rr_respell.specs.Printing.{body_pieces, gate_words};
 ghost use Rattle.rr_lex.specs.Patch.{new_mark};
@@ -15,7 +15,8 @@ ghost use Rattle.rr_patch.specs.Walks.{round_of, rounds as rounds_of};
 use crate::change::{Added, Change, Fixed};
 use crate::forms::put_all;
 use crate::statement::statement;
-use rr_instance::{Choice, Pick, SiteList, cut, first_token, picked_form, picked_name};
+use rr_choice::{Choice, Pick, SiteList, cut, picked_form, picked_name};
+use rr_instance::first_token;
 use rr_syntax::{Site, SiteKind, Stmt};
 use std::alloc::AllocError;
 

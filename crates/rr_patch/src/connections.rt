@@ -9,7 +9,7 @@ ghost use Rattle.rr_patch.specs.Walks.{Adds};
 
 use crate::change::Change;
 use crate::expression::{expression, expressions};
-use rr_instance::{Choice, SiteList};
+use rr_choice::{Choice, SiteList};
 use rr_syntax::{Connection, Conns, Instance};
 use std::alloc::AllocError;
 

@@ -8,8 +8,8 @@ ghost use Rattle.rr_respell.specs.Printing.{condition_pieces, more_pieces, tree_
 
 use crate::change::Change;
 use crate::forms::{close, literal, open};
+use rr_choice::{Choice, SiteList, find};
 use rr_expr::{first_token, infix_of, takes_constants};
-use rr_instance::{Choice, SiteList, find};
 use rr_syntax::{Expr, expression_len};
 use std::alloc::AllocError;
 

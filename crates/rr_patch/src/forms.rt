@@ -1,14 +1,14 @@
 //! The new tokens of literals and guards.
 
 ghost use Rattle.std.specs.Prelude.{◌≡◌, ◌++◌, ◌∷◌, [], map, false, IfOk};
-ghost use Rattle.rr_instance.specs.View.{plain_found};
+ghost use Rattle.rr_choice.specs.View.{plain_found};
 ghost use Rattle.rr_respell.specs.Pieces.{puts};
 ghost use Rattle.rr_respell.specs.Printing.{literal_pieces};
 ghost use Rattle.rr_patch.specs.Changes.{changes, plain_added, plain_changes};
 ghost use Rattle.rr_patch.specs.Walks.{closed, closed_form, opened, opened_form};
 
 use crate::change::{Added, Change, Fixed};
-use rr_instance::{Found, cut, guard_names, picked_form, picked_name};
+use rr_choice::{Found, cut, guard_names, picked_form, picked_name};
 use rr_syntax::Number;
 use std::alloc::AllocError;
 

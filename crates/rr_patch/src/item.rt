@@ -12,8 +12,8 @@ use crate::body::body;
 use crate::change::Change;
 use crate::connections::children;
 use crate::expression::expression;
+use rr_choice::{Choice, SiteList};
 use rr_expr::first_token;
-use rr_instance::{Choice, SiteList};
 use rr_syntax::{Item, NetName, Pair, events_len, expression_len};
 use std::alloc::AllocError;
 

@@ -12,7 +12,7 @@ ghost use Rattle.rr_respell.specs.Stretches.{StandsWhole};
 
 use crate::patch::patch;
 use crate::source::declarations;
-use rr_instance::{Choice, SiteList};
+use rr_choice::{Choice, SiteList};
 use rr_syntax::{Source, Token};
 use std::alloc::{AllocError, Global};
 

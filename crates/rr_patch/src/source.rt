@@ -9,7 +9,7 @@ ghost use Rattle.rr_patch.specs.Walks.{Adds, ItemAt, ModuleAt};
 
 use crate::change::Change;
 use crate::item::item;
-use rr_instance::{Choice, SiteList};
+use rr_choice::{Choice, SiteList};
 use rr_syntax::{Item, Module};
 use std::alloc::AllocError;
 

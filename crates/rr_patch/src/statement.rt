@@ -8,7 +8,7 @@ ghost use Rattle.rr_respell.specs.Printing.{arms_pieces, label_pieces, statement
 
 use crate::change::Change;
 use crate::expression::{condition, expression, expressions};
-use rr_instance::{Choice, SiteList};
+use rr_choice::{Choice, SiteList};
 use rr_syntax::{Arm, Expr, Named, Stmt, expression_len};
 use std::alloc::AllocError;
 

@@ -3,7 +3,7 @@
 ghost use Rattle.std.specs.Prelude.{◌≡◌};
 
 use bumpalo::Bump;
-use rr_instance::{Choice, Pick, SiteList, are_listed};
+use rr_choice::{Choice, Pick, SiteList, are_listed};
 use rr_lex::{lex, words_of_tokens};
 use rr_parse::parse;
 use rr_patch::print;

@@ -17,11 +17,11 @@ use Rattle.rr_run.specs.declared.fault.RunFault.{RunFault}
 use Rattle.rr_run.specs.declared.fault.RunFault.TheVariants as run_fault
 use Rattle.rr_run.specs.Refusals.{TooMany, StopsWhere as RunStops}
 use Rattle.rr_run.specs.Runs.{RefusesTable}
-use Rattle.rr_instance.specs.declared.pick.Pick.{Pick}
-use Rattle.rr_instance.specs.Choices.{cost, total_bits, IsChoice}
+use Rattle.rr_choice.specs.declared.pick.Pick.{Pick}
+use Rattle.rr_choice.specs.Choices.{cost, total_bits, IsChoice}
 use Rattle.rr_instance.specs.Instances.{instance_source}
-use Rattle.rr_instance.specs.Sites.{Site, IsSiteList}
-use Rattle.rr_instance.specs.View.{plain_site, plain_sites}
+use Rattle.rr_choice.specs.Sites.{Site, IsSiteList}
+use Rattle.rr_choice.specs.View.{plain_site, plain_sites}
 use Rattle.rr_instance_laws.proofs.Few.{bits_are_few}
 use Rattle.rr_registers.specs.Registers.{registers_of}
 use Rattle.rr_blast.specs.Circuits.{bit_count}

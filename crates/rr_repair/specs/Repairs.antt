@@ -17,10 +17,10 @@ use Rattle.rr_trace.specs.Tables.{Table, table_of}
 use Rattle.rr_trace.specs.Tops.{ports_of}
 use Rattle.rr_run.specs.Refusals.{Refusal as RunRefusal, TooMany}
 use Rattle.rr_run.specs.Runs.{RefusesTable}
-use Rattle.rr_instance.specs.declared.pick.Pick.{Pick}
-use Rattle.rr_instance.specs.Choices.{cost, IsChoice}
+use Rattle.rr_choice.specs.declared.pick.Pick.{Pick}
+use Rattle.rr_choice.specs.Choices.{cost, IsChoice}
 use Rattle.rr_instance.specs.Instances.{instance_source}
-use Rattle.rr_instance.specs.Sites.{Site}
+use Rattle.rr_choice.specs.Sites.{Site}
 use Rattle.rr_members.specs.Searched.{IsSpent}
 use Rattle.rr_respell.specs.Printing.{printed}
 use Rattle.rr_changes.specs.Texts.{report}

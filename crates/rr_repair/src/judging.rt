@@ -24,7 +24,7 @@ use crate::working::{count_row, work_of};
 use bumpalo::Bump;
 use rr_answers::{beyond, left_open, repaired, unchanged};
 use rr_blast::transition;
-use rr_instance::SiteList;
+use rr_choice::SiteList;
 use rr_registers::register_bits;
 use rr_report::{Found, Refusal, Stop, stop_of};
 use rr_run::{LawfulDesign, Limit, Refusal as RunRefusal, RunFault, lawful_design, read_rows};

@@ -7,9 +7,9 @@ use Rattle.rr_lex.specs.Tokens.{Lexeme}
 use Rattle.rr_flat.specs.Plain.{Flat}
 use Rattle.rr_flat.specs.declared.fault.Limit.TheVariants as limit
 use Rattle.rr_elaborate.proofs.Once.{one_text as one_tree}
-use Rattle.rr_instance.specs.declared.pick.Pick.{Pick}
-use Rattle.rr_instance.specs.Choices.{cost, IsChoice}
-use Rattle.rr_instance.specs.Sites.{Site, value_width}
+use Rattle.rr_choice.specs.declared.pick.Pick.{Pick}
+use Rattle.rr_choice.specs.Choices.{cost, IsChoice}
+use Rattle.rr_choice.specs.Sites.{Site, value_width}
 use Rattle.rr_instance_laws.proofs.OffLaws.{keeps_at_no_cost}
 use Rattle.rr_trace.specs.Tables.{Table, table_of}
 use Rattle.rr_trace.specs.Tops.{ports_of}

@@ -2,7 +2,7 @@
 use Rattle.std.specs.Prelude.{◌≡◌, ◌⊎◌, ℕ, List}
 use Rattle.rr_syntax.specs.Tree.{SourceText}
 use Rattle.rr_lex.specs.Tokens.{Lexeme}
-use Rattle.rr_instance.specs.Sites.{Site}
+use Rattle.rr_choice.specs.Sites.{Site}
 use Rattle.rr_trace.specs.Tables.{Table}
 use Rattle.rr_run.specs.Refusals.{Refusal as RunRefusal}
 use Rattle.rr_run.specs.Runs.{IsSameRefusal}

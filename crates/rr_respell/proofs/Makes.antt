@@ -4,7 +4,7 @@ use Rattle.std.specs.List.{Contains}
 use Rattle.rr_syntax.specs.Words.{Word}
 use Rattle.rr_lex.specs.Tokens.{IsSound}
 use Rattle.rr_lex.specs.Patch.{New, new_literal, new_keyword, new_mark, new_name, new_words}
-use Rattle.rr_instance.specs.Sites.{SiteKind, Site, Literal, Guard, Overwrite}
+use Rattle.rr_choice.specs.Sites.{SiteKind, Site, Literal, Guard, Overwrite}
 use Rattle.rr_respell.specs.Pieces.{Piece, Kept, Replaced, Put, kept, puts, source_words, printed_words}
 
 -- P holds of each new token, of one in the place of a token of a source where that is a token of a text

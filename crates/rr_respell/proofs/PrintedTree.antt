@@ -12,9 +12,9 @@ use Rattle.rr_lex.specs.Patch.{New, IsNew, IsNewUnquoted, IsNewBefore, AllNew, I
 use Rattle.rr_lex.proofs.Fresh.{keyword_new, mark_new, name_new, literal_new}
 use Rattle.rr_lex.proofs.Patches.{patch_words}
 use Rattle.rr_lex.proofs.Sound.{words_sound}
-use Rattle.rr_instance.specs.declared.pick.Pick.{Pick}
-use Rattle.rr_instance.specs.Sites as sites
-use Rattle.rr_instance.specs.Sites.{SiteKind, Site, HasFitWidth, FitWidths}
+use Rattle.rr_choice.specs.declared.pick.Pick.{Pick}
+use Rattle.rr_choice.specs.Sites as sites
+use Rattle.rr_choice.specs.Sites.{SiteKind, Site, HasFitWidth, FitWidths}
 use Rattle.rr_instance.specs.Instances.{instance_source}
 use Rattle.rr_instance_laws.proofs.RuleLaws.{all_rules_stay}
 use Rattle.rr_respell.specs.Pieces.{Piece, Kept, Replaced, Put, source_words, printed_words, run_of, edits}

@@ -13,11 +13,13 @@ use Rattle.rr_expr.specs.Faults.{takes_constants}
 use Rattle.rr_expr.specs.Operators.{infixes}
 use Rattle.rr_lex.specs.Patch as lex
 use Rattle.rr_lex.specs.Patch.{New, new_keyword, new_mark, new_name}
-use Rattle.rr_instance.specs.declared.pick.Pick.{Pick}
-use Rattle.rr_instance.specs.Sites as sites
-use Rattle.rr_instance.specs.Sites.{SiteKind, Site, guard_names}
+use Rattle.rr_choice.specs.declared.pick.Pick.{Pick}
+use Rattle.rr_choice.specs.Sites as sites
+use Rattle.rr_choice.specs.Sites.{SiteKind, Site, guard_names}
 use Rattle.rr_instance.specs.Firsts.{first_token}
-use Rattle.rr_instance.specs.Instances.{find_pick, is_literal_at, is_guard_of, is_overwrite_at, picked_form, picked_name}
+use Rattle.rr_choice.specs.Choices.{picked_form, picked_name}
+use Rattle.rr_choice.specs.Places.{find_pick, is_literal_at, is_overwrite_at}
+use Rattle.rr_instance.specs.Instances.{is_guard_of}
 use Rattle.rr_respell.specs.Pieces.{Piece, Kept, Replaced, Put, kept, puts}
 use Rattle.rr_respell.specs.Printing.{literal_pieces, bracketed, negated_name, guarded_pieces, test_pieces, tree_pieces, part_pieces, more_pieces, condition_pieces, label_pieces, statement_pieces, statements_pieces, arm_pieces, arms_pieces, gate_words, last_assignment, overwritten_pieces, new_body_pieces, all_overwritten_pieces, body_pieces, separated_pieces, all_pieces, value_pieces, net_pieces, pair_pieces, optional_pieces, connection_pieces, connections_pieces, child_pieces, item_pieces, module_pieces, source_pieces}
 use Rattle.rr_respell.proofs.TreeMakes.{tree_makes}

@@ -8,11 +8,13 @@ use Rattle.rr_syntax.specs.Statements.{spell_label, spell_labels, spell_statemen
 use Rattle.rr_syntax.specs.Items.{spell_each, spell_separated, spell_all, spell_type, spell_events, spell_overrides, spell_value, spell_net, spell_pair, spell_optional, spell_connection, spell_connections, spell_instance, spell_item, spell_parameters, spell_ports, spell_module, spell_source}
 use Rattle.rr_lex.specs.Patch as lex
 use Rattle.rr_lex.specs.Patch.{New, new_keyword, new_mark, new_name, new_words}
-use Rattle.rr_instance.specs.declared.pick.Pick.{Pick}
-use Rattle.rr_instance.specs.Sites as sites
-use Rattle.rr_instance.specs.Sites.{SiteKind, Site, guard_names}
+use Rattle.rr_choice.specs.declared.pick.Pick.{Pick}
+use Rattle.rr_choice.specs.Sites as sites
+use Rattle.rr_choice.specs.Sites.{SiteKind, Site, guard_names}
 use Rattle.rr_instance.specs.Firsts.{first_token}
-use Rattle.rr_instance.specs.Instances.{fresh, unsigned_number, picked_form, picked_name, named, negated, gate, followed, overwritten, new_body, is_overwrite_at, all_overwritten, instance_tree, instance_parts, instance_statement, instance_statements, instance_arm, instance_arms, instance_body, instance_value, instance_net, instance_pair, instance_connection, instance_connections, instance_child, instance_item, instance_module, instance_source}
+use Rattle.rr_choice.specs.Choices.{picked_form, picked_name}
+use Rattle.rr_choice.specs.Places.{is_overwrite_at}
+use Rattle.rr_instance.specs.Instances.{fresh, unsigned_number, named, negated, gate, followed, overwritten, new_body, all_overwritten, instance_tree, instance_parts, instance_statement, instance_statements, instance_arm, instance_arms, instance_body, instance_value, instance_net, instance_pair, instance_connection, instance_connections, instance_child, instance_item, instance_module, instance_source}
 use Rattle.rr_instance_laws.proofs.Rounds.{picked_is_one}
 use Rattle.rr_respell.specs.Pieces.{Piece, Put, puts}
 use Rattle.rr_respell.specs.Printing.{negated_name, label_pieces, statement_pieces, statements_pieces, arm_pieces, arms_pieces, gate_words, last_assignment, overwritten_pieces, new_body_pieces, all_overwritten_pieces, body_pieces, each_pieces, separated_pieces, all_pieces, value_pieces, net_pieces, pair_pieces, optional_pieces, connection_pieces, connections_pieces, child_pieces, item_pieces, module_pieces, source_pieces}

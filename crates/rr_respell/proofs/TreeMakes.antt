@@ -11,10 +11,12 @@ use Rattle.rr_expr.specs.Faults.{takes_constants}
 use Rattle.rr_expr.specs.Operators.{infixes}
 use Rattle.rr_lex.specs.Patch as lex
 use Rattle.rr_lex.specs.Patch.{New, new_keyword, new_mark, new_name, new_words}
-use Rattle.rr_instance.specs.declared.pick.Pick.{Pick}
-use Rattle.rr_instance.specs.Sites as sites
-use Rattle.rr_instance.specs.Sites.{SiteKind, Site, Guard, Overwrite, guard_names}
-use Rattle.rr_instance.specs.Instances.{find_pick, is_literal_at, is_guard_of, fresh, number_with, new_literal, picked_form, picked_name, named, negated, guarded, new_test, instance_tree, instance_parts, instance_test}
+use Rattle.rr_choice.specs.declared.pick.Pick.{Pick}
+use Rattle.rr_choice.specs.Sites as sites
+use Rattle.rr_choice.specs.Sites.{SiteKind, Site, Guard, Overwrite, guard_names}
+use Rattle.rr_choice.specs.Choices.{picked_form, picked_name}
+use Rattle.rr_choice.specs.Places.{find_pick, is_literal_at}
+use Rattle.rr_instance.specs.Instances.{is_guard_of, fresh, number_with, new_literal, named, negated, guarded, new_test, instance_tree, instance_parts, instance_test}
 use Rattle.rr_instance_laws.proofs.Rounds.{picked_is_one}
 use Rattle.rr_respell.specs.Pieces.{Piece, Kept, Replaced, Put, kept, puts}
 use Rattle.rr_respell.specs.Printing.{literal_pieces, bracketed, negated_name, guarded_pieces, test_pieces, condition_pieces, tree_pieces, part_pieces, more_pieces}

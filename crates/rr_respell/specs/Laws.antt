@@ -5,8 +5,8 @@ use Rattle.rr_syntax.specs.Tree.{SourceText}
 use Rattle.rr_syntax.specs.Items.{spell_source}
 use Rattle.rr_lex.specs.Patch.{IsNameText}
 use Rattle.rr_grammar.specs.Trees.{IsTree}
-use Rattle.rr_instance.specs.declared.pick.Pick.{Pick}
-use Rattle.rr_instance.specs.Sites.{SiteKind, Site, Literal, Guard, Overwrite, FitWidths}
+use Rattle.rr_choice.specs.declared.pick.Pick.{Pick}
+use Rattle.rr_choice.specs.Sites.{SiteKind, Site, Literal, Guard, Overwrite, FitWidths}
 use Rattle.rr_instance.specs.Instances.{instance_source}
 use Rattle.rr_respell.specs.Pieces.{source_words, printed_words}
 use Rattle.rr_respell.specs.Printing.{source_pieces, edits_of, printed}

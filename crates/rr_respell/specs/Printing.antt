@@ -12,11 +12,13 @@ use Rattle.rr_expr.specs.Faults.{takes_constants}
 use Rattle.rr_expr.specs.Operators.{infixes}
 use Rattle.rr_lex.specs.Tokens.{Lexeme}
 use Rattle.rr_lex.specs.Patch.{New, Edit, new_literal, new_keyword, new_mark, new_name, patched}
-use Rattle.rr_instance.specs.declared.pick.Pick.{Pick}
-use Rattle.rr_instance.specs.Sites as sites
-use Rattle.rr_instance.specs.Sites.{SiteKind, Site, guard_names}
+use Rattle.rr_choice.specs.declared.pick.Pick.{Pick}
+use Rattle.rr_choice.specs.Sites as sites
+use Rattle.rr_choice.specs.Sites.{SiteKind, Site, guard_names}
 use Rattle.rr_instance.specs.Firsts.{first_token}
-use Rattle.rr_instance.specs.Instances.{find_pick, is_literal_at, is_guard_of, is_overwrite_at, picked_form, picked_name}
+use Rattle.rr_choice.specs.Choices.{picked_form, picked_name}
+use Rattle.rr_choice.specs.Places.{find_pick, is_literal_at, is_overwrite_at}
+use Rattle.rr_instance.specs.Instances.{is_guard_of}
 use Rattle.rr_respell.specs.Pieces.{Piece, Kept, Replaced, Put, kept, puts, edits}
 
 -- a literal, with the value of a pick cut to its width

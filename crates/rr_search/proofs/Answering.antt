@@ -5,9 +5,9 @@ use Rattle.std.proofs.lemmas.List.Sums.{count_by-le-length}
 use Rattle.rr_circuit.specs.Values.{OutputNetlist}
 use Rattle.rr_derive.specs.Derive.{Step}
 use Rattle.rr_encode.proofs.CodeLaws.{free_zeros, length_choice}
-use Rattle.rr_instance.specs.declared.pick.Pick.{Pick}
-use Rattle.rr_instance.specs.Choices.{cost, decode, total_bits, IsChoice}
-use Rattle.rr_instance.specs.Sites.{Site}
+use Rattle.rr_choice.specs.declared.pick.Pick.{Pick}
+use Rattle.rr_choice.specs.Choices.{cost, decode, total_bits, IsChoice}
+use Rattle.rr_choice.specs.Sites.{Site}
 use Rattle.rr_instance_laws.proofs.DecodeLaws.{decoded_choice}
 use Rattle.rr_transition.specs.Cycles.{Design, instance_design}
 use Rattle.rr_unroll.specs.Matches.{Matches}

@@ -13,9 +13,9 @@ use Rattle.rr_derive.proofs.Soundness.{unsatisfiable}
 use Rattle.rr_members.specs.Searched.{IsSpent}
 use Rattle.rr_solver.specs.Outcomes.{AreLines}
 use Rattle.rr_solver.specs.Searches.{IsModel, given as value_of}
-use Rattle.rr_instance.specs.declared.pick.Pick.{Pick}
-use Rattle.rr_instance.specs.Choices.{cost, decode, total_bits, IsChoice}
-use Rattle.rr_instance.specs.Sites.{Site, FewNames}
+use Rattle.rr_choice.specs.declared.pick.Pick.{Pick}
+use Rattle.rr_choice.specs.Choices.{cost, decode, total_bits, IsChoice}
+use Rattle.rr_choice.specs.Sites.{Site, FewNames}
 use Rattle.rr_instance_laws.proofs.DecodeLaws.{every_choice, decoded_choice}
 use Rattle.rr_instance_laws.proofs.OffLaws.{keeps_at_no_cost}
 use Rattle.rr_count.specs.Counts.{true_count, is_at_most}

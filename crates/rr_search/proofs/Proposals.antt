@@ -3,10 +3,10 @@ use Rattle.std.proofs.Common.{◌≡◌, ◌⊎◌, inl, inr, ℕ, ◌+◌, ◌<
 use Rattle.std.specs.Prelude.{Option, Some, None}
 use Rattle.std.proofs.lemmas.Bool.{cases_lt}
 use Rattle.std.proofs.lemmas.List.{get_or-map, length-map}
-use Rattle.rr_instance.specs.declared.pick.Choice.{Choice}
-use Rattle.rr_instance.specs.declared.pick.Pick.{Pick}
-use Rattle.rr_instance.specs.Choices.{cost, IsChoice}
-use Rattle.rr_instance.specs.Sites.{Site}
+use Rattle.rr_choice.specs.declared.pick.Choice.{Choice}
+use Rattle.rr_choice.specs.declared.pick.Pick.{Pick}
+use Rattle.rr_choice.specs.Choices.{cost, IsChoice}
+use Rattle.rr_choice.specs.Sites.{Site}
 use Rattle.rr_transition.specs.Cycles.{Design}
 use Rattle.rr_search.specs.Answers.{Task, IsOf, Mends, plain_choices}
 use Rattle.rr_search.specs.Asked.{IsCheapest, IsMending, choice_at}

@@ -3,10 +3,10 @@
 use Rattle.std.specs.Prelude.{◌≡◌, ℕ, ◌-◌, ◌<◌, ◌≤◌, List, length, map}
 use Rattle.rr_circuit.specs.Values.{OutputNetlist}
 use Rattle.rr_derive.specs.Derive.{Step, Refutes}
-use Rattle.rr_instance.specs.declared.pick.Choice.{Choice}
-use Rattle.rr_instance.specs.declared.pick.Pick.{Pick}
-use Rattle.rr_instance.specs.Choices.{cost, total_bits, IsChoice}
-use Rattle.rr_instance.specs.Sites.{Site}
+use Rattle.rr_choice.specs.declared.pick.Choice.{Choice}
+use Rattle.rr_choice.specs.declared.pick.Pick.{Pick}
+use Rattle.rr_choice.specs.Choices.{cost, total_bits, IsChoice}
+use Rattle.rr_choice.specs.Sites.{Site}
 use Rattle.rr_members.specs.Searched.{IsSpent}
 use Rattle.rr_search.specs.declared.answer.Answer.{Answer}
 use Rattle.rr_search.specs.declared.answer.Answer.TheVariants.{Unchanged, Repair, NoRepair, Spent}

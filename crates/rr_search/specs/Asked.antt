@@ -2,8 +2,8 @@
 use Rattle.std.specs.Prelude.{ℕ, ◌<◌, ◌≤◌, List, [], length, get_or, Option, None, Some}
 use Rattle.rr_circuit.specs.Values.{OutputNetlist}
 use Rattle.rr_derive.specs.Derive.{Step}
-use Rattle.rr_instance.specs.declared.pick.Pick.{Pick}
-use Rattle.rr_instance.specs.Choices.{cost, IsChoice}
+use Rattle.rr_choice.specs.declared.pick.Pick.{Pick}
+use Rattle.rr_choice.specs.Choices.{cost, IsChoice}
 use Rattle.rr_members.specs.Searched.{IsSpent}
 use Rattle.rr_search.specs.declared.asking.Asked.{Asked}
 use Rattle.rr_search.specs.declared.asking.Asked.TheVariants.{Mended, Refuted, Open}

@@ -1,9 +1,9 @@
 -- The least repair of a design: the fewest changes of its sites that make it run as a table expects. No search and no circuit
 -- stands in it.
 use Rattle.std.specs.Prelude.{◌≡◌, ℕ, ◌≤◌, List}
-use Rattle.rr_instance.specs.declared.pick.Pick.{Pick}
-use Rattle.rr_instance.specs.Choices.{cost, IsChoice}
-use Rattle.rr_instance.specs.Sites.{Site}
+use Rattle.rr_choice.specs.declared.pick.Pick.{Pick}
+use Rattle.rr_choice.specs.Choices.{cost, IsChoice}
+use Rattle.rr_choice.specs.Sites.{Site}
 use Rattle.rr_trace.specs.Tables.{Table}
 use Rattle.rr_transition.specs.Cycles.{Design, instance_design}
 use Rattle.rr_unroll.specs.Matches.{Matches}

@@ -1,8 +1,8 @@
 //! What is asked, and what is answered.
 
+use rr_choice::{Choice, SiteList};
 use rr_circuit::Circuit;
 use rr_derive::Journal;
-use rr_instance::{Choice, SiteList};
 use rr_trace::Table;
 use rr_transition::Transition;
 

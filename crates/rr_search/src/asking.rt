@@ -1,15 +1,15 @@
 //! One question.
 
 ghost use Rattle.std.specs.Prelude.{◌≡◌, ◌<◌, IfOk, drop, length, take};
-ghost use Rattle.rr_instance.specs.Choices.{decode as decode_of, total_bits};
-ghost use Rattle.rr_instance.specs.Sites.{IsSiteList};
+ghost use Rattle.rr_choice.specs.Choices.{decode as decode_of, total_bits};
+ghost use Rattle.rr_choice.specs.Sites.{IsSiteList};
 ghost use Rattle.rr_search.specs.Answers.{IsTask, task_of};
 ghost use Rattle.rr_search.specs.Asked.{AskedIs};
 
 use crate::answer::Job;
+use rr_choice::{Choice, decode};
 use rr_circuit::Circuit;
 use rr_derive::Journal;
-use rr_instance::{Choice, decode};
 use rr_members::{OpenGate, solve};
 use rr_solver::Outcome;
 use rr_tseitin::formula_of;

@@ -1,16 +1,16 @@
 //! Choices that are tested over the whole table.
 
 ghost use Rattle.std.specs.Prelude.{◌≡◌, ◌≤◌, ◌<◌, ◌+◌, ◌^◌, ◌↔◌, All, IfOk, IsTrue, length};
-ghost use Rattle.rr_instance.specs.Choices.{IsChoice, cost as cost_of};
-ghost use Rattle.rr_instance.specs.Sites.{IsSiteList};
+ghost use Rattle.rr_choice.specs.Choices.{IsChoice, cost as cost_of};
+ghost use Rattle.rr_choice.specs.Sites.{IsSiteList};
 ghost use Rattle.rr_transition.specs.Cycles.{Design};
 ghost use Rattle.rr_unroll.specs.Matches.{Matches};
 ghost use Rattle.rr_search.specs.Answers.{IsOf, IsTask, Mends, plain_choices, task_of};
 ghost use Rattle.rr_search.specs.Asked.{IsCheapest};
 
 use crate::answer::Job;
+use rr_choice::{Choice, cost};
 use rr_encode::encode;
-use rr_instance::{Choice, cost};
 use rr_unroll::judges;
 use std::alloc::{AllocError, Global};
 

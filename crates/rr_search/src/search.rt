@@ -1,7 +1,7 @@
 //! The search for a least repair: bounds on the cost, downwards.
 
 ghost use Rattle.std.specs.Prelude.{◌≡◌, ◌≤◌, ◌↔◌, All, IfOk};
-ghost use Rattle.rr_instance.specs.Choices.{IsChoice, cost};
+ghost use Rattle.rr_choice.specs.Choices.{IsChoice, cost};
 ghost use Rattle.rr_transition.specs.Cycles.{Design};
 ghost use Rattle.rr_unroll.specs.Matches.{Matches};
 ghost use Rattle.rr_search.specs.Answers.{AnswerIs, IsOf, IsOpenBelow, IsTask, IsUnchanged, Mends, plain_choices, task_of};
@@ -10,7 +10,7 @@ ghost use Rattle.rr_search.specs.Asked.{AreFaulty, IsMending};
 use crate::answer::{Answer, Job};
 use crate::asking::{Asked, ask};
 use crate::judging::{cheapest, cost_in, matches, site_count};
-use rr_instance::Choice;
+use rr_choice::Choice;
 use std::alloc::{AllocError, Global};
 use std::thread::Threads;
 

@@ -1,6 +1,6 @@
 -- what a search for two or three literals of one bit asks
 use Rattle.std.proofs.Common.{◌≡◌, ◌≤◌, [], ◌∷◌, refl, sym, ◌∙◌, ap}
-use Rattle.rr_instance.specs.Choices.{total_bits}
+use Rattle.rr_choice.specs.Choices.{total_bits}
 use Rattle.rr_search.specs.Answers.{Task, IsTask}
 use Rattle.rr_transition.specs.Cycles.{switch_places}
 use Rattle.rr_search_tests.specs.Literals.{bit_at}

@@ -1,6 +1,6 @@
 -- The sites of the tests.
 use Rattle.std.specs.Prelude.{ℕ, false}
-use Rattle.rr_instance.specs.Sites.{Site, Literal}
+use Rattle.rr_choice.specs.Sites.{Site, Literal}
 
 -- a literal of one bit without a sign
 abbrev pub bit_at : ℕ → Site

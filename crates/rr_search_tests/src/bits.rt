@@ -1,7 +1,7 @@
 //! The bits that write a choice.
 
+use rr_choice::{SiteList, are_listed, decode};
 use rr_encode::encode;
-use rr_instance::{SiteList, are_listed, decode};
 use rr_instance_laws::choice_laws;
 use rr_syntax::{Site, SiteKind};
 use std::alloc::Global;

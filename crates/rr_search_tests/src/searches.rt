@@ -8,11 +8,11 @@
 //! word; its output is 1 where some literal differs from its input.
 
 ghost use Rattle.std.specs.Prelude.{◌≡◌, ◌≤◌, ◌∷◌, [], IfOk};
-ghost use Rattle.rr_instance.specs.View.{plain_site};
+ghost use Rattle.rr_choice.specs.View.{plain_site};
 ghost use Rattle.rr_search_tests.specs.Literals.{bit_at};
 
+use rr_choice::{SiteList, are_listed};
 use rr_circuit::read_aag;
-use rr_instance::{SiteList, are_listed};
 use rr_search::{Answer, Job, least};
 use rr_syntax::{Site, SiteKind};
 use rr_trace::{Cell, Table};

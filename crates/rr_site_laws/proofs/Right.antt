@@ -17,8 +17,8 @@ use Rattle.rr_flat.specs.Writers.{scope_at}
 use Rattle.rr_flat_instance.specs.Owned.{InEach}
 use Rattle.rr_flat_instance.specs.Places.{owner_at, HasWidth}
 use Rattle.rr_instance.specs.Firsts.{first_token}
-use Rattle.rr_instance.specs.Sites as sites
-use Rattle.rr_instance.specs.Sites.{SiteKind, Site, guard_names}
+use Rattle.rr_choice.specs.Sites as sites
+use Rattle.rr_choice.specs.Sites.{SiteKind, Site, guard_names}
 use Rattle.rr_lawful_instance.specs.Listed.{is_clocked as runs_at_edges, MayGuardIf, items_of, no_item, item_at, item_start, TargetFits, IsRight, KindIsRight}
 use Rattle.rr_lawful_instance.proofs.Lists.{both, by_element, holds_of}
 use Rattle.rr_lawful_instance.proofs.Origins.{From}

@@ -7,8 +7,8 @@ use Rattle.rr_flat.specs.Plain.{Flat}
 use Rattle.rr_walk.specs.Walk.{flat_of}
 use Rattle.rr_flat.specs.Writers.{scope_at}
 use Rattle.rr_flat_instance.specs.Owned.{IsDeclared, KindFits}
-use Rattle.rr_instance.specs.Sites as sites
-use Rattle.rr_instance.specs.Sites.{SiteKind, Site, guard_names}
+use Rattle.rr_choice.specs.Sites as sites
+use Rattle.rr_choice.specs.Sites.{SiteKind, Site, guard_names}
 use Rattle.rr_instance_laws.specs.Truth.{IsScalar}
 use Rattle.rr_lawful_instance.specs.Listed.{is_clocked, item_at, MayGuardIf, IsRight, KindIsRight}
 use Rattle.rr_lawful_instance.proofs.Listing.{stands_within}

@@ -8,9 +8,9 @@ use Rattle.rr_flat.specs.Signals.{Text}
 use Rattle.rr_walk.specs.Walk.{module_at}
 use Rattle.rr_flat_instance.specs.Owned.{start_of}
 use Rattle.rr_flat_instance.proofs.Spans as span
-use Rattle.rr_instance.specs.Instances.{is_literal, is_overwrite}
-use Rattle.rr_instance.specs.Sites as sites
-use Rattle.rr_instance.specs.Sites.{Site}
+use Rattle.rr_choice.specs.Places.{is_literal, is_overwrite}
+use Rattle.rr_choice.specs.Sites as sites
+use Rattle.rr_choice.specs.Sites.{Site}
 use Rattle.rr_walk.proofs.HeadOf.{all_append as both}
 use Rattle.rr_literal.specs.Literals.{is_known, literal_at, literal_sites}
 use Rattle.rr_spots.specs.Spots.{Spot, Body, Test, Value, spots_of_item, is_clocked}

@@ -15,8 +15,8 @@ use Rattle.rr_expr.specs.Faults.{first, takes_constants}
 use Rattle.rr_expr.specs.Operators.{infixes}
 use Rattle.rr_expr.specs.Scopes.{Names as Scope}
 use Rattle.rr_flat.specs.Signals.{Text}
-use Rattle.rr_instance.specs.Sites as sites
-use Rattle.rr_instance.specs.Sites.{SiteKind, Site}
+use Rattle.rr_choice.specs.Sites as sites
+use Rattle.rr_choice.specs.Sites.{SiteKind, Site}
 use Rattle.rr_instance_laws.proofs.FirstLaws.{first_is}
 use Rattle.rr_flat_instance.proofs.Spans as span
 use Rattle.rr_walk.proofs.HeadOf.{all_append as both}

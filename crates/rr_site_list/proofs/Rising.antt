@@ -9,9 +9,9 @@ use Rattle.rr_expr.specs.Faults.{first, is_width}
 use Rattle.rr_expr.specs.Scopes.{Names}
 use Rattle.rr_flat.specs.Signals.{Text}
 use Rattle.rr_instance.specs.Firsts.{first_token}
-use Rattle.rr_instance.specs.Sites as sites
-use Rattle.rr_instance.specs.Sites.{SiteKind, Site, guard_names, HasWidth, IsSite, IsSiteList}
-use Rattle.rr_instance.proofs.Listed.{Rising, listed_of}
+use Rattle.rr_choice.specs.Sites as sites
+use Rattle.rr_choice.specs.Sites.{SiteKind, Site, guard_names, HasWidth, IsSite, IsSiteList}
+use Rattle.rr_choice.proofs.Listed.{Rising, listed_of}
 use Rattle.rr_spots.specs.Spots.{Spot, Body, Test, Value, is_clocked, spots_of_item}
 use Rattle.rr_literal.specs.Literals.{is_known}
 use Rattle.rr_guard.specs.Names.{guard_names as names_of_guards, first_names, names_at, texts_of, is_before}

@@ -13,8 +13,8 @@ use Rattle.rr_expr.specs.Scopes.{Names as Scope}
 use Rattle.rr_flat.specs.Signals.{Text}
 use Rattle.rr_walk.proofs.HeadOf.{all_append as both}
 use Rattle.rr_instance.specs.Firsts.{first_token}
-use Rattle.rr_instance.specs.Sites as sites
-use Rattle.rr_instance.specs.Sites.{SiteKind, Site}
+use Rattle.rr_choice.specs.Sites as sites
+use Rattle.rr_choice.specs.Sites.{SiteKind, Site}
 use Rattle.rr_spots.specs.Spots.{Spot, Body, Test, Value, spots, spots_of_parts, spots_of, spots_of_all, spots_of_arm, spots_of_arms, spots_of_value, spots_of_net, spots_of_pair, spots_of_connection, spots_of_connections, spots_of_instance, spots_of_item, is_clocked}
 use Rattle.rr_literal.specs.Literals.{is_known}
 use Rattle.rr_guard.specs.Names.{names_at}

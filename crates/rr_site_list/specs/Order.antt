@@ -8,9 +8,9 @@ use Rattle.rr_syntax.specs.Tree.{ModuleDeclaration, SourceText}
 use Rattle.rr_syntax.specs.Words.{Word, Digits, Marked}
 use Rattle.rr_expr.specs.Scopes.{Names}
 use Rattle.rr_flat.specs.Signals.{Text}
-use Rattle.rr_instance.specs.Instances.{is_literal, is_overwrite}
-use Rattle.rr_instance.specs.Sites as sites
-use Rattle.rr_instance.specs.Sites.{SiteKind, Site}
+use Rattle.rr_choice.specs.Places.{is_literal, is_overwrite}
+use Rattle.rr_choice.specs.Sites as sites
+use Rattle.rr_choice.specs.Sites.{SiteKind, Site}
 use Rattle.rr_literal.specs.Literals.{is_known, literal_sites}
 use Rattle.rr_guard.specs.Guards.{guard_sites}
 use Rattle.rr_overwrite.specs.Overwrites.{overwrite_sites}

@@ -6,8 +6,8 @@ ghost use Rattle.rr_clock.specs.View.{plain_place};
 ghost use Rattle.rr_listing.specs.Listing.{AreFitScopes, AreRising, sites_of};
 
 use bumpalo::Bump;
+use rr_choice::SiteList;
 use rr_expr::Scope;
-use rr_instance::SiteList;
 use rr_listing::listed;
 use rr_syntax::{ModulePlace, Source};
 use std::alloc::{AllocError, Global};

@@ -11,8 +11,8 @@ use Rattle.rr_flat.proofs.Lists.{all_index}
 use Rattle.rr_flat.specs.Signals.{Text}
 use Rattle.rr_walk.proofs.HeadOf.{all_append as both, all_weaker}
 use Rattle.rr_instance.specs.Firsts.{first_token}
-use Rattle.rr_instance.specs.Sites as sites
-use Rattle.rr_instance.specs.Sites.{Site}
+use Rattle.rr_choice.specs.Sites as sites
+use Rattle.rr_choice.specs.Sites.{Site}
 use Rattle.rr_spots.specs.Spots.{Spot, Body, Test, Value, is_clocked, spots_of_item}
 use Rattle.rr_literal.specs.Literals.{is_known, literal_at}
 use Rattle.rr_guard.specs.Guards.{guard_of}

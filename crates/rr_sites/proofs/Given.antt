@@ -14,7 +14,7 @@ use Rattle.rr_flat.specs.Signals.{Text}
 use Rattle.rr_walk.specs.Walk.{flat_of}
 use Rattle.rr_elaborate.specs.Designs.{IsDesignOf}
 use Rattle.rr_clock.specs.Places.{Place, ArePlaces}
-use Rattle.rr_instance.specs.Sites.{Site}
+use Rattle.rr_choice.specs.Sites.{Site}
 use Rattle.rr_lawful_instance.specs.Listed.{AreRight}
 use Rattle.rr_expr.specs.Scopes.{Names}
 use Rattle.rr_listing.specs.Listing.{AreFitScopes, sites_of}

@@ -9,7 +9,7 @@ use Rattle.rr_flat.specs.declared.fault.Limit.TheVariants as limit
 use Rattle.rr_walk.specs.Walk.{flat_of}
 use Rattle.rr_walk.proofs.HeadOf.{ok_is}
 use Rattle.rr_elaborate.proofs.Once.{one_text as one_tree}
-use Rattle.rr_instance.specs.Sites.{Site}
+use Rattle.rr_choice.specs.Sites.{Site}
 use Rattle.rr_lawful.proofs.ClockOnce.{one_clock}
 use Rattle.rr_run.specs.Refusals.{Refusal, TooMany}
 use Rattle.rr_run.specs.Runs.{IsLawfulDesign, IsSameRefusal, RefusesDesign}

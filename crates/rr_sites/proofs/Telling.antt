@@ -2,7 +2,7 @@
 use Rattle.std.proofs.Common.{◌≡◌, ◌∙◌, ℕ, zero, suc, ◌+◌, ◌<◌, List, [], ◌∷◌, ◌++◌, length, take, get_or, refl, sym, ap, arith, add-one, append_assoc, append-nil}
 use Rattle.rr_syntax.specs.declared.site.Site.{Site as ArenaSite}
 use Rattle.rr_lex.specs.Tokens.{Lexeme}
-use Rattle.rr_instance.specs.View.{plain_site, plain_sites}
+use Rattle.rr_choice.specs.View.{plain_site, plain_sites}
 use Rattle.rr_sites.specs.Lines.{site_line, site_lines}
 
 after_one : (ts : List Lexeme) (n : ℕ) (ss : List ArenaSite) (k : ℕ) (d : ArenaSite) → k < length ss →

@@ -7,8 +7,8 @@ use Rattle.rr_syntax.specs.Words.{Word, Named, System, Digits, Reserved, Marked}
 use Rattle.rr_lex.specs.Numbers.{text_of, literal_parts}
 use Rattle.rr_lex.specs.Tokens.{Lexeme}
 use Rattle.rr_elaborate.specs.Designs.{start_of}
-use Rattle.rr_instance.specs.Sites as sites
-use Rattle.rr_instance.specs.Sites.{SiteKind, Site}
+use Rattle.rr_choice.specs.Sites as sites
+use Rattle.rr_choice.specs.Sites.{SiteKind, Site}
 
 abbrev pub no_number : Number
 no_number = record { width = 1; signed = false; value = 0; any = 0; unknown = 0 }

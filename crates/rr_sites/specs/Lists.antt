@@ -8,7 +8,7 @@ use Rattle.rr_flat.specs.Plain.{Flat}
 use Rattle.rr_flat.specs.declared.fault.Limit.TheVariants as limit
 use Rattle.rr_elaborate.specs.Designs.{IsDesignOf}
 use Rattle.rr_clock.specs.Places.{Place, ArePlaces}
-use Rattle.rr_instance.specs.Sites.{Site}
+use Rattle.rr_choice.specs.Sites.{Site}
 use Rattle.rr_listing.specs.Listing.{sites_of}
 use Rattle.rr_run.specs.Refusals.{Refusal, TooMany}
 use Rattle.rr_run.specs.Runs.{RefusesDesign}

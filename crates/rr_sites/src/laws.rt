@@ -1,7 +1,7 @@
 //! Laws of lists of sites.
 ghost use Rattle.std.specs.Prelude.{◌≡◌, ℕ, List, Option};
 ghost use Rattle.rr_lex.specs.Tokens.{Lexeme};
-ghost use Rattle.rr_instance.specs.Sites.{Site};
+ghost use Rattle.rr_choice.specs.Sites.{Site};
 ghost use Rattle.rr_run.specs.Refusals.{Refusal};
 ghost use Rattle.rr_run.specs.Runs.{IsSameRefusal};
 ghost use Rattle.rr_sites.specs.Lists.{HasSites, IsSiteText, RefusesSites};

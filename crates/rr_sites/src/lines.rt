@@ -1,7 +1,7 @@
 //! The lines that tell sites.
 ghost use Rattle.std.specs.Prelude.{◌≡◌, ◌≤◌, ◌<◌, ◌^◌, ◌++◌, IfOk, OnOk, All};
 ghost use Rattle.rr_lex.specs.Tokens.{IsSound, lexemes, words_of};
-ghost use Rattle.rr_instance.specs.View.{plain_site, plain_sites};
+ghost use Rattle.rr_choice.specs.View.{plain_site, plain_sites};
 ghost use Rattle.rr_sites.specs.Lines.{guard_line, literal_line, number_at as number_of, overwrite_line, site_line, site_lines};
 
 use rr_elaborate::start_of;

@@ -16,9 +16,9 @@ ghost use Rattle.rr_sites.specs.Lists.{AreSites, HasManySites, IsFewText, IsSite
 
 use crate::lines::lines_of;
 use bumpalo::Bump;
+use rr_choice::SiteList;
 use rr_clock::clock_places;
 use rr_flat::Flat;
-use rr_instance::SiteList;
 use rr_run::{LawfulDesign, Limit, Refusal, RunFault, lawful_design};
 use rr_site_list::list_of;
 use rr_syntax::{Source, Token};

@@ -5,9 +5,9 @@ use Rattle.std.proofs.lemmas.List.Sums.{sum_by-cons}
 use Rattle.rr_flat.specs.Plain.{Flat}
 use Rattle.rr_flat.specs.declared.fault.FlatFault.{FlatFault}
 use Rattle.rr_walk.specs.Walk.{flat_of}
-use Rattle.rr_instance.specs.declared.pick.Pick.{Pick}
-use Rattle.rr_instance.specs.Choices.{cost, decode, read_pick, site_bits, total_bits}
-use Rattle.rr_instance.specs.Sites.{Site}
+use Rattle.rr_choice.specs.declared.pick.Pick.{Pick}
+use Rattle.rr_choice.specs.Choices.{cost, decode, read_pick, site_bits, total_bits}
+use Rattle.rr_choice.specs.Sites.{Site}
 use Rattle.rr_instance_laws.proofs.OffLaws.{keeps_at_no_cost}
 use Rattle.rr_trace.specs.Tables.{Table, table_of}
 use Rattle.rr_trace.specs.Tops.{ports_of}

@@ -4,7 +4,7 @@ ghost use Rattle.rr_syntax.specs.Tree.{SourceText};
 ghost use Rattle.rr_flat.specs.Plain.{Flat};
 ghost use Rattle.rr_flat.specs.Signals.{Text};
 ghost use Rattle.rr_walk.specs.Walk.{flat_of};
-ghost use Rattle.rr_instance.specs.Sites.{Site};
+ghost use Rattle.rr_choice.specs.Sites.{Site};
 ghost use Rattle.rr_trace.specs.Tables.{Table, table_of};
 ghost use Rattle.rr_trace.specs.Tops.{ports_of};
 ghost use Rattle.rr_transition.specs.Cycles.{Cycle, Design, widths_of};

@@ -16,9 +16,9 @@ use Rattle.rr_flat.specs.Plain.{Flat}
 use Rattle.rr_walk.specs.Tables.{add_module, instantiated_by, last_free}
 use Rattle.rr_walk.specs.Walk.{begin, enter, enter_by, flat_of, reached_from, top_ports}
 use Rattle.rr_flat.specs.Writers.{Writer, Driven, Clocked, Combinational, Writes, BitNames}
-use Rattle.rr_instance.specs.Choices.{decode, total_bits}
+use Rattle.rr_choice.specs.Choices.{decode, total_bits}
 use Rattle.rr_instance.specs.Instances.{instance_source, instance_module}
-use Rattle.rr_instance.specs.Sites.{Site}
+use Rattle.rr_choice.specs.Sites.{Site}
 use Rattle.rr_transition.specs.Cycles.{Design, Cycle, HasCycles, instance_design, switch_places}
 use Rattle.rr_transition.specs.Placed.{PerformsSteps}
 use Rattle.rr_transition.specs.Transitions.{Transition, IsTransition}

@@ -12,10 +12,10 @@ use Rattle.rr_walk.specs.Walk.{flat_of}
 use Rattle.rr_flat.specs.Inputs.{row_inputs}
 use Rattle.rr_cycle.specs.Cycles.{IsNext, Settled, signal_value}
 use Rattle.rr_cycle.specs.Exec.{Environment}
-use Rattle.rr_instance.specs.declared.pick.Pick.{Pick}
-use Rattle.rr_instance.specs.Choices.{decode, site_bits, total_bits}
+use Rattle.rr_choice.specs.declared.pick.Pick.{Pick}
+use Rattle.rr_choice.specs.Choices.{decode, site_bits, total_bits}
 use Rattle.rr_instance.specs.Instances.{instance_source}
-use Rattle.rr_instance.specs.Sites.{Site}
+use Rattle.rr_choice.specs.Sites.{Site}
 use Rattle.rr_transition.specs.Transitions.{Transition, cycle_bits}
 
 -- a source, with the word that names its top and the word that names its clock

@@ -4,7 +4,7 @@ ghost use Rattle.rr_expr.specs.declared.types.Bit.{Bit};
 ghost use Rattle.rr_flat.specs.declared.design.Step.{Step};
 ghost use Rattle.rr_flat.specs.Plain.{Flat};
 ghost use Rattle.rr_cycle.specs.Exec.{Environment};
-ghost use Rattle.rr_instance.specs.Sites.{Site};
+ghost use Rattle.rr_choice.specs.Sites.{Site};
 ghost use Rattle.rr_transition.specs.Cycles.{Cycle, Design, HasCycles, IsCycle};
 ghost use Rattle.rr_transition.specs.Placed.{HasCyclesOfBits, PerformsSteps};
 ghost use Rattle.rr_transition.specs.Transitions.{IsTransition, Transition};

@@ -15,9 +15,9 @@ use Rattle.rr_flat.specs.Writers.{entity_of_signal, signal_bits}
 use Rattle.rr_cycle.specs.Cycles.{Runs, ended, cycle, bit_value, outputs_of, signal_value, zeros}
 use Rattle.rr_cycle.specs.Exec.{Environment}
 use Rattle.rr_cycle.proofs.Wiring.{length_there}
-use Rattle.rr_instance.specs.Choices.{cost, decode, read_pick, site_bits, total_bits}
-use Rattle.rr_instance.specs.declared.pick.Pick.{Pick}
-use Rattle.rr_instance.specs.Sites.{Site}
+use Rattle.rr_choice.specs.Choices.{cost, decode, read_pick, site_bits, total_bits}
+use Rattle.rr_choice.specs.declared.pick.Pick.{Pick}
+use Rattle.rr_choice.specs.Sites.{Site}
 use Rattle.rr_trace.specs.declared.cell.Cell.{Cell}
 use Rattle.rr_trace.specs.Tables.{Table}
 use Rattle.rr_transition.specs.Cycles.{Design, IsCycle, Cycle, instance_design, output_bits, switch_places, widths_of}

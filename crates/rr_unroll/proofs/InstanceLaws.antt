@@ -1,7 +1,7 @@
 -- whether the instance of one choice matches
 use Rattle.std.proofs.Common.{◌≡◌, ◌↔◌, Bool, true, false, List, All, length, replicate, subst, ◌∙◌}
-use Rattle.rr_instance.specs.Choices.{decode}
-use Rattle.rr_instance.specs.Sites.{Site}
+use Rattle.rr_choice.specs.Choices.{decode}
+use Rattle.rr_choice.specs.Sites.{Site}
 use Rattle.rr_trace.specs.Tables.{Table}
 use Rattle.rr_transition.specs.Cycles.{Cycle, Design, instance_design}
 use Rattle.rr_transition.specs.Transitions.{Transition}

@@ -3,8 +3,8 @@ use Rattle.std.specs.Prelude.{◌≡◌, ℕ, List, [], ◌∷◌, ◌++◌, Boo
 use Rattle.rr_circuit.specs.Values.{OutputNetlist, output_values, given}
 use Rattle.rr_flat.specs.Plain.{Flat}
 use Rattle.rr_cycle.specs.Cycles.{Run}
-use Rattle.rr_instance.specs.Choices.{cost, decode, total_bits}
-use Rattle.rr_instance.specs.Sites.{Site}
+use Rattle.rr_choice.specs.Choices.{cost, decode, total_bits}
+use Rattle.rr_choice.specs.Sites.{Site}
 use Rattle.rr_trace.specs.Tables.{Table}
 use Rattle.rr_transition.specs.Cycles.{Design, IsLawfulFlat, instance_design, widths_of}
 use Rattle.rr_unroll.specs.Questions.{agreed}

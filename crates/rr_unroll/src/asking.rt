@@ -3,7 +3,7 @@
 ghost use Rattle.std.specs.Prelude.{◌≡◌, ℕ, [], ◌∷◌, ◌++◌, Bool, false, List, IfOk, length, replicate};
 ghost use Rattle.rr_circuit.specs.Values.{output_values, given};
 ghost use Rattle.rr_count.specs.Counts.{is_at_most};
-ghost use Rattle.rr_instance.specs.Sites.{Site};
+ghost use Rattle.rr_choice.specs.Sites.{Site};
 ghost use Rattle.rr_trace.specs.View.{plain_table};
 ghost use Rattle.rr_transition.specs.Cycles.{Cycle, Design};
 ghost use Rattle.rr_unroll.specs.Faithful.{Faithful};

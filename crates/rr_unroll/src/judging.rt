@@ -2,8 +2,8 @@
 
 ghost use Rattle.std.specs.Prelude.{◌≡◌, ◌↔◌, ◌+◌, ◌&&◌, Bool, not, true, false, All, IfOk, OnOk, IsTrue, List, length, drop, replicate, take};
 ghost use Rattle.std.specs.List.{list_all, sum};
-ghost use Rattle.rr_instance.specs.Choices.{decode};
-ghost use Rattle.rr_instance.specs.Sites.{Site};
+ghost use Rattle.rr_choice.specs.Choices.{decode};
+ghost use Rattle.rr_choice.specs.Sites.{Site};
 ghost use Rattle.rr_trace.specs.View.{plain_table};
 ghost use Rattle.rr_transition.specs.Cycles.{Cycle, Design, instance_design};
 ghost use Rattle.rr_transition.specs.Transitions.{cycle_bits};

@@ -1,6 +1,6 @@
 use Rattle.std.proofs.Common.{◌≡◌, ◌+◌, ◌++◌, drop}
-use Rattle.rr_instance.specs.Choices.{total_bits}
-use Rattle.rr_instance.specs.View.{plain_sites}
+use Rattle.rr_choice.specs.Choices.{total_bits}
+use Rattle.rr_choice.specs.View.{plain_sites}
 use Rattle.rr_transition.specs.Cycles.{switch_places}
 use Rattle.rr_blast.proofs.making.switches.Given as goal
 

@@ -1,7 +1,7 @@
 use Rattle.std.proofs.Common.{◌∙◌, sym, ap, Bool, ℕ, List, cond}
 use Rattle.rr_syntax.specs.Tree.{Statement}
 use Rattle.rr_syntax.specs.View.{plain_statement}
-use Rattle.rr_instance.specs.declared.pick.Pick.{Pick}
+use Rattle.rr_choice.specs.declared.pick.Pick.{Pick}
 use Rattle.rr_instance.specs.Firsts.{first_token}
 use Rattle.rr_instance.specs.Instances.{instance_statement}
 use Rattle.rr_blast_body.specs.Overwrites.{sites_ran}

@@ -7,10 +7,10 @@ use Rattle.rr_circuit.proofs.Netlists.{AreWires-extends, Extends-refl, Extends-t
 use Rattle.rr_syntax.specs.declared.site.Site.{Site as ArenaSite}
 use Rattle.rr_syntax.specs.declared.site.SiteKind.TheVariants as kind
 use Rattle.rr_syntax.specs.View.{plain_statement}
-use Rattle.rr_instance.specs.Choices.{decode, read_pick, site_bits, total_bits}
+use Rattle.rr_choice.specs.Choices.{decode, read_pick, site_bits, total_bits}
 use Rattle.rr_instance.specs.Firsts.{first_token}
-use Rattle.rr_instance.specs.Sites.{IsSite, Site}
-use Rattle.rr_instance.specs.View.{plain_site, plain_sites}
+use Rattle.rr_choice.specs.Sites.{IsSite, Site}
+use Rattle.rr_choice.specs.View.{plain_site, plain_sites}
 use Rattle.rr_blast_sites.proofs.FindLaws.{plain_at, plain_count, site_at, total_more, total_none, total_room}
 use Rattle.rr_blast_stmt.specs.Running.{Values, held}
 use Rattle.rr_blast_body.specs.Overwrites.{site_ran, sites_ran}

@@ -1,9 +1,9 @@
 use Rattle.std.proofs.Common.{◌≡◌, ℕ, Bool, take, drop}
 use Rattle.rr_circuit.specs.Values.{Extends, wire_values}
 use Rattle.rr_syntax.specs.View.{plain_statement}
-use Rattle.rr_instance.specs.Choices.{decode, total_bits}
+use Rattle.rr_choice.specs.Choices.{decode, total_bits}
 use Rattle.rr_instance.specs.Firsts.{first_token}
-use Rattle.rr_instance.specs.View.{plain_sites}
+use Rattle.rr_choice.specs.View.{plain_sites}
 use Rattle.rr_machine.specs.Words.{widths_of}
 use Rattle.rr_blast_terms.specs.Choosing.{picks_of}
 use Rattle.rr_blast_stmt.specs.Running.{IsMachine, held}

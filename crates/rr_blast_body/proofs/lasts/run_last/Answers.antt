@@ -9,7 +9,8 @@ use Rattle.rr_expr.specs.declared.types.Bit.{Bit}
 use Rattle.rr_expr.specs.declared.types.Entity.TheVariants.{Signal}
 use Rattle.rr_expr.specs.Scopes.{meant, range_width}
 use Rattle.rr_flat.specs.Targets.{bits_there}
-use Rattle.rr_instance.specs.Instances.{gate, picked_form, picked_name}
+use Rattle.rr_choice.specs.Choices.{picked_form, picked_name}
+use Rattle.rr_instance.specs.Instances.{gate}
 use Rattle.rr_cycle.specs.Exec.{Environment, is_true, write}
 use Rattle.rr_machine.specs.declared.spots.Spot.{Spot}
 use Rattle.rr_machine.specs.Spots.{put_spots}

@@ -1,8 +1,8 @@
 use Rattle.std.proofs.Common.{◌∙◌, refl}
 use Rattle.rr_circuit.specs.Values.{wire_values}
 use Rattle.rr_syntax.specs.declared.site.SiteKind.TheVariants as kind
-use Rattle.rr_instance.specs.Choices.{read_pick}
-use Rattle.rr_instance.specs.View.{plain_site}
+use Rattle.rr_choice.specs.Choices.{read_pick}
+use Rattle.rr_choice.specs.View.{plain_site}
 use Rattle.rr_blast_stmt.specs.Running.{held}
 use Rattle.rr_blast_body.specs.declared.lasts.Last.{Last}
 use Rattle.rr_blast_body.proofs.LastLaws.{site_here, site_off, site_past}

@@ -1,5 +1,5 @@
 use Rattle.std.proofs.Common.{ap, ◌∙◌}
-use Rattle.rr_instance.specs.View.{plain_sites}
+use Rattle.rr_choice.specs.View.{plain_sites}
 use Rattle.rr_blast_sites.proofs.FindLaws.{empty_list}
 use Rattle.rr_blast_expr.proofs.operands.no_sites.Goals as goal
 

@@ -1,8 +1,8 @@
 use Rattle.std.proofs.Common.{◌≡◌, ◌<◌, false, ap, ◌∙◌, sym, take, get_or, arith, length}
 use Rattle.rr_syntax.specs.declared.site.SiteKind.TheVariants as kind
 use Rattle.rr_syntax.specs.declared.site.Site.{Site as ArenaSite}
-use Rattle.rr_instance.specs.Choices.{total_bits, site_bits}
-use Rattle.rr_instance.specs.View.{plain_site, plain_sites}
+use Rattle.rr_choice.specs.Choices.{total_bits, site_bits}
+use Rattle.rr_choice.specs.View.{plain_site, plain_sites}
 use Rattle.rr_blast_sites.proofs.FindLaws.{total_none, total_more, total_room, plain_at, plain_count, site_at}
 use Rattle.rr_blast_sites.proofs.finding.bits_before.Goals as goal
 

@@ -2,8 +2,8 @@ use Rattle.std.proofs.Common.{false, List, sym, ◌∙◌, ap, subst, arith}
 use Rattle.std.specs.List.{All}
 use Rattle.rr_syntax.specs.declared.site.SiteKind.TheVariants as kind
 use Rattle.rr_syntax.specs.declared.site.Site.{Site as ArenaSite}
-use Rattle.rr_instance.specs.Choices.{total_bits}
-use Rattle.rr_instance.specs.Sites.{Site, IsSite}
+use Rattle.rr_choice.specs.Choices.{total_bits}
+use Rattle.rr_choice.specs.Sites.{Site, IsSite}
 use Rattle.rr_blast_sites.specs.Finding.{extent_of}
 use Rattle.rr_blast_sites.proofs.FindLaws.{Missed-none, Missed-more, Missed-all, Missed-past, Missed-here}
 use Rattle.rr_blast_sites.proofs.finding.site_at.Goals as goal

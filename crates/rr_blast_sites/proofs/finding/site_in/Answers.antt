@@ -1,5 +1,5 @@
 use Rattle.std.proofs.Common.{ap, sym, ◌∙◌, arith}
-use Rattle.rr_instance.specs.Choices.{total_bits}
+use Rattle.rr_choice.specs.Choices.{total_bits}
 use Rattle.rr_blast_sites.proofs.FindLaws.{found_nowhere, found_in}
 use Rattle.rr_blast_sites.proofs.GrowthLaws.{listed_still, listed_all}
 use Rattle.rr_blast_sites.proofs.finding.site_in.Goals as goal

@@ -1,5 +1,5 @@
-use Rattle.rr_instance.specs.Instances.{is_literal_at}
-use Rattle.rr_instance.specs.View.{plain_site}
+use Rattle.rr_choice.specs.Places.{is_literal_at}
+use Rattle.rr_choice.specs.View.{plain_site}
 use Rattle.rr_blast_sites.proofs.SiteLaws.{switch_read}
 use Rattle.rr_blast_sites.proofs.sites.literal_changes.Goals as goal
 

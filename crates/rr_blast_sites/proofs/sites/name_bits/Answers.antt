@@ -1,5 +1,5 @@
 use Rattle.std.proofs.Common.{◌∙◌, ◌-◌, ap}
-use Rattle.rr_instance.specs.View.{plain_site}
+use Rattle.rr_choice.specs.View.{plain_site}
 use Rattle.rr_blast_sites.proofs.SiteLaws.{name_bits_of}
 use Rattle.rr_blast_sites.proofs.sites.name_bits.Goals as goal
 

@@ -5,7 +5,7 @@ use Rattle.rr_circuit.specs.declared.Wire.{Wire}
 use Rattle.rr_circuit.specs.Values.{wire_values}
 use Rattle.rr_flat.specs.Plain as plain
 use Rattle.rr_flat.specs.View.{plain_driver, plain_flat}
-use Rattle.rr_instance.specs.declared.pick.Pick.{Pick}
+use Rattle.rr_choice.specs.declared.pick.Pick.{Pick}
 use Rattle.rr_cycle.specs.Exec.{Environment}
 use Rattle.rr_machine.specs.declared.spots.Spot.{Spot}
 use Rattle.rr_blast_steps.specs.Designs.{driver_value_of, signal_widths}

@@ -3,7 +3,7 @@ use Rattle.rr_circuit.proofs.Netlists.{Extends-trans}
 use Rattle.rr_flat.specs.declared.design.Block.{Block}
 use Rattle.rr_flat.specs.Sound.{IsBlock}
 use Rattle.rr_flat.specs.View.{Design, plain_block, plain_flat}
-use Rattle.rr_instance.specs.declared.pick.Pick.{Pick}
+use Rattle.rr_choice.specs.declared.pick.Pick.{Pick}
 use Rattle.rr_blast_steps.specs.Designs.{ran_blocks}
 use Rattle.rr_flat_instance.specs.Flats.{instance_block, instance_flat}
 use Rattle.rr_blast_stmt.specs.Running.{Values, held}

@@ -9,7 +9,7 @@ use Rattle.std.specs.Prelude.{Vec}
 use Rattle.std.specs.Global.{Global}
 use Rattle.rr_circuit.specs.declared.Wire.{Wire}
 use Rattle.rr_flat.specs.Plain as plain
-use Rattle.rr_instance.specs.declared.pick.Pick.{Pick}
+use Rattle.rr_choice.specs.declared.pick.Pick.{Pick}
 use Rattle.rr_cycle.specs.Exec.{Environment}
 use Rattle.rr_blast_steps.specs.Designs.{driver_value_of}
 use Rattle.rr_flat_instance.specs.Flats.{instance_driver}

@@ -11,7 +11,7 @@ use Rattle.rr_syntax.specs.Tree.{Arms}
 use Rattle.rr_syntax.specs.View.{plain, plain_arms, plain_list, plain_statement}
 use Rattle.rr_expr.specs.Values.{value}
 use Rattle.rr_flat.proofs.Shaping.{clear}
-use Rattle.rr_instance.specs.declared.pick.Pick.{Pick}
+use Rattle.rr_choice.specs.declared.pick.Pick.{Pick}
 use Rattle.rr_instance.specs.Instances.{instance_arms, instance_parts, instance_statement, instance_test, instance_tree}
 use Rattle.rr_cycle.specs.Exec.{is_matched, is_true}
 use Rattle.rr_exec.proofs.Loops.{arm_body_shaped, arm_labels_shaped, narrow_labels_at, shaped_at}

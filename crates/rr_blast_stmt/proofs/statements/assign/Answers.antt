@@ -7,7 +7,7 @@ use Rattle.rr_circuit.proofs.Netlists.{Extends-trans}
 use Rattle.rr_syntax.specs.Tree.{Tree, Assign}
 use Rattle.rr_syntax.specs.View.{plain}
 use Rattle.rr_flat.specs.Targets.{target_bits}
-use Rattle.rr_instance.specs.declared.pick.Pick.{Pick}
+use Rattle.rr_choice.specs.declared.pick.Pick.{Pick}
 use Rattle.rr_instance.specs.Instances.{instance_tree}
 use Rattle.rr_cycle.specs.Exec.{Environment, assigned, write}
 use Rattle.rr_machine.specs.declared.spots.Spot.{Spot}

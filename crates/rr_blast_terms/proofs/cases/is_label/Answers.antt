@@ -4,7 +4,7 @@ use Rattle.rr_circuit.specs.Values.{wire_value, wire_values}
 use Rattle.rr_circuit.proofs.Netlists.{Extends-trans, wire_values-extends}
 use Rattle.rr_syntax.specs.View.{plain}
 use Rattle.rr_expr.specs.Values.{value}
-use Rattle.rr_instance.specs.declared.pick.Pick.{Pick}
+use Rattle.rr_choice.specs.declared.pick.Pick.{Pick}
 use Rattle.rr_instance.specs.Instances.{instance_tree}
 use Rattle.rr_cycle.specs.Exec.{Environment, is_equal, wild}
 use Rattle.rr_target.proofs.Nodes.{shaped_positive}

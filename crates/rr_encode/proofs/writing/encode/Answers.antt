@@ -2,11 +2,11 @@ use Rattle.std.proofs.Common.{◌≡◌, ◌∙◌, ◌++◌, ◌+◌, ◌<◌, 
 use Rattle.std.proofs.lemmas.List.{length-map}
 use Rattle.rr_syntax.specs.declared.site.Site.{Site as ArenaSite}
 use Rattle.rr_syntax.specs.declared.site.SiteKind.TheVariants as kind
-use Rattle.rr_instance.specs.declared.pick.Pick.{Pick}
-use Rattle.rr_instance.specs.Choices.{decode, IsChoice}
-use Rattle.rr_instance.specs.Sites.{Site}
-use Rattle.rr_instance.specs.View.{plain_site, plain_sites}
-use Rattle.rr_instance.proofs.BitsRead.{site_fits}
+use Rattle.rr_choice.specs.declared.pick.Pick.{Pick}
+use Rattle.rr_choice.specs.Choices.{decode, IsChoice}
+use Rattle.rr_choice.specs.Sites.{Site}
+use Rattle.rr_choice.specs.View.{plain_site, plain_sites}
+use Rattle.rr_choice.proofs.BitsRead.{site_fits}
 use Rattle.rr_encode.specs.Codes.{code}
 use Rattle.rr_encode.proofs.CodeLaws.{code_more, code_all, decode_code, few_names, length_choice, length_code}
 use Rattle.rr_encode.proofs.writing.encode.Goals as goal

@@ -1,5 +1,5 @@
 use Rattle.std.proofs.Common.{◌≡◌, ◌++◌, drop}
-use Rattle.rr_instance.specs.View.{plain_sites}
+use Rattle.rr_choice.specs.View.{plain_sites}
 use Rattle.rr_encode.specs.Codes.{code}
 use Rattle.rr_encode.proofs.writing.encode.Given as goal
 

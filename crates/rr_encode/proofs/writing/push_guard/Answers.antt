@@ -1,7 +1,7 @@
 use Rattle.std.proofs.Common.{◌∙◌, ◌-◌, ◌++◌, length, ap, refl, sym, append-nil, append_assoc}
 use Rattle.std.proofs.lemmas.List.{length-map}
 use Rattle.rr_bits.specs.Words.{word}
-use Rattle.rr_instance.specs.View.{plain_kind, plain_site}
+use Rattle.rr_choice.specs.View.{plain_kind, plain_site}
 use Rattle.rr_encode.proofs.CodeLaws.{no_guard, some_guard}
 use Rattle.rr_encode.proofs.writing.push_guard.Goals as goal
 

@@ -3,11 +3,11 @@ use Rattle.std.proofs.lemmas.Grind.{common_steps}
 use Rattle.rr_syntax.specs.Tree.{Statement}
 use Rattle.rr_syntax.specs.View.{plain_statement}
 use Rattle.rr_syntax.specs.declared.site.SiteKind.TheVariants as kind
-use Rattle.rr_instance.specs.declared.pick.Pick.{Pick}
-use Rattle.rr_instance.specs.Sites.{Site, IsSiteList, IsFirstAt}
+use Rattle.rr_choice.specs.declared.pick.Pick.{Pick}
+use Rattle.rr_choice.specs.Sites.{Site, IsSiteList, IsFirstAt}
 use Rattle.rr_instance.specs.Instances.{all_overwritten}
-use Rattle.rr_instance.specs.View.{plain_sites}
-use Rattle.rr_instance.proofs.Finds.{overwritten_first, overwritten_after, overwritten_over, overwritten_end}
+use Rattle.rr_choice.specs.View.{plain_sites}
+use Rattle.rr_instance.proofs.Overwrites.{overwritten_first, overwritten_after, overwritten_over, overwritten_end}
 use Rattle.rr_instance.proofs.overwrite.all_overwritten.Goals as goal
 
 pub loop-i-init : goal.loop-i-init

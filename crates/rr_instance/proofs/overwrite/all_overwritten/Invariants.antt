@@ -1,7 +1,7 @@
 use Rattle.std.proofs.Common.{◌≡◌, ◌≤◌, ◌-◌, min, length, drop}
 use Rattle.rr_syntax.specs.View.{plain_statement}
 use Rattle.rr_instance.specs.Instances.{all_overwritten}
-use Rattle.rr_instance.specs.View.{plain_sites}
+use Rattle.rr_choice.specs.View.{plain_sites}
 use Rattle.rr_instance.proofs.overwrite.all_overwritten.Given as goal
 
 abbrev pub invariant-loop-i : goal.invariant-loop-i

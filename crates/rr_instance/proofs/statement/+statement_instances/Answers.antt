@@ -26,8 +26,8 @@ statements-loop-stmt-preserved t c =
 pub case_arms-loop-arm-init : goal.case_arms-loop-arm-init
 case_arms-loop-arm-init t c = arms_none c.args.sites.now c.args.choice.now.picks.items c.new-list.result.items c.new-list.ensures.items
 
-pub case_arms-expressions-requires : goal.case_arms-expressions-requires
-case_arms-expressions-requires t c =
+pub case_arms-expression_instances-requires : goal.case_arms-expression_instances-requires
+case_arms-expression_instances-requires t c =
     let f = c.requires.fits in
     let w = sum_within cases_len case_len cases_sum c.args.arms.now c.loop-arm.arm-index c.arm-item.result c.loop-arm-test.true c.arm-item.is in
     let l = labels_within (plain_list c.arm-item.result.labels.now) c.arm-item.result.colon in

@@ -1,6 +1,6 @@
 use Rattle.std.proofs.Common.{length, ap, arith}
 use Rattle.std.proofs.lemmas.List.{length-map}
-use Rattle.rr_instance.specs.View.{plain_site}
+use Rattle.rr_choice.specs.View.{plain_site}
 use Rattle.rr_instance_tests.proofs.instances.decoded.Goals as goal
 
 pub bits-requires : goal.bits-requires

@@ -1,6 +1,6 @@
 use Rattle.std.proofs.Common.{◌∙◌, ap, ◌++◌, map}
 use Rattle.rr_syntax.specs.View.{plain_identifier}
-use Rattle.rr_instance.specs.View.{plain_sites}
+use Rattle.rr_choice.specs.View.{plain_sites}
 use Rattle.rr_spots.specs.Spots.{HasFewTokens}
 use Rattle.rr_spots.specs.View.{plain_spot}
 use Rattle.rr_spots.proofs.Walks.{one_more, all_done, flat_map_map}

@@ -1,7 +1,7 @@
 use Rattle.std.proofs.Common.{◌∙◌, sym, ap, subst, ◌++◌}
 use Rattle.std.specs.List.{AllByRecursion}
 use Rattle.rr_syntax.specs.View.{plain_item, plain_module, texts}
-use Rattle.rr_instance.specs.View.{plain_sites}
+use Rattle.rr_choice.specs.View.{plain_sites}
 use Rattle.rr_spots.specs.Spots.{AreCountable}
 use Rattle.rr_spots.proofs.Walks.{one_more, all_done, flat_map_map}
 use Rattle.rr_guard.proofs.Lists.{all_item, module_items}

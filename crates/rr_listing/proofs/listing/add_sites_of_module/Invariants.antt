@@ -1,7 +1,7 @@
 use Rattle.std.proofs.Common.{◌≡◌, ◌++◌, drop}
 use Rattle.std.specs.Prelude.{flat_map}
 use Rattle.rr_syntax.specs.View.{plain_item, plain_module, texts}
-use Rattle.rr_instance.specs.View.{plain_sites}
+use Rattle.rr_choice.specs.View.{plain_sites}
 use Rattle.rr_listing.specs.Listing.{item_sites}
 use Rattle.rr_listing.proofs.listing.add_sites_of_module.Given as goal
 

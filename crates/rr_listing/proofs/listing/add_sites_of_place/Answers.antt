@@ -1,7 +1,7 @@
 use Rattle.std.proofs.Common.{◌∙◌, sym, ap, subst, ◌++◌, append-nil}
 use Rattle.std.specs.List.{AllByRecursion}
 use Rattle.rr_syntax.specs.View.{plain_module}
-use Rattle.rr_instance.specs.View.{plain_sites}
+use Rattle.rr_choice.specs.View.{plain_sites}
 use Rattle.rr_spots.specs.Spots.{IsCountable}
 use Rattle.rr_guard.proofs.Lists.{all_item}
 use Rattle.rr_clock.specs.View.{plain_place}

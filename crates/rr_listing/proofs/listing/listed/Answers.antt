@@ -1,7 +1,7 @@
 use Rattle.std.proofs.Common.{◌∙◌, sym, ap, ◌++◌, map, drop}
 use Rattle.std.specs.Prelude.{flat_map}
 use Rattle.rr_syntax.specs.View.{plain_source}
-use Rattle.rr_instance.specs.View.{plain_sites}
+use Rattle.rr_choice.specs.View.{plain_sites}
 use Rattle.rr_spots.proofs.Walks.{one_more_at, all_done, flat_map_map}
 use Rattle.rr_guard.proofs.Lists.{all_at}
 use Rattle.rr_clock.specs.View.{plain_place}

@@ -1,7 +1,7 @@
 use Rattle.std.proofs.Common.{◌≡◌, ◌++◌, drop}
 use Rattle.std.specs.Prelude.{flat_map}
 use Rattle.rr_syntax.specs.View.{plain_source}
-use Rattle.rr_instance.specs.View.{plain_sites}
+use Rattle.rr_choice.specs.View.{plain_sites}
 use Rattle.rr_clock.specs.View.{plain_place}
 use Rattle.rr_listing.specs.Listing.{place_sites}
 use Rattle.rr_listing.proofs.listing.listed.Given as goal

@@ -1,7 +1,7 @@
 use Rattle.std.proofs.Common.{◌≡◌, ◌++◌, ◌∷◌, [], if◌then◌else◌, drop}
 use Rattle.std.specs.Prelude.{flat_map}
 use Rattle.rr_syntax.specs.View.{plain_statement, texts}
-use Rattle.rr_instance.specs.View.{plain_sites}
+use Rattle.rr_choice.specs.View.{plain_sites}
 use Rattle.rr_overwrite.specs.Overwrites.{overwrite_of}
 use Rattle.rr_overwrite.specs.Variables.{may_be, plain_whole}
 use Rattle.rr_overwrite.proofs.overwrites.add_overwrites_of.Given as goal

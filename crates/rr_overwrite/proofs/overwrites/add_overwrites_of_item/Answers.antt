@@ -1,7 +1,7 @@
 use Rattle.std.proofs.Common.{◌∙◌, ap, ◌++◌, map}
 use Rattle.std.specs.Prelude.{flat_map}
 use Rattle.rr_syntax.specs.View.{plain_identifier, plain_item}
-use Rattle.rr_instance.specs.View.{plain_sites}
+use Rattle.rr_choice.specs.View.{plain_sites}
 use Rattle.rr_spots.specs.Spots.{is_clocked, spots_of_item}
 use Rattle.rr_spots.specs.View.{plain_spots}
 use Rattle.rr_guard.specs.Names.{first_names, names_at}

@@ -1,4 +1,4 @@
-use Rattle.rr_instance.specs.View.{plain_kind}
+use Rattle.rr_choice.specs.View.{plain_kind}
 use Rattle.rr_patch.specs.Changes.{plain_changes}
 use Rattle.rr_patch.specs.Walks.{round_of}
 use Rattle.rr_patch.proofs.Bodies.{round_off}

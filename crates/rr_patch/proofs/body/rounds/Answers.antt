@@ -1,8 +1,8 @@
 use Rattle.std.proofs.Common.{◌++◌, false, List, sym, ap₂, ◌∙◌, subst, arith}
 use Rattle.std.proofs.lemmas.Grind.{common_steps}
 use Rattle.rr_syntax.specs.declared.site.SiteKind.TheVariants as kind
-use Rattle.rr_instance.specs.declared.pick.Pick.{Pick}
-use Rattle.rr_instance.specs.Sites.{Site, IsSiteList, IsFirstAt}
+use Rattle.rr_choice.specs.declared.pick.Pick.{Pick}
+use Rattle.rr_choice.specs.Sites.{Site, IsSiteList, IsFirstAt}
 use Rattle.rr_respell.specs.Pieces.{puts}
 use Rattle.rr_patch.specs.Changes.{changes, plain_changes}
 use Rattle.rr_patch.specs.Walks.{rounds}

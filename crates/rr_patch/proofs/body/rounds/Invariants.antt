@@ -1,6 +1,6 @@
 use Rattle.std.proofs.Common.{◌≡◌, ◌≤◌, ◌-◌, ◌++◌, min, length}
 use Rattle.rr_respell.specs.Pieces.{puts}
-use Rattle.rr_instance.specs.View.{plain_sites}
+use Rattle.rr_choice.specs.View.{plain_sites}
 use Rattle.rr_patch.specs.Changes.{changes, plain_changes}
 use Rattle.rr_patch.specs.Walks.{rounds}
 use Rattle.rr_patch.proofs.Bodies.{left_from}

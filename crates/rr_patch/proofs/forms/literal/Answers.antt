@@ -1,5 +1,5 @@
 use Rattle.std.proofs.Common.{◌++◌, ◌∙◌, ap, sym}
-use Rattle.rr_instance.specs.View.{plain_found, plain_site}
+use Rattle.rr_choice.specs.View.{plain_found, plain_site}
 use Rattle.rr_respell.specs.Printing.{literal_pieces}
 use Rattle.rr_patch.specs.Changes.{changes, plain_changes}
 use Rattle.rr_patch.proofs.Walks.{literal_on}

@@ -1,6 +1,6 @@
 use Rattle.std.proofs.Common.{◌≡◌, ℕ, ◌↔◌, ap, sym, subst, ◌∙◌, arith, Bool, true, false, List}
-use Rattle.rr_instance.specs.declared.pick.Pick.{Pick}
-use Rattle.rr_instance.specs.Choices.{cost, IsChoice}
+use Rattle.rr_choice.specs.declared.pick.Pick.{Pick}
+use Rattle.rr_choice.specs.Choices.{cost, IsChoice}
 use Rattle.rr_transition.specs.Cycles.{Design}
 use Rattle.rr_search.specs.Answers.{Task, task_of, plain_choices, IsOf, Mends}
 use Rattle.rr_search.specs.Asked.{IsCheapest, IsMending, choice_at}

@@ -1,9 +1,9 @@
 use Rattle.std.proofs.Common.{◌≡◌, ℕ, ◌≤◌, List, length, ap, arith}
 use Rattle.std.proofs.lemmas.List.{length-map}
 use Rattle.rr_syntax.specs.declared.site.Site.{Site as ArenaSite}
-use Rattle.rr_instance.specs.Choices.{total_bits}
-use Rattle.rr_instance.specs.Sites.{Site}
-use Rattle.rr_instance.specs.View.{plain_site, plain_sites}
+use Rattle.rr_choice.specs.Choices.{total_bits}
+use Rattle.rr_choice.specs.Sites.{Site}
+use Rattle.rr_choice.specs.View.{plain_site, plain_sites}
 use Rattle.rr_search.proofs.Answering.{few_sites}
 use Rattle.rr_search.proofs.judging.site_count.Goals as goal
 

@@ -1,5 +1,5 @@
 use Rattle.std.proofs.Common.{◌≡◌, ◌↔◌, Bool, true, false, length, sym, subst, ◌∙◌, ap, arith}
-use Rattle.rr_instance.specs.Choices.{cost}
+use Rattle.rr_choice.specs.Choices.{cost}
 use Rattle.rr_transition.specs.Cycles.{Design}
 use Rattle.rr_unroll.specs.Matches.{Matches}
 use Rattle.rr_search.specs.Answers.{Task, IsOf, plain_choices, task_of}

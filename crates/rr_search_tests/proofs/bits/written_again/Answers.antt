@@ -1,6 +1,6 @@
 use Rattle.std.proofs.Common.{length, ap, arith}
 use Rattle.std.proofs.lemmas.List.{length-map}
-use Rattle.rr_instance.specs.View.{plain_site}
+use Rattle.rr_choice.specs.View.{plain_site}
 use Rattle.rr_search_tests.proofs.bits.written_again.Goals as goal
 
 pub bits-requires : goal.bits-requires

@@ -1,6 +1,6 @@
 use Rattle.std.proofs.Common.{map, sym, subst}
 use Rattle.rr_syntax.specs.View.{plain_source}
-use Rattle.rr_instance.specs.Sites.{IsSiteList}
+use Rattle.rr_choice.specs.Sites.{IsSiteList}
 use Rattle.rr_clock.specs.View.{plain_place}
 use Rattle.rr_site_list.proofs.Rising.{sites_listed}
 use Rattle.rr_site_list.proofs.Short.{countable}

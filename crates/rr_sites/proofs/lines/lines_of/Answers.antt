@@ -3,7 +3,7 @@ use Rattle.std.proofs.lemmas.List.{take_all}
 use Rattle.rr_syntax.specs.declared.site.Site.{Site as ArenaSite}
 use Rattle.rr_syntax.specs.declared.site.SiteKind.TheVariants as kind
 use Rattle.rr_lex.specs.Tokens.{lexemes}
-use Rattle.rr_instance.specs.View.{plain_sites}
+use Rattle.rr_choice.specs.View.{plain_sites}
 use Rattle.rr_sites.specs.Lines.{site_lines}
 use Rattle.rr_sites.proofs.Telling.{line_more, no_lines}
 use Rattle.rr_sites.proofs.lines.lines_of.Goals as goal

@@ -1,6 +1,6 @@
 use Rattle.std.proofs.Common.{◌≡◌, take}
 use Rattle.rr_lex.specs.Tokens.{lexemes}
-use Rattle.rr_instance.specs.View.{plain_sites}
+use Rattle.rr_choice.specs.View.{plain_sites}
 use Rattle.rr_sites.specs.Lines.{site_lines}
 use Rattle.rr_sites.proofs.lines.lines_of.Given as goal
 

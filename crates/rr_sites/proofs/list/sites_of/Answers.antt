@@ -3,7 +3,7 @@ use Rattle.rr_flat.specs.View.{Design}
 use Rattle.rr_syntax.specs.View.{plain_source}
 use Rattle.rr_flat.specs.View.{plain_flat}
 use Rattle.rr_clock.specs.View.{plain_place}
-use Rattle.rr_instance.specs.Sites.{Site}
+use Rattle.rr_choice.specs.Sites.{Site}
 use Rattle.rr_lawful_instance.specs.Listed.{AreRight}
 use Rattle.rr_listing.specs.Listing.{sites_of as sites_in}
 use Rattle.rr_site_laws.proofs.Fit.{places_rise, scopes_fit}

@@ -1,0 +1,4 @@
+pub mod Sites
+pub mod Choices
+pub mod Places
+pub mod View

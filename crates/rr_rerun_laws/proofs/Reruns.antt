@@ -1,0 +1,163 @@
+-- What a repair prints is run again as the table expects.
+use Rattle.std.proofs.Common.{◌≡◌, ◌∙◌, ◌⊎◌, inl, inr, ℕ, List, length, sym, ap, subst, refl, Bool, Option, Ok}
+use Rattle.rr_syntax.specs.Tree.{SourceText, IsSameSource}
+use Rattle.rr_lex.specs.Tokens.{Lexeme}
+use Rattle.rr_grammar.specs.Trees.{IsTree}
+use Rattle.rr_grammar.proofs.OneSource.{unique_tree}
+use Rattle.rr_flat.specs.Clocks.{OneClock}
+use Rattle.rr_flat.specs.Lawful.{Lawful}
+use Rattle.rr_flat.specs.Plain.{Flat}
+use Rattle.rr_flat_bare.specs.Bare.{HasSameFlat, IsSameFlat}
+use Rattle.rr_bare_meaning.proofs.Clocking.{one_clock as same_clock}
+use Rattle.rr_bare_meaning.proofs.Lawfulness.{same_laws}
+use Rattle.rr_bare_meaning.proofs.Runs.{same_run}
+use Rattle.rr_walk.specs.Walk.{flat_of}
+use Rattle.rr_elaborate.specs.Designs.{IsText}
+use Rattle.rr_elaborate.proofs.Once.{one_text}
+use Rattle.rr_lawful.proofs.ClockOnce.{one_clock}
+use Rattle.rr_choice.specs.declared.pick.Pick.{Pick}
+use Rattle.rr_instance.specs.Instances.{instance_source}
+use Rattle.rr_choice.specs.Sites.{Site}
+use Rattle.rr_flat_instance.specs.Flats.{instance_flat}
+use Rattle.rr_flat_instance.specs.Places.{SitesFit}
+use Rattle.rr_flat_instance.proofs.Trees.{instances_flatten, instances_of_trees}
+use Rattle.rr_lawful_instance.specs.AreSites.{AreSitesOf}
+use Rattle.rr_lawful_instance.specs.Listed.{AreRight}
+use Rattle.rr_lawful_instance.proofs.Cycles.{listed_are_sites}
+use Rattle.rr_lawful_instance.proofs.Whole.{clock as clock_stays}
+use Rattle.rr_trace.specs.Misses.{AgreeRows}
+use Rattle.rr_trace.specs.Tables.{Table, table_of}
+use Rattle.rr_trace.specs.Tops.{ports_of}
+use Rattle.rr_trace.specs.Written.{table_text}
+use Rattle.rr_cycle.specs.Cycles.{Run}
+use Rattle.rr_transition.specs.Cycles.{Design, instance_design}
+use Rattle.rr_unroll.specs.Matches.{Matches}
+use Rattle.rr_sites.proofs.Given.{formed, numbered, right}
+use Rattle.rr_run.proofs.Once.{one_run}
+use Rattle.rr_report.specs.Found.{Answer}
+use Rattle.rr_repair.specs.Repairs.{IsRepaired, IsSited, IsTaken, IsUnchanged, Wish, design_of}
+use Rattle.rr_repair_laws.specs.Outcomes.{IsMended}
+use Rattle.rr_rerun_laws.specs.Reruns.{RunsRight, RunsAgain, RunAgrees}
+use Rattle.rr_rerun_laws.proofs.Ports.{instance_ports, same_ports}
+
+-- a flat design of the text, with the clock, whose run agrees
+record IsRight (w : Wish) (flat : Flat) (clock : Option ℕ) (rows : Table) : Type 0 where
+  lawful : Lawful flat w.clock
+  rising : Bool
+  one : OneClock flat w.clock clock rising
+  outputs : List (List ℕ)
+  run : Run flat clock rows.inputs outputs
+  agree : AgreeRows rows.expected outputs (length rows.expected)
+
+-- a design that matches is right with its one flat design and its one clock
+right_by : (w : Wish) (source : SourceText) (rows : Table) (flat : Flat) (clock : Option ℕ) (rising : Bool) → flat_of source w.top ≡ Ok flat → OneClock flat w.clock clock rising →
+    Matches (design_of w source) rows → IsRight w flat clock rows
+right_by w source rows flat clock rising e one m =
+    let oks : Ok m.flat ≡ Ok flat = sym m.design.design ∙ e in
+    let flats : m.flat ≡ flat = cc in
+    let its : OneClock flat w.clock m.clock m.design.rising = subst (λ (f : Flat). OneClock f w.clock m.clock m.design.rising) flats m.design.one_clock in
+    let clocks : m.clock ≡ clock = (one_clock flat w.clock m.clock clock m.design.rising rising its one).0 in
+    let run : Run flat m.clock rows.inputs m.outputs = subst (λ (f : Flat). Run f m.clock rows.inputs m.outputs) flats m.run in
+    record {
+      lawful = subst (λ (f : Flat). Lawful f w.clock) flats m.design.lawful;
+      rising = rising;
+      one = one;
+      outputs = m.outputs;
+      run = subst (λ (c : Option ℕ). Run flat c rows.inputs m.outputs) clocks run;
+      agree = m.agree;
+    }
+
+-- the same of a flat design that is equal without token numbers
+right_same : (w : Wish) (f g : Flat) (clock : Option ℕ) (rows : Table) → IsSameFlat f g → IsRight w f clock rows → IsRight w g clock rows
+right_same w f g clock rows same r = record {
+  lawful = same_laws f g w.clock same r.lawful;
+  rising = r.rising;
+  one = same_clock f g same w.clock clock r.rising r.one;
+  outputs = r.outputs;
+  run = same_run f g clock rows.inputs r.outputs same r.run;
+  agree = r.agree;
+}
+
+-- the run of a text with such a flat design
+told : (w : Wish) (bytes table : List ℕ) (ts : List Lexeme) (tree : SourceText) (flat : Flat) (clock : Option ℕ) (rows : Table) → IsText bytes ts tree → flat_of tree w.top ≡ Ok flat →
+    table_of (ports_of flat clock) table ≡ Ok rows → IsRight w flat clock rows → (text : List ℕ) × RunsRight bytes table w.top w.clock text
+told w bytes table ts tree flat clock rows x e read r = (
+  table_text (ports_of flat clock) rows.inputs r.outputs,
+  record {
+    tokens = ts;
+    flat = flat;
+    clock = clock;
+    rising = r.rising;
+    design = record { design = record { tree = tree; text = x; flat = e }; lawful = r.lawful; one_clock = r.one };
+    rows = rows;
+    read = read;
+    outputs = r.outputs;
+    run = r.run;
+    printed = refl;
+    agree = r.agree;
+  },
+)
+
+tree_of : (bytes : List ℕ) (ts : List Lexeme) (tree : SourceText) → IsText bytes ts tree → IsTree bytes tree
+tree_of bytes ts tree x = record { tokens = ts; are = x.lexed; spells = x.spells.tree.spells }
+
+module _ (w : Wish) (design table : List ℕ) (ts : List Lexeme) (source : SourceText) (sites : List Site) (rows : Table) (taken : IsTaken w design table ts source sites rows) where
+  F : Flat
+  F = taken.flat
+
+  s : IsSited w design ts source F taken.clock sites
+  s = taken.sited
+
+  its_right : AreRight source F w.clock sites
+  its_right =
+      right source w.top F (formed design ts source w.top F s.tree) (numbered design ts source w.top F s.tree) s.tree.flat w.clock taken.clock s.rising s.are.0 s.lawful s.one_clock s.are.1 sites s.are.2
+
+  fit : AreSitesOf F w.clock sites × SitesFit sites source F
+  fit = listed_are_sites source w.top F w.clock sites s.tree.flat s.lawful.targets its_right
+
+  -- printed as it is
+  unchanged : (answer : Answer) → IsUnchanged w design source rows answer → (us : List Lexeme) (tree : SourceText) → IsText answer.out us tree →
+      (text : List ℕ) × RunsRight answer.out table w.top w.clock text
+  unchanged answer u us tree x =
+      let again : IsText design us tree = subst (λ (b : List ℕ). IsText b us tree) u.printed x in
+      let same = one_text design us ts tree source again s.tree.text in
+      let flat : flat_of tree w.top ≡ Ok F = ap (λ (t : SourceText). flat_of t w.top) same.1 ∙ s.tree.flat in
+      told w answer.out table us tree F taken.clock rows x flat taken.read (right_by w source rows F taken.clock s.rising s.tree.flat s.one_clock u.matches)
+
+  -- printed with a choice
+  repaired : (answer : Answer) → IsRepaired w design ts source sites rows answer → (us : List Lexeme) (tree : SourceText) → IsText answer.out us tree →
+      (text : List ℕ) × RunsRight answer.out table w.top w.clock text
+  repaired answer r us tree x =
+      let same : IsSameSource (instance_source sites r.choice source) tree = unique_tree answer.out (instance_source sites r.choice source) tree r.tree (tree_of answer.out us tree x) in
+      let G : Flat = instance_flat sites r.choice F in
+      let has : HasSameFlat tree w.top G = instances_of_trees sites r.choice source tree w.top F s.tree.flat fit.1 same in
+      let is : flat_of (instance_source sites r.choice source) w.top ≡ Ok G = instances_flatten sites r.choice source w.top F s.tree.flat fit.1 in
+      let clock : OneClock G w.clock taken.clock s.rising = clock_stays taken.clock s.rising F w.clock sites r.choice fit.0 s.one_clock in
+      let good : IsRight w G taken.clock rows = right_by w (instance_source sites r.choice source) rows G taken.clock s.rising is clock r.matches in
+      let ports = sym (same_ports G has.flat taken.clock has.same) ∙ instance_ports F sites r.choice taken.clock in
+      told w answer.out table us tree has.flat taken.clock rows x has.is (ap (λ p. table_of p table) ports ∙ taken.read) (right_same w G has.flat taken.clock rows has.same good)
+
+pub runs_again : RunsAgain
+runs_again w design table answer m us tree x = go m.is
+  where
+    go : IsUnchanged w design m.source m.rows answer ⊎ IsRepaired w design m.tokens m.source m.sites m.rows answer → (text : List ℕ) × RunsRight answer.out table w.top w.clock text
+    go (inl u) = unchanged w design table m.tokens m.source m.sites m.rows m.taken answer u us tree x
+    go (inr r) = repaired w design table m.tokens m.source m.sites m.rows m.taken answer r us tree x
+
+is_run : (bytes table : List ℕ) (top word : Option (List ℕ)) (text : List ℕ) → RunsRight bytes table top word text → IsRun bytes table top word text
+is_run bytes table top word text r = record {
+  tokens = r.tokens;
+  flat = r.flat;
+  clock = r.clock;
+  rising = r.rising;
+  design = r.design;
+  rows = r.rows;
+  read = r.read;
+  gives = record { outputs = r.outputs; run = r.run; printed = r.printed };
+}
+
+pub run_agrees : RunAgrees
+run_agrees w design table answer m text r =
+    let again = runs_again w design table answer m r.tokens r.design.design.tree r.design.design.text in
+    let same : again.0 ≡ text = one_run answer.out table w.top w.clock again.0 text (is_run answer.out table w.top w.clock again.0 again.1) r in
+    subst (λ (t : List ℕ). RunsRight answer.out table w.top w.clock t) same again.1

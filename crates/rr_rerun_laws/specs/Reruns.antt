@@ -1,0 +1,41 @@
+-- What a repair prints, read and run again.
+use Rattle.std.specs.Prelude.{◌≡◌, ℕ, List, length, Bool, Option, Ok}
+use Rattle.rr_syntax.specs.Tree.{SourceText}
+use Rattle.rr_lex.specs.Tokens.{Lexeme}
+use Rattle.rr_flat.specs.Plain.{Flat}
+use Rattle.rr_elaborate.specs.Designs.{IsText}
+use Rattle.rr_trace.specs.Misses.{AgreeRows}
+use Rattle.rr_trace.specs.Tables.{Table, table_of}
+use Rattle.rr_trace.specs.Tops.{ports_of}
+use Rattle.rr_trace.specs.Written.{table_text}
+use Rattle.rr_cycle.specs.Cycles.{Run}
+use Rattle.rr_run.specs.Runs.{IsLawfulDesign, IsRun}
+use Rattle.rr_report.specs.Found.{Answer}
+use Rattle.rr_repair.specs.Repairs.{Wish}
+use Rattle.rr_repair_laws.specs.Outcomes.{IsMended}
+
+-- the bytes are a lawful design, and the text is the table of the rows with the outputs of its run on them, which equal each
+-- known cell of the table
+pub record RunsRight (bytes table : List ℕ) (top word : Option (List ℕ)) (text : List ℕ) : Type 0 where
+  pub tokens : List Lexeme
+  pub flat : Flat
+  pub clock : Option ℕ
+  pub rising : Bool
+  pub design : IsLawfulDesign bytes top word tokens flat clock rising
+  pub rows : Table
+  pub read : table_of (ports_of flat clock) table ≡ Ok rows
+  pub outputs : List (List ℕ)
+  pub run : Run flat clock rows.inputs outputs
+  pub printed : text ≡ table_text (ports_of flat clock) rows.inputs outputs
+  pub agree : AgreeRows rows.expected outputs (length rows.expected)
+
+-- Printed bytes that are read as a text, which is so where its tree is at most 500 deep, have such a run: no law and no table
+-- refuses them.
+abbrev pub RunsAgain : Type 0
+RunsAgain = (w : Wish) (design table : List ℕ) (answer : Answer) → IsMended w design table answer → (tokens : List Lexeme) (tree : SourceText) → IsText answer.out tokens tree →
+    (text : List ℕ) × RunsRight answer.out table w.top w.clock text
+
+-- and each run of them is such
+abbrev pub RunAgrees : Type 0
+RunAgrees = (w : Wish) (design table : List ℕ) (answer : Answer) → IsMended w design table answer → (text : List ℕ) → IsRun answer.out table w.top w.clock text →
+    RunsRight answer.out table w.top w.clock text

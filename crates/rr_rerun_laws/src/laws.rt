@@ -1,0 +1,9 @@
+//! The law of what a repair prints, as a contract of a function that does nothing.
+ghost use Rattle.rr_rerun_laws.specs.Reruns.{RunAgrees, RunsAgain};
+
+/// Where a repair prints a source, and its bytes are read as a text, they have a run on the table of the
+/// repair, which agrees with each known cell; and every run of them does.
+pub fn repair_then_run()
+    ensures again { RunsAgain }
+    ensures agrees { RunAgrees }
+{}
