@@ -9,8 +9,8 @@ use Rattle.rr_flat.specs.Signals.{Text}
 use Rattle.rr_flat_instance.specs.Owned.{start_of}
 use Rattle.rr_flat_instance.proofs.Spans as span
 use Rattle.rr_instance.specs.Firsts.{first_token}
-use Rattle.rr_instance.specs.Sites as sites
-use Rattle.rr_instance.specs.Sites.{SiteKind, Site}
+use Rattle.rr_choice.specs.Sites as sites
+use Rattle.rr_choice.specs.Sites.{SiteKind, Site}
 use Rattle.rr_spots.specs.Spots.{Spot, Body, Test, Value, spots_of, spots_of_item, is_clocked, has_edges}
 use Rattle.rr_literal.specs.Literals.{literal_at}
 use Rattle.rr_guard.specs.Names.{names_at}

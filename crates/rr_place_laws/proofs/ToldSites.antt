@@ -12,7 +12,7 @@ use Rattle.rr_flat.specs.Reads.{Assigned, assigned_by}
 use Rattle.rr_flat.specs.Signals.{Text}
 use Rattle.rr_flat_instance.proofs.Telling.{begins_at}
 use Rattle.rr_instance.specs.Firsts.{first_token}
-use Rattle.rr_instance.specs.Sites.{Site}
+use Rattle.rr_choice.specs.Sites.{Site}
 use Rattle.rr_instance_laws.proofs.FirstLaws.{first_is}
 use Rattle.rr_clock.specs.Places.{Place}
 use Rattle.rr_listing.specs.Listing.{AreRising, module_at}

@@ -7,8 +7,8 @@ use Rattle.rr_expr.specs.Faults.{first}
 use Rattle.rr_expr.specs.Scopes.{Names}
 use Rattle.rr_flat.specs.Signals.{Text}
 use Rattle.rr_instance.specs.Firsts.{first_token}
-use Rattle.rr_instance.specs.Sites as sites
-use Rattle.rr_instance.specs.Sites.{Site}
+use Rattle.rr_choice.specs.Sites as sites
+use Rattle.rr_choice.specs.Sites.{Site}
 use Rattle.rr_spots.specs.Spots.{has_edges, is_clocked}
 use Rattle.rr_overwrite.specs.Overwrites.{width_in}
 use Rattle.rr_clock.specs.Places.{Place}

@@ -4,7 +4,7 @@ use Rattle.rr_syntax.specs.Items.{spell_source, WellFormedModule, NumberedModule
 use Rattle.rr_syntax.specs.Tree.{ModuleDeclaration, SourceText}
 use Rattle.rr_expr.specs.Scopes.{Names}
 use Rattle.rr_flat.specs.Signals.{Text}
-use Rattle.rr_instance.specs.Sites.{Site}
+use Rattle.rr_choice.specs.Sites.{Site}
 use Rattle.rr_guard.specs.Names.{names_at}
 use Rattle.rr_clock.specs.Places.{Place}
 use Rattle.rr_listing.specs.Listing.{AreRising, sites_of}

@@ -5,8 +5,8 @@ use Rattle.std.specs.List.{AllByRecursion}
 use Rattle.rr_syntax.specs.Tree.{Statement, EventControl, Always, ModuleDeclaration, SourceText}
 use Rattle.rr_flat.specs.Signals.{Text}
 use Rattle.rr_instance.specs.Firsts.{first_token}
-use Rattle.rr_instance.specs.Sites as sites
-use Rattle.rr_instance.specs.Sites.{SiteKind, Site}
+use Rattle.rr_choice.specs.Sites as sites
+use Rattle.rr_choice.specs.Sites.{SiteKind, Site}
 use Rattle.rr_listing.specs.Listing.{module_at}
 use Rattle.rr_place_laws.specs.Targets.{IsFirstTarget}
 

@@ -6,7 +6,7 @@ use Rattle.rr_syntax.specs.Tree.{ModuleDeclaration}
 use Rattle.rr_syntax.specs.Words.{Word, Digits}
 use Rattle.rr_expr.specs.Scopes.{Names}
 use Rattle.rr_flat.specs.Signals.{Text}
-use Rattle.rr_instance.specs.Sites.{Site}
+use Rattle.rr_choice.specs.Sites.{Site}
 use Rattle.rr_place_laws.specs.Kinds.{IsSiteOf, literal, guard, overwrite}
 
 -- so many words of a list come before these
