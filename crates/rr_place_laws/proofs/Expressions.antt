@@ -8,7 +8,7 @@ use Rattle.rr_expr.specs.Faults.{takes_constants}
 use Rattle.rr_expr.specs.Operators.{infixes}
 use Rattle.rr_spots.specs.Spots.{Spot, Body, Test, Value, spots, spots_of_parts}
 use Rattle.rr_place_laws.specs.Inside.{IsPart, first_part, later_part, IsInside, itself, operand, left, right, condition, where_true, where_false, in_concatenation, in_replication, in_cast, in_brackets}
-use Rattle.rr_place_laws.proofs.Lists.{head_in, tail_in}
+use Rattle.rr_place_laws.proofs.Lists.{tail_in}
 
 -- Each spot is there
 

@@ -1,5 +1,5 @@
 -- The names that are listed for guards are those that may be one.
-use Rattle.std.proofs.Common.{◌≡◌, ◌⊎◌, inl, inr, ℕ, ◌<◌, ◌≤◌, Bool, true, false, not, ◌&&◌, ◌||◌, if◌then◌else◌, List, [], ◌∷◌, map, take, filter, flat_map, nat_lt, Contains, refl, sym, subst, ap, ◌∙◌, arith}
+use Rattle.std.proofs.Common.{◌≡◌, inl, inr, ℕ, ◌<◌, ◌≤◌, Bool, true, false, not, ◌&&◌, ◌||◌, if◌then◌else◌, List, [], map, take, filter, flat_map, Contains, refl, sym, subst, ap, ◌∙◌}
 use Rattle.std.specs.List.{list_any}
 use Rattle.std.specs.Str.{bytes_eq}
 use Rattle.std.proofs.lemmas.Bool.{and_parts, and_from, or_cases, or_left, or_right, both_ways, not-true, not_from_false, false_from_ne_true, ltb-true, lt-ltb, cases_Bool}
@@ -10,7 +10,7 @@ use Rattle.rr_flat.specs.Reads.{Assigned, assigned_by}
 use Rattle.rr_flat.specs.Signals.{Text}
 use Rattle.rr_flat.specs.Targets.{part_name}
 use Rattle.rr_spots.specs.Spots.{has_edges}
-use Rattle.rr_guard.specs.Names.{scalars, firsts, assigned_at_edges, whole_name, is_text, is_now, is_later, writes_now, writes_later, may_guard, guard_names, is_before, first_names, names_at, texts_of}
+use Rattle.rr_guard.specs.Names.{scalars, firsts, assigned_at_edges, whole_name, is_text, is_now, is_later, writes_now, writes_later, may_guard, guard_names, is_before, first_names, names_at}
 use Rattle.rr_place_laws.specs.Declarations.{IsScalar}
 use Rattle.rr_place_laws.specs.GuardNames.{MayGuard, Rising, AreNamesAt}
 use Rattle.rr_place_laws.specs.Laws.{NamesAreThese}

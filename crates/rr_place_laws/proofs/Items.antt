@@ -1,14 +1,11 @@
 -- The spots of an item are the body of an `always`, and the literals and tests that stand in it.
-use Rattle.std.proofs.Common.{◌≡◌, ◌⊎◌, inl, inr, ℕ, Bool, List, [], ◌∷◌, ◌++◌, flat_map, Option, Some, None, Contains, refl, sym, subst}
-use Rattle.std.specs.List.{AllByRecursion}
-use Rattle.rr_syntax.specs.declared.token.Number.{Number}
-use Rattle.rr_syntax.specs.Tree.{Tree, Trees, Literal, Cond, More, End, Statement, EventControl, NetIdentifier, NetAssignment, NamedConnection, Connections, Positions, Names, ModuleInstance, ModuleItem, Ports, Nets, Variables, Integers, Parameters, Assigns, Always, Instances}
+use Rattle.std.proofs.Common.{◌≡◌, inl, inr, ℕ, [], ◌++◌, Option, Some, None, Contains, refl, sym, subst}
+use Rattle.rr_syntax.specs.Tree.{Tree, Trees, Literal, Statement, EventControl, Connections, Positions, Names, ModuleItem, Ports, Nets, Variables, Integers, Parameters, Assigns, Always, Instances}
 use Rattle.rr_spots.specs.Spots.{Spot, Body, Test, Value, spots, spots_of, spots_of_parts, spots_of_value, spots_of_net, spots_of_pair, spots_of_connection, spots_of_connections, spots_of_instance, spots_of_item}
-use Rattle.rr_place_laws.specs.Inside.{IsInside}
-use Rattle.rr_place_laws.specs.Places.{IsCondition, StandsAt, IsConnected, in_order, by_name, IsPlace, of_net, of_assign, of_always, of_instance, Stands, IsTest, of_statement, of_conditional}
+use Rattle.rr_place_laws.specs.Places.{IsConnected, in_order, by_name, IsPlace, of_net, of_assign, of_always, of_instance, Stands, IsTest, of_statement, of_conditional}
 use Rattle.rr_place_laws.proofs.Lists.{head_in, tail_in, none_in, all_in, cases_in, flat_in, flat_from}
 use Rattle.rr_place_laws.proofs.Expressions.{IsSpotIn, IsSpotInPart, spots_inside, spots_inside_parts, inside_in, part_in}
-use Rattle.rr_place_laws.proofs.Statements.{StandsThere, IsSpotOf, spots_there, condition_in, place_in}
+use Rattle.rr_place_laws.proofs.Statements.{IsSpotOf, spots_there, condition_in, place_in}
 
 -- the body of an `always`
 pub record IsBody (body : Statement) (x : ModuleItem) : Type 0 where

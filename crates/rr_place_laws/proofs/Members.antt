@@ -1,7 +1,7 @@
 -- The sites that are listed of a module are the sites of the module.
-use Rattle.std.proofs.Common.{◌≡◌, ◌⊎◌, inl, inr, ℕ, zero, suc, ◌+◌, ◌<◌, Bool, true, false, ◌==◌, ◌&&◌, if◌then◌else◌, List, [], ◌∷◌, ◌++◌, length, map, filter, flat_map, Contains, refl, sym, subst, ap, ap₂, ◌∙◌, arith}
+use Rattle.std.proofs.Common.{◌≡◌, inl, inr, ℕ, zero, suc, ◌+◌, ◌<◌, Bool, true, false, ◌==◌, if◌then◌else◌, List, [], ◌∷◌, length, map, filter, Contains, refl, sym, subst, ap, ap₂, ◌∙◌, arith}
 use Rattle.std.specs.List.{AllByRecursion}
-use Rattle.std.proofs.lemmas.Bool.{and_parts, and_from, both_ways, eqb-true, eq-eqb}
+use Rattle.std.proofs.lemmas.Bool.{and_parts, and_from, eqb-true, eq-eqb}
 use Rattle.std.proofs.lemmas.List.Elements.{Contains-append_left, Contains-append_cases}
 use Rattle.rr_syntax.specs.declared.token.Number.{Number}
 use Rattle.rr_syntax.specs.Expressions.{spell}
@@ -21,7 +21,7 @@ use Rattle.rr_overwrite.specs.Overwrites.{Target, targets_of, may_overwrite, wid
 use Rattle.rr_clock.specs.Places.{Place}
 use Rattle.rr_listing.specs.Listing.{AreRising, module_at, scope_of, sites_at, item_sites, module_sites, place_sites, sites_of}
 use Rattle.rr_place_laws.specs.GuardNames.{AreNamesAt}
-use Rattle.rr_place_laws.specs.Kinds.{IsLiteralSite, IsGuardSite, IsOverwriteSite, IsSiteOf, literal, guard, overwrite, IsSite}
+use Rattle.rr_place_laws.specs.Kinds.{IsLiteralSite, IsGuardSite, IsOverwriteSite, IsSiteOf, literal, guard, overwrite}
 use Rattle.rr_place_laws.specs.Laws.{IsGiven, ListedAreSites, SitesAreListed}
 use Rattle.rr_place_laws.specs.Places.{Stands, IsTest}
 use Rattle.rr_place_laws.proofs.Declared.{may_from, may_in}

@@ -1,5 +1,5 @@
 -- The sites that are listed are in their order, each once.
-use Rattle.std.proofs.Common.{◌≡◌, ◌⊎◌, inl, inr, ℕ, zero, suc, ◌+◌, ◌<◌, ◌≤◌, Bool, true, false, if◌then◌else◌, List, [], ◌∷◌, ◌++◌, length, get_or, map, filter, flat_map, Contains, refl, sym, subst, ap, ◌∙◌, arith}
+use Rattle.std.proofs.Common.{◌≡◌, inl, inr, ℕ, zero, suc, ◌+◌, ◌<◌, ◌≤◌, Bool, List, [], ◌∷◌, ◌++◌, length, get_or, map, filter, flat_map, Contains, refl, sym, subst, arith}
 use Rattle.std.specs.List.{AllByRecursion}
 use Rattle.std.proofs.lemmas.List.Elements.{Contains-append_left, Contains-append_cases, Contains-get_or}
 use Rattle.rr_syntax.specs.Items.{spell_item, spell_parameters, spell_ports, spell_all, spell_module, WellFormedItem, WellFormedModule, WellFormedSource, NumberedAll, NumberedItem, NumberedModule, NumberedSource}
@@ -12,15 +12,14 @@ use Rattle.rr_instance.specs.Firsts.{first_token}
 use Rattle.rr_choice.specs.Sites as sites
 use Rattle.rr_choice.specs.Sites.{SiteKind, Site}
 use Rattle.rr_spots.specs.Spots.{Spot, Body, Test, Value, spots_of, spots_of_item, is_clocked, has_edges}
-use Rattle.rr_literal.specs.Literals.{literal_at}
 use Rattle.rr_guard.specs.Names.{names_at}
-use Rattle.rr_overwrite.specs.Overwrites.{Target, targets_of, may_overwrite, overwrite_of}
+use Rattle.rr_overwrite.specs.Overwrites.{targets_of, may_overwrite, overwrite_of}
 use Rattle.rr_clock.specs.Places.{Place}
 use Rattle.rr_listing.specs.Listing.{AreRising, module_at, scope_of, sites_at, item_sites, module_sites, place_sites, sites_of}
 use Rattle.rr_site_list.specs.Order.{ComesFirst, Precedes, InOrder}
-use Rattle.rr_site_list.proofs.Ordered.{Stays, items_in}
+use Rattle.rr_site_list.proofs.Ordered.{items_in}
 use Rattle.rr_site_list.proofs.Modules.{numbered_module, in_order}
-use Rattle.rr_place_laws.specs.Laws.{IsGiven, SitesRise, SitesStandOnce}
+use Rattle.rr_place_laws.specs.Laws.{SitesRise, SitesStandOnce}
 use Rattle.rr_place_laws.specs.Order.{TargetsRise, KindPrecedes, ComesBefore, Ordered}
 use Rattle.rr_place_laws.proofs.Items.{IsSpotAt, item_there}
 use Rattle.rr_place_laws.proofs.Lists.{head_in, tail_in, none_in, all_in, every_in, cases_in, flat_from, filter_from}

@@ -1,15 +1,12 @@
 -- The scalars of a module are listed in the order of their tokens.
-use Rattle.std.proofs.Common.{◌≡◌, ◌⊎◌, inl, inr, ℕ, ◌+◌, ◌<◌, ◌≤◌, Bool, List, [], ◌∷◌, ◌++◌, length, map, flat_map, Option, Some, None, refl, sym, subst, ap, arith, length-append}
-use Rattle.std.specs.List.{AllByRecursion}
-use Rattle.rr_syntax.specs.declared.tree.Dir.{Dir}
+use Rattle.std.proofs.Common.{◌≡◌, ℕ, ◌+◌, Bool, List, [], ◌∷◌, length, map, flat_map, Option, Some, None, refl, subst, ap, arith, length-append}
 use Rattle.rr_syntax.specs.Tree.{Identifier, Range, PortDeclaration, NetIdentifier, ModuleItem, Ports, Nets, Variables, Integers, Parameters, Assigns, Always, Instances, ModuleDeclaration}
 use Rattle.rr_syntax.specs.Items.{spell_each, spell_separated, spell_all, spell_identifier, spell_type, spell_dir, spell_port, spell_net, spell_item, spell_parameters, spell_ports, IsHeader, WellFormedModule, NumberedEach, NumberedSeparated, NumberedAll, NumberedIdentifier, NumberedPort, NumberedNet, NumberedItem, NumberedPorts, NumberedModule}
 use Rattle.rr_syntax.specs.Words.{Word}
 use Rattle.rr_flat_instance.proofs.Spans as span
 use Rattle.rr_guard.specs.Names.{scalars_if, net_name, port_scalars, item_scalars, scalars}
 use Rattle.rr_place_laws.specs.GuardNames.{Rising}
-use Rattle.rr_place_laws.proofs.Rises.{Spread, spread_wider, spread_none, spread_one, spread_join, rising_join}
-use Rattle.rr_place_laws.proofs.Expressions.{all_weaken}
+use Rattle.rr_place_laws.proofs.Rises.{Spread, spread_wider, spread_none, spread_one, spread_join}
 use Rattle.rr_place_laws.proofs.FirstNames.{token_of}
 
 abbrev In : ℕ → ℕ → List Identifier → Type 0

@@ -1,14 +1,13 @@
 -- The spots of a statement are the literals and the conditions that stand in it.
-use Rattle.std.proofs.Common.{◌≡◌, ◌⊎◌, inl, inr, ℕ, Bool, List, [], ◌∷◌, ◌++◌, Contains, refl}
+use Rattle.std.proofs.Common.{◌⊎◌, inl, inr, ℕ, ◌∷◌, ◌++◌, Contains}
 use Rattle.std.specs.List.{AllByRecursion}
 use Rattle.std.proofs.lemmas.List.Elements.{Contains-append_left, Contains-append_right}
-use Rattle.rr_syntax.specs.declared.token.Number.{Number}
-use Rattle.rr_syntax.specs.Tree.{Tree, Trees, Literal, Cond, Statement, Statements, Arm, Arms, Null, Block, If, IfElse, Case, Assign, Done, Then, CaseItem, NoArms, MoreArms, Identifier}
+use Rattle.rr_syntax.specs.Tree.{Tree, Literal, Cond, Statement, Statements, Arm, Arms, Null, Block, If, IfElse, Case, Assign, Done, Then, CaseItem, NoArms, MoreArms}
 use Rattle.rr_spots.specs.Spots.{Spot, Body, Test, Value, spots, spots_of_parts, spots_of, spots_of_all, spots_of_arm, spots_of_arms}
-use Rattle.rr_place_laws.specs.Inside.{IsPart, IsOneOf, first_statement, later_statement, IsArm, first_arm, later_arm, IsInside, StandsIn, itself_whole, in_block, in_if, in_true, in_false, in_case}
+use Rattle.rr_place_laws.specs.Inside.{IsOneOf, first_statement, later_statement, IsArm, first_arm, later_arm, IsInside, StandsIn, itself_whole, in_block, in_if, in_true, in_false, in_case}
 use Rattle.rr_place_laws.specs.Places.{IsCondition, of_if, of_if_else, StandsAt, as_condition, as_selector, as_label, as_right_side}
-use Rattle.rr_place_laws.proofs.Lists.{head_in, tail_in}
-use Rattle.rr_place_laws.proofs.Expressions.{all_weaken, all_both, IsSpotIn, IsSpotInPart, spots_inside, spots_inside_parts, inside_in, part_in}
+use Rattle.rr_place_laws.proofs.Lists.{tail_in}
+use Rattle.rr_place_laws.proofs.Expressions.{all_weaken, all_both, IsSpotIn, IsSpotInPart, spots_inside, spots_inside_parts, part_in}
 
 -- Each spot is there
 

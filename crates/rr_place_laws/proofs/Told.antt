@@ -1,9 +1,8 @@
 -- What stands inside a tree is spelled among its words.
-use Rattle.std.proofs.Common.{◌≡◌, ℕ, suc, ◌+◌, Bool, List, [], ◌∷◌, ◌++◌, length, Option, Some, None, Contains, refl, sym, subst, ap, ◌∙◌, arith, append_assoc, length-append}
-use Rattle.std.specs.List.{AllByRecursion}
+use Rattle.std.proofs.Common.{◌≡◌, ℕ, ◌+◌, Bool, List, [], ◌∷◌, ◌++◌, length, sym, subst, ap, ◌∙◌, arith, append_assoc, length-append}
 use Rattle.rr_syntax.specs.Expressions.{spell, spell_parts, spell_more, WellFormed, WellFormedParts, WellFormedMore, Numbered, NumberedMore}
 use Rattle.rr_syntax.specs.Statements.{spell_label, spell_labels, spell_statement, spell_statements, spell_arm, spell_arms, WellFormedStatement, WellFormedStatements, WellFormedArm, WellFormedArms, NumberedLabels, NumberedStatement, NumberedStatements, NumberedArm, NumberedArms}
-use Rattle.rr_syntax.specs.Tree.{Tree, Trees, End, More, Statement, Statements, Arm, Arms, If, IfElse, Case, Assign, CaseItem}
+use Rattle.rr_syntax.specs.Tree.{Tree, Trees, End, More, Statement, Statements, Arm, Arms, Case}
 use Rattle.rr_syntax.specs.Words.{Word}
 use Rattle.rr_place_laws.specs.Inside.{IsPart, first_part, later_part, IsOneOf, first_statement, later_statement, IsArm, first_arm, later_arm, IsInside, itself, operand, left, right, condition, where_true, where_false, in_concatenation, in_replication, in_cast, in_brackets, StandsIn, itself_whole, in_block, in_if, in_true, in_false, in_case}
 use Rattle.rr_place_laws.specs.Places.{IsCondition, of_if, of_if_else, StandsAt, as_condition, as_selector, as_label, as_right_side}

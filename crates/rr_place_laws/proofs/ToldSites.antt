@@ -1,23 +1,20 @@
 -- The words at which sites stand are those of the source.
-use Rattle.std.proofs.Common.{◌≡◌, ◌⊎◌, inl, inr, ℕ, zero, suc, ◌+◌, ◌<◌, Bool, List, [], ◌∷◌, ◌++◌, length, Option, Some, None, Contains, refl, sym, subst, ap, ◌∙◌, arith, append-nil}
+use Rattle.std.proofs.Common.{◌≡◌, inl, inr, ℕ, zero, suc, ◌+◌, ◌<◌, List, [], ◌∷◌, ◌++◌, length, Option, Some, Contains, refl, sym, subst, ◌∙◌, arith, append-nil}
 use Rattle.std.specs.List.{AllByRecursion}
 use Rattle.rr_syntax.specs.Expressions.{spell, spell_parts, WellFormed, Numbered}
 use Rattle.rr_syntax.specs.Items.{spell_each, spell_separated, spell_all, spell_type, spell_value, spell_net, spell_pair, spell_events, spell_optional, spell_connection, spell_connections, spell_overrides, spell_instance, spell_item, spell_parameters, spell_ports, spell_module, spell_source, WellFormedValue, WellFormedNet, WellFormedPair, WellFormedConnection, WellFormedConnections, WellFormedInstance, WellFormedItem, WellFormedModule, WellFormedSource, NumberedEach, NumberedSeparated, NumberedAll, NumberedValue, NumberedNet, NumberedPair, NumberedConnection, NumberedConnections, NumberedInstance, NumberedItem, NumberedModule, NumberedSource}
-use Rattle.rr_syntax.specs.Statements.{spell_statement, WellFormedStatement, NumberedStatement}
-use Rattle.rr_syntax.specs.Tree.{Tree, Trees, Name, Literal, Statement, EventControl, NetIdentifier, NetAssignment, NamedConnection, Connections, ModuleInstance, ModuleItem, Always, ModuleDeclaration, SourceText}
+use Rattle.rr_syntax.specs.Statements.{spell_statement}
+use Rattle.rr_syntax.specs.Tree.{Tree, Name, Statement, EventControl, Connections, ModuleItem, Always, ModuleDeclaration}
 use Rattle.rr_syntax.specs.Words.{Word, Digits}
-use Rattle.rr_expr.specs.Faults.{first}
 use Rattle.rr_expr.specs.Scopes.{Names}
-use Rattle.rr_flat.specs.Reads.{Assigned, assigned_by}
 use Rattle.rr_flat.specs.Signals.{Text}
 use Rattle.rr_flat_instance.proofs.Telling.{begins_at}
-use Rattle.rr_instance.specs.Firsts.{first_token}
 use Rattle.rr_choice.specs.Sites.{Site}
 use Rattle.rr_instance_laws.proofs.FirstLaws.{first_is}
 use Rattle.rr_clock.specs.Places.{Place}
-use Rattle.rr_listing.specs.Listing.{AreRising, module_at}
+use Rattle.rr_listing.specs.Listing.{module_at}
 use Rattle.rr_place_laws.specs.Kinds.{IsLiteralSite, IsGuardSite, IsOverwriteSite, IsSiteOf, literal, guard, overwrite}
-use Rattle.rr_place_laws.specs.Laws.{IsGiven, SitesAreSpelled}
+use Rattle.rr_place_laws.specs.Laws.{SitesAreSpelled}
 use Rattle.rr_place_laws.specs.Places.{IsConnected, in_order, by_name, IsPlace, of_net, of_assign, of_always, of_instance, Stands, IsTest, of_statement, of_conditional}
 use Rattle.rr_place_laws.specs.Spelled.{StandAt, IsSpelled}
 use Rattle.rr_place_laws.proofs.Assigned.{assigned_in}

@@ -1,5 +1,5 @@
 -- The variables that a statement assigns as a whole, each once, at its first target.
-use Rattle.std.proofs.Common.{◌≡◌, ◌⊎◌, inl, inr, ℕ, ◌+◌, ◌<◌, ◌≤◌, Bool, true, false, not, if◌then◌else◌, List, [], ◌∷◌, ◌++◌, length, map, filter, flat_map, Contains, refl, sym, subst, ap, ◌∙◌, arith, append_assoc}
+use Rattle.std.proofs.Common.{◌≡◌, inl, inr, ℕ, ◌+◌, ◌<◌, ◌≤◌, Bool, true, false, not, if◌then◌else◌, List, [], ◌∷◌, ◌++◌, length, map, filter, flat_map, Contains, refl, sym, subst, ap, ◌∙◌, arith, append_assoc}
 use Rattle.std.specs.List.{AllByRecursion}
 use Rattle.std.specs.Str.{bytes_eq}
 use Rattle.std.proofs.lemmas.Bool.{both_ways, not-true, not_from_false, false_from_ne_true}
@@ -18,8 +18,7 @@ use Rattle.rr_place_laws.specs.GuardNames.{Rising}
 use Rattle.rr_place_laws.specs.Order.{Ordered}
 use Rattle.rr_place_laws.specs.Targets.{IsAssigned, IsFirstTarget}
 use Rattle.rr_place_laws.proofs.Assigned.{assigned_from, assigned_in}
-use Rattle.rr_place_laws.proofs.Expressions.{all_weaken}
-use Rattle.rr_place_laws.proofs.Lists.{head_in, tail_in, none_in, all_in, every_in, cases_in, flat_in, flat_from, map_from, filter_in, filter_from}
+use Rattle.rr_place_laws.proofs.Lists.{head_in, tail_in, none_in, all_in, every_in, cases_in, flat_in, flat_from, filter_in, filter_from}
 use Rattle.rr_place_laws.proofs.Rises.{Spread, spread_wider, spread_none, spread_one, spread_join}
 
 -- with the token at which it stands

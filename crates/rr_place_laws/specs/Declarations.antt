@@ -1,5 +1,5 @@
 -- What a module declares (IEEE 1364-2005 sections 3.2, 3.9 and 12.3).
-use Rattle.std.specs.Prelude.{◌≡◌, ◌⊎◌, List, [], map, Option, Some, None, Contains}
+use Rattle.std.specs.Prelude.{◌≡◌, ◌⊎◌, [], map, Option, Some, None, Contains}
 use Rattle.rr_syntax.specs.declared.tree.Dir.{Dir}
 use Rattle.rr_syntax.specs.declared.tree.Dir.TheVariants.{OutputReg}
 use Rattle.rr_syntax.specs.Tree.{Identifier, Range, PortDeclaration, ModuleItem, Ports, Nets, Variables, Integers, Parameters, Assigns, Always, Instances, ModuleDeclaration}

@@ -1,5 +1,5 @@
 -- The sites of a source, place by place.
-use Rattle.std.specs.Prelude.{◌≡◌, ℕ, ◌<◌, Bool, List, length, Contains}
+use Rattle.std.specs.Prelude.{◌≡◌, ℕ, Bool, List, length, Contains}
 use Rattle.rr_syntax.specs.declared.token.Number.{Number}
 use Rattle.rr_syntax.specs.Expressions.{spell}
 use Rattle.rr_syntax.specs.Tree.{Tree, Literal, Statement, EventControl, ModuleItem, Always, ModuleDeclaration, SourceText}

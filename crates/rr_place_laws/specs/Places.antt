@@ -1,5 +1,5 @@
 -- The places of an item at which sites stand.
-use Rattle.std.specs.Prelude.{◌≡◌, ◌⊎◌, ℕ, Bool, List, Option, Some, Contains}
+use Rattle.std.specs.Prelude.{◌≡◌, ℕ, Bool, List, Option, Some, Contains}
 use Rattle.rr_syntax.specs.declared.token.Number.{Number}
 use Rattle.rr_syntax.specs.Tree.{Tree, Trees, Literal, Cond, Statement, Arms, If, IfElse, Case, Assign, CaseItem, Range, NetIdentifier, NetAssignment, NamedConnection, EventControl, Connections, Positions, Names, ModuleInstance, ModuleItem, Nets, Assigns, Always, Instances}
 use Rattle.rr_place_laws.specs.Inside.{IsPart, IsArm, IsInside, StandsIn}

@@ -1,5 +1,5 @@
 -- What statements assign, and what the clocked blocks of a module do (IEEE 1364-2005 sections 9.2 and 9.7.2).
-use Rattle.std.specs.Prelude.{◌≡◌, ℕ, ◌≤◌, Bool, true, false, List, Contains}
+use Rattle.std.specs.Prelude.{◌≡◌, ℕ, ◌≤◌, Bool, true, false, Contains}
 use Rattle.rr_syntax.specs.Tree.{Tree, Trees, Name, Literal, Bit, Part, Indexed, Unary, Binary, Cond, Concat, Repeat, Cast, Paren, Statement, Assign, EventControl, Always, ModuleDeclaration}
 use Rattle.rr_flat.specs.Signals.{Text}
 use Rattle.rr_spots.specs.Spots.{has_edges}
