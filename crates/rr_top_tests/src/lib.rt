@@ -14,6 +14,7 @@ mod effects;
 mod limits;
 #[cfg(test)]
 mod makes;
+mod listings;
 #[cfg(test)]
 mod repairs;
 #[cfg(test)]

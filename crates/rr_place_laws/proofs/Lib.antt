@@ -1,0 +1,15 @@
+pub mod Lists
+pub mod Expressions
+pub mod Statements
+pub mod Items
+pub mod Rises
+pub mod Assigned
+pub mod Declared
+pub mod FirstNames
+pub mod Scalars
+pub mod GuardWords
+pub mod Whole
+pub mod Members
+pub mod Orders
+pub mod Told
+pub mod ToldSites
