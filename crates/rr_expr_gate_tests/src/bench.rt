@@ -1,26 +1,20 @@
 //! Expressions over four signals of one width, `a` and `b` without a sign, `s` and `t` with one, and
-//! the parameter `P`, which is 9 in four bits.
-ghost use Rattle.std.specs.Prelude.{◌≡◌, ◌+◌, ◌*◌, ◌≤◌, ◌<◌, false, None, length, IfOk};
-ghost use Rattle.rr_circuit.specs.Values.{AreWires};
-ghost use Rattle.rr_syntax.specs.View.{plain};
-ghost use Rattle.rr_expr.specs.Faults.{fault};
-ghost use Rattle.rr_expr.specs.Values.{form};
+//! the parameter `P`, which is 9 in four bits. The bits of `t` rise.
+ghost use Rattle.std.specs.Prelude.{◌≡◌, ◌≤◌, IfOk};
 ghost use Rattle.rr_instance.specs.Choices.{total_bits};
-ghost use Rattle.rr_blast_sites.specs.Signals.{AreSignals};
 
 use bumpalo::Bump;
 use rr_bits::Bits;
-use rr_blast_expr::{condition, wires};
-use rr_circuit::{Builder, Circuit, Wire};
-use rr_expr::{Entity, Env, Scope, Shape, value};
-use rr_instance::SiteList;
+use rr_expr::{Entity, Scope};
+use rr_instance::{SiteList, are_listed};
+use rr_instance_laws::choice_laws;
 use rr_lex::lex;
 use rr_parse_expr::expr;
-use rr_syntax::Expr;
+use rr_syntax::{Expr, Site};
 use std::alloc::{AllocError, Global};
 use std::test::Fail;
 
-/// The expression that a whole text writes.
+/// The expression that a text begins with.
 pub(crate) fn expr_of<'a>(text: &str, arena: &'a Bump) -> Result<&'a Expr<'a>, Fail> {
     if text.len() > 1_000_000 {
         return Err(Fail::from("a text too long"));
@@ -40,13 +34,14 @@ pub(crate) fn names(alloc: Global, width: u32) -> Result<Scope<'static>, AllocEr
 {
     let mut scope = Scope::new(alloc);
     let range = Some((width - 1, 0));
+    let rising = Some((0, width - 1));
     let parts = [
-        ("a", 0, false),
-        ("b", 1, false),
-        ("s", 2, true),
-        ("t", 3, true),
+        ("a", 0, range, false),
+        ("b", 1, range, false),
+        ("s", 2, range, true),
+        ("t", 3, rising, true),
     ];
-    for (name, id, signed) in parts {
+    for (name, id, range, signed) in parts {
         scope.add(name, Entity::Signal { id, range, signed })?;
     }
     let bits = Bits::from_u128(4, 9);
@@ -55,159 +50,27 @@ pub(crate) fn names(alloc: Global, width: u32) -> Result<Scope<'static>, AllocEr
     Ok(scope)
 }
 
-/// The wires of some inputs, from the first of them on.
-fn inputs(alloc: Global, b: &Builder, first: u32, count: u32) -> Result<Vec<Wire>, AllocError>
-    requires within { first + count ≤ b.now.inputs }
-    requires few { first + count ≤ 1000 }
-    ensures width { IfOk result (λ r. length r.items ≡ count) }
-    ensures wires { IfOk result (λ r. AreWires b.now r.items) }
+/// The list of no more than two sites.
+pub(crate) fn list_of<'a>(alloc: Global, sites: &[Site<'a>]) -> Result<SiteList<'a>, Fail>
+    ensures few { IfOk result (λ l. total_bits l ≤ 400) }
 {
-    let mut wires = Vec::new(alloc);
-    for i in 0..count {
-        wires.push(b.input(first + i))?;
+    // A site has few bits.
+    choice_laws();
+    let mut copies = Vec::new(alloc);
+    copies.extend_from_slice(sites)?;
+    if copies.len() > 2 || !are_listed(copies.as_slice()) {
+        return Err(Fail::from("no list"));
     }
-    Ok(wires)
+    Ok(SiteList::new(copies))
 }
 
-/// The wires of the four signals.
-fn signals(alloc: Global, b: &Builder, width: u32) -> Result<Vec<Vec<Wire>>, AllocError>
-    requires within { 4 * width ≤ b.now.inputs }
-    requires high { width ≤ 128 }
-    ensures wires { IfOk result (λ r. AreSignals b.now r.items) }
-{
-    let mut all = Vec::new(alloc);
-    for i in 0..4u32 {
-        let word = inputs(alloc, b, i * width, width)?;
-        all.push(word)?;
-    }
-    Ok(all)
-}
-
-/// The circuit of an expression in a context, over the signals and the bits of a choice.
-pub(crate) fn circuit_of(
-    alloc: Global,
-    tree: &Expr,
-    scope: &Scope,
-    list: &SiteList,
-    width: u32,
-    context: Shape,
-) -> Result<Circuit, AllocError>
-    requires high { width ≤ 128 }
-    requires few { total_bits list.now ≤ 400 }
-    requires none { fault scope.now (plain tree.now) false ≡ None }
-    requires low { (form scope.now (plain tree.now)).width ≤ context.width }
-    requires wide { context.width ≤ 128 }
-    ensures { IfOk result (λ c. c.netlist.inputs ≡ 4 * width + total_bits list.now) }
-{
-    let count = list.bits();
-    let mut b = Builder::new(alloc, 4 * width + count)?;
-    let signals = signals(alloc, &b, width)?;
-    let choice = inputs(alloc, &b, 4 * width, count)?;
-    let out = wires(
-        alloc,
-        &mut b,
-        tree,
-        scope,
-        signals.as_slice(),
-        list,
-        choice.as_slice(),
-        context.width,
-        context.signed,
-    )?;
-    Ok(b.finish(out))
-}
-
-/// The circuit of a condition, over the signals and the bits of a choice.
-pub(crate) fn condition_of(
-    alloc: Global,
-    tree: &Expr,
-    scope: &Scope,
-    list: &SiteList,
-    width: u32,
-) -> Result<Circuit, AllocError>
-    requires high { width ≤ 128 }
-    requires few { total_bits list.now ≤ 400 }
-    requires none { fault scope.now (plain tree.now) false ≡ None }
-    ensures { IfOk result (λ c. c.netlist.inputs ≡ 4 * width + total_bits list.now) }
-{
-    let count = list.bits();
-    let mut b = Builder::new(alloc, 4 * width + count)?;
-    let signals = signals(alloc, &b, width)?;
-    let choice = inputs(alloc, &b, 4 * width, count)?;
-    let names = signals.as_slice();
-    let out = condition(alloc, &mut b, tree, scope, names, list, choice.as_slice())?;
-    let outputs = vec![in alloc; out]?;
-    Ok(b.finish(outputs))
-}
-
-/// Writes the bits of a number, lowest first.
-fn push_bits(bits: &mut Vec<bool>, width: u32, number: u128) -> Result<(), AllocError>
-    requires { width ≤ 128 }
-    ensures { IfOk result (λ u. length bits.new.items ≡ length bits.old.items + width) }
-{
-    for i in 0..width {
-        bits.push((number >> i) & 1 == 1)?;
-    }
-    Ok(())
-}
-
-/// The inputs of a circuit: the bits of the signals and then those of the choice.
-fn given(
-    alloc: Global,
-    width: u32,
-    numbers: [u128; 4],
-    choice: &[bool],
-) -> Result<Vec<bool>, AllocError>
-    requires { width ≤ 128 }
-    ensures { IfOk result (λ r. length r.items ≡ 4 * width + length choice.now) }
-{
+/// The bits that digits write, the first first.
+pub(crate) fn bits_of(alloc: Global, digits: &str) -> Result<Vec<bool>, AllocError> {
     let mut bits = Vec::new(alloc);
-    push_bits(&mut bits, width, numbers[0])?;
-    push_bits(&mut bits, width, numbers[1])?;
-    push_bits(&mut bits, width, numbers[2])?;
-    push_bits(&mut bits, width, numbers[3])?;
-    bits.extend_from_slice(choice)?;
+    for digit in digits.bytes() {
+        bits.push(digit == b'1')?;
+    }
     Ok(bits)
-}
-
-/// Whether a circuit gives the value of an expression for these numbers and this choice.
-pub(crate) fn agrees(
-    alloc: Global,
-    circuit: &Circuit,
-    expected: &Expr,
-    scope: &Scope,
-    width: u32,
-    context: Shape,
-    numbers: [u128; 4],
-    choice: &[bool],
-) -> Result<bool, AllocError>
-    requires high { width ≤ 128 }
-    requires count { circuit.now.netlist.inputs ≡ 4 * width + length choice.now }
-    requires none { fault scope.now (plain expected.now) false ≡ None }
-    requires low { (form scope.now (plain expected.now)).width ≤ context.width }
-    requires wide { context.width ≤ 128 }
-{
-    let bits = given(alloc, width, numbers, choice)?;
-    let found = circuit.eval(alloc, bits.as_slice())?;
-    let mut values = Vec::new(alloc);
-    values.extend_from_slice(&numbers)?;
-    let env = Env { values };
-    let word = value(expected, scope, &env, context.width, context.signed);
-    Ok(is_same(found.as_slice(), word))
-}
-
-fn is_same(found: &[bool], word: Bits) -> bool {
-    if found.len() != word.width() as usize {
-        return false;
-    }
-    let mut place: u32 = 0;
-    for bit in found {
-        if *bit != word.get(place) {
-            return false;
-        }
-        place = place.wrapping_add(1);
-    }
-    true
 }
 
 /// The next four numbers of a row that 64-bit steps make (Knuth's multiplier), and where it goes on.

@@ -5,6 +5,8 @@
 #[cfg(test)]
 mod bench;
 #[cfg(test)]
+mod circuits;
+#[cfg(test)]
 mod operators;
 #[cfg(test)]
 mod sites;
