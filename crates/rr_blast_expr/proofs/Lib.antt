@@ -1,3 +1,4 @@
+pub mod Bounds
 pub mod Faultless
 pub mod Widths
 pub mod Worths

@@ -1,7 +1,6 @@
 -- a value has the width of its context
-use Rattle.std.proofs.Common.{◌≡◌, ◌==◌, ℤ, pos, negsuc, suc, ℕ, ◌+◌, ◌*◌, Bool, true, false, cond, List, length, get_or, ◌∙◌}
-use Rattle.rr_syntax.specs.Tree.{Tree, Trees, Name, Literal, Bit as BitSelect, Part, Indexed, Unary, Binary, Cond, Concat, Repeat, Cast, Paren, End, More}
-use Rattle.rr_syntax.specs.declared.token.Number.{Number}
+use Rattle.std.proofs.Common.{◌≡◌, ◌==◌, ℤ, pos, negsuc, suc, ℕ, Bool, true, false, cond, List, length, get_or, ◌∙◌}
+use Rattle.rr_syntax.specs.Tree.{Tree, Name, Literal, Bit as BitSelect, Part, Indexed, Unary, Binary, Cond, Concat, Repeat, Cast, Paren}
 use Rattle.rr_bits.specs.Words.{word, number, of_integer, is_zero}
 use Rattle.rr_bits.specs.Fields.{length_word}
 use Rattle.rr_bits.proofs.Places.{length_tabulate}
@@ -15,15 +14,9 @@ use Rattle.rr_expr.specs.declared.operators.Operation.{Operation}
 use Rattle.rr_expr.specs.declared.operators.Operation.TheVariants.{Add, Subtract, Multiply, And, Or, Xor, Xnor}
 use Rattle.rr_expr.specs.declared.operators.Shift.{Shift}
 use Rattle.rr_expr.specs.declared.operators.Shift.TheVariants.{Left, Right, SignedRight}
-use Rattle.rr_expr.specs.Operators.{infixes, prefixes, joined, prefix_shape, infix_shape, prefix_value, infix_value, operation_value, shift_value, own_with}
+use Rattle.rr_expr.specs.Operators.{infixes, prefixes, prefix_value, infix_value, operation_value, shift_value, own_with}
 use Rattle.rr_expr.specs.Scopes.{Names}
-use Rattle.rr_expr.specs.Selects.{count, integer_with}
-use Rattle.rr_expr.specs.Values.{form, widths, value, nowhere, unsigned_of}
-use Rattle.rr_expr.specs.Faults.{takes_constants}
-use Rattle.rr_choice.specs.declared.pick.Pick.{Pick}
-use Rattle.rr_choice.specs.Sites.{Site}
-use Rattle.rr_choice.specs.Places.{find_pick, is_literal_at}
-use Rattle.rr_instance.specs.Instances.{new_literal, number_with, fresh, instance_tree, instance_parts}
+use Rattle.rr_expr.specs.Values.{form, value}
 
 length_operation : (op : Operation) (xs ys : List Bool) (w : ℕ) → length xs ≡ w → length (operation_value op xs ys) ≡ w
 length_operation Add xs ys w e = length_word (length xs) _ ∙ e

@@ -1,10 +1,10 @@
 -- the values of an instance, by cases on the expression
-use Rattle.std.proofs.Common.{◌≡◌, ℕ, ◌+◌, ◌-◌, ◌<◌, inl, inr, Bool, true, false, cond, not, if◌then◌else◌, List, [], ◌∷◌, ◌++◌, length, get_or, drop, Option, Some, None, refl, sym, ◌∙◌, ap, ap₂, subst, arith, length-append, ℤ, pos, ◌-ℤ◌, max}
+use Rattle.std.proofs.Common.{◌≡◌, ◌&&◌, ℕ, ◌+◌, ◌-◌, ◌<◌, inl, inr, Bool, true, false, cond, not, if◌then◌else◌, List, [], ◌∷◌, ◌++◌, length, get_or, drop, Option, Some, None, refl, sym, ◌∙◌, ap, ap₂, subst, arith, length-append, ℤ, pos, ◌-ℤ◌, max}
 use Rattle.std.specs.Prelude.{Result, IfOk, Vec}
 use Rattle.std.specs.Global.{Global}
 use Rattle.std.proofs.lemmas.Result.{IfOk-weaker}
 use Rattle.std.proofs.lemmas.Int.{ints}
-use Rattle.std.proofs.lemmas.List.{drop_more, drop_all, map-append}
+use Rattle.std.proofs.lemmas.List.{drop_more, drop_all, map-append, length-map, same_lists, get_or_default}
 use Rattle.std.proofs.lemmas.List.Elements.{All-append, All-nil}
 use denote.Ref.{Bor}
 use Rattle.rr_syntax.specs.declared.tree.Expr.{Expr}
@@ -14,7 +14,8 @@ use Rattle.rr_syntax.specs.declared.token.Mark.{Mark}
 use Rattle.rr_syntax.specs.Tree.{Tree, Literal, Binary}
 use Rattle.rr_syntax.specs.View.{plain, plain_list}
 use Rattle.rr_syntax.proofs.Rows.{plain_concat, plain_repeat}
-use Rattle.rr_bits.specs.Words.{extend, word, select, is_zero, reading}
+use Rattle.rr_bits.proofs.Places.{length_tabulate, get_tabulate}
+use Rattle.rr_bits.specs.Words.{top, extend, word, select, is_zero, reading}
 use Rattle.rr_bits.proofs.Numbers.{word_mod}
 use Rattle.rr_circuit.specs.declared.Wire.{Wire}
 use Rattle.rr_circuit.specs.Values.{Netlist, Extends, AreWires, IsWire, wire_value, wire_values}
@@ -32,6 +33,7 @@ use Rattle.rr_expr.specs.Scopes.{Names, meant, entity_value, entity_range, env_o
 use Rattle.rr_expr.specs.Selects.{repeated, place, lowest_place, integer_with}
 use Rattle.rr_expr.specs.Values.{form, widths, value, values, nowhere, own}
 use Rattle.rr_expr.specs.Faults.{fault, takes_constants, constant_count, constant_span}
+use Rattle.rr_expr.proofs.Equations.{form-Concat, form-Cast, form-Paren}
 use Rattle.rr_expr.proofs.NamedBits.{constant_names, value_by_named_bits}
 use Rattle.rr_choice.specs.declared.pick.Pick.{Pick}
 use Rattle.rr_choice.specs.Sites.{Site}
@@ -44,11 +46,11 @@ use Rattle.rr_word_gates.specs.Carried.{Carries, CarriesBit}
 use Rattle.rr_blast_sites.specs.Signals.{AreSignals, signal_values}
 use Rattle.rr_blast_sites.specs.Instances.{HasWires, World, Reads, Place, place_of, env_in, made_in, worth, own_worth, truth, test_truth, parts_worth, unchanged, new_value, literal_worth, listed}
 use Rattle.rr_blast_expr.specs.Forms.{placed, name_worth, index_worth, bit_worth, part_worth, indexed_worth, prefix_worth}
-use Rattle.rr_word_gates.proofs.Carrying.{Carries-extends, Carries-same, carried1}
+use Rattle.rr_word_gates.proofs.Carrying.{Carries-same, carried1}
 use Rattle.rr_blast_expr.proofs.Faultless.{none_binary}
 use Rattle.rr_instance_laws.proofs.FormLaws.{form_instance}
 use Rattle.rr_instance_laws.proofs.OffLaws.{keeps_at_no_cost}
-use Rattle.rr_blast_sites.proofs.GrowthLaws.{HasWires-extends, Reads-extends}
+use Rattle.rr_blast_sites.proofs.GrowthLaws.{Reads-extends}
 
 -- without sites an expression is its own instance
 
@@ -329,6 +331,10 @@ operands s t m l r k is none h free =
     let e : false ≡ takes_constants (get_or infixes m Either) = sym free ∙ ap takes_constants h in
     (ap (fault s l) e ∙ parts.0, ap (fault s r) e ∙ parts.1)
 
+pub binary_shape : (s : Names) (t : Tree) (m : ℕ) (l r : Tree) (k : Infix) → t ≡ Binary m l r → k ≡ get_or infixes m Either → infix_shape k (form s l) (form s r) ≡ form s t
+unfolding form
+binary_shape s t m l r k is h = sym (ap (λ u. form s u) is ∙ ap (λ f. infix_shape f (form s l) (form s r)) (sym h))
+
 pub binary_form : (s : Names) (t : Tree) (m : ℕ) (l r : Tree) (k : Infix) → t ≡ Binary m l r → k ≡ get_or infixes m Either → (form s t).width ≡ (infix_shape k (form s l) (form s r)).width
 unfolding form
 binary_form s t m l r k is h = ap (λ u. (form s u).width) is ∙ ap (λ f. (infix_shape f (form s l) (form s r)).width) (sym h)
@@ -350,6 +356,12 @@ unary_width s e op t k is h = ap (λ x. (form s (plain x)).width) is ∙ ap (λ 
 pub cond_width : (s : Names) (e : Expr) (a b c : Bor Expr) → e ≡ expr.Cond a b c → (form s (plain e)).width ≡ max (form s (plain b.now)).width (form s (plain c.now)).width
 unfolding form plain
 cond_width s e a b c is = ap (λ x. (form s (plain x)).width) is
+
+pub concat_width : (s : Names) (e : Expr) (ts : Bor (List Expr)) → e ≡ expr.Concat ts → (form s (plain e)).width ≡ widths s (plain_list ts.now)
+concat_width s e ts is = ap (λ (a : Shape). a.width) (ap (λ x. form s (plain x)) is ∙ form-Concat s ts)
+
+pub cast_width : (s : Names) (e : Expr) (to : Bool) (t : Bor Expr) → e ≡ expr.Cast to t → (form s (plain e)).width ≡ (form s (plain t.now)).width
+cast_width s e to t is = ap (λ (a : Shape). a.width) (ap (λ x. form s (plain x)) is ∙ form-Cast s to t)
 
 pub paren_width : (s : Names) (e : Expr) (t : Bor Expr) → e ≡ expr.Paren t → (form s (plain e)).width ≡ (form s (plain t.now)).width
 unfolding form plain
@@ -410,3 +422,34 @@ weaker_to r n m i f g h e = IfOk-weaker r (λ v. (W : World) → Reads n i W →
 
 pub weaker_constant : {E : Type 0} (r : Result (Vec Wire Global) E) (n m : Netlist) (i : Inputs) (f : (ℕ → Bool) → List Bool) (g : World → (ℕ → Bool) → List Bool) → IfOk r (λ v. Carries m v.items f) → ((W : World) (input : ℕ → Bool) → f input ≡ g W input) → IfOk r (λ v. (W : World) → Reads n i W → Carries m v.items (g W))
 weaker_constant r n m i f g h e = IfOk-weaker r (λ v. Carries m v.items f) (λ v. (W : World) → Reads n i W → Carries m v.items (g W)) (λ v k W w. Carries-same m v.items f (g W) k (e W)) h
+
+-- what stands by itself whatever its shape is
+
+extend_same : (w : ℕ) (signed : Bool) (xs : List Bool) → length xs ≡ w → extend w signed xs ≡ xs
+extend_same w signed xs e =
+    let f = λ (i : ℕ). get_or xs i (signed && top xs) in
+    same_lists (extend w signed xs) xs (length_tabulate w f ∙ sym e) (λ k d l. let b : k < w = rw (length_tabulate w f) at l in get_tabulate w k f d b ∙ get_or_default xs k (signed && top xs) d (omega (arith, b, e)))
+
+pub own-Concat : (n : Netlist) (p : Place) (e : Expr) (ts : Bor (List Expr)) (out : List Wire) → e ≡ expr.Concat ts → length out ≡ widths p.names (plain_list ts.now) → Carries n out (parts_worth p (plain_list ts.now)) → Carries n out (own_worth p (plain e))
+own-Concat n p e ts out is w c = record {
+  wires = c.wires;
+  value = λ input.
+      let size = concat_width p.names e ts is in
+      c.value input
+      ∙ sym (extend_same (form p.names (plain e)).width (form p.names (plain e)).signed (parts_worth p (plain_list ts.now) input) (sym (ap length (c.value input)) ∙ (length-map out (wire_value n input) ∙ (w ∙ sym size))))
+      ∙ Concat-arm p e (form p.names (plain e)) input ts is;
+}
+
+pub own-Cast : (n : Netlist) (p : Place) (e : Expr) (to : Bool) (t : Bor Expr) (out : List Wire) → e ≡ expr.Cast to t → length out ≡ (form p.names (plain t.now)).width → Carries n out (own_worth p (plain t.now)) → Carries n out (own_worth p (plain e))
+own-Cast n p e to t out is w c = record {
+  wires = c.wires;
+  value = λ input.
+      let size = cast_width p.names e to t is in
+      c.value input
+      ∙ sym (extend_same (form p.names (plain e)).width (form p.names (plain e)).signed (own_worth p (plain t.now) input) (sym (ap length (c.value input)) ∙ (length-map out (wire_value n input) ∙ (w ∙ sym size))))
+      ∙ Cast-arm p e (form p.names (plain e)) input to t is;
+}
+
+pub own-Paren : (n : Netlist) (p : Place) (e : Expr) (t : Bor Expr) (out : List Wire) → e ≡ expr.Paren t → Carries n out (own_worth p (plain t.now)) → Carries n out (own_worth p (plain e))
+own-Paren n p e t out is c = Carries-same n out (own_worth p (plain t.now)) (own_worth p (plain e)) c
+    (λ input. ap (λ (a : Shape). worth p (plain t.now) a input) (sym (ap (λ x. form p.names (plain x)) is ∙ form-Paren p.names t)) ∙ Paren-arm p e (form p.names (plain e)) input t is)

@@ -1,11 +1,11 @@
 //! The wires of an expression's instance, by cases on the expression (IEEE 1364-2005 sections 5.1,
 //! 5.2, 5.4 and 5.5).
-ghost use Rattle.std.specs.Prelude.{◌≡◌, ◌≤◌, if◌then◌else◌, ℤ, pos, ◌-ℤ◌, None, false, IsTrue, IfOk, length};
+ghost use Rattle.std.specs.Prelude.{◌≡◌, ◌≤◌, if◌then◌else◌, ℤ, pos, ◌-ℤ◌, None, true, false, IsTrue, IfOk, length};
 ghost use Rattle.rr_bits.specs.Words.{select};
 ghost use Rattle.rr_circuit.specs.Values.{IsWire, AreWires, wire_values, Extends};
 ghost use Rattle.rr_syntax.specs.Tree.{Binary};
 ghost use Rattle.rr_syntax.specs.View.{plain, plain_list};
-ghost use Rattle.rr_expr.specs.Faults.{fault, faults, is_width};
+ghost use Rattle.rr_expr.specs.Faults.{fault, faults, is_width, constant_count};
 ghost use Rattle.rr_expr.specs.Operators.{prefix_shape};
 ghost use Rattle.rr_expr.specs.Scopes.{meant, entity_shape as shape_of_entity};
 ghost use Rattle.rr_expr.specs.Selects.{place, repeated as repeated_word};
@@ -17,11 +17,12 @@ ghost use Rattle.rr_blast_expr.specs.Forms.{in_context, placed, index_worth, bit
 use crate::operands::{
     bit_word, constant_at, constant_word, copies_of, literal_in, name_in, part_select, unsited,
 };
+use crate::shapes::{own_shape, width};
 use rr_blast_sites::{Inputs, name_word, test_wire};
 use rr_circuit::{Builder, Wire};
 use rr_expr::{
     Infix, Operation, Prefix, Relation, Shape, Shift, below_index, entity_range, infix_of, joined,
-    prefix_of, shape_of,
+    prefix_of,
 };
 use rr_syntax::{Expr, Mark};
 use rr_word_gates::{
@@ -30,7 +31,8 @@ use rr_word_gates::{
 };
 use std::alloc::{AllocError, Global};
 
-/// The value of an expression that stands by itself.
+/// The value of an expression that stands by itself. What its parts are asked alone needs no shape of
+/// the whole.
 #[cycle(wires)]
 pub(crate) fn own_word(
     alloc: Global,
@@ -45,9 +47,25 @@ pub(crate) fn own_word(
     ensures width { IfOk result (λ r. length r.items ≡ (form inputs.now.scope.now (plain expr.now)).width) }
     ensures value { IfOk result (λ r. (W : World) → Reads b.old inputs.now W → Carries b.new r.items (own_worth (place_of inputs.now W) (plain expr.now))) }
 {
-    let shape = shape_of(expr, inputs.scope);
-    let out = word_in(alloc, b, expr, inputs, shape)?;
-    Ok(out)
+    match expr {
+        Expr::Concat { parts } => {
+            let out = parts_word(alloc, b, parts, inputs)?;
+            Ok(out)
+        }
+        Expr::Cast { of, .. } => {
+            let out = own_word(alloc, b, of, inputs)?;
+            Ok(out)
+        }
+        Expr::Paren { of } => {
+            let out = own_word(alloc, b, of, inputs)?;
+            Ok(out)
+        }
+        _ => {
+            let shape = own_shape(expr, inputs.scope);
+            let out = word_in(alloc, b, expr, inputs, shape)?;
+            Ok(out)
+        }
+    }
 }
 
 /// Whether an expression that stands by itself is true.
@@ -99,19 +117,11 @@ fn bits_at(
             Ok(out)
         }
         None => {
-            let shape = shape_of(index, inputs.scope);
+            let shape = own_shape(index, inputs.scope);
             let still = unsited(inputs);
             let at = word_in(alloc, b, index, &still, shape)?;
-            let out = selected(
-                alloc,
-                b,
-                word,
-                at.as_slice(),
-                shape.signed,
-                range,
-                below,
-                count,
-            )?;
+            let by = at.as_slice();
+            let out = selected(alloc, b, word, by, shape.signed, range, below, count)?;
             Ok(out)
         }
     }
@@ -195,10 +205,7 @@ fn prefix_word(
     ensures value { IfOk result (λ r. (W : World) → Reads b.old inputs.now W → Carries b.new r.items (prefix_worth (place_of inputs.now W) op (plain of.now) context)) }
 {
     match op {
-        Prefix::Plus => {
-            let out = word_in(alloc, b, of, inputs, context)?;
-            Ok(out)
-        }
+        Prefix::Plus => word_in(alloc, b, of, inputs, context),
         Prefix::Minus => {
             let word = word_in(alloc, b, of, inputs, context)?;
             let out = negated(alloc, b, word.as_slice())?;
@@ -295,7 +302,10 @@ fn relation_word(
     ensures width { IfOk result (λ r. length r.items ≡ context.width) }
     ensures value { IfOk result (λ r. (W : World) → Reads b.old inputs.now W → Carries b.new r.items (λ input. in_context context (relation_worth (place_of inputs.now W) op (plain left.now) (plain right.now) input))) }
 {
-    let shape = joined(shape_of(left, inputs.scope), shape_of(right, inputs.scope));
+    let shape = joined(
+        own_shape(left, inputs.scope),
+        own_shape(right, inputs.scope),
+    );
     let xs = word_in(alloc, b, left, inputs, shape)?;
     let ys = word_in(alloc, b, right, inputs, shape)?;
     let bit = holds(b, op, shape.signed, xs.as_slice(), ys.as_slice())?;
@@ -440,23 +450,25 @@ fn concat_word(
     Ok(out)
 }
 
-/// That many copies of all parts, in a context.
+/// As many copies of all parts as a constant asks, in a context.
 #[cycle(wires)]
 fn repeat_word(
     alloc: Global,
     b: &mut Builder,
-    copies: u128,
     parts: &[Expr],
+    count: &Expr,
     inputs: &Inputs,
     context: Shape,
 ) -> Result<Vec<Wire>, AllocError>
     requires wires { HasWires b.old inputs.now }
+    requires count { fault inputs.now.scope.now (plain count.now) true ≡ None }
     requires none { faults inputs.now.scope.now (plain_list parts.now) false ≡ None }
     ensures extends { Extends b.old b.new }
     ensures wires { IfOk result (λ r. AreWires b.new r.items) }
     ensures width { IfOk result (λ r. length r.items ≡ context.width) }
-    ensures value { IfOk result (λ r. (W : World) → Reads b.old inputs.now W → Carries b.new r.items (placed context (λ input. repeated_word copies (parts_worth (place_of inputs.now W) (plain_list parts.now) input)))) }
+    ensures value { IfOk result (λ r. (W : World) → Reads b.old inputs.now W → Carries b.new r.items (placed context (λ input. repeated_word (constant_count inputs.now.scope.now (plain count.now)) (parts_worth (place_of inputs.now W) (plain_list parts.now) input)))) }
 {
+    let copies = copies_of(count, inputs.scope);
     let part = parts_word(alloc, b, parts, inputs)?;
     let word = repeated(alloc, part.as_slice(), copies)?;
     let out = extended(alloc, b, word.as_slice(), context.width, context.signed)?;
@@ -508,11 +520,10 @@ pub(crate) fn word_in(
         Expr::Literal { token, number } => literal_in(alloc, b, *token, *number, inputs, context),
         Expr::Bit { name, index, .. } => bit_select(alloc, b, name, index, inputs, context),
         Expr::Part { name, right, .. } => {
-            let count = shape_of(expr, inputs.scope).width;
-            part_select(alloc, b, name, right, count, inputs, context)
+            part_select(alloc, b, name, right, width(expr, inputs), inputs, context)
         }
         Expr::Indexed { name, from, up, .. } => {
-            let count = shape_of(expr, inputs.scope).width;
+            let count = width(expr, inputs);
             indexed_select(alloc, b, name, from, count, *up, inputs, context)
         }
         Expr::Unary { op, of } => prefix_word(alloc, b, prefix_of(*op), of, inputs, context),
@@ -521,10 +532,7 @@ pub(crate) fn word_in(
         }
         Expr::Cond { test, yes, no } => chosen_word(alloc, b, test, yes, no, inputs, context),
         Expr::Concat { parts } => concat_word(alloc, b, parts, inputs, context),
-        Expr::Repeat { count, parts } => {
-            let copies = copies_of(count, inputs.scope);
-            repeat_word(alloc, b, copies, parts, inputs, context)
-        }
+        Expr::Repeat { count, parts } => repeat_word(alloc, b, parts, count, inputs, context),
         Expr::Cast { of, .. } => cast_word(alloc, b, of, inputs, context),
         Expr::Paren { of } => word_in(alloc, b, of, inputs, context),
     }

@@ -19,6 +19,7 @@ ghost use Rattle.rr_blast_sites.specs.Signals.{AreSignals, signal_values};
 
 mod expressions;
 mod operands;
+mod shapes;
 
 use expressions::{is_true, own_word, word_in};
 use operands::no_sites;

@@ -13,8 +13,9 @@ mod effects;
 #[cfg(test)]
 mod limits;
 #[cfg(test)]
-mod makes;
 mod listings;
+#[cfg(test)]
+mod makes;
 #[cfg(test)]
 mod repairs;
 #[cfg(test)]

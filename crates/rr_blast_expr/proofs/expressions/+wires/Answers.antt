@@ -5,28 +5,59 @@ use Rattle.rr_syntax.specs.declared.tree.Expr.{the_lemmas}
 use Rattle.rr_syntax.specs.View.{plain, plain_list}
 use Rattle.rr_expr.specs.declared.types.Shape.{Shape}
 use Rattle.rr_expr.specs.declared.operators.Infix.TheVariants.{Arithmetic, Divide, Remainder, Power, Shifted, Compared, Both, Either}
-use Rattle.rr_expr.specs.Faults.{fault, is_width, constant_count}
+use Rattle.rr_expr.specs.Faults.{fault}
 use Rattle.rr_expr.specs.Operators.{joined, reduction_holds, operation_value, shift_value, relation_holds}
-use Rattle.rr_expr.specs.Scopes.{entity_shape}
 use Rattle.rr_expr.specs.Selects.{repeated}
 use Rattle.rr_expr.specs.Values.{form}
 use Rattle.rr_word_gates.specs.Gates.{connected}
-use Rattle.rr_blast_sites.specs.Instances.{place_of, worth}
+use Rattle.rr_blast_sites.specs.Instances.{place_of, worth, parts_worth}
 use Rattle.rr_blast_expr.specs.Forms.{in_context}
 use Rattle.rr_word_gates.proofs.Carrying.{Carries-same, Carries-extends, CarriesBit-same, CarriesBit-extends, carried1, carried2, carried_bit1, carried_bit2, carried_bits, carried_word, carried_choice}
 use Rattle.rr_blast_expr.proofs.Faultless.{none-Name, none-Literal, none-Bit, none-Part, none-Indexed, none-Unary, none-Cond, none-Concat, none-Repeat, none-Cast, none-Paren, none_at}
 use Rattle.rr_blast_sites.proofs.GrowthLaws.{listed_still, HasWires-extends, Reads-extends}
-use Rattle.rr_blast_expr.proofs.Worths.{weaker_to, weaker_constant, Name-arm, Literal-arm, Bit-arm, Part-arm, Indexed-arm, Unary-arm, Cond-arm, Concat-arm, Repeat-arm, Cast-arm, Paren-arm, copied-carried, copied_there, part_width, indexed_width, unary_width, cond_width, paren_width, plain_binary, Listed-more, HasWires-still, index-arm, name-carried, wired-bits, constant-bits, bit-carried, indexed-carried, operands, binary_form, Infix-arm, Constant-arm, Listed-none, Listed-all}
+use Rattle.rr_blast_expr.proofs.Worths.{weaker_to, weaker_constant, Name-arm, Literal-arm, Bit-arm, Part-arm, Indexed-arm, Unary-arm, Cond-arm, Concat-arm, Repeat-arm, Cast-arm, Paren-arm, copied-carried, copied_there, part_width, indexed_width, unary_width, cond_width, paren_width, concat_width, cast_width, own-Concat, own-Cast, own-Paren, plain_binary, Listed-more, HasWires-still, index-arm, name-carried, wired-bits, constant-bits, bit-carried, indexed-carried, operands, binary_form, Infix-arm, Constant-arm, Listed-none, Listed-all}
 use Rattle.rr_blast_expr.proofs.expressions.+wires.Goals as goal
 
-pub own_word-returns-clause-value : goal.own_word-returns-clause-value
-own_word-returns-clause-value t c = λ W h. Carries-same _ _ _ _ (c.in_ok-out.ensures.value W h) (λ input. ap (λ a. worth (place_of c.args.inputs.now W) (plain c.args.expr.now) a input) c.shape_of-shape.ensures.value)
+pub own_word-parts_word-requires : goal.own_word-parts_word-requires
+own_word-parts_word-requires t c = (search (rules, the_lemmas), (c.requires.wires, none-Concat c.args.inputs.now.scope.now c.args.expr.now _ c.in-Concat.is c.requires.none))
+
+pub own_word-own_word-requires : goal.own_word-own_word-requires
+own_word-own_word-requires t c = (search (rules, the_lemmas), (c.requires.wires, none-Cast c.args.inputs.now.scope.now c.args.expr.now _ _ c.in-Cast.is c.requires.none))
+
+pub own_word-own_word-requires-in-Paren : goal.own_word-own_word-requires-in-Paren
+own_word-own_word-requires-in-Paren t c = (search (rules, the_lemmas), (c.requires.wires, none-Paren c.args.inputs.now.scope.now c.args.expr.now _ c.in-Paren.is c.requires.none))
+
+pub own_word-returns-in_ok-out-in-Concat-clause-width : goal.own_word-returns-in_ok-out-in-Concat-clause-width
+own_word-returns-in_ok-out-in-Concat-clause-width t c = c.in_ok-out-in-Concat.ensures.width ∙ sym (concat_width c.args.inputs.now.scope.now c.args.expr.now _ c.in-Concat.is)
+
+pub own_word-returns-in_ok-out-in-Concat-clause-value : goal.own_word-returns-in_ok-out-in-Concat-clause-value
+own_word-returns-in_ok-out-in-Concat-clause-value t c = λ W h. own-Concat _ (place_of c.args.inputs.now W) c.args.expr.now _ _ c.in-Concat.is c.in_ok-out-in-Concat.ensures.width (c.in_ok-out-in-Concat.ensures.value W h)
+
+pub own_word-returns-in_ok-out-in-Cast-clause-width : goal.own_word-returns-in_ok-out-in-Cast-clause-width
+own_word-returns-in_ok-out-in-Cast-clause-width t c = c.in_ok-out-in-Cast.ensures.width ∙ sym (cast_width c.args.inputs.now.scope.now c.args.expr.now _ _ c.in-Cast.is)
+
+pub own_word-returns-in_ok-out-in-Cast-clause-value : goal.own_word-returns-in_ok-out-in-Cast-clause-value
+own_word-returns-in_ok-out-in-Cast-clause-value t c = λ W h. own-Cast _ (place_of c.args.inputs.now W) c.args.expr.now _ _ _ c.in-Cast.is c.in_ok-out-in-Cast.ensures.width (c.in_ok-out-in-Cast.ensures.value W h)
+
+pub own_word-returns-in_ok-out-in-Paren-clause-width : goal.own_word-returns-in_ok-out-in-Paren-clause-width
+own_word-returns-in_ok-out-in-Paren-clause-width t c = c.in_ok-out-in-Paren.ensures.width ∙ sym (paren_width c.args.inputs.now.scope.now c.args.expr.now _ c.in-Paren.is)
+
+pub own_word-returns-in_ok-out-in-Paren-clause-value : goal.own_word-returns-in_ok-out-in-Paren-clause-value
+own_word-returns-in_ok-out-in-Paren-clause-value t c = λ W h. own-Paren _ (place_of c.args.inputs.now W) c.args.expr.now _ _ c.in-Paren.is (c.in_ok-out-in-Paren.ensures.value W h)
+
+pub own_word-returns-in_ok-out-in_default : goal.own_word-returns-in_ok-out-in_default
+own_word-returns-in_ok-out-in_default t c = record {
+  extends = c.in_ok-out-in_default.ensures.extends;
+  wires = c.in_ok-out-in_default.ensures.wires;
+  width = c.in_ok-out-in_default.ensures.width ∙ ap (λ (a : Shape). a.width) c.own_shape-shape.ensures.value;
+  value = λ W h. Carries-same _ _ _ _ (c.in_ok-out-in_default.ensures.value W h) (λ input. ap (λ a. worth (place_of c.args.inputs.now W) (plain c.args.expr.now) a input) c.own_shape-shape.ensures.value);
+}
 
 pub is_true-returns-clause-value : goal.is_true-returns-clause-value
 is_true-returns-clause-value t c = λ W h. carried_bit1 (λ vs. not (is_zero vs)) _ _ _ _ _ _ c.as_slice.ensures.value (c.in_ok-word.ensures.value W h) c.in_ok-out.ensures.value
 
-pub prefix_word-returns-in_ok-out-in-Plus-clause-value : goal.prefix_word-returns-in_ok-out-in-Plus-clause-value
-prefix_word-returns-in_ok-out-in-Plus-clause-value t c = λ W h. rw c.in-Plus.is (c.in_ok-out-in-Plus.ensures.value W h)
+pub prefix_word-returns-in-Plus-clause-value : goal.prefix_word-returns-in-Plus-clause-value
+prefix_word-returns-in-Plus-clause-value t c = rw c.in-Plus.is c.word_in.ensures.value
 
 pub prefix_word-returns-in_ok-out-in-Minus-clause-value : goal.prefix_word-returns-in_ok-out-in-Minus-clause-value
 prefix_word-returns-in_ok-out-in-Minus-clause-value t c = λ W h. rw c.in-Minus.is (carried1 negated _ _ _ _ _ _ c.as_slice.ensures.value (c.in_ok-word-in-Minus.ensures.value W h) c.in_ok-out-in-Minus.ensures.value)
@@ -77,10 +108,10 @@ pub parts_word-returns-clause-value : goal.parts_word-returns-clause-value
 parts_word-returns-clause-value t c = (Listed-all c.args.inputs.now _ _ c.args.parts.now _ _ c.loop-i.invariant (omega arith)).1
 
 pub relation_word-word_in-requires-2 : goal.relation_word-word_in-requires-2
-relation_word-word_in-requires-2 t c = let e : c.joined-shape.result.width ≡ max c.shape_of.result.width c.shape_of-2.result.width = ap (λ (a : Shape). a.width) c.joined-shape.ensures in let r : c.shape_of-2.result.width ≡ (form c.args.inputs.now.scope.now (plain c.args.right.now)).width = ap (λ (a : Shape). a.width) c.shape_of-2.ensures.value in (search (rules, the_lemmas), (HasWires-extends _ _ _ c.in_ok-xs.ensures.extends c.requires.wires, (c.requires.right, (omega (arith, e, r), (omega (arith, e, c.shape_of.ensures.low), omega (arith, e, c.shape_of.ensures.high, c.shape_of-2.ensures.high))))))
+relation_word-word_in-requires-2 t c = let e : c.joined-shape.result.width ≡ max c.own_shape.result.width c.own_shape-2.result.width = ap (λ (a : Shape). a.width) c.joined-shape.ensures in let r : c.own_shape-2.result.width ≡ (form c.args.inputs.now.scope.now (plain c.args.right.now)).width = ap (λ (a : Shape). a.width) c.own_shape-2.ensures.value in (search (rules, the_lemmas), (HasWires-extends _ _ _ c.in_ok-xs.ensures.extends c.requires.wires, (c.requires.right, (omega (arith, e, r), (omega (arith, e, c.own_shape.ensures.low), omega (arith, e, c.own_shape.ensures.high, c.own_shape-2.ensures.high))))))
 
 pub relation_word-returns-clause-value : goal.relation_word-returns-clause-value
-relation_word-returns-clause-value t c = λ W h. carried_word (in_context c.args.context) _ _ _ _ _ (CarriesBit-same _ _ _ _ (carried_bit2 (relation_holds c.args.op c.joined-shape.result.signed) _ _ _ _ _ _ _ _ _ c.as_slice.ensures.value c.as_slice-2.ensures.value (Carries-extends _ _ _ _ c.in_ok-ys.ensures.extends (c.in_ok-xs.ensures.value W h)) (c.in_ok-ys.ensures.value W (Reads-extends _ _ _ _ c.in_ok-xs.ensures.extends h)) c.in_ok-bit.ensures.value) (λ input. ap (λ (a : Shape). relation_holds c.args.op a.signed (worth (place_of c.args.inputs.now W) (plain c.args.left.now) a input) (worth (place_of c.args.inputs.now W) (plain c.args.right.now) a input)) (c.joined-shape.ensures ∙ ap₂ joined c.shape_of.ensures.value c.shape_of-2.ensures.value))) c.in_ok-out.ensures.value
+relation_word-returns-clause-value t c = λ W h. carried_word (in_context c.args.context) _ _ _ _ _ (CarriesBit-same _ _ _ _ (carried_bit2 (relation_holds c.args.op c.joined-shape.result.signed) _ _ _ _ _ _ _ _ _ c.as_slice.ensures.value c.as_slice-2.ensures.value (Carries-extends _ _ _ _ c.in_ok-ys.ensures.extends (c.in_ok-xs.ensures.value W h)) (c.in_ok-ys.ensures.value W (Reads-extends _ _ _ _ c.in_ok-xs.ensures.extends h)) c.in_ok-bit.ensures.value) (λ input. ap (λ (a : Shape). relation_holds c.args.op a.signed (worth (place_of c.args.inputs.now W) (plain c.args.left.now) a input) (worth (place_of c.args.inputs.now W) (plain c.args.right.now) a input)) (c.joined-shape.ensures ∙ ap₂ joined c.own_shape.ensures.value c.own_shape-2.ensures.value))) c.in_ok-out.ensures.value
 
 pub logic_word-is_true-requires-2 : goal.logic_word-is_true-requires-2
 logic_word-is_true-requires-2 t c = (search (rules, the_lemmas), (HasWires-extends _ _ _ c.in_ok-x.ensures.extends c.requires.wires, c.requires.right))
@@ -89,10 +120,10 @@ pub logic_word-returns-clause-value : goal.logic_word-returns-clause-value
 logic_word-returns-clause-value t c = λ W h. carried_word (in_context c.args.context) _ _ _ _ _ (carried_bits (connected c.args.op) _ _ _ _ _ _ _ (CarriesBit-extends _ _ _ _ c.in_ok-y.ensures.extends (c.in_ok-x.ensures.value W h)) (c.in_ok-y.ensures.value W (Reads-extends _ _ _ _ c.in_ok-x.ensures.extends h)) c.in_ok-bit.ensures.value) c.in_ok-out.ensures.value
 
 pub bits_at-word_in-requires : goal.bits_at-word_in-requires
-bits_at-word_in-requires t c = (search (rules, the_lemmas), (HasWires-still _ c.args.inputs.now c.unsited-still.result c.unsited-still.ensures.signals (listed_still c.unsited-still.result c.unsited-still.ensures.still) c.unsited-still.ensures.choice c.requires.wires.signals, (ap (λ s. fault s (plain c.args.index.now) false) c.unsited-still.ensures.scope ∙ c.requires.none, (let w : (form c.unsited-still.result.scope.now (plain c.args.index.now)).width ≡ c.shape_of-shape.result.width = ap (λ s. (form s (plain c.args.index.now)).width) c.unsited-still.ensures.scope ∙ sym (ap (λ (a : Shape). a.width) c.shape_of-shape.ensures.value) in omega (arith, w), (c.shape_of-shape.ensures.low, c.shape_of-shape.ensures.high)))))
+bits_at-word_in-requires t c = (search (rules, the_lemmas), (HasWires-still _ c.args.inputs.now c.unsited-still.result c.unsited-still.ensures.signals (listed_still c.unsited-still.result c.unsited-still.ensures.still) c.unsited-still.ensures.choice c.requires.wires.signals, (ap (λ s. fault s (plain c.args.index.now) false) c.unsited-still.ensures.scope ∙ c.requires.none, (let w : (form c.unsited-still.result.scope.now (plain c.args.index.now)).width ≡ c.own_shape-shape.result.width = ap (λ s. (form s (plain c.args.index.now)).width) c.unsited-still.ensures.scope ∙ sym (ap (λ (a : Shape). a.width) c.own_shape-shape.ensures.value) in omega (arith, w), (c.own_shape-shape.ensures.low, c.own_shape-shape.ensures.high)))))
 
 pub bits_at-returns-in_ok-out-in-None-clause-value : goal.bits_at-returns-in_ok-out-in-None-clause-value
-bits_at-returns-in_ok-out-in-None-clause-value t c = λ W h. wired-bits (place_of c.args.inputs.now W) _ _ _ c.shape_of-shape.result c.args.range c.args.below c.args.count (plain c.args.index.now) _ _ _ _ c.shape_of-shape.ensures.value c.as_slice.ensures.value c.in_ok-at-in-None.ensures.extends c.requires.word (index-arm _ _ c.args.inputs.now c.unsited-still.result W _ (plain c.args.index.now) c.unsited-still.ensures.scope c.unsited-still.ensures.signals (listed_still c.unsited-still.result c.unsited-still.ensures.still) c.unsited-still.ensures.choice h (λ V r. Carries-same _ _ _ _ (c.in_ok-at-in-None.ensures.value V r) (λ input. ap (λ a. worth (place_of c.unsited-still.result V) (plain c.args.index.now) a input) (c.shape_of-shape.ensures.value ∙ ap (λ s. form s (plain c.args.index.now)) (sym c.unsited-still.ensures.scope))))) c.in_ok-out-in-None.ensures.value
+bits_at-returns-in_ok-out-in-None-clause-value t c = λ W h. wired-bits (place_of c.args.inputs.now W) _ _ _ c.own_shape-shape.result c.args.range c.args.below c.args.count (plain c.args.index.now) _ _ _ _ c.own_shape-shape.ensures.value c.as_slice-by.ensures.value c.in_ok-at-in-None.ensures.extends c.requires.word (index-arm _ _ c.args.inputs.now c.unsited-still.result W _ (plain c.args.index.now) c.unsited-still.ensures.scope c.unsited-still.ensures.signals (listed_still c.unsited-still.result c.unsited-still.ensures.still) c.unsited-still.ensures.choice h (λ V r. Carries-same _ _ _ _ (c.in_ok-at-in-None.ensures.value V r) (λ input. ap (λ a. worth (place_of c.unsited-still.result V) (plain c.args.index.now) a input) (c.own_shape-shape.ensures.value ∙ ap (λ s. form s (plain c.args.index.now)) (sym c.unsited-still.ensures.scope))))) c.in_ok-out-in-None.ensures.value
 
 pub bits_at-returns-in_ok-out-in-Some-clause-value : goal.bits_at-returns-in_ok-out-in-Some-clause-value
 bits_at-returns-in_ok-out-in-Some-clause-value t c = λ W h. constant-bits (place_of c.args.inputs.now W) _ _ c.args.range c.args.below c.args.count (plain c.args.index.now) _ _ c.in-Some.ensures.constant c.in-Some.ensures.value c.in_ok-out-in-Some.ensures.value
@@ -110,7 +141,7 @@ pub cast_word-returns-clause-value : goal.cast_word-returns-clause-value
 cast_word-returns-clause-value t c = λ W h. carried1 (extend c.args.context.width c.args.context.signed) _ _ _ _ _ _ c.as_slice.ensures.value (c.in_ok-word.ensures.value W h) c.in_ok-out.ensures.value
 
 pub repeat_word-returns-clause-value : goal.repeat_word-returns-clause-value
-repeat_word-returns-clause-value t c = λ W h. carried1 (extend c.args.context.width c.args.context.signed) _ _ _ _ _ _ c.as_slice-2.ensures.value (copied-carried _ _ _ _ _ _ _ c.as_slice.ensures.value c.in_ok-word.ensures refl (c.in_ok-part.ensures.value W h)) c.in_ok-out.ensures.value
+repeat_word-returns-clause-value t c = λ W h. Carries-same _ _ _ _ (carried1 (extend c.args.context.width c.args.context.signed) _ _ _ _ _ _ c.as_slice-2.ensures.value (copied-carried _ _ _ _ _ _ _ c.as_slice.ensures.value c.in_ok-word.ensures refl (c.in_ok-part.ensures.value W h)) c.in_ok-out.ensures.value) (λ input. ap (λ n. extend c.args.context.width c.args.context.signed (repeated n (parts_worth (place_of c.args.inputs.now W) (plain_list c.args.parts.now) input))) c.copies_of-copies.ensures)
 
 pub repeat_word-extended-requires : goal.repeat_word-extended-requires
 repeat_word-extended-requires t c = copied_there _ _ _ _ _ _ c.as_slice.ensures.value c.in_ok-word.ensures c.as_slice-2.ensures.value c.in_ok-part.ensures.wires
@@ -160,11 +191,8 @@ word_in-bit_select-requires t c = let f = none-Bit c.args.inputs.now.scope.now c
 pub word_in-chosen_word-requires : goal.word_in-chosen_word-requires
 word_in-chosen_word-requires t c = let f = none-Cond c.args.inputs.now.scope.now c.args.expr.now _ _ _ c.in-Cond.is c.requires.none in let w = cond_width c.args.inputs.now.scope.now c.args.expr.now _ _ _ c.in-Cond.is in (search (rules, the_lemmas), (c.requires.wires, (f.test, (f.yes, (f.no, (omega (arith, w, c.requires.low), (omega (arith, w, c.requires.low), (c.requires.positive, c.requires.high))))))))
 
-pub word_in-copies_of-copies-requires : goal.word_in-copies_of-copies-requires
-word_in-copies_of-copies-requires t c = (none-Repeat c.args.inputs.now.scope.now c.args.expr.now _ _ c.in-Repeat.is c.requires.none).0
-
 pub word_in-indexed_select-requires : goal.word_in-indexed_select-requires
-word_in-indexed_select-requires t c = let f = none-Indexed c.args.inputs.now.scope.now c.args.expr.now _ _ _ _ _ c.in-Indexed.is c.requires.none in (search (rules, the_lemmas), (c.requires.wires, (f.named, (f.index, (c.shape_of-count-in-Indexed.ensures.low, c.shape_of-count-in-Indexed.ensures.high)))))
+word_in-indexed_select-requires t c = let f = none-Indexed c.args.inputs.now.scope.now c.args.expr.now _ _ _ _ _ c.in-Indexed.is c.requires.none in (search (rules, the_lemmas), (c.requires.wires, (f.named, (f.index, (c.width-count.ensures.low, c.width-count.ensures.high)))))
 
 pub word_in-infix_word-requires : goal.word_in-infix_word-requires
 word_in-infix_word-requires t c = (search (rules, the_lemmas), (c.requires.wires, (ap plain c.in-Binary.is ∙ plain_binary _ _ _, (c.requires.none, (c.requires.low, (c.requires.positive, c.requires.high))))))
@@ -185,7 +213,7 @@ pub word_in-concat_word-requires : goal.word_in-concat_word-requires
 word_in-concat_word-requires t c = (search (rules, the_lemmas), (c.requires.wires, none-Concat c.args.inputs.now.scope.now c.args.expr.now _ c.in-Concat.is c.requires.none))
 
 pub word_in-repeat_word-requires : goal.word_in-repeat_word-requires
-word_in-repeat_word-requires t c = (search (rules, the_lemmas), (c.requires.wires, (none-Repeat c.args.inputs.now.scope.now c.args.expr.now _ _ c.in-Repeat.is c.requires.none).1))
+word_in-repeat_word-requires t c = let f = none-Repeat c.args.inputs.now.scope.now c.args.expr.now _ _ c.in-Repeat.is c.requires.none in (search (rules, the_lemmas), (c.requires.wires, (f.0, f.1)))
 
 pub word_in-prefix_word-requires : goal.word_in-prefix_word-requires
 word_in-prefix_word-requires t c = let w = unary_width c.args.inputs.now.scope.now c.args.expr.now _ _ _ c.in-Unary.is c.prefix_of.ensures in (search (rules, the_lemmas), (c.requires.wires, (none-Unary c.args.inputs.now.scope.now c.args.expr.now _ _ c.in-Unary.is c.requires.none, (omega (arith, w, c.requires.low), (c.requires.positive, c.requires.high)))))
@@ -206,10 +234,10 @@ pub word_in-returns-in-Bit-clause-value : goal.word_in-returns-in-Bit-clause-val
 word_in-returns-in-Bit-clause-value t c = weaker_to _ _ _ c.args.inputs.now _ (λ W. worth (place_of c.args.inputs.now W) (plain c.args.expr.now) c.args.context) c.bit_select.ensures.value (λ W input. Bit-arm (place_of c.args.inputs.now W) c.args.expr.now c.args.context input _ _ _ c.in-Bit.is)
 
 pub word_in-returns-in-Part-clause-value : goal.word_in-returns-in-Part-clause-value
-word_in-returns-in-Part-clause-value t c = weaker_to _ _ _ c.args.inputs.now _ (λ W. worth (place_of c.args.inputs.now W) (plain c.args.expr.now) c.args.context) c.part_select.ensures.value (λ W input. Part-arm (place_of c.args.inputs.now W) c.args.expr.now c.args.context input _ _ _ _ _ c.in-Part.is (ap (λ (a : Shape). a.width) c.shape_of-count.ensures.value ∙ part_width c.args.inputs.now.scope.now c.args.expr.now _ _ _ _ c.in-Part.is))
+word_in-returns-in-Part-clause-value t c = weaker_to _ _ _ c.args.inputs.now _ (λ W. worth (place_of c.args.inputs.now W) (plain c.args.expr.now) c.args.context) c.part_select.ensures.value (λ W input. Part-arm (place_of c.args.inputs.now W) c.args.expr.now c.args.context input _ _ _ _ _ c.in-Part.is (c.width.ensures.value ∙ part_width c.args.inputs.now.scope.now c.args.expr.now _ _ _ _ c.in-Part.is))
 
 pub word_in-returns-in-Indexed-clause-value : goal.word_in-returns-in-Indexed-clause-value
-word_in-returns-in-Indexed-clause-value t c = weaker_to _ _ _ c.args.inputs.now _ (λ W. worth (place_of c.args.inputs.now W) (plain c.args.expr.now) c.args.context) c.indexed_select.ensures.value (λ W input. Indexed-arm (place_of c.args.inputs.now W) c.args.expr.now c.args.context input _ _ _ _ _ _ c.in-Indexed.is (ap (λ (a : Shape). a.width) c.shape_of-count-in-Indexed.ensures.value ∙ indexed_width c.args.inputs.now.scope.now c.args.expr.now _ _ _ _ _ c.in-Indexed.is))
+word_in-returns-in-Indexed-clause-value t c = weaker_to _ _ _ c.args.inputs.now _ (λ W. worth (place_of c.args.inputs.now W) (plain c.args.expr.now) c.args.context) c.indexed_select.ensures.value (λ W input. Indexed-arm (place_of c.args.inputs.now W) c.args.expr.now c.args.context input _ _ _ _ _ _ c.in-Indexed.is (c.width-count.ensures.value ∙ indexed_width c.args.inputs.now.scope.now c.args.expr.now _ _ _ _ _ c.in-Indexed.is))
 
 pub word_in-returns-in-Unary-clause-value : goal.word_in-returns-in-Unary-clause-value
 word_in-returns-in-Unary-clause-value t c = weaker_to _ _ _ c.args.inputs.now _ (λ W. worth (place_of c.args.inputs.now W) (plain c.args.expr.now) c.args.context) c.prefix_word.ensures.value (λ W input. Unary-arm (place_of c.args.inputs.now W) c.args.expr.now c.args.context input _ _ _ c.in-Unary.is c.prefix_of.ensures)
@@ -224,7 +252,7 @@ pub word_in-returns-in-Concat-clause-value : goal.word_in-returns-in-Concat-clau
 word_in-returns-in-Concat-clause-value t c = weaker_to _ _ _ c.args.inputs.now _ (λ W. worth (place_of c.args.inputs.now W) (plain c.args.expr.now) c.args.context) c.concat_word.ensures.value (λ W input. Concat-arm (place_of c.args.inputs.now W) c.args.expr.now c.args.context input _ c.in-Concat.is)
 
 pub word_in-returns-in-Repeat-clause-value : goal.word_in-returns-in-Repeat-clause-value
-word_in-returns-in-Repeat-clause-value t c = weaker_to _ _ _ c.args.inputs.now _ (λ W. worth (place_of c.args.inputs.now W) (plain c.args.expr.now) c.args.context) c.repeat_word.ensures.value (λ W input. Repeat-arm (place_of c.args.inputs.now W) c.args.expr.now c.args.context input _ _ _ c.in-Repeat.is c.copies_of-copies.ensures)
+word_in-returns-in-Repeat-clause-value t c = weaker_to _ _ _ c.args.inputs.now _ (λ W. worth (place_of c.args.inputs.now W) (plain c.args.expr.now) c.args.context) c.repeat_word.ensures.value (λ W input. Repeat-arm (place_of c.args.inputs.now W) c.args.expr.now c.args.context input _ _ _ c.in-Repeat.is refl)
 
 pub word_in-returns-in-Cast-clause-value : goal.word_in-returns-in-Cast-clause-value
 word_in-returns-in-Cast-clause-value t c = weaker_to _ _ _ c.args.inputs.now _ (λ W. worth (place_of c.args.inputs.now W) (plain c.args.expr.now) c.args.context) c.cast_word.ensures.value (λ W input. Cast-arm (place_of c.args.inputs.now W) c.args.expr.now c.args.context input _ _ c.in-Cast.is)

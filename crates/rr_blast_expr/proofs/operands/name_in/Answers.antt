@@ -1,7 +1,4 @@
-use Rattle.std.proofs.Common.{ap, ◌∙◌}
 use Rattle.rr_bits.specs.Words.{extend}
-use Rattle.rr_expr.specs.Faults.{is_width}
-use Rattle.rr_expr.specs.Scopes.{entity_shape}
 use Rattle.rr_word_gates.proofs.Carrying.{carried1}
 use Rattle.rr_blast_expr.proofs.Worths.{name-carried}
 use Rattle.rr_blast_expr.proofs.operands.name_in.Goals as goal

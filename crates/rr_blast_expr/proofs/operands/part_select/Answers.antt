@@ -1,4 +1,3 @@
-use Rattle.std.proofs.Common.{ap}
 use Rattle.rr_bits.specs.Words.{extend}
 use Rattle.rr_syntax.specs.View.{plain}
 use Rattle.rr_word_gates.proofs.Carrying.{carried1}
