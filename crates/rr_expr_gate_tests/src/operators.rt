@@ -174,6 +174,27 @@ fn agrees_everywhere(
     agrees_in(alloc, tree, scope, list, width, wider(own), turns)
 }
 
+/// Whether the gates give the value of an expression that has a shape.
+fn check_tree(
+    alloc: Global,
+    tree: &Expr,
+    scope: &Scope,
+    width: u32,
+    turns: u32,
+) -> Result<bool, Fail>
+    requires low { 1 ≤ width }
+    requires high { width ≤ 128 }
+{
+    let list = list_of(alloc, &[])?;
+    if list.bits() != 0 {
+        return Err(Fail::from("sites"));
+    }
+    match shape(tree, scope) {
+        Err(_) => Err(Fail::from("no shape")),
+        Ok(_) => Ok(agrees_everywhere(alloc, tree, scope, &list, width, turns)?),
+    }
+}
+
 /// Whether the gates give the value of a text, of signals of a width.
 fn check(alloc: Global, text: &str, width: u32, turns: u32) -> Result<bool, Fail>
     requires low { 1 ≤ width }
@@ -182,11 +203,7 @@ fn check(alloc: Global, text: &str, width: u32, turns: u32) -> Result<bool, Fail
     let arena = Bump::new(alloc);
     let tree = expr_of(text, &arena)?;
     let scope = names(alloc, width)?;
-    let list = list_of(alloc, &[])?;
-    if shape(tree, &scope).is_err() || list.bits() != 0 {
-        return Err(Fail::from("no shape"));
-    }
-    Ok(agrees_everywhere(alloc, tree, &scope, &list, width, turns)?)
+    check_tree(alloc, tree, &scope, width, turns)
 }
 
 /// Whether all of some texts are right at widths 1, 4 and 128.

@@ -94,42 +94,83 @@ fn is_tested(
     scope: &Scope,
     list: &SiteList,
     choice: &[bool],
+    context: Shape,
+) -> Result<bool, AllocError>
+    requires few { total_bits list.now ≤ 400 }
+    requires count { length choice.now ≡ total_bits list.now }
+    requires tree { fault scope.now (plain tree.now) false ≡ None }
+    requires instance { fault scope.now (plain instance.now) false ≡ None }
+    requires low { (form scope.now (plain instance.now)).width ≤ context.width }
+    requires wide { context.width ≤ 128 }
+{
+    let circuit = condition_of(alloc, tree, scope, list, 4)?;
+    agrees_always(alloc, &circuit, instance, scope, 4, context, choice, 30)
+}
+
+/// Whether the gates of an expression, or of a condition, give the value of another.
+fn agrees_with(
+    alloc: Global,
+    tree: &Expr,
+    instance: &Expr,
+    scope: &Scope,
+    list: &SiteList,
+    choice: &[bool],
+    tested: bool,
 ) -> Result<bool, AllocError>
     requires few { total_bits list.now ≤ 400 }
     requires count { length choice.now ≡ total_bits list.now }
     requires tree { fault scope.now (plain tree.now) false ≡ None }
     requires instance { fault scope.now (plain instance.now) false ≡ None }
 {
-    let own = shape_of(instance, scope);
-    let circuit = condition_of(alloc, tree, scope, list, 4)?;
-    agrees_always(alloc, &circuit, instance, scope, 4, own, choice, 30)
+    if tested {
+        let own = shape_of(instance, scope);
+        return is_tested(alloc, tree, instance, scope, list, choice, own);
+    }
+    agrees_everywhere(alloc, tree, instance, scope, list, choice)
+}
+
+/// The same of trees that have shapes, for a choice whose bits are written by digits.
+fn is_instance(
+    alloc: Global,
+    tree: &Expr,
+    instance: &Expr,
+    scope: &Scope,
+    list: &SiteList,
+    digits: &str,
+    tested: bool,
+) -> Result<bool, Fail>
+    requires { total_bits list.now ≤ 400 }
+{
+    if shape(tree, scope).is_err() {
+        return Err(Fail::from("no shape"));
+    }
+    if shape(instance, scope).is_err() {
+        return Err(Fail::from("no shape"));
+    }
+    let choice = bits_of(alloc, digits)?;
+    if list.bits() as usize != choice.len() {
+        return Err(Fail::from("another number of bits"));
+    }
+    let bits = choice.as_slice();
+    Ok(agrees_with(alloc, tree, instance, scope, list, bits, tested)?)
 }
 
 /// Whether an expression with sites, or a condition, is another expression for a choice.
 fn check(
     alloc: Global,
     text: &str,
-    sites: &[Site],
+    list: &SiteList,
     digits: &str,
     expected: &str,
     tested: bool,
-) -> Result<bool, Fail> {
+) -> Result<bool, Fail>
+    requires { total_bits list.now ≤ 400 }
+{
     let arena = Bump::new(alloc);
     let tree = expr_of(text, &arena)?;
     let instance = expr_of(expected, &arena)?;
     let scope = names(alloc, 4)?;
-    let list = list_of(alloc, sites)?;
-    let choice = bits_of(alloc, digits)?;
-    if list.bits() as usize != choice.len() {
-        return Err(Fail::from("another number of bits"));
-    }
-    if shape(tree, &scope).is_err() || shape(instance, &scope).is_err() {
-        return Err(Fail::from("no shape"));
-    }
-    if tested {
-        return Ok(is_tested(alloc, tree, instance, &scope, &list, choice.as_slice())?);
-    }
-    Ok(agrees_everywhere(alloc, tree, instance, &scope, &list, choice.as_slice())?)
+    is_instance(alloc, tree, instance, &scope, list, digits, tested)
 }
 
 /// Whether an expression with sites is each of some expressions, for a choice whose bits are written
@@ -137,94 +178,112 @@ fn check(
 fn check_all(
     alloc: Global,
     text: &str,
-    sites: &[Site],
-    cases: &[(&str, &str)],
+    list: &SiteList,
+    cases: &[&str],
     tested: bool,
-) -> Result<bool, Fail> {
+) -> Result<bool, Fail>
+    requires { total_bits list.now ≤ 400 }
+{
     for case in cases {
-        let (digits, expected) = *case;
-        if !check(alloc, text, sites, digits, expected, tested)? {
+        let Some((digits, expected)) = case.split_once(": ") else {
+            return Err(Fail::from("a case without bits"));
+        };
+        if !check(alloc, text, list, digits, expected, tested)? {
             return Ok(false);
         }
     }
     Ok(true)
 }
 
+/// A sum with a literal of four bits, for choices of its value.
+const VALUES: [&str; 4] = [
+    "00011: a + 4'd3",
+    "10011: a + 4'd12",
+    "11000: a + 4'd1",
+    "11111: a + 4'd15",
+];
+
 #[test]
 fn a_literal_takes_the_value_where_its_switch_is_on(rt: HostRuntime) -> Result<(), Fail> {
-    let sites = [literal(2, false)];
-    let cases = [
-        ("00011", "a + 4'd3"),
-        ("10011", "a + 4'd12"),
-        ("11000", "a + 4'd1"),
-        ("11111", "a + 4'd15"),
-    ];
-    assert!(rt; check_all(rt.alloc(), "a + 4'd3", &sites, &cases, false)?);
+    let list = list_of(rt.alloc(), &[literal(2, false)])?;
+    assert!(rt; check_all(rt.alloc(), "a + 4'd3", &list, &VALUES, false)?);
     Ok(())
 }
+
+/// A difference from a literal with a sign.
+const SIGNED: [&str; 2] = ["00001: 4'sd3 - s", "10001: 4'sb1000 - s"];
 
 #[test]
 fn a_literal_keeps_its_sign(rt: HostRuntime) -> Result<(), Fail> {
-    let sites = [literal(0, true)];
-    let cases = [("00001", "4'sd3 - s"), ("10001", "4'sb1000 - s")];
-    assert!(rt; check_all(rt.alloc(), "4'sd3 - s", &sites, &cases, false)?);
+    let list = list_of(rt.alloc(), &[literal(0, true)])?;
+    assert!(rt; check_all(rt.alloc(), "4'sd3 - s", &list, &SIGNED, false)?);
     Ok(())
 }
+
+/// A condition with two names, for choices of its form and its name.
+const FORMS: [&str; 7] = [
+    "01001: a ? b : t",
+    "10000: !a ? b : t",
+    "11000: (a != 0) && b ? b : t",
+    "10101: (a != 0) && !s ? b : t",
+    "11101: (a != 0) || s ? b : t",
+    "10010: (a != 0) || !b ? b : t",
+    "11111: (a != 0) || !s ? b : t",
+];
 
 #[test]
 fn a_condition_takes_each_form_of_a_guard(rt: HostRuntime) -> Result<(), Fail> {
-    let sites = [guard(0, 1, &["b", "s"])];
-    let cases = [
-        ("01001", "a ? b : t"),
-        ("10000", "!a ? b : t"),
-        ("11000", "(a != 0) && b ? b : t"),
-        ("10101", "(a != 0) && !s ? b : t"),
-        ("11101", "(a != 0) || s ? b : t"),
-        ("10010", "(a != 0) || !b ? b : t"),
-        ("11111", "(a != 0) || !s ? b : t"),
-    ];
-    assert!(rt; check_all(rt.alloc(), "a ? b : t", &sites, &cases, false)?);
+    let list = list_of(rt.alloc(), &[guard(0, 1, &["b", "s"])])?;
+    assert!(rt; check_all(rt.alloc(), "a ? b : t", &list, &FORMS, false)?);
     Ok(())
 }
+
+/// A condition without names.
+const NEGATED: [&str; 2] = ["0: a < b ? s : t", "1: a < b ? t : s"];
 
 #[test]
 fn a_condition_without_names_is_negated(rt: HostRuntime) -> Result<(), Fail> {
-    let sites = [guard(0, 3, &[])];
-    let cases = [("0", "a < b ? s : t"), ("1", "a < b ? t : s")];
-    assert!(rt; check_all(rt.alloc(), "a < b ? s : t", &sites, &cases, false)?);
+    let list = list_of(rt.alloc(), &[guard(0, 3, &[])])?;
+    assert!(rt; check_all(rt.alloc(), "a < b ? s : t", &list, &NEGATED, false)?);
     Ok(())
 }
+
+/// A condition within a condition.
+const NESTED: [&str; 3] = [
+    "01: (!a ? b : 1'd1) ? s : t",
+    "10: !(a ? b : 1'd1) ? s : t",
+    "11: !(!a ? b : 1'd1) ? s : t",
+];
 
 #[test]
 fn an_inner_condition_changes_before_an_outer_one(rt: HostRuntime) -> Result<(), Fail> {
-    let sites = [guard(0, 7, &[]), guard(1, 1, &[])];
+    let list = list_of(rt.alloc(), &[guard(0, 7, &[]), guard(1, 1, &[])])?;
     let text = "(a ? b : 1'd1) ? s : t";
-    let cases = [
-        ("01", "(!a ? b : 1'd1) ? s : t"),
-        ("10", "!(a ? b : 1'd1) ? s : t"),
-        ("11", "!(!a ? b : 1'd1) ? s : t"),
-    ];
-    assert!(rt; check_all(rt.alloc(), text, &sites, &cases, false)?);
+    assert!(rt; check_all(rt.alloc(), text, &list, &NESTED, false)?);
     Ok(())
 }
+
+/// Two conditions at one token.
+const LENGTHS: [&str; 3] = [
+    "00100: !(!(a ? b : 1'd1))",
+    "10100: (a ? b : 1'd1) && !s",
+    "10101: (!a ? b : 1'd1) && !s",
+];
 
 #[test]
 fn two_conditions_at_one_token_differ_by_their_length(rt: HostRuntime) -> Result<(), Fail> {
-    let sites = [guard(0, 5, &["s"]), guard(0, 1, &[])];
-    let cases = [
-        ("00100", "!(!(a ? b : 1'd1))"),
-        ("10100", "(a ? b : 1'd1) && !s"),
-        ("10101", "(!a ? b : 1'd1) && !s"),
-    ];
-    assert!(rt; check_all(rt.alloc(), "a ? b : 1'd1", &sites, &cases, true)?);
+    let list = list_of(rt.alloc(), &[guard(0, 5, &["s"]), guard(0, 1, &[])])?;
+    assert!(rt; check_all(rt.alloc(), "a ? b : 1'd1", &list, &LENGTHS, true)?);
     Ok(())
 }
 
+/// A literal in an index and one beside it.
+const INDEX: [&str; 1] = ["1110010000: a[4'd1] + 4'd0"];
+
 #[test]
 fn an_index_stays_whatever_the_choice(rt: HostRuntime) -> Result<(), Fail> {
-    let sites = [literal(2, false), literal(5, false)];
-    let cases = [("1110010000", "a[4'd1] + 4'd0")];
-    assert!(rt; check_all(rt.alloc(), "a[4'd1] + 4'd2", &sites, &cases, false)?);
+    let list = list_of(rt.alloc(), &[literal(2, false), literal(5, false)])?;
+    assert!(rt; check_all(rt.alloc(), "a[4'd1] + 4'd2", &list, &INDEX, false)?);
     Ok(())
 }
 
