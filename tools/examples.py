@@ -8,7 +8,9 @@ PROGRAM is ./rtl_repair where it is not given. For each folder of examples/ with
 `sites` prints sites.txt, `repair` prints repaired.v and reports report.txt, `check` accepts the certificate, and the repaired
 source, run again, gives each known cell of the table. The last line counts; the status is 0 where all is as it should be.
 """
-import csv, os, subprocess, sys, tempfile
+import os, subprocess, sys, tempfile
+
+from cells import misses
 
 top = os.path.dirname(os.path.dirname(os.path.abspath(__file__)))
 program = os.path.abspath(sys.argv[1]) if len(sys.argv) > 1 else f"{top}/rtl_repair"
@@ -23,37 +25,6 @@ def run(folder, *words):
 def text(path):
     with open(path, encoding="utf-8", newline="") as file:
         return file.read()
-
-
-def digits(cell):
-    """The known bits of a cell and their values."""
-    cell = cell.strip()
-    if cell in ("", "x", "X"):
-        return 0, 0
-    step, base = {"0b": (1, 2), "0x": (4, 16)}.get(cell[:2], (0, 10))
-    if not step:
-        return -1, int(cell)
-    known = value = 0
-    for digit in cell[2:].replace("_", ""):
-        is_known = digit not in "xX"
-        known = known << step | ((1 << step) - 1 if is_known else 0)
-        value = value << step | (int(digit, base) if is_known else 0)
-    # (upper digits that are not written are 0)
-    return known | -1 << step * len(cell[2:].replace("_", "")), value
-
-
-def misses(table, printed):
-    """The cells of a table that a printed run does not have, as row and column name."""
-    wanted, given = list(csv.DictReader(table.splitlines())), list(csv.DictReader(printed.splitlines()))
-    if len(wanted) != len(given):
-        return ["another number of rows"]
-    found = []
-    for number, (row, outputs) in enumerate(zip(wanted, given), 1):
-        for name in outputs:
-            known, value = digits(row[name]) if name in row else (0, 0)
-            if (int(outputs[name]) ^ value) & known:
-                found.append(f"row {number} {name}")
-    return found
 
 
 def judge(folder):

@@ -1,0 +1,33 @@
+"""Cells of tables: which a printed run does not have."""
+import csv
+
+
+def digits(cell):
+    """The known bits of a cell and their values."""
+    cell = cell.strip()
+    if cell in ("", "x", "X"):
+        return 0, 0
+    step, base = {"0b": (1, 2), "0x": (4, 16)}.get(cell[:2], (0, 10))
+    if not step:
+        return -1, int(cell)
+    known = value = 0
+    for digit in cell[2:].replace("_", ""):
+        is_known = digit not in "xX"
+        known = known << step | ((1 << step) - 1 if is_known else 0)
+        value = value << step | (int(digit, base) if is_known else 0)
+    # (upper digits that are not written are 0)
+    return known | -1 << step * len(cell[2:].replace("_", "")), value
+
+
+def misses(table, printed):
+    """The cells of a table that a printed run does not have, as row and column name."""
+    wanted, given = list(csv.DictReader(table.splitlines())), list(csv.DictReader(printed.splitlines()))
+    if len(wanted) != len(given):
+        return ["another number of rows"]
+    found = []
+    for number, (row, outputs) in enumerate(zip(wanted, given), 1):
+        for name in outputs:
+            known, value = digits(row[name]) if name in row else (0, 0)
+            if (int(outputs[name]) ^ value) & known:
+                found.append(f"row {number} {name}")
+    return found
