@@ -1,8 +1,8 @@
 -- Sums of widths that stop at the greatest count of 64 bits.
-use Rattle.std.proofs.Common.{◌≡◌, ◌≤◌, ◌<◌, ℕ, zero, suc, ◌+◌, ◌*◌, min, List, [], ◌∷◌, length, get_or, map, drop, refl, sym, ◌∙◌, ap, arith}
+use Rattle.std.proofs.Common.{◌≡◌, ◌≤◌, ◌<◌, ℕ, zero, suc, ◌+◌, min, List, [], ◌∷◌, length, get_or, map, drop, refl, sym, ◌∙◌, ap, arith}
 use Rattle.std.specs.List.{sum}
 use Rattle.std.proofs.lemmas.List.Sums.{sum_by-cons}
-use Rattle.std.proofs.lemmas.List.{drop_all, drop_more, get_or-map, length-map}
+use Rattle.std.proofs.lemmas.List.{drop_all, drop_more, length-map}
 use Rattle.rr_flat.specs.Signals.{Signal}
 use Rattle.rr_flat.specs.View.{plain_signal}
 use Rattle.rr_flat.specs.declared.signal.Signal.{Signal as ArenaSignal}

@@ -1,4 +1,4 @@
-use Rattle.std.proofs.Common.{map, arith, length, get_or, ℕ, ◌∙◌, ap, min, ◌+◌, sym}
+use Rattle.std.proofs.Common.{arith, ℕ, ◌∙◌, ap, min, ◌+◌}
 use Rattle.std.proofs.lemmas.List.{get_or-map, length-map}
 use Rattle.rr_flat.specs.Signals.{Signal, signal_at}
 use Rattle.rr_flat.specs.View.{plain_flat}
