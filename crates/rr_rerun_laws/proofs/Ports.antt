@@ -1,6 +1,5 @@
 -- The ports of a flat design, its signals' token numbers aside.
-use Rattle.std.proofs.Common.{◌≡◌, ◌∙◌, ℕ, List, map, sym, ap, ap₂, Option, option_map, Some, None, refl}
-use Rattle.std.proofs.lemmas.List.{map-cong}
+use Rattle.std.proofs.Common.{◌≡◌, ◌∙◌, ℕ, List, map, sym, ap, Option, option_map, Some, None, refl}
 use Rattle.rr_flat.specs.Inputs.{row_inputs}
 use Rattle.rr_flat.specs.Plain.{Flat}
 use Rattle.rr_flat.specs.Signals.{Signal, signal_at}
@@ -9,7 +8,6 @@ use Rattle.rr_flat_bare.proofs.Tables.{signal_at-bare}
 use Rattle.rr_choice.specs.declared.pick.Pick.{Pick}
 use Rattle.rr_choice.specs.Sites.{Site}
 use Rattle.rr_flat_instance.specs.Flats.{instance_flat}
-use Rattle.rr_trace.specs.Columns.{Port}
 use Rattle.rr_trace.specs.Tops.{name_of, port_of, ports_of}
 
 signal_bare : (f : Flat) (id : ℕ) → signal_at (bare_flat f).signals id ≡ bare_signal (signal_at f.signals id)

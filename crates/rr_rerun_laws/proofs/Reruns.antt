@@ -15,12 +15,12 @@ use Rattle.rr_walk.specs.Walk.{flat_of}
 use Rattle.rr_elaborate.specs.Designs.{IsText}
 use Rattle.rr_elaborate.proofs.Once.{one_text}
 use Rattle.rr_lawful.proofs.ClockOnce.{one_clock}
-use Rattle.rr_choice.specs.declared.pick.Pick.{Pick}
 use Rattle.rr_instance.specs.Instances.{instance_source}
 use Rattle.rr_choice.specs.Sites.{Site}
 use Rattle.rr_flat_instance.specs.Flats.{instance_flat}
 use Rattle.rr_flat_instance.specs.Places.{SitesFit}
-use Rattle.rr_flat_instance.proofs.Trees.{instances_flatten, instances_of_trees}
+use Rattle.rr_flat_instance.proofs.Trees.{instances_of_trees}
+use Rattle.rr_flat_instance.proofs.Whole.{instances_flatten}
 use Rattle.rr_lawful_instance.specs.AreSites.{AreSitesOf}
 use Rattle.rr_lawful_instance.specs.Listed.{AreRight}
 use Rattle.rr_lawful_instance.proofs.Cycles.{listed_are_sites}
@@ -30,13 +30,12 @@ use Rattle.rr_trace.specs.Tables.{Table, table_of}
 use Rattle.rr_trace.specs.Tops.{ports_of}
 use Rattle.rr_trace.specs.Written.{table_text}
 use Rattle.rr_cycle.specs.Cycles.{Run}
-use Rattle.rr_transition.specs.Cycles.{Design, instance_design}
 use Rattle.rr_unroll.specs.Matches.{Matches}
 use Rattle.rr_sites.proofs.Given.{formed, numbered, right}
+use Rattle.rr_run.specs.Runs.{IsRun}
 use Rattle.rr_run.proofs.Once.{one_run}
 use Rattle.rr_report.specs.Found.{Answer}
-use Rattle.rr_repair.specs.Repairs.{IsRepaired, IsSited, IsTaken, IsUnchanged, Wish, design_of}
-use Rattle.rr_repair_laws.specs.Outcomes.{IsMended}
+use Rattle.rr_repair.specs.Repairs.{IsRepaired, IsTaken, IsUnchanged, Wish, design_of}
 use Rattle.rr_rerun_laws.specs.Reruns.{RunsRight, RunsAgain, RunAgrees}
 use Rattle.rr_rerun_laws.proofs.Ports.{instance_ports, same_ports}
 
@@ -102,39 +101,33 @@ tree_of : (bytes : List ℕ) (ts : List Lexeme) (tree : SourceText) → IsText b
 tree_of bytes ts tree x = record { tokens = ts; are = x.lexed; spells = x.spells.tree.spells }
 
 module _ (w : Wish) (design table : List ℕ) (ts : List Lexeme) (source : SourceText) (sites : List Site) (rows : Table) (taken : IsTaken w design table ts source sites rows) where
-  F : Flat
-  F = taken.flat
-
-  s : IsSited w design ts source F taken.clock sites
-  s = taken.sited
-
-  its_right : AreRight source F w.clock sites
+  its_right : AreRight source taken.flat w.clock sites
   its_right =
-      right source w.top F (formed design ts source w.top F s.tree) (numbered design ts source w.top F s.tree) s.tree.flat w.clock taken.clock s.rising s.are.0 s.lawful s.one_clock s.are.1 sites s.are.2
+      right source w.top taken.flat (formed design ts source w.top taken.flat taken.sited.tree) (numbered design ts source w.top taken.flat taken.sited.tree) taken.sited.tree.flat w.clock taken.clock taken.sited.rising taken.sited.are.0 taken.sited.lawful taken.sited.one_clock taken.sited.are.1 sites taken.sited.are.2
 
-  fit : AreSitesOf F w.clock sites × SitesFit sites source F
-  fit = listed_are_sites source w.top F w.clock sites s.tree.flat s.lawful.targets its_right
+  fit : AreSitesOf taken.flat w.clock sites × SitesFit sites source taken.flat
+  fit = listed_are_sites source w.top taken.flat w.clock sites taken.sited.tree.flat taken.sited.lawful.targets its_right
 
   -- printed as it is
   unchanged : (answer : Answer) → IsUnchanged w design source rows answer → (us : List Lexeme) (tree : SourceText) → IsText answer.out us tree →
       (text : List ℕ) × RunsRight answer.out table w.top w.clock text
   unchanged answer u us tree x =
       let again : IsText design us tree = subst (λ (b : List ℕ). IsText b us tree) u.printed x in
-      let same = one_text design us ts tree source again s.tree.text in
-      let flat : flat_of tree w.top ≡ Ok F = ap (λ (t : SourceText). flat_of t w.top) same.1 ∙ s.tree.flat in
-      told w answer.out table us tree F taken.clock rows x flat taken.read (right_by w source rows F taken.clock s.rising s.tree.flat s.one_clock u.matches)
+      let same = one_text design us ts tree source again taken.sited.tree.text in
+      let flat : flat_of tree w.top ≡ Ok taken.flat = ap (λ (t : SourceText). flat_of t w.top) same.1 ∙ taken.sited.tree.flat in
+      told w answer.out table us tree taken.flat taken.clock rows x flat taken.read (right_by w source rows taken.flat taken.clock taken.sited.rising taken.sited.tree.flat taken.sited.one_clock u.matches)
 
   -- printed with a choice
   repaired : (answer : Answer) → IsRepaired w design ts source sites rows answer → (us : List Lexeme) (tree : SourceText) → IsText answer.out us tree →
       (text : List ℕ) × RunsRight answer.out table w.top w.clock text
   repaired answer r us tree x =
       let same : IsSameSource (instance_source sites r.choice source) tree = unique_tree answer.out (instance_source sites r.choice source) tree r.tree (tree_of answer.out us tree x) in
-      let G : Flat = instance_flat sites r.choice F in
-      let has : HasSameFlat tree w.top G = instances_of_trees sites r.choice source tree w.top F s.tree.flat fit.1 same in
-      let is : flat_of (instance_source sites r.choice source) w.top ≡ Ok G = instances_flatten sites r.choice source w.top F s.tree.flat fit.1 in
-      let clock : OneClock G w.clock taken.clock s.rising = clock_stays taken.clock s.rising F w.clock sites r.choice fit.0 s.one_clock in
-      let good : IsRight w G taken.clock rows = right_by w (instance_source sites r.choice source) rows G taken.clock s.rising is clock r.matches in
-      let ports = sym (same_ports G has.flat taken.clock has.same) ∙ instance_ports F sites r.choice taken.clock in
+      let G : Flat = instance_flat sites r.choice taken.flat in
+      let has : HasSameFlat tree w.top G = instances_of_trees sites r.choice source tree w.top taken.flat taken.sited.tree.flat fit.1 same in
+      let is : flat_of (instance_source sites r.choice source) w.top ≡ Ok G = instances_flatten sites r.choice source w.top taken.flat taken.sited.tree.flat fit.1 in
+      let clock : OneClock G w.clock taken.clock taken.sited.rising = clock_stays taken.clock taken.sited.rising taken.flat w.clock sites r.choice fit.0 taken.sited.one_clock in
+      let good : IsRight w G taken.clock rows = right_by w (instance_source sites r.choice source) rows G taken.clock taken.sited.rising is clock r.matches in
+      let ports = sym (same_ports G has.flat taken.clock has.same) ∙ instance_ports taken.flat sites r.choice taken.clock in
       told w answer.out table us tree has.flat taken.clock rows x has.is (ap (λ p. table_of p table) ports ∙ taken.read) (right_same w G has.flat taken.clock rows has.same good)
 
 pub runs_again : RunsAgain
