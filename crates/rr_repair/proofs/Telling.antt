@@ -1,5 +1,5 @@
 -- What the search answered, as what is to be done.
-use Rattle.std.proofs.Common.{◌≡◌, ◌⊎◌, inl, inr, ℕ, suc, ◌+◌, ◌-◌, ◌<◌, ◌≤◌, ◌^◌, min, List, [], ◌∷◌, length, map, refl, sym, ◌∙◌, ap, subst, arith, Option, Ok}
+use Rattle.std.proofs.Common.{◌≡◌, inl, inr, ℕ, suc, ◌+◌, ◌-◌, ◌<◌, ◌≤◌, min, List, [], ◌∷◌, length, refl, sym, ◌∙◌, ap, subst, arith, Option, Ok}
 use Rattle.std.specs.List.{sum}
 use Rattle.std.proofs.lemmas.List.{length-map}
 use Rattle.rr_syntax.specs.Tree.{SourceText}
@@ -18,7 +18,7 @@ use Rattle.rr_run.specs.declared.fault.RunFault.TheVariants as run_fault
 use Rattle.rr_run.specs.Refusals.{TooMany, StopsWhere as RunStops}
 use Rattle.rr_run.specs.Runs.{RefusesTable}
 use Rattle.rr_choice.specs.declared.pick.Pick.{Pick}
-use Rattle.rr_choice.specs.Choices.{cost, total_bits, IsChoice}
+use Rattle.rr_choice.specs.Choices.{total_bits, IsChoice}
 use Rattle.rr_instance.specs.Instances.{instance_source}
 use Rattle.rr_choice.specs.Sites.{Site, IsSiteList}
 use Rattle.rr_choice.specs.View.{plain_site, plain_sites}
@@ -46,7 +46,7 @@ use Rattle.rr_search.specs.Least.{Least}
 use Rattle.rr_unroll.specs.Faithful.{Faithful}
 use Rattle.rr_answers.specs.Certified.{certificate}
 use Rattle.rr_answers.specs.Texts.{beyond_text}
-use Rattle.rr_repair.specs.Repairs.{Wish, AnswersRepair, CountsRepair, IsAnswer, IsCounted, IsSited, IsTaken, Refuses, RefusesRepair, design_of, work_of}
+use Rattle.rr_repair.specs.Repairs.{Wish, AnswersRepair, CountsRepair, IsAnswer, IsCounted, IsSited, Refuses, RefusesRepair, design_of, work_of}
 use Rattle.rr_repair.specs.Views.{answer_status, changes_of}
 
 pub choice_length : (ss : List Site) (ps : List Pick) → IsChoice ss ps → length ps ≡ length ss

@@ -1,5 +1,7 @@
 use Rattle.rr_syntax.specs.View.{plain_source}
+use Rattle.rr_lex.specs.Tokens.{lexemes}
 use Rattle.rr_flat.specs.View.{plain_flat}
+use Rattle.rr_report.specs.Views.{plain_answer}
 use Rattle.rr_repair.specs.Repairs.{design_of}
 use Rattle.rr_repair.specs.Views.{wish_of}
 use Rattle.rr_repair.proofs.Telling.{counted_told, task_of_design, task_stands}
@@ -18,4 +20,11 @@ told-requires-clause-found g c =
     (task_of_design _ j (c.in_ok-cycle.ensures j c.requires.fits) (plain_flat c.args.design.now.flat) c.requires.fits.design c.args.design.now.order.clock c.requires.read.0 c.requires.read.1)
 
 pub returns : goal.returns
-returns g c = ?
+returns g c =
+    let w = wish_of c.args.asked.now in
+    let source = plain_source c.args.design.now.source.now in
+    let j = design_of w source in
+    let is = c.in_ok-answer.ensures.answer j
+        (task_of_design _ j (c.in_ok-cycle.ensures j c.requires.fits) (plain_flat c.args.design.now.flat) c.requires.fits.design c.args.design.now.order.clock c.requires.read.0 c.requires.read.1) in
+    rw c.changes_of.ensures
+    (counted_told w c.args.bytes.now (lexemes c.args.design.now.tokens.now) source _ (plain_answer c.in_ok-found.found) c.in_ok-answer.answer is c.in_ok-found.ensures.answer c.in_ok-found.ensures.status)
