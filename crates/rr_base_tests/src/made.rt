@@ -3,7 +3,8 @@ use rr_made::made;
 use std::process::Abort;
 
 /// The head of each design.
-const HEAD: &str = "module made(input clk, input rst, input en, output reg [7:0] r0, output reg [7:0] r1, output reg [7:0] r2, output reg [7:0] r3, output reg [7:0] r4, output reg [7:0] r5, output reg [7:0] r6, output reg [7:0] r7);\n";
+const HEAD: &str =
+    "module made(input clk, input rst, input en, output reg [7:0] r0, output reg [7:0] r1, output reg [7:0] r2, output reg [7:0] r3, output reg [7:0] r4, output reg [7:0] r5, output reg [7:0] r6, output reg [7:0] r7);\n";
 
 /// A seed with the steps that the design counts by, in hexadecimal digits, the first rows of its table
 /// and its last one, and how long the table is.
@@ -51,8 +52,9 @@ fn design_of<R: Abort + AllocGlobal>(rt: &R, steps: &[&'static str; 8]) -> Strin
     let alloc = rt.alloc();
     let mut text = String::from_str(alloc, HEAD).expect(rt, "room");
     for (i, step) in steps.iter().enumerate() {
-        let lines = format!(in alloc; "  always @(posedge clk)\n    if (rst) r{i} <= 8'h00;\n    else if (en) r{i} <= r{i} + 8'h{step};\n")
-            .expect(rt, "room");
+        let lines = format!(in alloc;
+            "  always @(posedge clk)\n    if (rst) r{i} <= 8'h00;\n    else if (en) r{i} <= r{i} + 8'h{step};\n"
+        ).expect(rt, "room");
         text.push_str(lines.as_str()).expect(rt, "room");
     }
     text.push_str("endmodule\n").expect(rt, "room");
@@ -63,11 +65,25 @@ fn is_known<R: Abort + AllocGlobal>(rt: &R, known: &Known) {
     let alloc = rt.alloc();
     let input = made(alloc, known.seed).expect(rt, "room");
     let design = design_of(rt, &known.steps);
-    assert!(rt; input.design.as_str() == design.as_str(), "design of {}", known.seed);
-    let head = format!(in alloc; "rst,en,r0,r1,r2,r3,r4,r5,r6,r7\n{}", known.rows).expect(rt, "room");
+    assert!(rt;
+        input.design.as_str() == design.as_str(),
+        "design of {}",
+        known.seed
+    );
+    let head = format!(in alloc; "rst,en,r0,r1,r2,r3,r4,r5,r6,r7\n{}", known.rows).expect(
+        rt, "room",
+    );
     let table = input.table.as_slice();
-    assert!(rt; table.starts_with(head.as_bytes()), "head of {}", known.seed);
-    assert!(rt; table.ends_with(known.last.as_bytes()), "end of {}", known.seed);
+    assert!(rt;
+        table.starts_with(head.as_bytes()),
+        "head of {}",
+        known.seed
+    );
+    assert!(rt;
+        table.ends_with(known.last.as_bytes()),
+        "end of {}",
+        known.seed
+    );
     assert_eq!(rt; table.len(), known.length);
 }
 

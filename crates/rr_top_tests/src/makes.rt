@@ -21,7 +21,10 @@ fn tells<R: Abort + AllocGlobal + Threads + Sync>(
     let mut notes = MemorySink::new(alloc, 1000, list(rt, NONE)).expect(rt, "room");
     let status = run(rt, alloc, &words, shelf, &mut out, &mut notes);
     assert!(rt; out.written() == out_text.as_bytes(), "out of {out_text}");
-    assert!(rt; notes.written() == notes_text.as_bytes(), "notes of {notes_text}");
+    assert!(rt;
+        notes.written() == notes_text.as_bytes(),
+        "notes of {notes_text}"
+    );
     status
 }
 
@@ -31,7 +34,14 @@ fn mends<R: Abort + AllocGlobal + Threads + Sync>(rt: &R, words: &str, summary: 
     assert_eq!(rt; tells(rt, &mut shelf, words, 1000, summary, ""), 0);
     assert!(rt; shelf.held("c.cnf").is_some());
     assert_eq!(rt;
-        tells(rt, &mut shelf, "rtl_repair check c.aag c.lrat", 1000, "accepted\n", ""),
+        tells(
+            rt,
+            &mut shelf,
+            "rtl_repair check c.aag c.lrat",
+            1000,
+            "accepted\n",
+            ""
+        ),
         0
     );
 }
@@ -68,7 +78,14 @@ fn three_changes_are_least(rt: HostRuntime) {
 fn nothing_is_read(rt: HostRuntime) {
     let mut shelf = MemoryShelf::new(rt.alloc(), list(&rt, 0));
     assert_eq!(rt;
-        tells(&rt, &mut shelf, "rtl_repair make 0 c", 1000, "", "fault write c.aag\n"),
+        tells(
+            &rt,
+            &mut shelf,
+            "rtl_repair make 0 c",
+            1000,
+            "",
+            "fault write c.aag\n"
+        ),
         4
     );
     assert!(rt; shelf.held("c.aag").is_none());
@@ -78,7 +95,14 @@ fn nothing_is_read(rt: HostRuntime) {
 fn the_room_is_small(rt: HostRuntime) {
     let mut shelf = MemoryShelf::new(rt.alloc(), list(&rt, NONE));
     assert_eq!(rt;
-        tells(&rt, &mut shelf, "rtl_repair make 0 c", 8, "seed 0\nr", "fault out\n"),
+        tells(
+            &rt,
+            &mut shelf,
+            "rtl_repair make 0 c",
+            8,
+            "seed 0\nr",
+            "fault out\n"
+        ),
         4
     );
     assert!(rt; shelf.held("c.lrat").is_some());
