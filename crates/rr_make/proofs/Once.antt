@@ -1,6 +1,5 @@
 -- A seed has one summary, and each answer tells it, or that there is none, or leaves this open.
-use Rattle.std.proofs.Common.{◌≡◌, ◌∙◌, ◌⊎◌, inl, inr, ℕ, ◌≤◌, List, sym, ap, subst, arith}
-use Rattle.rr_choice.specs.declared.pick.Pick.{Pick}
+use Rattle.std.proofs.Common.{◌≡◌, ◌∙◌, inl, inr, ℕ, ◌≤◌, List, sym, ap, subst, arith}
 use Rattle.rr_choice.specs.Sites.{Site}
 use Rattle.rr_syntax.specs.Tree.{SourceText}
 use Rattle.rr_lex.specs.Tokens.{Lexeme}
@@ -9,10 +8,10 @@ use Rattle.rr_made.specs.Made.{made_design, made_table}
 use Rattle.rr_report.specs.Found.{Answer}
 use Rattle.rr_repair.specs.Repairs.{IsLeastCount, Wish, design_of}
 use Rattle.rr_repair_laws.specs.Laws.{IsOneTaking}
-use Rattle.rr_repair_laws.specs.Outcomes.{IsMendable, IsUnmendable}
+use Rattle.rr_repair_laws.specs.Outcomes.{IsMendable}
 use Rattle.rr_repair_laws.proofs.Once.{mendable_or_not, moved_choice, one_taking}
 use Rattle.rr_search.specs.Least.{Least}
-use Rattle.rr_make.specs.Makes.{AnswersMake, EachMake, IsMade, IsMadeOpen, IsNeverMade, IsSummary, IsUnmade, OneSummary, SummaryOrNone, TellsMake, made_wish, summary}
+use Rattle.rr_make.specs.Makes.{EachMake, IsNeverMade, IsUnmade, OneSummary, SummaryOrNone, made_wish, summary}
 
 module _ (w : Wish) (design table : List ℕ) where
   -- a least count is no more than the cost of a choice that mends the other way to take the files

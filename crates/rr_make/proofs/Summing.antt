@@ -1,16 +1,20 @@
 -- What is done for a repair of the made input.
-use Rattle.std.proofs.Common.{◌≡◌, ◌∙◌, ◌⊎◌, inl, inr, ℕ, List, [], refl, sym, ap, subst, arith}
+use Rattle.std.proofs.Common.{◌≡◌, ◌∙◌, inl, inr, ℕ, List, [], sym, ap, subst, arith}
 use Rattle.rr_made.specs.Made.{made_design, made_table}
 use Rattle.rr_report.specs.Found.{Answer, File}
 use Rattle.rr_repair.specs.Repairs.{CountsRepair}
 use Rattle.rr_repair_laws.specs.Laws.{TellsOutcome}
-use Rattle.rr_repair_laws.specs.Outcomes.{IsDespaired, IsLeftOpen, IsMended}
+use Rattle.rr_repair_laws.specs.Outcomes.{IsDespaired, IsLeftOpen}
 use Rattle.rr_repair_laws.proofs.Told.{each_answer}
-use Rattle.rr_make.specs.Makes.{AnswersMake, IsMade, made_wish, summary}
+use Rattle.rr_make.specs.Makes.{AnswersMake, made_wish, summary}
 
 -- an answer that agrees with a repair's in all that is told
 same_answer : (a b : Answer) → a.status ≡ b.status → a.files ≡ b.files → a.out ≡ b.out → a.notes ≡ b.notes → a ≡ b
-same_answer a b s f o n = cc
+same_answer a b s f o n =
+    ap (λ x. told_by x a.files a.out a.notes) s ∙ ap (λ x. told_by b.status x a.out a.notes) f ∙ ap (λ x. told_by b.status b.files x a.notes) o ∙ ap (λ x. told_by b.status b.files b.out x) n
+  where
+    told_by : ℕ → List File → List ℕ → List ℕ → Answer
+    told_by status files out notes = record { status = status; files = files; out = out; notes = notes }
 
 module _ (seed : ℕ) (cert : List ℕ) (repair : Answer) (changes : ℕ) (c : CountsRepair (made_wish cert) (made_design seed) (made_table seed) repair changes) where
   told : TellsOutcome (made_wish cert) (made_design seed) (made_table seed) repair

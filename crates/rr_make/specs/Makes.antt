@@ -4,7 +4,6 @@ use Rattle.std.specs.Prelude.{◌≡◌, ◌⊎◌, ℕ, List, [], ◌++◌, Non
 use Rattle.rr_made.specs.Made.{made_design, made_table}
 use Rattle.rr_report.specs.Found.{Answer}
 use Rattle.rr_report.specs.Refusals.{Refusal}
-use Rattle.rr_report.specs.Texts.{line}
 use Rattle.rr_repair.specs.Repairs.{IsLeastCount, RefusesRepair, Wish}
 use Rattle.rr_repair_laws.specs.Outcomes.{IsDespaired, IsLeftOpen, IsMended, IsUnmendable}
 
@@ -14,7 +13,7 @@ made_wish cert = record { top = None; clock = None; cert = cert; budget = 20000;
 
 -- the summary of so many changes, each line ended by LF
 abbrev pub summary : ℕ → ℕ → List ℕ
-summary seed changes = line (codes "seed " ++ decimal seed) ++ (line (codes "rows 256") ++ (line (codes "sites 40") ++ line (codes "changes " ++ decimal changes)))
+summary seed changes = codes "seed " ++ (decimal seed ++ (codes "\nrows 256\nsites 40\nchanges " ++ (decimal changes ++ codes "\n")))
 
 -- ---- of a seed
 -- so many changes are the least with which the made design matches its table

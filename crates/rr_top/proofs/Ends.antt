@@ -10,13 +10,13 @@ use Rattle.rr_report.specs.declared.refusal.Refusal.{Refusal as RustRefusal}
 use Rattle.rr_report.specs.declared.refusal.Stop.{Stop}
 use Rattle.rr_report.specs.declared.refusal.Stop.TheVariants as stop
 use Rattle.rr_report.specs.Found.{Answer}
-use Rattle.rr_report.specs.Refusals.{Refusal, plain_refusal}
+use Rattle.rr_report.specs.Refusals.{plain_refusal}
 use Rattle.rr_report.specs.Texts.{memory_text, refused_text}
 use Rattle.rr_report.specs.Views.{plain_answer, report_text, IsRefusedOrNoMemory, Stops, StopsWhere}
 use Rattle.rr_effects.specs.Outside.{Outside, outside, KeepsShelf, KeepsOut}
 use Rattle.rr_effects.specs.Reads.{Given, StopsReading}
 use Rattle.rr_effects.specs.Delivery.{Delivers}
-use Rattle.rr_top.specs.Commands.{Command, Due, Refuses, WhereOne, WhereTwo}
+use Rattle.rr_top.specs.Commands.{Command, Refuses, WhereOne, WhereTwo}
 use Rattle.rr_top.specs.Endings.{CommandEnds}
 use Rattle.rr_top.specs.Views.{Gives}
 

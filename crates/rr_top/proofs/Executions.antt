@@ -1,6 +1,6 @@
 -- What follows from how a run ends.
-use Rattle.std.proofs.Common.{◌≡◌, ◌∙◌, ◌⊎◌, inl, inr, refl, sym, ap, subst, ◌<◌, ℕ, List, [], ◌∷◌, length, take, arith}
-use Rattle.std.specs.Prelude.{Option, Some, None, MatchOption, ⊤}
+use Rattle.std.proofs.Common.{◌≡◌, ◌∙◌, ◌⊎◌, inl, inr, refl, sym, ap, subst, ◌<◌, ℕ, List, [], ◌∷◌, length, arith}
+use Rattle.std.specs.Prelude.{Option, Some, None, MatchOption}
 use Rattle.std.specs.Io.KnownBytes.{Appends}
 use Rattle.rr_edge.specs.Faults.{Faulted}
 use Rattle.rr_edge.specs.Held.{Held}
@@ -19,8 +19,8 @@ use Rattle.rr_report.specs.declared.ending.Ending.TheVariants.{Usage, NoMemory, 
 use Rattle.rr_report.specs.Endings.{status_of}
 use Rattle.rr_report.specs.Found.{Answer, File}
 use Rattle.rr_report.specs.Refusals.{Refusal, TooManyBytes, Input, Flawed, plain_refusal}
-use Rattle.rr_report.specs.Texts.{memory_text, refused_text, out_fault_text}
-use Rattle.rr_effects.specs.Outside.{Outside, KeepsShelf, KeepsOut}
+use Rattle.rr_report.specs.Texts.{memory_text, refused_text}
+use Rattle.rr_effects.specs.Outside.{KeepsShelf, KeepsOut}
 use Rattle.rr_effects.specs.Reads.{AbsentAt, Gave, Given}
 use Rattle.rr_effects.specs.Delivery.{Delivers, Reports, with_files}
 use Rattle.rr_answers.specs.Texts.{unchanged_text}
@@ -33,9 +33,9 @@ use Rattle.rr_make.specs.Makes.{TellsMake}
 use Rattle.rr_make.proofs.Once.{each_make}
 use Rattle.rr_top.specs.Outcomes.{Outcome, mended, unmendable, ran, listed, checked, made, IsToldBy, Tells, outcome_status, verdict_status}
 use Rattle.rr_top.specs.Commands.{AnswersRun, AnswersSites, AnswersCheck, AsksRepair, BothGiven, Command, Due, HasOneOutcome, Refuses, WhereOne, WhereTwo, check_command, command_of_plan, repair_command, run_command, sites_command, wish}
-use Rattle.rr_top.specs.Expected.{Expected, absent, refused, unparsed, done, expected_status, IsChecked, IsPlaced, Judges}
+use Rattle.rr_top.specs.Expected.{Expected, absent, refused, unparsed, done, IsChecked, IsPlaced, Judges}
 use Rattle.rr_top.specs.Endings.{CommandEnds}
-use Rattle.rr_top.specs.Execution.{Ends, IsUsage, Execution, IsExecution, IsRepaired, IsBeyondRepair, IsUnsettled, HoldsFiles, HoldsFirst, LeavesOpen, MayStayOpen, AsksNoRepair, IsSimulated, IsListed, IsSummed, IsNotMade, IsUndecided, IsAccepted, IsRejected, HasDone, HasFailed, HoldsNeverTrue, IsCheck, IsRefused, IsAbsent, IsReadFault, IsWriteFault, IsOutFault, IsReportFault, Fails, IsFailure, IsMatchingRepair, PrintsAsItWas, IsExhausted, IsUnread, WhereCommand, SomeFault, Shows, ShowsOutcome, Follows, AllGiven, NoneRefuses, NoFaults}
+use Rattle.rr_top.specs.Execution.{Ends, IsUsage, Execution, IsExecution, IsRepaired, IsBeyondRepair, IsUnsettled, HoldsFiles, HoldsFirst, LeavesOpen, AsksNoRepair, IsSimulated, IsListed, IsSummed, IsNotMade, IsUndecided, IsAccepted, IsRejected, HasDone, HasFailed, HoldsNeverTrue, IsCheck, IsRefused, IsAbsent, IsReadFault, IsReportFault, Fails, IsFailure, IsMatchingRepair, PrintsAsItWas, IsExhausted, IsUnread, WhereCommand, SomeFault, ShowsOutcome, Follows, AllGiven, NoneRefuses, NoFaults}
 use Rattle.rr_top.proofs.Judging.{placed_or_syntax}
 use Rattle.rr_top.proofs.Readings.{given_given}
 use Rattle.rr_top.proofs.Table.{left_asks, one_in_table, writes_nothing}

@@ -1,5 +1,5 @@
 -- What the reads of a told shelf give, they give once.
-use Rattle.std.proofs.Common.{◌≡◌, ◌∙◌, ◌<◌, ◌≤◌, inl, inr, ℕ, List, [], ◌∷◌, length, refl, sym, ap, arith, Some, None}
+use Rattle.std.proofs.Common.{◌≡◌, ◌∙◌, ◌<◌, inl, inr, ℕ, List, [], ◌∷◌, length, refl, sym, ap, arith, Some, None}
 use Rattle.rr_edge.specs.Held.{Held}
 use Rattle.rr_effects.specs.Reads.{Gave, Given, AbsentAt, TooLongAt}
 

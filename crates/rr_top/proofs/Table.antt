@@ -1,5 +1,5 @@
 -- Each command of the table has one outcome, and all but `repair` and `make` write no file.
-use Rattle.std.proofs.Common.{◌≡◌, ◌∙◌, ◌⊎◌, inl, inr, ℕ, List, [], ◌∷◌, refl, sym, ap, Option}
+use Rattle.std.proofs.Common.{◌≡◌, ◌∙◌, ◌⊎◌, inl, inr, ℕ, List, [], ◌∷◌, refl, ap, Option}
 use Rattle.rr_words.specs.Plan.{Plan, repair, run, sites, check, make}
 use Rattle.rr_syntax.specs.Tree.{SourceText}
 use Rattle.rr_lex.specs.Tokens.{Lexeme}
@@ -21,10 +21,10 @@ use Rattle.rr_repair_laws.specs.Outcomes.{IsLeftOpen}
 use Rattle.rr_repair_laws.proofs.Once.{mendable_or_not, one_refusal as one_repair_refusal, taken_or_refused}
 use Rattle.rr_repair_laws.proofs.Told.{each_answer}
 use Rattle.rr_made.specs.Made.{made_design, made_table}
-use Rattle.rr_make.specs.Makes.{IsMadeOpen, IsNeverMade, IsSummary, RefusesMake, TellsMake, made_wish}
+use Rattle.rr_make.specs.Makes.{RefusesMake, TellsMake, made_wish}
 use Rattle.rr_make.proofs.Once.{each_make, one_summary, summary_or_none}
 use Rattle.rr_top.specs.Outcomes.{Outcome, mended, unmendable, ran, listed, checked, made, IsToldBy}
-use Rattle.rr_top.specs.Commands.{Command, AnswersCheck, AnswersRun, AnswersSites, ComesToCheck, ComesToMake, ComesToRepair, ComesToRun, ComesToSites, HasOneOutcome, IsSameRefusal, RefusesCertificate, RefusesSiteList, RefusesTexts, AsksRepair, IsOfRepair, TellsOrLeavesOpen, WhereOne, WhereTwo, WritesNothing, wish, check_command, command_of_plan, repair_command, run_command, make_command, sites_command}
+use Rattle.rr_top.specs.Commands.{AnswersCheck, AnswersRun, AnswersSites, ComesToCheck, ComesToMake, ComesToRepair, ComesToRun, ComesToSites, HasOneOutcome, IsSameRefusal, RefusesCertificate, RefusesSiteList, RefusesTexts, AsksRepair, IsOfRepair, TellsOrLeavesOpen, WhereOne, WhereTwo, WritesNothing, wish, check_command, command_of_plan, repair_command, run_command, make_command, sites_command}
 
 -- what facts about the same two files give
 both : {X : Type 0} (files : List (List ℕ)) (P Q : List ℕ → List ℕ → Type 0) → WhereTwo files P → WhereTwo files Q → ((a b : List ℕ) → P a b → Q a b → X) → X

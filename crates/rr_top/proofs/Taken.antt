@@ -1,5 +1,5 @@
 -- Arguments that are taken one after the other.
-use Rattle.std.proofs.Common.{◌≡◌, ◌∙◌, ℕ, List, [], ◌∷◌, ◌++◌, length, refl, sym, ap, arith, append_assoc, append-nil}
+use Rattle.std.proofs.Common.{◌≡◌, ◌∙◌, List, [], ◌∷◌, ◌++◌, length, refl, sym, ap, arith, append_assoc, append-nil}
 
 module _ {X : Type 0} (all words left : List X) (is : words ++ left ≡ all) where
   pub one_more : (word : X) (rest grown : List X) → left ≡ word ∷ rest → grown ≡ words ++ (word ∷ []) → grown ++ rest ≡ all

@@ -193,8 +193,8 @@ pub fn run<R: Threads + Sync, H: Shelf, K: Sink, E: Sink>(
         (outside (H.told shelf.new) (H.faults shelf.new) (K.written out.new) (K.faults out.new))
         (E.written notes.old) (E.written notes.new) (E.faults notes.old) (E.faults notes.new) result) }
 
-    // Status 5: memory ran out; the shelf holds what it held, and of `repair` and `make` maybe the first of their files, each
-    // whole.
+    // Status 5: memory ran out; the shelf holds what it held, and of `repair` and `make` maybe the first of their files,
+    // each whole.
     ensures exhausted { result ≡ 5 → IsExhausted
         (execution (map string_bytes arguments.now)
         (outside (H.told shelf.old) (H.faults shelf.old) (K.written out.old) (K.faults out.old))

@@ -1,4 +1,4 @@
-use Rattle.std.proofs.Common.{◌≡◌, ◌∙◌, sym, ap}
+use Rattle.std.proofs.Common.{◌∙◌, sym, ap}
 use Rattle.std.specs.Vec.Iter.{into_iter_items}
 use Rattle.rr_top.proofs.Taken.{one_more, none_left}
 use Rattle.rr_top.proofs.args.arguments.Goals as goal

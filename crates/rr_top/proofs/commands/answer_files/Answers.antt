@@ -26,8 +26,8 @@ returns-in-Check g c =
     let plan = check c.in-Check.circuit.now c.in-Check.proof.now in
     rw c.in-Check.is (c.conclude-in-Check.ensures plan (contents c.args.files.items) (rw c.in-Check.is at c.requires.given) gives)
 
-pub returns-in-Make : goal.returns-in-Make
-returns-in-Make g c =
+pub returns : goal.returns
+returns g c =
     let gives = c.make_files-answer.ensures (contents c.args.files.items) in
     let plan = make c.in-Make.seed c.in-Make.cert.now in
     rw c.in-Make.is (c.conclude-in-Make.ensures plan (contents c.args.files.items) (rw c.in-Make.is at c.requires.given) gives)
