@@ -1,6 +1,6 @@
 //! Cycles over every list of bits of a choice, of a state and of a row, against the settled outputs and the
 //! next state of the printed instances.
-ghost use Rattle.std.specs.Prelude.{◌≡◌, ◌≤◌, ℕ, List, Option, IfOk, length};
+ghost use Rattle.std.specs.Prelude.{◌≤◌, ℕ, List, Option, length};
 ghost use Rattle.rr_syntax.specs.View.{plain_source};
 ghost use Rattle.rr_lex.specs.Tokens.{lexemes};
 ghost use Rattle.rr_flat.specs.Elaborated.{IsSound};
@@ -27,9 +27,7 @@ fn state_of(
     signals: usize,
     registers: &[Bit],
     state: &[bool],
-) -> Result<Env, AllocError>
-    ensures { IfOk result (λ env. length env.values.items ≡ signals) }
-{
+) -> Result<Env, AllocError> {
     let mut values = vec![in alloc; 0_u128; signals]?;
     for (register, bit) in registers.iter().zip(state.iter()) {
         if let Some(value) = values.get_mut(register.signal as usize) {
@@ -50,9 +48,7 @@ fn is_on(env: &Env, signal: u32, place: u32) -> bool {
 }
 
 /// The numbers of a row's inputs, by their bits, input after input.
-fn row_of(alloc: Global, widths: &[u32], row: &[bool]) -> Result<Vec<u128>, AllocError>
-    ensures { IfOk result (λ r. length r.items ≡ length widths.now) }
-{
+fn row_of(alloc: Global, widths: &[u32], row: &[bool]) -> Result<Vec<u128>, AllocError> {
     let mut numbers = Vec::new(alloc);
     let mut bits = row.iter();
     for width in widths.iter() {

@@ -34,6 +34,9 @@ pub(crate) fn instance_text(
         return Ok(None);
     }
     let choice = decode(alloc, list, bits)?;
+    if choice.picks.len() > 1024 {
+        return Ok(None);
+    }
     let text = print(alloc, bytes, design.tokens, design.source, list, &choice)?;
     Ok(Some((cost(&choice), text)))
 }
