@@ -1,4 +1,4 @@
-use Rattle.std.proofs.Common.{◌≡◌, ◌∙◌, ℕ, Bool, false, length, sym, ap}
+use Rattle.std.proofs.Common.{◌∙◌, ℕ, Bool, false, length, sym, ap}
 use Rattle.std.proofs.lemmas.List.{length-map}
 use Rattle.rr_circuit.specs.Values.{OutputNetlist, given, wire_value, wire_values}
 use Rattle.rr_transition.specs.Transitions.{Transition}
