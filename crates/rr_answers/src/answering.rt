@@ -37,7 +37,8 @@ pub fn unchanged(alloc: Global, bytes: &[u8]) -> Found<'_>
     }
 }
 
-/// The answer that prints the source with the changes of a choice, and writes the certificate of fewer.
+/// The answer that prints the source with the changes of a choice, writes the certificate of fewer, and
+/// reports how many proposals were tested.
 pub fn repaired<'b>(
     alloc: Global,
     bytes: &[u8],
@@ -48,6 +49,7 @@ pub fn repaired<'b>(
     cert: &str,
     circuit: &Circuit,
     journal: &Journal,
+    proposals: u32,
 ) -> Result<Found<'b>, AllocError>
     requires small { length bytes.now < 2 ^ 32 }
     requires tokens { AreTokens bytes.now (lexemes tokens.now) }
@@ -58,12 +60,12 @@ pub fn repaired<'b>(
     ensures files { IfOk result (λ found. (plain_answer found).files ≡ certificate_of cert.now circuit.now journal.now) }
     ensures printed { IfOk result (λ found. (plain_answer found).out ≡ printed bytes.now (lexemes tokens.now) list.now choice.now.picks.items (plain_source source.now)) }
     ensures tree { IfOk result (λ found. IsTree (plain_answer found).out (instance_source list.now choice.now.picks.items (plain_source source.now))) }
-    ensures notes { IfOk result (λ found. (plain_answer found).notes ≡ report_of (lexemes tokens.now) list.now choice.now.picks.items 0) }
+    ensures notes { IfOk result (λ found. (plain_answer found).notes ≡ report_of (lexemes tokens.now) list.now choice.now.picks.items proposals) }
     ensures status { IfOk result (λ found. (plain_answer found).status ≡ 0) }
 {
     let files = certificate(alloc, cert, circuit, journal)?;
     let out = print(alloc, bytes, tokens, source, list, choice)?;
-    let notes = report(alloc, tokens, list, choice, 0)?;
+    let notes = report(alloc, tokens, list, choice, proposals)?;
     Ok(Found {
         status: 0,
         files,

@@ -59,10 +59,10 @@ choice_length (s ∷ ss) (p ∷ ps) h = ap suc (choice_length ss ps h.1)
 -- answers
 
 module _ (w : Wish) (design : List ℕ) (tokens : List Lexeme) (source : SourceText) (t : Task) (answer : Answer) where
-  pub repair_told : (c : List Pick) (k : ℕ) (circuit : OutputNetlist) (p : Proof) → search.IsRepair (design_of w source) t c k circuit p.lines → answer.files ≡ certificate w.cert circuit p
-      → answer.out ≡ printed design tokens t.sites c source → IsTree answer.out (instance_source t.sites c source) → answer.notes ≡ report tokens t.sites c 0 → answer.status ≡ 0
+  pub repair_told : (proposals : ℕ) (c : List Pick) (k : ℕ) (circuit : OutputNetlist) (p : Proof) → search.IsRepair (design_of w source) t c k circuit p.lines → answer.files ≡ certificate w.cert circuit p
+      → answer.out ≡ printed design tokens t.sites c source → IsTree answer.out (instance_source t.sites c source) → answer.notes ≡ report tokens t.sites c proposals → answer.status ≡ 0
       → IsAnswer w design tokens source t.sites t.table answer
-  repair_told c k circuit p r files out tree notes status = inr (inl (record {
+  repair_told proposals c k circuit p r files out tree notes status = inr (inl (record {
     faulty = r.faulty;
     choice = c;
     chosen = r.choice;
@@ -75,7 +75,7 @@ module _ (w : Wish) (design : List ℕ) (tokens : List Lexeme) (source : SourceT
     proof = p;
     fewer = record { faithful = subst (λ (n : ℕ). Faithful circuit (design_of w source) t.sites t.table (n - 1)) (sym r.costs) r.fewer.faithful; refutes = r.fewer.refuted };
     files = files;
-    proposals = 0;
+    proposals = proposals;
     notes = notes;
     status = status;
   }))

@@ -33,6 +33,7 @@ use rr_search::{Answer, Job, least};
 use rr_sites::design_sites;
 use rr_trace::Table;
 use rr_transition::Transition;
+use rr_window::proposals;
 use std::alloc::{AllocError, Global};
 use std::thread::Threads;
 
@@ -68,13 +69,15 @@ fn cycle_of(
     Ok(cycle)
 }
 
-/// The answer of a search over the sites of a design, carried into what is to be done.
+/// The answer of a search over the sites of a design, carried into what is to be done; so many proposals
+/// were tested.
 fn told<'b>(
     alloc: Global,
     bytes: &'b [u8],
     design: &LawfulDesign<'_>,
     job: &Job<'_>,
     asked: &Asked<'_>,
+    tested: u32,
     answer: &Answer,
 ) -> Result<Found<'b>, AllocError>
     requires small { length bytes.now < 2 ^ 32 }
@@ -100,7 +103,7 @@ fn told<'b>(
             let list = job.list;
             let tokens = design.tokens;
             let found = repaired(
-                alloc, bytes, tokens, source, list, choice, cert, circuit, journal,
+                alloc, bytes, tokens, source, list, choice, cert, circuit, journal, tested,
             )?;
             Ok(found)
         }
@@ -149,8 +152,10 @@ fn searched<'b, R: Threads + Sync>(
         budget: asked.budget,
         members: asked.members,
     };
-    let answer = least(rt, alloc, &job, &[])?;
-    let found = told(alloc, bytes, design, &job, asked, &answer)?;
+    let proposed = proposals(rt, alloc, &cycle, rows, list)?;
+    let answer = least(rt, alloc, &job, proposed.as_slice())?;
+    let tested = proposed.len().min(u32::MAX as usize) as u32;
+    let found = told(alloc, bytes, design, &job, asked, tested, &answer)?;
     Ok(Counted {
         found,
         changes: changes_of(&answer),

@@ -65,11 +65,11 @@ fn prints<R: Threads + Sync>(
 #[test]
 fn a_literal_is_replaced(rt: HostRuntime) -> Result<(), Fail> {
     let out = "module m(input a, output y);\n  assign y = a &  1'h1 ;\nendmodule\n";
-    let notes = "repaired 1\nsite 0 literal 46 1'h1\nproposals 0\n";
+    let notes = "repaired 1\nsite 0 literal 46 1'h1\nproposals 1\n";
     assert!(rt; prints(&rt, rt.alloc(), GATE, GATE_TABLE, out, notes, 0)?);
     let out =
         "module counter(input clk, input rst, output reg [3:0] q);\n  always @(posedge clk)\n    if (rst) q <= 4'd0;\n    else q <= q +  4'h1 ;\nendmodule\n";
-    let notes = "repaired 1\nsite 3 literal 124 4'h1\nproposals 0\n";
+    let notes = "repaired 1\nsite 3 literal 124 4'h1\nproposals 1\n";
     assert!(rt; prints(&rt, rt.alloc(), COUNTER, COUNTER_TABLE, out, notes, 0)?);
     Ok(())
 }
@@ -78,7 +78,7 @@ fn a_literal_is_replaced(rt: HostRuntime) -> Result<(), Fail> {
 fn a_condition_is_guarded(rt: HostRuntime) -> Result<(), Fail> {
     let out =
         "module m(input clk, input rst, output reg q);\n  always @(posedge clk)\n    if ( ! ( !rst ) ) q <= 1'b0;\n    else q <= ~q;\nendmodule\n";
-    let notes = "repaired 1\nsite 1 guard 78 !(E)\nproposals 0\n";
+    let notes = "repaired 1\nsite 1 guard 78 !(E)\nproposals 1\n";
     assert!(rt; prints(&rt, rt.alloc(), INVERTED, INVERTED_TABLE, out, notes, 0)?);
     Ok(())
 }
@@ -87,7 +87,7 @@ fn a_condition_is_guarded(rt: HostRuntime) -> Result<(), Fail> {
 fn a_last_assignment_is_added(rt: HostRuntime) -> Result<(), Fail> {
     let out =
         "module m(input clk, input rst, output reg [3:0] q);\n  always @(posedge clk) begin \n    q <= q + 4'd1; if ( rst ) q <= 4'h0 ; end \nendmodule\n";
-    let notes = "repaired 1\nsite 0 overwrite 80 if (rst) q <= 4'h0;\nproposals 0\n";
+    let notes = "repaired 1\nsite 0 overwrite 80 if (rst) q <= 4'h0;\nproposals 1\n";
     assert!(rt; prints(&rt, rt.alloc(), MISSING, MISSING_TABLE, out, notes, 0)?);
     Ok(())
 }
@@ -96,7 +96,7 @@ fn a_last_assignment_is_added(rt: HostRuntime) -> Result<(), Fail> {
 fn two_faults_are_mended(rt: HostRuntime) -> Result<(), Fail> {
     let out =
         "module m(input clk, output reg [3:0] p, output reg [3:0] q);\n  always @(posedge clk) p <= p +  4'h1 ;\n  always @(posedge clk) q <= q +  4'h1 ;\nendmodule\n";
-    let notes = "repaired 2\nsite 1 literal 94 4'h1\nsite 3 literal 133 4'h1\nproposals 0\n";
+    let notes = "repaired 2\nsite 1 literal 94 4'h1\nsite 3 literal 133 4'h1\nproposals 1\n";
     assert!(rt; prints(&rt, rt.alloc(), TWO, TWO_TABLE, out, notes, 0)?);
     Ok(())
 }

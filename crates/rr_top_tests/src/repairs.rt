@@ -36,7 +36,7 @@ const FIRST: Case = Case {
     room: 1000,
     status: 0,
     out: "module m(input a, output y);\n  assign y = a &  1'h1 ;\nendmodule\n",
-    notes: "repaired 1\nsite 0 literal 46 1'h1\nproposals 0\n",
+    notes: "repaired 1\nsite 0 literal 46 1'h1\nproposals 1\n",
     certified: 3,
 };
 
@@ -229,7 +229,7 @@ fn designs_are_repaired(rt: HostRuntime) {
             design: "/* low */module\\m+ (input(*x*)a,output y);assign y=1'd1;endmodule//",
             table: "a,y\n0,0\n1,0\n",
             out: "/* low */module\\m+ (input(*x*)a,output y);assign y= 1'h0 ;endmodule//",
-            notes: "repaired 1\nsite 0 literal 51 1'h0\nproposals 0\n",
+            notes: "repaired 1\nsite 0 literal 51 1'h0\nproposals 1\n",
             ..FIRST
         },
     );
@@ -351,7 +351,7 @@ fn options_are_kept(rt: HostRuntime) {
             design: "module m(input a, output y); assign y = 1'b1; endmodule",
             table: "a,y\n7,0\n",
             out: "module m(input a, output y); assign y =  1'h0 ; endmodule",
-            notes: "repaired 1\nsite 0 literal 40 1'h0\nproposals 0\n",
+            notes: "repaired 1\nsite 0 literal 40 1'h0\nproposals 1\n",
             ..FIRST
         },
     );

@@ -1,3 +1,7 @@
+use Rattle.std.proofs.Common.{List, All, subst, sym}
+use Rattle.std.proofs.lemmas.List.Elements.{All-map}
+use Rattle.rr_choice.specs.declared.pick.Choice.{Choice}
+use Rattle.rr_choice.specs.Choices.{IsChoice}
 use Rattle.rr_syntax.specs.View.{plain_source}
 use Rattle.rr_lex.specs.Tokens.{lexemes}
 use Rattle.rr_flat.specs.View.{plain_flat}
@@ -28,3 +32,13 @@ returns g c =
     (task_of_design _ j (c.in_ok-cycle.ensures j c.requires.fits) (plain_flat c.args.design.now.flat) c.requires.fits.design c.args.design.now.order.clock c.requires.read.0 c.requires.read.1) in
     rw c.changes_of.ensures
     (counted_told w c.args.bytes.now (lexemes c.args.design.now.tokens.now) source _ (plain_answer c.in_ok-found.found) c.in_ok-answer.answer is c.in_ok-found.ensures.answer c.in_ok-found.ensures.status)
+
+pub proposals-requires-clause-bits : goal.proposals-requires-clause-bits
+proposals-requires-clause-bits g c κs within =
+    let j = design_of (wish_of c.args.asked.now) (plain_source c.args.design.now.source.now) in
+    (c.in_ok-cycle.ensures j c.requires.fits).choice_bits
+
+pub least-requires-clause-proposals : goal.least-requires-clause-proposals
+least-requires-clause-proposals g c κs within =
+    All-map (IsChoice c.args.list.now) (λ (x : Choice). x.picks.items) c.as_slice.result.now
+    (subst (λ (xs : List Choice). All (λ (x : Choice). IsChoice c.args.list.now x.picks.items) xs) (sym c.as_slice.ensures.value) c.in_ok-proposed.ensures)

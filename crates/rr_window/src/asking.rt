@@ -1,0 +1,74 @@
+//! One question over a window.
+ghost use Rattle.std.specs.Prelude.{◌≡◌, IfOk, length};
+ghost use Rattle.rr_choice.specs.Choices.{IsChoice, total_bits};
+ghost use Rattle.rr_window.specs.Asked.{IsAsked};
+
+use rr_choice::{Choice, SiteList, decode};
+use rr_members::{OpenGate, solve};
+use rr_solver::Outcome;
+use rr_trace::Table;
+use rr_transition::Transition;
+use rr_tseitin::formula_of;
+use rr_unroll::question;
+use std::alloc::{AllocError, Global};
+use std::thread::Threads;
+
+/// How many lines each member may learn for one question over a window.
+const BUDGET: u32 = 1_000;
+
+/// How many members search over a window.
+const MEMBERS: u32 = 4;
+
+/// The outcome of a question over a window.
+#[derive(Drop)]
+pub(crate) enum Asked {
+    /// A choice within the bound mends the rows.
+    Mended(Choice),
+    /// None does.
+    Refuted,
+    /// It is left open.
+    Open,
+}
+
+/// The choice that the values of variables write, from variable 1 on.
+fn chosen(
+    alloc: Global,
+    list: &SiteList<'_>,
+    count: u32,
+    values: &[bool],
+) -> Result<Choice, AllocError>
+    requires { count ≡ total_bits list.now }
+    ensures { IfOk result (λ c. IsChoice list.now c.picks.items) }
+{
+    let mut bits = Vec::new(alloc);
+    for k in 0..count {
+        bits.push(values.get(k as usize + 1).copied().unwrap_or(false))?;
+    }
+    let choice = decode(alloc, list, bits.as_slice())?;
+    Ok(choice)
+}
+
+/// Asks whether at most `bound` changes mend the rows of a table.
+pub(crate) fn ask<R: Threads + Sync>(
+    rt: &R,
+    alloc: Global,
+    transition: &Transition,
+    table: &Table,
+    list: &SiteList<'_>,
+    bound: u32,
+) -> Result<Asked, AllocError>
+    requires bits { transition.now.choice_bits ≡ total_bits list.now }
+    ensures { IfOk result (IsAsked list.now) }
+{
+    let circuit = question(alloc, transition, table, bound)?;
+    let formula = formula_of(alloc, &circuit)?;
+    let inputs = circuit.inputs;
+    match solve(rt, alloc, &formula, inputs, MEMBERS, BUDGET, &OpenGate)? {
+        Outcome::Model(values) => {
+            let choice = chosen(alloc, list, transition.choice_bits, values.as_slice())?;
+            Ok(Asked::Mended(choice))
+        }
+        Outcome::Refuted(_) => Ok(Asked::Refuted),
+        Outcome::Spent(_) => Ok(Asked::Open),
+    }
+}

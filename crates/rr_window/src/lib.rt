@@ -1,0 +1,12 @@
+//! Proposals for a search: changes that mend a few rows of a table, found by small questions over a
+//! window of rows around the first miss. Each is a choice among the sites; nothing else is promised of
+//! them, and whoever takes one tests it over the whole table. It stands on `rr_unroll`, which asks over a
+//! table, and on the members of `rr_members`.
+#![tactic(auto)]
+
+mod asking;
+mod beginning;
+mod proposing;
+mod walking;
+
+pub use proposing::{proposals, propose};
