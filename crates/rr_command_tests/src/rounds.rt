@@ -2,7 +2,7 @@
 use crate::designs::{
     COUNTER, COUNTER_TABLE, TRANSMITTER, TRANSMITTER_TABLE, TWO, TWO_TABLE, WIRE, WIRE_TABLE,
 };
-use crate::shelves::{command, left, shelf_of};
+use crate::shelves::{command, leaves, shelf_of};
 use std::alloc::Global;
 use std::test::Fail;
 use std::thread::Threads;
@@ -22,7 +22,7 @@ fn certifies<R: Threads + Sync>(
     Ok(
         found.status == status
             && found.notes.as_slice().starts_with(notes.as_bytes())
-            && left(&verdict, 0, "accepted\n", ""),
+            && leaves(&verdict, 0, "accepted\n", ""),
     )
 }
 
@@ -90,25 +90,25 @@ fn a_small_room(rt: HostRuntime) -> Result<(), Fail> {
     let found = command(&rt, alloc, &mut shelf, line, 100)?;
     let front =
         "module counter(input clk, input rst, output reg [3:0] q);\n  always @(posedge clk)\n    if (rst) q <= ";
-    assert!(rt; left(&found, 4, front, "fault out\n"));
+    assert!(rt; leaves(&found, 4, front, "fault out\n"));
     assert!(rt; shelf.held("c.aag").is_some());
     assert!(rt; shelf.held("c.cnf").is_some());
     assert!(rt; shelf.held("c.lrat").is_some());
     Ok(())
 }
 
-// One line is too few to show that the count can not be kept.
+// One line is too few to show that one change does not mend both counters.
 #[test]
 fn a_spent_budget(rt: HostRuntime) -> Result<(), Fail> {
     let alloc = rt.alloc();
-    let mut shelf = shelf_of(alloc, TRANSMITTER, TRANSMITTER_TABLE)?;
+    let mut shelf = shelf_of(alloc, TWO, TWO_TABLE)?;
     let line = "rtl_repair repair d.v t.csv c --budget 1 --members 1";
     let found = command(&rt, alloc, &mut shelf, line, 9999)?;
-    assert!(rt; left(&found, 2, "", "budget spent 1 bound "));
+    assert!(rt; leaves(&found, 2, "", "budget spent 1 bound 1\n"));
     assert!(rt; shelf.held("c.lrat").is_some());
     let check = "rtl_repair check c.aag c.lrat";
     let verdict = command(&rt, alloc, &mut shelf, check, 9999)?;
-    assert!(rt; left(&verdict, 1, "no empty clause\n", ""));
+    assert!(rt; leaves(&verdict, 1, "no empty clause\n", ""));
     Ok(())
 }
 
@@ -125,6 +125,6 @@ fn what_is_printed_runs_as_expected(rt: HostRuntime) -> Result<(), Fail> {
     )?;
     shelf.place("r.v", found.out.as_slice())?;
     let again = command(&rt, alloc, &mut shelf, "rtl_repair run r.v t.csv", 9999)?;
-    assert!(rt; left(&again, 0, COUNTER_TABLE, ""));
+    assert!(rt; leaves(&again, 0, COUNTER_TABLE, ""));
     Ok(())
 }

@@ -54,7 +54,7 @@ pub(crate) fn command<R: Threads + Sync>(
 }
 
 /// Whether a command left this status, this output and notes that begin so.
-pub(crate) fn left(left: &Left, status: u8, out: &str, notes: &str) -> bool {
+pub(crate) fn leaves(left: &Left, status: u8, out: &str, notes: &str) -> bool {
     left.status == status
         && left.out.as_slice() == out.as_bytes()
         && left.notes.as_slice().starts_with(notes.as_bytes())
