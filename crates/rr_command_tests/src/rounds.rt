@@ -1,6 +1,7 @@
 //! Repairs whose certificates are checked and whose sources are run again.
 use crate::designs::{
-    COUNTER, COUNTER_TABLE, TRANSMITTER, TRANSMITTER_TABLE, TWO, TWO_TABLE, WIRE, WIRE_TABLE,
+    COUNTER, COUNTER_TABLE, RESETS, RESETS_TABLE, TRANSMITTER, TRANSMITTER_TABLE, TWO, TWO_TABLE,
+    WIRE, WIRE_TABLE,
 };
 use crate::shelves::{command, leaves, shelf_of};
 use std::alloc::Global;
@@ -101,7 +102,7 @@ fn a_small_room(rt: HostRuntime) -> Result<(), Fail> {
 #[test]
 fn a_spent_budget(rt: HostRuntime) -> Result<(), Fail> {
     let alloc = rt.alloc();
-    let mut shelf = shelf_of(alloc, TWO, TWO_TABLE)?;
+    let mut shelf = shelf_of(alloc, RESETS, RESETS_TABLE)?;
     let line = "rtl_repair repair d.v t.csv c --budget 1 --members 1";
     let found = command(&rt, alloc, &mut shelf, line, 9999)?;
     assert!(rt; leaves(&found, 2, "", "budget spent 1 bound 1\n"));
