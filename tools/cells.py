@@ -1,5 +1,5 @@
 """Cells of tables: which a printed run does not have."""
-import csv
+import csv, io
 
 
 def digits(cell):
@@ -19,9 +19,16 @@ def digits(cell):
     return known | -1 << step * len(cell[2:].replace("_", "")), value
 
 
+def records(text):
+    """The rows of a table under the names of its header; blank lines and a byte order mark are skipped."""
+    rows = [row for row in csv.reader(io.StringIO(text.removeprefix("\ufeff"), newline="")) if row]
+    names = [name.strip() for name in rows[0]]
+    return [dict(zip(names, row)) for row in rows[1:]]
+
+
 def misses(table, printed):
     """The cells of a table that a printed run does not have, as row and column name."""
-    wanted, given = list(csv.DictReader(table.splitlines())), list(csv.DictReader(printed.splitlines()))
+    wanted, given = records(table), records(printed)
     if len(wanted) != len(given):
         return ["another number of rows"]
     found = []
