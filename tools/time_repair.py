@@ -60,7 +60,10 @@ def line(name, design, table):
             clauses = open(f"{room}/c.cnf").readline().split()[3]
             steps = sum(1 for _ in open(f"{room}/c.lrat"))
             check = timed([program, "check", "c.aag", "c.lrat"], room)
-            peer = f"{timed(['minisat', '-verb=0', 'c.cnf'], room)[1]:.2f}" if shutil.which("minisat") else ""
+            peer = ""
+            if shutil.which("minisat"):
+                status, seconds, _ = timed(["timeout", "60", "minisat", "-verb=0", "c.cnf"], room)
+                peer = "above 60" if status == 124 else f"{seconds:.2f}"
             rest = [gates, clauses, str(steps), f"{check[1]:.2f}", peer]
         print(f"| {name} | {four[0]} | {one[1]:.2f} | {four[1]:.2f} | {four[2]} | {' | '.join(rest)} |", flush=True)
 
