@@ -1,0 +1,2 @@
+pub mod FewBits
+pub mod Fitting

@@ -1,0 +1,102 @@
+//! The made inputs of the seeds 0 to 2, whose designs have one to three faults.
+ghost use Rattle.std.specs.Prelude.{◌≤◌, IfOk, IfSome, length};
+ghost use Rattle.rr_flat.specs.View.{plain_flat};
+ghost use Rattle.rr_transition.specs.Cycles.{Cycle, Design};
+ghost use Rattle.rr_blast.specs.Circuits.{FitsArguments};
+
+use bumpalo::Bump;
+use rr_blast::{row_bits, transition};
+use rr_choice::SiteList;
+use rr_made::made;
+use rr_registers::register_bits;
+use rr_run::{LawfulDesign, lawful_design, read_rows};
+use rr_search::{Answer, Job, least};
+use rr_sites::design_sites;
+use rr_trace::Table;
+use rr_transition::Transition;
+use std::alloc::{AllocError, Global};
+use std::test::Fail;
+use std::thread::Threads;
+
+/// The transition of a design with few registers, inputs and choice bits.
+fn transition_of(
+    alloc: Global,
+    design: &LawfulDesign<'_>,
+    list: &SiteList<'_>,
+) -> Result<Option<Transition>, AllocError>
+    requires fits { (j : Design) × FitsArguments j (plain_flat design.now.flat) design.now.order.clock design.now.order.rising design.now.order.steps.items list.now }
+    requires few { length list.now ≤ 1024 }
+    ensures { IfOk result (λ found. IfSome found (λ t. (j : Design) → FitsArguments j (plain_flat design.now.flat) design.now.order.clock design.now.order.rising design.now.order.steps.items list.now → Cycle j list.now t)) }
+{
+    list.sites();
+    let registers = register_bits(alloc, &design.flat)?;
+    let ids = design.flat.row_inputs(alloc, design.order.clock)?;
+    let row = row_bits(alloc, &design.flat, ids.as_slice())?;
+    if list.bits() > 4096 {
+        return Ok(None);
+    }
+    if registers.len() > 64 {
+        return Ok(None);
+    }
+    if row.len() > 64 {
+        return Ok(None);
+    }
+    let cycle = transition(alloc, &design.flat, &design.order, list)?;
+    Ok(Some(cycle))
+}
+
+/// The number of changes that the search finds least for a design and its rows, by one member.
+fn fewest<R: Threads + Sync>(
+    rt: &R,
+    alloc: Global,
+    design: &LawfulDesign<'_>,
+    list: &SiteList<'_>,
+    rows: &Table,
+) -> Result<Option<u32>, AllocError>
+    requires fits { (j : Design) × FitsArguments j (plain_flat design.now.flat) design.now.order.clock design.now.order.rising design.now.order.steps.items list.now }
+    requires few { length list.now ≤ 1024 }
+{
+    let Some(cycle) = transition_of(alloc, design, list)? else {
+        return Ok(None);
+    };
+    let job = Job {
+        list,
+        transition: &cycle,
+        table: rows,
+        budget: 20_000,
+        members: 1,
+    };
+    match least(rt, alloc, &job, &[])? {
+        Answer::Repair { k, .. } => Ok(Some(k)),
+        _ => Ok(None),
+    }
+}
+
+/// The number of changes that the search finds least for the made input of a seed.
+fn changes_of<R: Threads + Sync>(rt: &R, alloc: Global, seed: u64) -> Result<Option<u32>, Fail> {
+    let arena = Bump::new(alloc);
+    let input = made(alloc, seed)?;
+    let bytes = input.design.as_bytes();
+    if bytes.len() > 1_048_576 {
+        return Err(Fail::from("a text too long"));
+    }
+    let Ok(design) = lawful_design(alloc, bytes, None, None, &arena) else {
+        return Err(Fail::from("no design"));
+    };
+    let list = design_sites(alloc, &design, &arena)?;
+    if list.sites().len() > 1024 {
+        return Err(Fail::from("too many sites"));
+    }
+    let Ok(rows) = read_rows(alloc, &design, input.table.as_slice()) else {
+        return Err(Fail::from("no rows"));
+    };
+    Ok(fewest(rt, alloc, &design, &list, &rows)?)
+}
+
+#[test]
+fn made_inputs_have_as_many_changes_as_faults(rt: HostRuntime) -> Result<(), Fail> {
+    assert_eq!(rt; changes_of(&rt, rt.alloc(), 0)?, Some(1));
+    assert_eq!(rt; changes_of(&rt, rt.alloc(), 1)?, Some(2));
+    assert_eq!(rt; changes_of(&rt, rt.alloc(), 2)?, Some(3));
+    Ok(())
+}
