@@ -1,4 +1,5 @@
-//! The made inputs of the seeds 0 to 2, whose designs have one to three faults.
+//! The made inputs of the seeds 0 to 2, whose designs have one to three faults; and what a window of a
+//! counter's rows proposes.
 ghost use Rattle.std.specs.Prelude.{◌≤◌, IfOk, IfSome, length};
 ghost use Rattle.rr_flat.specs.View.{plain_flat};
 ghost use Rattle.rr_transition.specs.Cycles.{Cycle, Design};
@@ -6,7 +7,7 @@ ghost use Rattle.rr_blast.specs.Circuits.{FitsArguments};
 
 use bumpalo::Bump;
 use rr_blast::{row_bits, transition};
-use rr_choice::SiteList;
+use rr_choice::{Choice, SiteList};
 use rr_made::made;
 use rr_registers::register_bits;
 use rr_run::{LawfulDesign, lawful_design, read_rows};
@@ -14,6 +15,7 @@ use rr_search::{Answer, Job, least};
 use rr_sites::design_sites;
 use rr_trace::Table;
 use rr_transition::Transition;
+use rr_window::propose;
 use std::alloc::{AllocError, Global};
 use std::test::Fail;
 use std::thread::Threads;
@@ -98,5 +100,64 @@ fn made_inputs_have_as_many_changes_as_faults(rt: HostRuntime) -> Result<(), Fai
     assert_eq!(rt; changes_of(&rt, rt.alloc(), 0)?, Some(1));
     assert_eq!(rt; changes_of(&rt, rt.alloc(), 1)?, Some(2));
     assert_eq!(rt; changes_of(&rt, rt.alloc(), 2)?, Some(3));
+    Ok(())
+}
+
+const COUNTER: &str =
+    "module counter(input clk, input rst, output reg [3:0] q);\n  always @(posedge clk)\n    if (rst) q <= 4'd0;\n    else q <= q + 4'd2;\nendmodule\n";
+
+const COUNTER_TABLE: &str = "rst,q\n1,0\n0,0\n0,1\n0,2\n0,3\n";
+
+/// Whether a choice switches on the last of four sites alone, with the value 1.
+fn is_last(choice: &Choice) -> bool {
+    let picks = choice.picks.as_slice();
+    picks.len() == 4
+        && !picks[0].on
+        && !picks[1].on
+        && !picks[2].on
+        && picks[3].on
+        && picks[3].value == 1
+}
+
+/// Whether the first choice that four rows from row 1 on propose is the last of four sites.
+fn proposes_last<R: Threads + Sync>(
+    rt: &R,
+    alloc: Global,
+    design: &LawfulDesign<'_>,
+    list: &SiteList<'_>,
+    rows: &Table,
+) -> Result<bool, AllocError>
+    requires fits { (j : Design) × FitsArguments j (plain_flat design.now.flat) design.now.order.clock design.now.order.rising design.now.order.steps.items list.now }
+    requires few { length list.now ≤ 1024 }
+{
+    let Some(cycle) = transition_of(alloc, design, list)? else {
+        return Ok(false);
+    };
+    let found = propose(rt, alloc, &cycle, rows, list, 1, 4)?;
+    match found.as_slice().first() {
+        Some(choice) => Ok(is_last(choice)),
+        None => Ok(false),
+    }
+}
+
+/// Whether the literal of a counter's step is proposed.
+fn proposes<R: Threads + Sync>(rt: &R, alloc: Global) -> Result<bool, Fail> {
+    let arena = Bump::new(alloc);
+    let Ok(design) = lawful_design(alloc, COUNTER.as_bytes(), None, None, &arena) else {
+        return Err(Fail::from("no design"));
+    };
+    let list = design_sites(alloc, &design, &arena)?;
+    if list.sites().len() > 1024 {
+        return Err(Fail::from("too many sites"));
+    }
+    let Ok(rows) = read_rows(alloc, &design, COUNTER_TABLE.as_bytes()) else {
+        return Err(Fail::from("no rows"));
+    };
+    Ok(proposes_last(rt, alloc, &design, &list, &rows)?)
+}
+
+#[test]
+fn a_window_proposes_the_step(rt: HostRuntime) -> Result<(), Fail> {
+    assert!(rt; proposes(&rt, rt.alloc())?);
     Ok(())
 }
