@@ -13,8 +13,7 @@ ghost use Rattle.rr_expr.specs.Values.{form, nowhere, unsigned_of, value as valu
 use crate::entities::{entity_range, entity_shape, entity_value};
 use crate::notes::{Known, Notes};
 use crate::operators::{
-    Infix, Prefix, Relation, computed, holds, infix_of, infix_shape, joined, prefix_of,
-    prefix_shape, reduced, shifted, truth,
+    Infix, Prefix, Relation, computed, holds, infix_of, joined, prefix_of, reduced, shifted, truth,
 };
 use crate::scope::Scope;
 use crate::selects::{Index, count_of, index_of, indexed, picked, span_of};
@@ -48,10 +47,9 @@ pub(crate) fn own_shape<'e>(expr: &'e Expr<'e>, scope: &Scope, notes: &mut Notes
         Expr::Indexed { width, .. } => {
             unsigned(count_of(constant_index(width, scope, notes)) as u32)
         }
-        Expr::Unary { op, of } => prefix_shape(prefix_of(*op), own_shape(of, scope, notes)),
+        Expr::Unary { op, of } => prefix_own_shape(prefix_of(*op), of, scope, notes),
         Expr::Binary { op, left, right } => {
-            let left = own_shape(left, scope, notes);
-            infix_shape(infix_of(*op), left, own_shape(right, scope, notes))
+            infix_own_shape(infix_of(*op), left, right, scope, notes)
         }
         Expr::Cond { yes, no, .. } => {
             let yes = own_shape(yes, scope, notes);
@@ -67,6 +65,52 @@ pub(crate) fn own_shape<'e>(expr: &'e Expr<'e>, scope: &Scope, notes: &mut Notes
             signed: *signed,
         },
         Expr::Paren { of } => own_shape(of, scope, notes),
+    }
+}
+
+/// The same of an operator before its operand, which is looked at only where the shape stands on it.
+#[cycle(values)]
+#[tactic(auto, using(crate::proofs::Equations::forms))]
+fn prefix_own_shape<'e>(op: Prefix, of: &'e Expr<'e>, scope: &Scope, notes: &mut Notes<'e>) -> Shape
+    requires fits { IsTrue (fits scope.now (plain of.now)) }
+    requires noted { Noted scope.now notes.old }
+    ensures value { result ≡ prefix_shaped op (form scope.now (plain of.now)) }
+    ensures low { 1 ≤ result.width }
+    ensures high { result.width ≤ 128 }
+    ensures noted { Noted scope.now notes.new }
+{
+    match op {
+        Prefix::Plus | Prefix::Minus | Prefix::Invert => own_shape(of, scope, notes),
+        Prefix::Reduced(_) => unsigned(1),
+    }
+}
+
+/// The same of an operator between its operands. Operands of comparisons are not looked at, so a chain
+/// of them takes time in its length (IEEE 1364-2005 sections 5.4.1 and 5.5.1).
+#[cycle(values)]
+#[tactic(auto, using(crate::proofs::Equations::forms))]
+fn infix_own_shape<'e>(
+    op: Infix,
+    left: &'e Expr<'e>,
+    right: &'e Expr<'e>,
+    scope: &Scope,
+    notes: &mut Notes<'e>,
+) -> Shape
+    requires left { IsTrue (fits scope.now (plain left.now)) }
+    requires right { IsTrue (fits scope.now (plain right.now)) }
+    requires noted { Noted scope.now notes.old }
+    ensures value { result ≡ infix_shaped op (form scope.now (plain left.now)) (form scope.now (plain right.now)) }
+    ensures low { 1 ≤ result.width }
+    ensures high { result.width ≤ 128 }
+    ensures noted { Noted scope.now notes.new }
+{
+    match op {
+        Infix::Arithmetic(_) | Infix::Divide | Infix::Remainder => {
+            let left = own_shape(left, scope, notes);
+            joined(left, own_shape(right, scope, notes))
+        }
+        Infix::Shifted(_) | Infix::Power => own_shape(left, scope, notes),
+        Infix::Compared(_) | Infix::Both | Infix::Either => unsigned(1),
     }
 }
 

@@ -18,6 +18,12 @@ invariant-parts_width-loop-part l = (l.total ≡ widths l.scope (plain_list (tak
 abbrev pub decreases-own_shape : goal.decreases-own_shape
 decreases-own_shape l = 4 * (goal.size-own_shape l)
 
+abbrev pub decreases-prefix_own_shape : goal.decreases-prefix_own_shape
+decreases-prefix_own_shape l = 4 * (goal.size-prefix_own_shape l) + 1
+
+abbrev pub decreases-infix_own_shape : goal.decreases-infix_own_shape
+decreases-infix_own_shape l = 4 * (max (goal.size-infix_own_shape l) (goal.size-infix_own_shape (record l { left = l.right }))) + 1
+
 abbrev pub decreases-value_in : goal.decreases-value_in
 decreases-value_in l = 4 * (goal.size-value_in l)
 
