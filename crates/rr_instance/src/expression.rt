@@ -72,7 +72,9 @@ fn add_part<'a>(parts: &mut Vec<Expr<'a>, &'a Bump>, part: Expr<'a>) -> Result<(
     Ok(())
 }
 
-/// An expression of an instance. What `/`, `%` and `**` take, indices, bounds and counts stay.
+/// What a choice makes of an expression of fewer than 2^64 tokens: its literals and conditions that are
+/// sites are changed as they are picked; what `/`, `%` and `**` take, indices, bounds and counts stay.
+/// The error is want of memory.
 #[cycle(instances)]
 #[tactic(auto, using(crate::proofs::Arms::arms))]
 pub fn expression_instance<'a>(
@@ -152,7 +154,7 @@ pub(crate) fn condition<'a>(
     Ok(whole)
 }
 
-/// Several expressions.
+/// What a choice makes of several expressions, in their order.
 #[cycle(instances)]
 pub fn expression_instances<'a>(
     list: &[Expr<'a>],

@@ -15,7 +15,7 @@ ghost use Rattle.rr_meaning.specs.Calls.{IsRow};
 ghost use Rattle.rr_exec.specs.Work.{IsLater, updates_in};
 ghost use Rattle.rr_meaning.specs.Work.{cut_to, given_over, masked, row_items};
 
-use crate::registers::registers;
+use crate::registers::register_masks;
 use crate::steps::{perform, signal_value};
 use rr_bits::Bits;
 use rr_exec::{Machine, apply, execute};
@@ -136,7 +136,7 @@ fn prepare(alloc: Global, flat: &Flat, clock: Option<u32>) -> Result<Plan, Alloc
     ensures narrow { IfOk result (λ r. (b : FlatBit) → env_of r.registers.items b ≡ true → b.place < (signal_at (plain_flat flat.now).signals b.signal).width) }
 {
     let inputs = flat.row_inputs(alloc, clock)?;
-    let registers = registers(alloc, flat)?;
+    let registers = register_masks(alloc, flat)?;
     Ok(Plan { inputs, registers })
 }
 

@@ -10,3 +10,4 @@ mod steps;
 
 pub use cycle::{run_table, settle, step};
 pub use laws::table_rows;
+pub use registers::register_masks;

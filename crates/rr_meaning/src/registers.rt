@@ -29,11 +29,11 @@ fn mark(masks: &mut Vec<u128>, piece: &Piece)
     }
 }
 
-/// For each signal the places that clocked blocks may write.
-pub(crate) fn registers(alloc: Global, flat: &Flat) -> Result<Vec<u128>, AllocError>
+/// For each signal the places that clocked blocks may write, as a mask.
+pub fn register_masks(alloc: Global, flat: &Flat) -> Result<Vec<u128>, AllocError>
     ensures env { IfOk result (λ r. (b : FlatBit) → env_of r.items b ≡ any_writes (plain_flat flat.now) (plain_flat flat.now).clocked b) }
     ensures count { IfOk result (λ r. length r.items ≡ length flat.now.signals) }
-    ensures narrow { IfOk result (λ r. (b : FlatBit) → env_of r.items b ≡ true → b.place < (signal_at (plain_flat flat.now).signals b.signal).width) }
+    ensures there { IfOk result (λ r. (b : FlatBit) → env_of r.items b ≡ true → (b.signal < length flat.now.signals) × (b.place < (signal_at (plain_flat flat.now).signals b.signal).width)) }
 {
     let writes = written(alloc, flat)?;
     let mut masks = vec![in alloc; 0u128; flat.signals.len()]?;

@@ -1,64 +1,19 @@
 //! The bits that clocked blocks write.
-ghost use Rattle.std.specs.Prelude.{◌≡◌, ◌<◌, ◌≤◌, ◌++◌, ◌∷◌, [], ◌||◌, ℕ, All, IfOk, OnOk, cond, true, false, length, map, get_or};
+ghost use Rattle.std.specs.Prelude.{◌≡◌, ◌<◌, ◌++◌, ◌∷◌, [], ℕ, All, IfOk, OnOk, cond, false, length, map, get_or};
 ghost use Rattle.std.specs.List.{filter, range_with_len};
 ghost use Rattle.rr_bits.specs.Words.{word};
-ghost use Rattle.rr_expr.specs.Scopes.{env_of};
 ghost use Rattle.rr_expr.specs.declared.types.Bit.{Bit as FlatBit};
 ghost use Rattle.rr_flat.specs.Signals.{signal_at};
 ghost use Rattle.rr_flat.specs.View.{plain_flat};
-ghost use Rattle.rr_target.specs.Lists.{may};
-ghost use Rattle.rr_target.specs.Pieces.{covers};
 ghost use Rattle.rr_cycle.specs.Performing.{any_writes};
-ghost use Rattle.rr_exec.specs.Work.{Fits};
 ghost use Rattle.rr_transition.specs.Placed.{any_bit};
 ghost use Rattle.rr_registers.specs.Registers.{registers_of};
 
 use rr_bits::Bits;
-use rr_exec::merged;
 use rr_expr::Bit;
 use rr_flat::Flat;
-use rr_target::{Piece, Write};
-use rr_writers::add_assigned_bits;
+use rr_meaning::register_masks;
 use std::alloc::{AllocError, Global};
-
-/// The bits of a piece are one.
-fn mark(masks: &mut Vec<u128>, piece: &Piece)
-    requires { Fits (length masks.old.items) piece.now }
-    ensures env { (b : FlatBit) → env_of masks.new.items b ≡ (covers piece.now b || env_of masks.old.items b) }
-    ensures count { length masks.new.items ≡ length masks.old.items }
-{
-    let (low, high) = piece.range();
-    if low < high {
-        let signal = piece.signal as usize;
-        masks[signal] = merged(masks[signal], low, Bits::from_u128(high - low, u128::MAX));
-    }
-}
-
-/// For each signal the places that clocked blocks may write.
-fn masks(alloc: Global, flat: &Flat) -> Result<Vec<u128>, AllocError>
-    ensures env { IfOk result (λ r. (b : FlatBit) → env_of r.items b ≡ any_writes (plain_flat flat.now) (plain_flat flat.now).clocked b) }
-    ensures count { IfOk result (λ r. length r.items ≡ length flat.now.signals) }
-    ensures there { IfOk result (λ r. (b : FlatBit) → env_of r.items b ≡ true → (b.signal < length flat.now.signals) × (b.place < (signal_at (plain_flat flat.now).signals b.signal).width)) }
-{
-    let writes = written(alloc, flat)?;
-    let mut masks = vec![in alloc; 0u128; flat.signals.len()]?;
-    for write in writes.iter() {
-        mark(&mut masks, &write.piece);
-    }
-    Ok(masks)
-}
-
-/// The targets of all clocked blocks.
-fn written(alloc: Global, flat: &Flat) -> Result<Vec<Write>, AllocError>
-    ensures { IfOk result (λ r. (b : FlatBit) → may r.items b ≡ any_writes (plain_flat flat.now) (plain_flat flat.now).clocked b) }
-{
-    let mut list = Vec::new(alloc);
-    for block in flat.clocked_blocks().iter() {
-        let names = flat.scope_at(block.scope);
-        add_assigned_bits(alloc, &mut list, block.body, names, true)?;
-    }
-    Ok(list)
-}
 
 /// One bit more, where it is marked.
 fn push_marked(list: &mut Vec<Bit>, bit: Bit, marked: bool) -> Result<(), AllocError>
@@ -88,7 +43,7 @@ pub fn register_bits(alloc: Global, flat: &Flat) -> Result<Vec<Bit>, AllocError>
     ensures there { IfOk result (λ r. All (λ (b : FlatBit). (b.signal < length flat.now.signals) × (b.place < (signal_at (plain_flat flat.now).signals b.signal).width)) r.items) }
     ensures all { IfOk result (λ r. (b : FlatBit) → any_bit r.items b ≡ any_writes (plain_flat flat.now) (plain_flat flat.now).clocked b) }
 {
-    let masks = masks(alloc, flat)?;
+    let masks = register_masks(alloc, flat)?;
     let mut bits = Vec::new(alloc);
     for signal in 0..flat.signal_count() {
         let width = flat.signal_at(signal).width;

@@ -8,7 +8,7 @@ use Rattle.rr_meaning.proofs.Marks.{marks_done, marks_more, may_at, no_marks}
 use Rattle.rr_meaning.proofs.Rows.{zeros_made}
 use Rattle.rr_meaning.proofs.Scoping.{IsSound, wide}
 use Rattle.rr_meaning.proofs.Written.{registers_there}
-use Rattle.rr_registers.proofs.registers.masks.Goals as goal
+use Rattle.rr_meaning.proofs.registers.register_masks.Goals as goal
 
 pub mark-requires : goal.mark-requires
 mark-requires c =
