@@ -174,7 +174,7 @@ pub record GatesRead (h : Counts) (text : List ℕ) (gs : List Gate) (k : ℕ) (
   pub known : IsNetlist h.inputs gs
   pub text_is : text ≡ text_of (gate_lines (1 + h.inputs) gs) ++ rest
 
-netlist_push : (inputs : ℕ) (gs : List Gate) (g : Gate) → IsNetlist inputs gs → IsGateAt inputs (length gs) g → IsNetlist inputs (gs ++ g ∷ [])
+pub netlist_push : (inputs : ℕ) (gs : List Gate) (g : Gate) → IsNetlist inputs gs → IsGateAt inputs (length gs) g → IsNetlist inputs (gs ++ g ∷ [])
 netlist_push inputs gs g h n = λ k d l. by_cases k d l (cases_lt k (length gs))
   where
     by_cases : (k : ℕ) (d : Gate) → k < length (gs ++ g ∷ []) → ((k < length gs) ⊎ (length gs ≤ k)) → IsGateAt inputs k (get_or (gs ++ g ∷ []) k d)

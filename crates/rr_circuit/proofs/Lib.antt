@@ -3,6 +3,9 @@ pub mod ShareLaws
 pub mod CopyLaws
 pub mod Copies
 pub mod Valuations
+pub mod Folds
+pub mod Marking
+pub mod Keeping
 pub mod AagLaws
 pub mod HeaderLaws
 pub mod AagParts

@@ -11,7 +11,7 @@ use Rattle.rr_circuit.specs.declared.Gate.{Gate}
 use Rattle.rr_circuit.specs.Values.{Netlist, OutputNetlist, literal_value, with_gate, input_values, variable_values, wire_value, IsWire, IsNetlist, IsValuation, SolvesItsEquations, DependsOnInputs}
 use Rattle.rr_circuit.proofs.Netlists.{get_or-fold, length-values_upto, wire_value-false, wire_value-input, literal_value-even}
 
-literal_value-odd : (xs : List Bool) (v : ℕ) → literal_value xs (2 * v + 1) ≡ not (literal_value xs (2 * v))
+pub literal_value-odd : (xs : List Bool) (v : ℕ) → literal_value xs (2 * v + 1) ≡ not (literal_value xs (2 * v))
 literal_value-odd xs v =
     let e : (2 * v + 1) / 2 ≡ v = omega arith in
     let o : (2 * v + 1) % 2 ≡ 1 = omega arith in
@@ -32,7 +32,7 @@ values-split n env k d l =
     ∙ fold-append with_gate start (take (k + 1) n.gates) (drop (k + 1) n.gates)
     ∙ ap (λ xs. fold with_gate xs (drop (k + 1) n.gates)) (ap (fold with_gate start) (take_more n.gates k d l) ∙ fold_push with_gate start (take k n.gates) (get_or n.gates k d))
 
-gate_equation : (n : Netlist) (env : ℕ → Bool) → IsNetlist n.inputs n.gates → (k : ℕ) (d : Gate) → k < length n.gates →
+pub gate_equation : (n : Netlist) (env : ℕ → Bool) → IsNetlist n.inputs n.gates → (k : ℕ) (d : Gate) → k < length n.gates →
     wire_value n env (record { 0 = 2 * (1 + n.inputs + k) }) ≡ (wire_value n env (get_or n.gates k d).left && wire_value n env (get_or n.gates k d).right)
 unfolding wire_value
 gate_equation n env lawful k d l =

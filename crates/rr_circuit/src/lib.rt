@@ -4,10 +4,12 @@
 //! the gates for every input. It stands on `rr_decimal`'s numbers.
 #![tactic(auto)]
 
-ghost use Rattle.std.specs.Prelude.{◌≡◌, ℕ, ◌+◌, ◌*◌, ◌^◌, ◌<◌, ◌≤◌, Bool, true, false, not, ◌&&◌, ◌||◌, [], if◌then◌else◌, length, slice_get, IfOk, OnOk};
-ghost use Rattle.rr_circuit.specs.Values.{xor, Netlist, OutputNetlist, AreWires, output_values, wire_values, variable_values, literal_value, given, IsWire, wire_value, Extends, IsNetlist, AreOrdered, SolvesItsEquations, DependsOnInputs};
+ghost use Rattle.std.specs.Prelude.{◌≡◌, ℕ, ◌+◌, ◌*◌, ◌^◌, ◌<◌, ◌≤◌, Bool, true, false, not, [], length, slice_get, IfOk, OnOk};
+ghost use Rattle.rr_circuit.specs.Values.{Netlist, OutputNetlist, AreWires, output_values, wire_values, variable_values, literal_value, given, IsWire, wire_value, Extends, IsNetlist, AreOrdered, SolvesItsEquations, DependsOnInputs};
 
 mod aag;
+mod gates;
+mod sweep;
 
 pub use aag::{AagFault, read_aag, write_aag};
 use indexmap::IndexMap;
@@ -84,110 +86,6 @@ impl Builder {
         ensures value { (env : ℕ → Bool) → wire_value self.now env result ≡ env number }
     {
         Wire(2 * (u64::from(number) + 1))
-    }
-
-    /// The negation.
-    pub fn not(&self, a: Wire) -> Wire
-        requires { IsWire self.now a }
-        ensures wire { IsWire self.now result }
-        ensures value { (env : ℕ → Bool) → wire_value self.now env result ≡ not (wire_value self.now env a) }
-    {
-        Wire(a.0 ^ 1)
-    }
-
-    // The gate of two wires that are no constants, the greater first. It is made where it is new.
-    fn push_gate(&mut self, left: Wire, right: Wire) -> Result<Wire, AllocError>
-        requires low { 2 ≤ right.0 }
-        requires order { right.0 ≤ left.0 }
-        requires wire { IsWire self.old left }
-        ensures extends { Extends self.old self.new }
-        ensures wire { IfOk result (λ w. IsWire self.new w) }
-        ensures value { IfOk result (λ w. (env : ℕ → Bool) →
-            wire_value self.new env w ≡ (wire_value self.old env left && wire_value self.old env right)) }
-    {
-        let gate = Gate { left, right };
-        if let Some(wire) = self.known.get(&gate).copied() {
-            return Ok(wire);
-        }
-        let at = self.inputs + self.gates.len() as u64 + 1;
-        if at >= LIMIT {
-            return Err(AllocError);
-        }
-        let wire = Wire(2 * at);
-        self.gates.push(gate)?;
-        self.known.insert(gate, wire)?;
-        Ok(wire)
-    }
-
-    /// The conjunction. The error is want of memory, or of numbers: inputs and gates stay below
-    /// 2^62. The wires that were there keep their values after it too, as in the calls below.
-    pub fn and(&mut self, a: Wire, b: Wire) -> Result<Wire, AllocError>
-        requires a { IsWire self.old a }
-        requires b { IsWire self.old b }
-        ensures extends { Extends self.old self.new }
-        ensures wire { IfOk result (λ w. IsWire self.new w) }
-        ensures value { IfOk result (λ w. (env : ℕ → Bool) →
-            wire_value self.new env w ≡ (wire_value self.old env a && wire_value self.old env b)) }
-    {
-        if a.0 == 0 || b.0 == 0 || a.0 == (b.0 ^ 1) {
-            return Ok(Wire(0));
-        }
-        if a.0 == 1 || a.0 == b.0 {
-            return Ok(b);
-        }
-        if b.0 == 1 {
-            return Ok(a);
-        }
-        if a.0 < b.0 {
-            return self.push_gate(b, a);
-        }
-        self.push_gate(a, b)
-    }
-
-    /// The disjunction.
-    pub fn or(&mut self, a: Wire, b: Wire) -> Result<Wire, AllocError>
-        requires a { IsWire self.old a }
-        requires b { IsWire self.old b }
-        ensures extends { Extends self.old self.new }
-        ensures wire { IfOk result (λ w. IsWire self.new w) }
-        ensures value { IfOk result (λ w. (env : ℕ → Bool) →
-            wire_value self.new env w ≡ (wire_value self.old env a || wire_value self.old env b)) }
-    {
-        let not_a = self.not(a);
-        let not_b = self.not(b);
-        let neither = self.and(not_a, not_b)?;
-        Ok(self.not(neither))
-    }
-
-    /// True where exactly one of the two is.
-    pub fn xor(&mut self, a: Wire, b: Wire) -> Result<Wire, AllocError>
-        requires a { IsWire self.old a }
-        requires b { IsWire self.old b }
-        ensures extends { Extends self.old self.new }
-        ensures wire { IfOk result (λ w. IsWire self.new w) }
-        ensures value { IfOk result (λ w. (env : ℕ → Bool) →
-            wire_value self.new env w ≡ xor (wire_value self.old env a) (wire_value self.old env b)) }
-    {
-        let both = self.and(a, b)?;
-        let any = self.or(a, b)?;
-        let not_both = self.not(both);
-        self.and(any, not_both)
-    }
-
-    /// The value of `yes` where `test` is true, and of `no` where it is false.
-    pub fn mux(&mut self, test: Wire, yes: Wire, no: Wire) -> Result<Wire, AllocError>
-        requires test { IsWire self.old test }
-        requires yes { IsWire self.old yes }
-        requires no { IsWire self.old no }
-        ensures extends { Extends self.old self.new }
-        ensures wire { IfOk result (λ w. IsWire self.new w) }
-        ensures value { IfOk result (λ w. (env : ℕ → Bool) →
-            wire_value self.new env w ≡ (if (wire_value self.old env test) then (wire_value self.old env yes) else (wire_value self.old env no))) }
-    {
-        let taken = self.and(test, yes)?;
-        let not_test = self.not(test);
-        let other = self.and(not_test, no)?;
-        self.or(taken, other)
     }
 }
 

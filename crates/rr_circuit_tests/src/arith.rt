@@ -40,7 +40,12 @@ const OPERATORS: [Operator; 10] = [
 const EXTREMES: [u128; 8] = [0, 1, 3, 127, 128, 1 << 127, u128::MAX >> 1, u128::MAX];
 
 // The wires of some inputs, from the first of them on.
-fn inputs(alloc: Global, b: &Builder, first: u32, count: u32) -> Result<Vec<Wire>, AllocError>
+pub(crate) fn inputs(
+    alloc: Global,
+    b: &Builder,
+    first: u32,
+    count: u32,
+) -> Result<Vec<Wire>, AllocError>
     requires within { first + count ≤ b.now.inputs }
     requires few { first + count ≤ 256 }
     ensures width { IfOk result (λ r. length r.items ≡ count) }

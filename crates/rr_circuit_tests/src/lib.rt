@@ -10,4 +10,6 @@ mod circuit;
 #[cfg(test)]
 mod count;
 #[cfg(test)]
+mod gates;
+#[cfg(test)]
 mod tseitin;

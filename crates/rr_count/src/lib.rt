@@ -2,37 +2,60 @@
 //! of the wires are, for every input. It stands on `rr_circuit`'s builder.
 #![tactic(auto)]
 
-ghost use Rattle.std.specs.Prelude.{◌≡◌, ℕ, ◌<◌, ◌≤◌, Bool, true, false, ◌&&◌, ◌||◌, ◌∷◌, length, IfOk, slice_index_or};
+ghost use Rattle.std.specs.Prelude.{◌≡◌, ℕ, ◌^◌, ◌<◌, ◌≤◌, min, ◌+◌, ◌-◌, Bool, true, false, not, ◌&&◌, ◌||◌, length, IfOk, slice_index_or};
 ghost use Rattle.rr_circuit.specs.Values.{IsWire, AreWires, wire_value, wire_values, Extends};
-ghost use Rattle.rr_count.specs.Counts.{is_at_most};
+ghost use Rattle.rr_count.specs.Counts.{is_at_most, count_value, value_before, next_count};
 
 use rr_circuit::{Builder, Wire};
 use std::alloc::{AllocError, Global};
 
-// So many wires that are constant false.
-fn zeros(alloc: Global, b: &Builder, count: usize) -> Result<Vec<Wire>, AllocError>
-    ensures width { IfOk result (λ r. length r.items ≡ count) }
-    ensures wires { IfOk result (λ r. AreWires b.now r.items) }
-    ensures value { IfOk result (λ r. (env : ℕ → Bool) (k : ℕ) → slice_index_or (wire_values b.now env r.items) k false ≡ false) }
-{
-    let mut wires = Vec::with_capacity(alloc, count)?;
-    for i in 0..count {
-        wires.push(b.constant(false))?;
-    }
-    Ok(wires)
+// A part of the counts of some wires: count `k` says that more than `k` of them are true. Those from
+// `first` on are here, and those past the last one are false.
+#[derive(Drop)]
+struct Counts {
+    first: usize,
+    wires: Vec<Wire>,
 }
 
-// The wire before this one, and true before the first.
-fn wire_before(b: &Builder, wires: &[Wire], at: usize) -> Wire
-    requires wires { AreWires b.now wires.now }
-    requires within { at < length wires.now }
-    ensures wire { IsWire b.now result }
-    ensures value { (env : ℕ → Bool) → wire_value b.now env result ≡ slice_index_or (true ∷ wire_values b.now env wires.now) at false }
+// The first count from which the bound can be passed, with so many wires left.
+fn first_count(bound: usize, left: usize) -> usize
+    ensures { result ≡ bound - left }
 {
-    if at == 0 {
+    bound.saturating_sub(left)
+}
+
+// The count past the last one that is of use, with so many wires before.
+fn end_count(bound: usize, before: usize) -> usize
+    requires { bound < 2 ^ 32 }
+    ensures { result ≡ min before bound + 1 }
+{
+    before.min(bound) + 1
+}
+
+// A count from the first one on.
+fn count_at(b: &Builder, counts: &Counts, number: usize) -> Wire
+    requires wires { AreWires b.now counts.now.wires.items }
+    requires first { counts.now.first ≤ number }
+    ensures wire { IsWire b.now result }
+    ensures value { (env : ℕ → Bool) → wire_value b.now env result ≡ count_value (wire_values b.now env counts.now.wires.items) counts.now.first number }
+{
+    match counts.wires.get(number - counts.first) {
+        Some(wire) => *wire,
+        None => b.constant(false),
+    }
+}
+
+// The count before this one, and true before count 0.
+fn count_before(b: &Builder, counts: &Counts, number: usize) -> Wire
+    requires wires { AreWires b.now counts.now.wires.items }
+    requires first { 1 ≤ number → counts.now.first + 1 ≤ number }
+    ensures wire { IsWire b.now result }
+    ensures value { (env : ℕ → Bool) → wire_value b.now env result ≡ value_before (wire_values b.now env counts.now.wires.items) counts.now.first number }
+{
+    if number == 0 {
         b.constant(true)
     } else {
-        wires[at - 1]
+        count_at(b, counts, number - 1)
     }
 }
 
@@ -50,36 +73,64 @@ fn count_turn(b: &mut Builder, count: Wire, x: Wire, before: Wire) -> Result<Wir
     b.or(count, reached)
 }
 
-// Wire `k` of the counts says that more than `k` wires are true. These are the counts with one wire
-// more, by at most two gates a count.
+// The counts with one wire more, from `first` up to `end`, by at most two gates a count.
 fn counted(
     alloc: Global,
     b: &mut Builder,
-    counts: &[Wire],
+    counts: &Counts,
     x: Wire,
-) -> Result<Vec<Wire>, AllocError>
-    requires counts { AreWires b.old counts.now }
+    first: usize,
+    end: usize,
+) -> Result<Counts, AllocError>
+    requires wires { AreWires b.old counts.now.wires.items }
     requires x { IsWire b.old x }
+    requires first { counts.now.first ≤ first }
+    requires second { 1 ≤ first → counts.now.first + 1 ≤ first }
+    requires end { first ≤ end }
     ensures extends { Extends b.old b.new }
-    ensures width { IfOk result (λ r. length r.items ≡ length counts.now) }
-    ensures wires { IfOk result (λ r. AreWires b.new r.items) }
-    ensures value { IfOk result (λ r. (env : ℕ → Bool) (k : ℕ) → k < length counts.now →
-        slice_index_or (wire_values b.new env r.items) k false
-        ≡ (slice_index_or (wire_values b.old env counts.now) k false
-        || (wire_value b.old env x && slice_index_or (true ∷ wire_values b.old env counts.now) k false))) }
+    ensures first { IfOk result (λ r. r.first ≡ first) }
+    ensures width { IfOk result (λ r. length r.wires.items ≡ end - first) }
+    ensures wires { IfOk result (λ r. AreWires b.new r.wires.items) }
+    ensures value { IfOk result (λ r. (env : ℕ → Bool) (k : ℕ) → first + k < end →
+        slice_index_or (wire_values b.new env r.wires.items) k false
+        ≡ next_count (wire_values b.old env counts.now.wires.items) counts.now.first (wire_value b.old env x) (first + k)) }
 {
-    let mut next = Vec::with_capacity(alloc, counts.len())?;
-    for i in 0..counts.len() {
-        let before = wire_before(b, counts, i);
-        let wire = count_turn(b, counts[i], x, before)?;
-        next.push(wire)?;
+    let mut next = Vec::with_capacity(alloc, end - first)?;
+    for number in first..end {
+        let count = count_at(b, counts, number);
+        let before = count_before(b, counts, number);
+        next.push(count_turn(b, count, x, before)?)?;
     }
-    Ok(next)
+    Ok(Counts { first, wires: next })
 }
 
-/// Whether at most `bound` of the wires are true. A sequential counter in unary: at most
-/// two gates for each wire and each number up to the bound, and none where the bound is no less than
-/// the number of wires.
+// Whether more than `bound` of the wires are true, of which there are more.
+fn passes(alloc: Global, b: &mut Builder, wires: &[Wire], bound: usize) -> Result<Wire, AllocError>
+    requires wires { AreWires b.old wires.now }
+    requires bound { bound < length wires.now }
+    requires few { bound < 2 ^ 32 }
+    ensures extends { Extends b.old b.new }
+    ensures wire { IfOk result (λ w. IsWire b.new w) }
+    ensures value { IfOk result (λ w. (env : ℕ → Bool) →
+        wire_value b.new env w ≡ not (is_at_most bound (wire_values b.old env wires.now))) }
+{
+    let mut counts = Counts {
+        first: 0,
+        wires: Vec::new(alloc),
+    };
+    for i in 0..wires.len() {
+        let first = first_count(bound, wires.len() - i - 1);
+        let end = end_count(bound, i);
+        counts = counted(alloc, b, &counts, wires[i], first, end)?;
+    }
+    Ok(count_at(b, &counts, bound))
+}
+
+/// Whether at most `bound` of the wires are true. A sequential counter in unary (Sinz, "Towards an
+/// Optimal CNF Encoding of Boolean Cardinality Constraints", CP 2005) of the counts that can be
+/// reached and from which the bound can be passed: at most two gates for each wire that may be left
+/// false and each number up to the bound, and none where the bound is no less than the number of
+/// wires.
 pub fn at_most(
     alloc: Global,
     b: &mut Builder,
@@ -96,9 +147,6 @@ pub fn at_most(
     if bound >= wires.len() {
         return Ok(b.constant(true));
     }
-    let mut counts = zeros(alloc, b, bound + 1)?;
-    for i in 0..wires.len() {
-        counts = counted(alloc, b, counts.as_slice(), wires[i])?;
-    }
-    Ok(b.not(counts[bound]))
+    let passes = passes(alloc, b, wires, bound)?;
+    Ok(b.not(passes))
 }

@@ -1,11 +1,8 @@
-use Rattle.std.proofs.Common.{arith, rules, ◌∙◌}
-use Rattle.rr_count.proofs.Counters.{Built-none, Built-more, built_bit}
+use Rattle.std.proofs.Common.{◌∙◌}
+use Rattle.rr_count.proofs.Counters.{Built-more, built_bit}
 use Rattle.rr_count.proofs.counted.Goals as goal
 
-pub loop-i-init : goal.loop-i-init
-loop-i-init c = Built-none _ _ _ _ (search rules)
-
-pub loop-i-preserved : goal.loop-i-preserved
-loop-i-preserved c =
-    let e = c.in_ok-wire.ensures in
-    rw c.in_ok-push.ensures.items (Built-more _ _ _ _ _ _ _ _ c.loop-i.invariant e.extends e.wire (λ env. e.value env ∙ built_bit _ _ env _ _ _ _ _ c.loop-i.invariant.extends c.requires.counts c.requires.x (omega arith) (c.wire_before-before.ensures.value env)))
+pub loop-number-preserved : goal.loop-number-preserved
+loop-number-preserved c =
+    let e = c.in_ok-count_turn.ensures in
+    rw c.in_ok-push.ensures.items (Built-more _ _ _ _ _ _ _ _ _ _ c.loop-number.invariant e.extends e.wire (λ env. e.value env ∙ built_bit _ _ env _ _ _ _ _ _ c.loop-number.invariant.extends c.requires.wires c.requires.x (c.count_at-count.ensures.value env) (c.count_before-before.ensures.value env)))

@@ -1,7 +1,7 @@
 use Rattle.rr_circuit.proofs.Netlists.{IsWire-constant, and-zero_left, and-zero_right, and-flip, and-one_left, and-same, and-one_right}
 use Rattle.std.proofs.Common.{arith}
-use Rattle.rr_circuit.proofs.Builder.and.Goals as goal
-use Rattle.rr_circuit.proofs.Builder.and.Goals.{then-a-eq0-via-then-a-eq0, then-a-eq0-via-else-a-eq0+then-b-eq0, then-a-eq0-via-else-a-eq0+else-b-eq0+then-a-b, then-a-eq1-via-then-a-eq1, then-a-eq1-via-else-a-eq1+then-a-b-2}
+use Rattle.rr_circuit.proofs.Builder.folded.Goals as goal
+use Rattle.rr_circuit.proofs.Builder.folded.Goals.{then-a-eq0-via-then-a-eq0, then-a-eq0-via-else-a-eq0+then-b-eq0, then-a-eq0-via-else-a-eq0+else-b-eq0+then-a-b, then-a-eq1-via-then-a-eq1, then-a-eq1-via-else-a-eq1+then-a-b-2}
 
 pub returns-then-a-eq0-clause-wire : goal.returns-then-a-eq0-clause-wire
 returns-then-a-eq0-clause-wire c = IsWire-constant _ 0 (omega arith)
