@@ -19,6 +19,7 @@ use rr_transition::Transition;
 use rr_unroll::question;
 use std::alloc::{AllocError, Global};
 use std::test::Fail;
+use std::thread::Threads;
 
 /// For each known bit of a row's cells, whether the outputs have it, lowest bit first.
 fn add_row(
@@ -105,7 +106,8 @@ fn answer(
 }
 
 /// The question for each bound.
-fn questions(
+fn questions<R: Threads + Sync>(
+    rt: &R,
     alloc: Global,
     cycle: &Transition,
     rows: &Table,
@@ -113,7 +115,7 @@ fn questions(
 ) -> Result<Vec<(u32, Circuit)>, AllocError> {
     let mut circuits = Vec::new(alloc);
     for bound in bounds.iter() {
-        let circuit = question(alloc, cycle, rows, *bound)?;
+        let circuit = question(rt, alloc, cycle, rows, *bound, 2)?;
         circuits.push((*bound, circuit))?;
     }
     Ok(circuits)
@@ -156,7 +158,8 @@ fn all_answer(
 }
 
 /// Whether the questions of a design with so many choice bits are answered as its instances run.
-fn agrees(
+fn agrees<R: Threads + Sync>(
+    rt: &R,
     alloc: Global,
     text: &str,
     table: &str,
@@ -181,7 +184,7 @@ fn agrees(
     let Ok(rows) = read_rows(alloc, &design, table.as_bytes()) else {
         return Err(Fail::from("no rows"));
     };
-    let circuits = questions(alloc, &cycle, &rows, bounds)?;
+    let circuits = questions(rt, alloc, &cycle, &rows, bounds)?;
     let subject = Subject {
         design,
         list,
@@ -195,25 +198,25 @@ fn agrees(
 // All 4,096 lists of bits.
 #[test]
 fn an_inverted_reset_is_asked(rt: HostRuntime) -> Result<(), Fail> {
-    assert!(rt; agrees(rt.alloc(), INVERTED, INVERTED_TABLE, 12, &[0, 3])?);
+    assert!(rt; agrees(&rt, rt.alloc(), INVERTED, INVERTED_TABLE, 12, &[0, 3])?);
     Ok(())
 }
 
 #[test]
 fn a_blocking_assignment_is_asked(rt: HostRuntime) -> Result<(), Fail> {
-    assert!(rt; agrees(rt.alloc(), BLOCKING, BLOCKING_TABLE, 12, &[2])?);
+    assert!(rt; agrees(&rt, rt.alloc(), BLOCKING, BLOCKING_TABLE, 12, &[2])?);
     Ok(())
 }
 
 #[test]
 fn a_write_at_an_index_is_asked(rt: HostRuntime) -> Result<(), Fail> {
-    assert!(rt; agrees(rt.alloc(), INDEX, INDEX_TABLE, 8, &[1])?);
+    assert!(rt; agrees(&rt, rt.alloc(), INDEX, INDEX_TABLE, 8, &[1])?);
     Ok(())
 }
 
 #[test]
 fn wires_are_asked(rt: HostRuntime) -> Result<(), Fail> {
-    assert!(rt; agrees(rt.alloc(), WILD, WILD_TABLE, 4, &[0, 1, 2])?);
-    assert!(rt; agrees(rt.alloc(), INSTANCES, INSTANCES_TABLE, 3, &[0, 1])?);
+    assert!(rt; agrees(&rt, rt.alloc(), WILD, WILD_TABLE, 4, &[0, 1, 2])?);
+    assert!(rt; agrees(&rt, rt.alloc(), INSTANCES, INSTANCES_TABLE, 3, &[0, 1])?);
     Ok(())
 }

@@ -52,7 +52,7 @@ pub(crate) fn ask<R: Threads + Sync>(
     requires listed { IsSiteList job.now.list.now }
     ensures { IfOk result (AskedIs (task_of job.now) bound) }
 {
-    let circuit = question(alloc, job.transition, job.table, bound)?;
+    let circuit = question(rt, alloc, job.transition, job.table, bound, job.members)?;
     let formula = formula_of(alloc, &circuit)?;
     let inputs = circuit.inputs;
     match solve(

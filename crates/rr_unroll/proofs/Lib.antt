@@ -1,5 +1,6 @@
 pub mod WordLaws
 pub mod WireLaws
+pub mod FixedLaws
 pub mod AskedLaws
 pub mod JudgedLaws
 pub mod FaithfulLaws

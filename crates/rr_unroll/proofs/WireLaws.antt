@@ -22,26 +22,28 @@ module _ (n : Netlist) (env : ℕ → Bool) where
       ∙ ap₂ (λ xs x. xs ++ x ∷ []) h (sym (get_or-map (wire_value n env) choice (get_or places i 0) d false r))
       ∙ sym (map_more (λ k. get_or (wire_values n env choice) k false) places i 0 l)
 
-  module _ (choice state : List Wire) where
-    pub row_first : (bits : List Bool) → wire_values n env (choice ++ state) ≡ wire_values n env choice ++ (wire_values n env state ++ take 0 bits)
-    row_first bits = map-append (wire_value n env) choice state ∙ ap (λ xs. wire_values n env choice ++ xs) (sym (append-nil (wire_values n env state)))
+  module _ (wires : List Wire) where
+    pub followed_first : (bits : List Bool) → wire_values n env wires ≡ wire_values n env wires ++ take 0 bits
+    followed_first bits = sym (append-nil (wire_values n env wires))
 
-    pub row_more : (inputs : List Wire) (w : Wire) (bits : List Bool) (i : ℕ) → i < length bits → wire_values n env inputs ≡ wire_values n env choice ++ (wire_values n env state ++ take i bits) → wire_value n env w ≡ get_or bits i false →
-        wire_values n env (inputs ++ w ∷ []) ≡ wire_values n env choice ++ (wire_values n env state ++ take (i + 1) bits)
-    row_more inputs w bits i l h v =
-        map_push (wire_value n env) inputs w ∙ ap₂ (λ xs x. xs ++ x ∷ []) h v
-        ∙ append_assoc (wire_values n env choice) (wire_values n env state ++ take i bits) (get_or bits i false ∷ [])
-        ∙ ap (λ xs. wire_values n env choice ++ xs) (append_assoc (wire_values n env state) (take i bits) (get_or bits i false ∷ []) ∙ ap (λ xs. wire_values n env state ++ xs) (sym (take_more bits i false l)))
+    pub followed_more : (all : List Wire) (w : Wire) (bits : List Bool) (i : ℕ) → i < length bits → wire_values n env all ≡ wire_values n env wires ++ take i bits → wire_value n env w ≡ get_or bits i false →
+        wire_values n env (all ++ w ∷ []) ≡ wire_values n env wires ++ take (i + 1) bits
+    followed_more all w bits i l h v =
+        map_push (wire_value n env) all w ∙ ap₂ (λ xs x. xs ++ x ∷ []) h v
+        ∙ append_assoc (wire_values n env wires) (take i bits) (get_or bits i false ∷ [])
+        ∙ ap (λ xs. wire_values n env wires ++ xs) (sym (take_more bits i false l))
 
-    pub row_all : (inputs : List Wire) (bits : List Bool) (i : ℕ) → length bits ≤ i → wire_values n env inputs ≡ wire_values n env choice ++ (wire_values n env state ++ take i bits) →
-        wire_values n env inputs ≡ wire_values n env choice ++ (wire_values n env state ++ bits)
-    row_all inputs bits i l h = h ∙ ap (λ bs. wire_values n env choice ++ (wire_values n env state ++ bs)) (take_all i bits l)
+    pub followed_all : (all : List Wire) (bits : List Bool) (i : ℕ) → length bits ≤ i → wire_values n env all ≡ wire_values n env wires ++ take i bits → wire_values n env all ≡ wire_values n env wires ++ bits
+    followed_all all bits i l h = h ∙ ap (λ bs. wire_values n env wires ++ bs) (take_all i bits l)
 
-pub row_width : (n : Netlist) (choice state inputs : List Wire) (bits : List Bool) → ((env : ℕ → Bool) → wire_values n env inputs ≡ wire_values n env choice ++ (wire_values n env state ++ bits)) → length inputs ≡ length choice + (length state + length bits)
-row_width n choice state inputs bits h =
+pub followed_width : (n : Netlist) (wires all : List Wire) (bits : List Bool) → ((env : ℕ → Bool) → wire_values n env all ≡ wire_values n env wires ++ bits) → length all ≡ length wires + length bits
+followed_width n wires all bits h =
     let env : ℕ → Bool = λ k. false in
-    sym (length-map inputs (wire_value n env)) ∙ ap length (h env) ∙ length-append (wire_values n env choice) (wire_values n env state ++ bits)
-    ∙ ap₂ (λ x y. x + y) (length-map choice (wire_value n env)) (length-append (wire_values n env state) bits ∙ ap (λ x. x + length bits) (length-map state (wire_value n env)))
+    sym (length-map all (wire_value n env)) ∙ ap length (h env) ∙ length-append (wire_values n env wires) bits ∙ ap (λ x. x + length bits) (length-map wires (wire_value n env))
+
+-- two lists of wires, one behind the other
+pub both_values : (n : Netlist) (env : ℕ → Bool) (all choice state : List Wire) → all ≡ choice ++ state → wire_values n env all ≡ wire_values n env choice ++ wire_values n env state
+both_values n env all choice state e = ap (wire_values n env) e ∙ map-append (wire_value n env) choice state
 
 -- as many wires as values
 pub wires_width : (n : Netlist) (ws : List Wire) (values : (ℕ → Bool) → List Bool) (k : ℕ) → ((env : ℕ → Bool) → wire_values n env ws ≡ values env) → length (values (λ i. false)) ≡ k → length ws ≡ k

@@ -1,3 +1,4 @@
 pub mod Questions
+pub mod Fixed
 pub mod Faithful
 pub mod Matches

@@ -6,6 +6,7 @@
 #![tactic(auto)]
 
 mod asking;
+mod copies;
 mod judging;
 mod laws;
 mod rows;
@@ -13,5 +14,6 @@ mod wires;
 mod words;
 
 pub use asking::question;
+pub use copies::fixed;
 pub use judging::judges;
 pub use laws::verdict_laws;

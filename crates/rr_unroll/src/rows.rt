@@ -2,15 +2,15 @@
 
 ghost use Rattle.std.specs.Prelude.{◌≡◌, ℕ, ◌+◌, [], ◌∷◌, ◌++◌, Bool, cond, false, IfOk, OnOk, length, map, take, drop, get_or, replicate};
 ghost use Rattle.std.specs.List.{sum};
-ghost use Rattle.rr_circuit.specs.Values.{IsWire, AreWires, wire_value, wire_values, Extends};
+ghost use Rattle.rr_circuit.specs.Values.{IsWire, AreWires, wire_value, wire_values, output_values, given, Extends};
 ghost use Rattle.rr_trace.specs.View.{plain_table};
 ghost use Rattle.rr_trace.specs.declared.cell.Cell.{Cell};
 ghost use Rattle.rr_unroll.specs.Questions.{is_same, agree, agree_row, judged as judged_of};
-ghost use Rattle.rr_transition.specs.Transitions.{cycle_bits};
+ghost use Rattle.rr_unroll.specs.Fixed.{AreFixed};
 
-use crate::wires::{row_inputs, zeros};
+use crate::wires::zeros;
 use crate::words::words;
-use rr_circuit::{Builder, Wire};
+use rr_circuit::{Builder, Circuit, Wire};
 use rr_trace::{Cell, Table};
 use rr_transition::Transition;
 use std::alloc::{AllocError, Global};
@@ -91,32 +91,31 @@ fn ask_row(
     Ok(())
 }
 
-// A copy of the transition for one row: the next state and the outputs.
+// A copy of the circuit of one row: the next state and the outputs.
 fn cycle(
     alloc: Global,
     b: &mut Builder,
-    transition: &Transition,
+    circuit: &Circuit,
     choice: &[Wire],
     state: &[Wire],
-    row: &[u128],
 ) -> Result<Vec<Wire>, AllocError>
     requires choice { AreWires b.old choice.now }
     requires state { AreWires b.old state.now }
-    requires choice_width { length choice.now ≡ transition.now.choice_bits }
-    requires state_width { length state.now ≡ transition.now.state_bits }
+    requires count { length choice.now + length state.now ≡ circuit.now.netlist.inputs }
     ensures extends { Extends b.old b.new }
     ensures wires { IfOk result (λ r. AreWires b.new r.items) }
-    ensures width { IfOk result (λ r. length r.items ≡ transition.now.state_bits + sum transition.now.output_widths) }
+    ensures width { IfOk result (λ r. length r.items ≡ length circuit.now.outputs) }
     ensures value { IfOk result (λ r. (env : ℕ → Bool) →
-        wire_values b.new env r.items ≡ cycle_bits transition.now (wire_values b.old env choice.now) (wire_values b.old env state.now) row.now) }
+        wire_values b.new env r.items ≡ output_values circuit.now (given (wire_values b.old env choice.now ++ wire_values b.old env state.now))) }
 {
-    let bits = words(alloc, transition.input_widths.as_slice(), row)?;
-    let inputs = row_inputs(alloc, b, choice, state, bits.as_slice())?;
-    let out = transition.circuit.copy_onto(alloc, b, inputs.as_slice())?;
+    let mut inputs = Vec::with_capacity(alloc, choice.len() + state.len())?;
+    inputs.extend_from_slice(choice)?;
+    inputs.extend_from_slice(state)?;
+    let out = circuit.copy_onto(alloc, b, inputs.as_slice())?;
     Ok(out)
 }
 
-// Copies the transition for one row, and asks whether its outputs have the known bits of the cells. It
+// Copies the circuit of one row, and asks whether its outputs have the known bits of the cells. It
 // answers the next state.
 fn push_row(
     alloc: Global,
@@ -125,25 +124,25 @@ fn push_row(
     transition: &Transition,
     choice: &[Wire],
     state: &[Wire],
-    row: &[u128],
+    circuit: &Circuit,
     cells: &[Cell],
 ) -> Result<Vec<Wire>, AllocError>
     requires out { AreWires b.old out.old.items }
     requires choice { AreWires b.old choice.now }
     requires state { AreWires b.old state.now }
-    requires choice_width { length choice.now ≡ transition.now.choice_bits }
-    requires state_width { length state.now ≡ transition.now.state_bits }
+    requires inputs { length choice.now + length state.now ≡ circuit.now.netlist.inputs }
+    requires outputs { length circuit.now.outputs ≡ transition.now.state_bits + sum transition.now.output_widths }
     ensures extends { Extends b.old b.new }
     ensures out { OnOk result (AreWires b.new out.new.items) }
     ensures asked { OnOk result ((env : ℕ → Bool) →
         wire_values b.new env out.new.items ≡ wire_values b.old env out.old.items ++ agree_row transition.now.output_widths cells.now
-        (drop transition.now.state_bits (cycle_bits transition.now (wire_values b.old env choice.now) (wire_values b.old env state.now) row.now))) }
+        (drop transition.now.state_bits (output_values circuit.now (given (wire_values b.old env choice.now ++ wire_values b.old env state.now))))) }
     ensures state { IfOk result (λ r. AreWires b.new r.items) }
     ensures width { IfOk result (λ r. length r.items ≡ transition.now.state_bits) }
     ensures next { IfOk result (λ r. (env : ℕ → Bool) →
-        wire_values b.new env r.items ≡ take transition.now.state_bits (cycle_bits transition.now (wire_values b.old env choice.now) (wire_values b.old env state.now) row.now)) }
+        wire_values b.new env r.items ≡ take transition.now.state_bits (output_values circuit.now (given (wire_values b.old env choice.now ++ wire_values b.old env state.now)))) }
 {
-    let bits = cycle(alloc, b, transition, choice, state, row)?;
+    let bits = cycle(alloc, b, circuit, choice, state)?;
     let (next, found) = bits.as_slice().split_at(transition.state_bits as usize);
     ask_row(
         alloc,
@@ -179,14 +178,16 @@ pub(crate) fn cells_at(rows: &[Vec<Cell>], row: usize) -> &[Cell]
 }
 
 /// For each known expected bit of a table, whether the transition's outputs have it, from the state 0
-/// on.
+/// on: copies of the circuits of its rows, one after the other.
 pub(crate) fn judged(
     alloc: Global,
     b: &mut Builder,
     transition: &Transition,
+    circuits: &[Circuit],
     table: &Table,
     choice: &[Wire],
 ) -> Result<Vec<Wire>, AllocError>
+    requires circuits { AreFixed transition.now (plain_table table.now).inputs circuits.now }
     requires choice { AreWires b.old choice.now }
     requires width { length choice.now ≡ transition.now.choice_bits }
     ensures extends { Extends b.old b.new }
@@ -196,9 +197,8 @@ pub(crate) fn judged(
 {
     let mut out = Vec::new(alloc);
     let mut state = zeros(alloc, b, transition.state_bits)?;
-    for r in 0..table.inputs.len() {
+    for r in 0..circuits.len() {
         let cells = cells_at(table.expected.as_slice(), r);
-        let row = numbers_at(table.inputs.as_slice(), r);
         state = push_row(
             alloc,
             b,
@@ -206,7 +206,7 @@ pub(crate) fn judged(
             transition,
             choice,
             state.as_slice(),
-            row,
+            &circuits[r],
             cells,
         )?;
     }

@@ -35,28 +35,24 @@ pub(crate) fn zeros(alloc: Global, b: &Builder, count: u32) -> Result<Vec<Wire>,
     Ok(out)
 }
 
-/// The wires of a choice, of a state, and of the bits of a row.
-pub(crate) fn row_inputs(
+/// These wires, and behind them constants.
+pub(crate) fn followed(
     alloc: Global,
     b: &Builder,
-    choice: &[Wire],
-    state: &[Wire],
+    wires: &[Wire],
     bits: &[bool],
 ) -> Result<Vec<Wire>, AllocError>
-    requires choice { AreWires b.now choice.now }
-    requires state { AreWires b.now state.now }
+    requires { AreWires b.now wires.now }
     ensures wires { IfOk result (λ r. AreWires b.now r.items) }
-    ensures value { IfOk result (λ r. (env : ℕ → Bool) →
-        wire_values b.now env r.items ≡ wire_values b.now env choice.now ++ (wire_values b.now env state.now ++ bits.now)) }
-    ensures width { IfOk result (λ r. length r.items ≡ length choice.now + (length state.now + length bits.now)) }
+    ensures value { IfOk result (λ r. (env : ℕ → Bool) → wire_values b.now env r.items ≡ wire_values b.now env wires.now ++ bits.now) }
+    ensures width { IfOk result (λ r. length r.items ≡ length wires.now + length bits.now) }
 {
-    let mut inputs = Vec::new(alloc);
-    inputs.extend_from_slice(choice)?;
-    inputs.extend_from_slice(state)?;
+    let mut all = Vec::with_capacity(alloc, wires.len() + bits.len())?;
+    all.extend_from_slice(wires)?;
     for bit in bits {
-        inputs.push(b.constant(*bit))?;
+        all.push(b.constant(*bit))?;
     }
-    Ok(inputs)
+    Ok(all)
 }
 
 /// The wires at these places of a choice.

@@ -1,10 +1,12 @@
 //! Questions, and whether one choice matches.
 use crate::transitions::{inverted_reset, values, wires};
+use rr_circuit::{Circuit, write_aag};
 use rr_trace::{Cell, Table};
 use rr_transition::Transition;
-use rr_unroll::{judges, question};
+use rr_unroll::{fixed, judges, question};
 use std::alloc::{AllocError, Global};
 use std::test::Fail;
+use std::thread::Threads;
 
 /// Whether the value may be used by several threads.
 fn shared<T: Send + Sync>(_value: &T) -> bool {
@@ -78,7 +80,7 @@ fn every_choice_is_judged(rt: HostRuntime) -> Result<(), Fail> {
     let transition = inverted_reset(alloc)?;
     let rows = reset_rows(alloc)?;
     for bound in 0..3 {
-        let circuit = question(alloc, &transition, &rows, bound)?;
+        let circuit = question(&rt, alloc, &transition, &rows, bound, 2)?;
         for (number, (verdicts, cost)) in VERDICTS.iter().enumerate() {
             let bits = [number & 1 == 1, number & 2 == 2, number & 4 == 4];
             let mut want = Vec::new(alloc);
@@ -108,9 +110,14 @@ fn one_choice_matches_where_each_row_does(rt: HostRuntime) -> Result<(), Fail> {
 }
 
 /// Whether the choice of no bits matches, and the outputs of the question.
-fn answers(alloc: Global, table: &Table, bound: u32) -> Result<(bool, Vec<bool>), Fail> {
+fn answers<R: Threads + Sync>(
+    rt: &R,
+    alloc: Global,
+    table: &Table,
+    bound: u32,
+) -> Result<(bool, Vec<bool>), Fail> {
     let transition = wires(alloc)?;
-    let circuit = question(alloc, &transition, table, bound)?;
+    let circuit = question(rt, alloc, &transition, table, bound, 2)?;
     Ok((
         matches(alloc, &transition, table, &[])?,
         values(alloc, &circuit, &[])?,
@@ -126,14 +133,14 @@ fn unknown_bits_ask_nothing(rt: HostRuntime) -> Result<(), Fail> {
         known: 11,
     };
     let right = table(alloc, &[(1, UNKNOWN), (2, UNKNOWN), (9, last)])?;
-    let (all, outputs) = answers(alloc, &right, 0)?;
+    let (all, outputs) = answers(&rt, alloc, &right, 0)?;
     assert_eq!(rt; (all, outputs.as_slice()), (true, &[T, T, T, T][..]));
     let other = Cell {
         value: 8,
         known: 11,
     };
     let wrong = table(alloc, &[(1, UNKNOWN), (2, UNKNOWN), (9, other)])?;
-    let (all, outputs) = answers(alloc, &wrong, 0)?;
+    let (all, outputs) = answers(&rt, alloc, &wrong, 0)?;
     assert_eq!(rt; (all, outputs.as_slice()), (false, &[F, T, T, T][..]));
     Ok(())
 }
@@ -146,7 +153,7 @@ fn tables_without_rows_or_known_bits_ask_for_the_cost_alone(rt: HostRuntime) -> 
         table(alloc, &[])?,
         table(alloc, &[(1, UNKNOWN), (0, UNKNOWN)])?,
     ] {
-        let circuit = question(alloc, &transition, &rows, 1)?;
+        let circuit = question(&rt, alloc, &transition, &rows, 1, 2)?;
         assert_eq!(rt; values(alloc, &circuit, &[T, F, T])?.as_slice(), &[T][..]);
         assert_eq!(rt; values(alloc, &circuit, &[T, T, F])?.as_slice(), &[F][..]);
         assert!(rt; matches(alloc, &transition, &rows, &[T, T, F])?);
@@ -160,7 +167,7 @@ fn unknown_rows_move_the_state(rt: HostRuntime) -> Result<(), Fail> {
     let alloc = rt.alloc();
     let transition = inverted_reset(alloc)?;
     let rows = table(alloc, &[(1, bit(0)), (1, UNKNOWN), (1, bit(0))])?;
-    let circuit = question(alloc, &transition, &rows, 0)?;
+    let circuit = question(&rt, alloc, &transition, &rows, 0, 2)?;
     assert_eq!(rt;
         values(alloc, &circuit, &[F, F, F])?.as_slice(),
         &[T, T, T][..]
@@ -182,9 +189,67 @@ fn many_rows_are_asked(rt: HostRuntime) -> Result<(), Fail> {
     }
     assert!(rt; matches(alloc, &transition, &rows, &[F, F, F])?);
     assert!(rt; !matches(alloc, &transition, &rows, &[T, F, F])?);
-    let circuit = question(alloc, &transition, &rows, 0)?;
+    let circuit = question(&rt, alloc, &transition, &rows, 0, 2)?;
     assert_eq!(rt; circuit.outputs.len(), 65_537);
     let outputs = values(alloc, &circuit, &[F, F, F])?;
     assert!(rt; outputs.iter().all(|output| *output));
+    Ok(())
+}
+
+#[test]
+fn the_question_is_the_same_for_every_number_of_workers(rt: HostRuntime) -> Result<(), Fail> {
+    let alloc = rt.alloc();
+    let transition = inverted_reset(alloc)?;
+    let rows = reset_rows(alloc)?;
+    let alone = question(&rt, alloc, &transition, &rows, 1, 1)?;
+    let text = write_aag(alloc, &alone)?;
+    for workers in 2..9 {
+        let circuit = question(&rt, alloc, &transition, &rows, 1, workers)?;
+        assert_eq!(rt; write_aag(alloc, &circuit)?.as_slice(), text.as_slice());
+    }
+    Ok(())
+}
+
+/// The circuit of the cycle in which the row's inputs have these bits.
+fn row_fixed(alloc: Global, transition: &Transition, row: &[bool]) -> Result<Circuit, Fail> {
+    if row.len() != transition.input_bits as usize {
+        return Err(Fail::from("another number of bits"));
+    }
+    Ok(fixed(alloc, transition, row)?)
+}
+
+// The bits of the row are the outputs, whatever the choice.
+#[test]
+fn a_fixed_cycle_has_the_values_of_its_row(rt: HostRuntime) -> Result<(), Fail> {
+    let alloc = rt.alloc();
+    let transition = wires(alloc)?;
+    let circuit = row_fixed(alloc, &transition, &[T, F, F, T])?;
+    assert_eq!(rt; circuit.gates.len(), 0);
+    assert_eq!(rt; values(alloc, &circuit, &[])?.as_slice(), &[T, F, F, T][..]);
+    Ok(())
+}
+
+// Without the reset the literal is not needed: the next state is the negation, or, with the negated
+// condition, the literal.
+#[test]
+fn a_fixed_cycle_has_no_gate_for_what_its_row_tells(rt: HostRuntime) -> Result<(), Fail> {
+    let alloc = rt.alloc();
+    let transition = inverted_reset(alloc)?;
+    let circuit = row_fixed(alloc, &transition, &[F])?;
+    assert!(rt; circuit.gates.len() < transition.circuit.gates.len());
+    for number in 0..16u32 {
+        let bits = [
+            number & 1 == 1,
+            number & 2 == 2,
+            number & 4 == 4,
+            number & 8 == 8,
+        ];
+        let all = [bits[0], bits[1], bits[2], bits[3], F];
+        assert_eq!(rt;
+            values(alloc, &circuit, &bits)?,
+            values(alloc, &transition.circuit, &all)?,
+            "{number}"
+        );
+    }
     Ok(())
 }

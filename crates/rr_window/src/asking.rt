@@ -60,7 +60,7 @@ pub(crate) fn ask<R: Threads + Sync>(
     requires bits { transition.now.choice_bits ≡ total_bits list.now }
     ensures { IfOk result (IsAsked list.now) }
 {
-    let circuit = question(alloc, transition, table, bound)?;
+    let circuit = question(rt, alloc, transition, table, bound, MEMBERS)?;
     let formula = formula_of(alloc, &circuit)?;
     let inputs = circuit.inputs;
     match solve(rt, alloc, &formula, inputs, MEMBERS, BUDGET, &OpenGate)? {
