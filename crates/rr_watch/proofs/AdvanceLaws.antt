@@ -1,15 +1,14 @@
 -- states that follow one another
-use Rattle.std.proofs.Common.{◌≡◌, ◌⊎◌, inl, inr, ℕ, ◌+◌, ◌-◌, ◌<◌, ◌≤◌, List, length, get_or, take, map, refl, sym, ◌∙◌, ap, subst, arith}
-use Rattle.std.specs.Prelude.{All, Contains, Option, Some, None}
+use Rattle.std.proofs.Common.{◌≡◌, ◌⊎◌, inl, inr, ℕ, ◌+◌, ◌<◌, ◌≤◌, List, length, get_or, take, refl, sym, ◌∙◌, ap, subst, arith}
+use Rattle.std.specs.Prelude.{All, Contains, Some}
 use Rattle.std.proofs.lemmas.List.{get_or-take, take_all, length-map, get_or-map}
 use Rattle.std.proofs.lemmas.Bool.{cases_lt}
-use Rattle.rr_cnf.specs.Clauses.{Literal}
-use Rattle.rr_cnf.specs.Codes.{code_of}
-use Rattle.rr_watch.specs.Trails.{Entry, entry, lits, Grown}
-use Rattle.rr_watch.specs.Watches.{Numbered}
-use Rattle.rr_watch.specs.Lists.{Advances, Stays, KeepsPlace, IsForcedShort, AreForcedShort, Whole, all_numbered, numbered, held_at, IsServed, AreServed, first_of, second_of, list_at, IsNext, IsOther, IsPlaced, literal_at}
+use Rattle.rr_cnf.specs.Clauses.{Literal, negated}
+use Rattle.rr_cnf.specs.Codes.{code_of, same_code}
+use Rattle.rr_watch.specs.Trails.{Forces, Entry, entry, lits, Grown}
+use Rattle.rr_watch.specs.Holdings.{Held, all_numbered, held_at, numbered}
+use Rattle.rr_watch.specs.Lists.{watching_at, Advances, Stays, KeepsPlace, IsForcedShort, AreForcedShort, Whole, IsServed, AreServed, IsNext, IsOther, IsPlaced}
 use Rattle.rr_watch.specs.declared.propagator.Propagator.{Propagator}
-use Rattle.rr_watch.specs.declared.propagator.Held.{Held}
 use Rattle.rr_watch.proofs.EntryLaws.{place_of, holds_at, take_take}
 
 pub Grown-none : (t : List Entry) → Grown t t
@@ -72,8 +71,8 @@ forced_more old new p a e n le f s b =
     let x = f s b in
     let at : get_or new.short.items s 0 ≡ get_or old.short.items s 0 = ap (λ l. get_or l s 0) e in
     let i = (p.shorts s (omega arith)).0 in
-    let same = sym (same_clause_at old.held.items new.held.items (get_or old.short.items s 0) (sym a.clauses) i) in
-    (x.0, (subst (λ k. Contains (held_at new.held.items k).clause x.0) (sym at) (subst (λ c. Contains c x.0) (sym same) x.1.0), grown_holds old.trail.entries new.trail.entries a.grown x.0 x.1.1))
+    let same = sym (same_clause_at old.hand.held new.hand.held (get_or old.short.items s 0) (sym a.clauses) i) in
+    (x.0, (subst (λ k. Contains (held_at new.hand.held k).clause x.0) (sym at) (subst (λ c. Contains c x.0) (sym same) x.1.0), grown_holds old.trail.entries new.trail.entries a.grown x.0 x.1.1))
 
 pub forced_settled : (p : Propagator) → Whole p → AreForcedShort p p.settled
 forced_settled p w s b =
@@ -85,30 +84,40 @@ pub forced_next : (p : Propagator) (n : ℕ) → AreForcedShort p n → IsForced
 forced_next p n f x s b = elim (cases_lt s n) [ inl y ↦ f s y | inr y ↦ (let e : n ≡ s = omega arith in subst (IsForcedShort p) e x) ]
 
 -- the clauses that have seen it have seen it after more literals
-pub served_more : (t u : List Entry) (h : Held) (q : Literal) → Grown t u → IsServed t h q → IsServed u h q
-served_more t u h q g s = record { first = λ e d. grown_holds t u g (second_of h) (s.first e d); second = λ e d. grown_holds t u g (first_of h) (s.second e d) }
+pub served_more : (t u : List Entry) (c : List Literal) → Grown t u → IsServed t c → IsServed u c
+served_more t u c g s = (s.0, (s.1.0, grown_holds t u g s.0 s.1.1))
 
--- the other watched literal is true
-pub served_true : (t : List Entry) (h : Held) (q : Literal) (o : ℕ) → IsOther h q (Some o) → Contains (lits t) (literal_at h.clause o) → IsServed t h q
-served_true t h q o (inl x) m = record {
-  first = λ e d. subst (λ k. Contains (lits t) (literal_at h.clause k)) x.1 m;
-  second = λ e d. absurd (d (x.0 ∙ sym e));
-}
-served_true t h q o (inr x) m = record {
-  first = λ e d. absurd (d (e ∙ sym x.0));
-  second = λ e d. subst (λ k. Contains (lits t) (literal_at h.clause k)) x.1 m;
-}
-
-pub served_next : (p : Propagator) (q : Literal) (at : ℕ) → AreServed p q at → IsServed p.trail.entries (held_at p.held.items (get_or (list_at p.lists.items (code_of q)).entries at 0)) q → AreServed p q (at + 1)
-served_next p q at f x i b = elim (cases_lt i at) [ inl y ↦ f i y | inr y ↦ (let e : at ≡ i = omega arith in subst (λ k. IsServed p.trail.entries (held_at p.held.items (get_or (list_at p.lists.items (code_of q)).entries k 0)) q) e x) ]
+pub served_next : (p : Propagator) (q : Literal) (at : ℕ) → AreServed p q at → IsServed p.trail.entries (watching_at p q at).clause → AreServed p q (at + 1)
+served_next p q at f x i b = elim (cases_lt i at) [ inl y ↦ f i y | inr y ↦ (let e : at ≡ i = omega arith in subst (λ k. IsServed p.trail.entries (watching_at p q k).clause) e x) ]
 
 pub other_bound : (h : Held) (q : Literal) (o : ℕ) → IsPlaced h → IsOther h q (Some o) → o < length h.clause
 other_bound h q o p (inl x) = subst (λ n. n < length h.clause) (sym x.1) p.second
 other_bound h q o p (inr x) = subst (λ n. n < length h.clause) (sym x.1) p.first
+
+-- what is read of a clause at hand
+pub other_same : (h : Held) (q : Literal) (c : List Literal) (first second o : ℕ) → c ≡ h.clause → first ≡ h.first → second ≡ h.second → IsOther (record { id = 0; clause = c; first = first; second = second }) q (Some o) → IsOther h q (Some o)
+other_same h q c first second o e f s x =
+    subst (λ n. IsOther (record { id = 0; clause = h.clause; first = h.first; second = n }) q (Some o)) s
+    (subst (λ n. IsOther (record { id = 0; clause = h.clause; first = n; second = second }) q (Some o)) f
+    (subst (λ d. IsOther (record { id = 0; clause = d; first = first; second = second }) q (Some o)) e x))
 
 -- the literal that is next stays so
 pub next_more : (old new : Propagator) (q : Literal) → IsNext old q → Advances old new → KeepsPlace old new → IsNext new q
 next_more old new q n a k = record {
   inside = omega (arith, n.inside, k.head, a.grown.longer);
   literal = ap (λ i. (entry new.trail.entries i).lit) k.head ∙ ap (λ e. e.lit) (grown_entry old.trail.entries new.trail.entries a.grown old.head n.inside) ∙ n.literal;
+}
+
+-- the literal that is next makes its negation false
+pub next_false : (p : Propagator) (q : Literal) → IsNext p q → Contains (lits p.trail.entries) (negated q)
+next_false p q n = subst (Contains (lits p.trail.entries)) n.literal (holds_at p.trail.entries p.head n.inside)
+
+-- of two literals the other one is forced
+pub two_force : (p : Propagator) (q : Literal) (c : List Literal) (l : Literal) → IsNext p q → Contains c l → All (λ m. (code_of m ≡ code_of q) ⊎ (m ≡ l)) c → Forces (lits p.trail.entries) c l
+two_force p q c l n m two = record {
+  member = m;
+  others = λ k d b. elim (two k d b) [
+    | inl e ↦ inr (subst (λ x. Contains (lits p.trail.entries) (negated x)) (sym (same_code (get_or c k d) q e)) (next_false p q n))
+    | inr e ↦ inl e
+  ];
 }

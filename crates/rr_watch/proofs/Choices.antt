@@ -3,10 +3,10 @@ use Rattle.std.proofs.Common.{◌≡◌, ◌⊎◌, inl, inr, ℕ, Bool, true, f
 use Rattle.std.specs.Prelude.{All, Contains, Option, Some, None, is_some}
 use Rattle.std.proofs.lemmas.List.{take_more, take_all, get_or_default}
 use Rattle.std.proofs.lemmas.List.Elements.{All-push, Contains-push_cases}
-use Rattle.std.proofs.lemmas.Bool.{cases_lt, true≢false, false≢true}
-use Rattle.rr_cnf.specs.Clauses.{Literal, negated}
+use Rattle.std.proofs.lemmas.Bool.{true≢false, false≢true}
+use Rattle.rr_cnf.specs.Clauses.{Literal}
 use Rattle.rr_watch.specs.Trails.{Entry}
-use Rattle.rr_watch.specs.Lists.{literal_at, RankIs, IsApart, IsBest, BestIs}
+use Rattle.rr_watch.specs.Lists.{literal_at, RankIs, IsApart, BestIs}
 
 -- the best of the first literals
 pub record Best (t : List Entry) (c : List Literal) (o : Option Literal) (i p rank : ℕ) : Type 0 where

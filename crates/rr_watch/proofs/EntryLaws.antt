@@ -1,13 +1,13 @@
 -- trails that grow and shrink at their end
-use Rattle.std.proofs.Common.{◌≡◌, ◌⊎◌, inl, inr, ℕ, suc, zero, ◌+◌, ◌-◌, ◌*◌, ◌<◌, ◌≤◌, Bool, true, false, cond, List, [], ◌∷◌, ◌++◌, length, get_or, set, take, refl, sym, ◌∙◌, ap, subst, arith}
+use Rattle.std.proofs.Common.{◌≡◌, ◌⊎◌, inl, inr, ℕ, suc, zero, ◌+◌, ◌-◌, ◌<◌, ◌≤◌, cond, List, [], ◌∷◌, ◌++◌, length, get_or, take, refl, sym, ◌∙◌, ap, subst, arith}
 use Rattle.std.specs.Prelude.{All, Contains, Option, Some, None, is_some}
 use Rattle.std.proofs.Math.Seq.{get_or-append_seam, take-append_seam}
-use Rattle.std.proofs.lemmas.List.{get_or_append_left, take-append-le, get_or-take, length-take-le, length_push, length-map, length-set, get_or-map, map_push, take_all, take_more}
-use Rattle.std.proofs.lemmas.List.Elements.{All-nil, All-head, All-tail, All-cons, All-contains, Contains-append_left, Contains-push_cases, Contains-get_or}
+use Rattle.std.proofs.lemmas.List.{get_or_append_left, take-append-le, get_or-take, length-take-le, length_push, length-map, get_or-map, take_all, take_more}
+use Rattle.std.proofs.lemmas.List.Elements.{All-contains, Contains-get_or}
 use Rattle.std.proofs.lemmas.List.Sums.{sum_by_push, sum_by-cons}
-use Rattle.std.proofs.lemmas.Bool.{cases_lt, cases_eq}
+use Rattle.std.proofs.lemmas.Bool.{cases_lt}
 use Rattle.rr_cnf.specs.Clauses.{Literal}
-use Rattle.rr_watch.specs.Trails.{Entry, lits, entry, decisions, Forces, Reason, Decision, IsTrail, AreForced, MayStand}
+use Rattle.rr_watch.specs.Trails.{Entry, lits, entry, decisions, Forces, Decision, IsTrail, AreForced, MayStand}
 
 pub All-from_contains : {X : Type 0} (P : X → Type 0) (xs : List X) → ((x : X) → Contains xs x → P x) → All P xs
 All-from_contains P xs f = λ k d h. f (get_or xs k d) (Contains-get_or xs k d h)

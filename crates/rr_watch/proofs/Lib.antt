@@ -6,4 +6,5 @@ pub mod StateSteps
 pub mod Choices
 pub mod AdvanceLaws
 pub mod PlaceLaws
+pub mod HandLaws
 pub mod NumberLaws

@@ -1,7 +1,7 @@
 -- lists of watchers that change, and the clauses that want a watch
-use Rattle.std.proofs.Common.{◌≡◌, ◌⊎◌, inl, inr, ℕ, suc, zero, ◌+◌, ◌-◌, ◌*◌, ◌<◌, ◌≤◌, ◌||◌, Bool, true, false, cond, eqb, List, [], ◌∷◌, ◌++◌, length, get_or, set, take, map, refl, sym, ◌∙◌, ap, subst, arith}
+use Rattle.std.proofs.Common.{◌≡◌, ◌⊎◌, inl, inr, ℕ, ◌+◌, ◌-◌, ◌<◌, ◌≤◌, ◌||◌, Bool, true, false, cond, eqb, List, [], ◌∷◌, ◌++◌, length, get_or, set, refl, sym, ◌∙◌, ap, subst, arith}
 use Rattle.std.specs.Prelude.{All, Contains}
-use Rattle.std.specs.List.{list_any, sum_by, swap_remove}
+use Rattle.std.specs.List.{swap_remove}
 use Rattle.std.proofs.Math.Seq.{get_or-append_seam, map-set_same}
 use Rattle.std.proofs.lemmas.List.{get_or_append_left, get_or-take, length-take-le, length_push, length-map, length-set, get_or-map, map_push, get_or_default, get_or-set_same, get_or-set_other}
 use Rattle.std.proofs.lemmas.List.Elements.{All-contains, Contains-append_left, Contains-push, Contains-push_cases, Contains-get_or}
@@ -11,76 +11,63 @@ use Rattle.std.proofs.lemmas.Bool.{cases_lt, cases_eq, eq-eqb, ne_eqb}
 use Rattle.rr_cnf.specs.Clauses.{Literal}
 use Rattle.rr_cnf.specs.Codes.{code_of, same_code}
 use Rattle.rr_watch.specs.Watches.{Numbered, Named, bare}
-use Rattle.rr_watch.specs.WatchLists.{WatchList}
-use Rattle.rr_watch.specs.Lists.{literal_at, held_at, list_at, first_of, second_of, numbered, all_numbered, has, wants, wanted}
-use Rattle.rr_watch.specs.declared.propagator.Held.{Held}
+use Rattle.rr_watch.specs.WatchLists.{WatchList, IsListed, nobody}
+use Rattle.rr_watch.specs.declared.watchers.Watcher.{Watcher}
+use Rattle.rr_watch.specs.Holdings.{Held, all_numbered, held_at, numbered}
+use Rattle.rr_watch.specs.Lists.{Unlisted, Listed, list_at, first_of, second_of, has, wants, wanted}
 
 -- a list without the element at a place, into which the last moves
-module _ (xs : List ℕ) (at : ℕ) (h : at < length xs) where
-  abbrev moved : List ℕ
-  moved = set xs at (get_or xs (length xs - 1) 0)
+module _ {X : Type 0} (xs : List X) (at : ℕ) (z : X) (h : at < length xs) where
+  abbrev moved : List X
+  moved = set xs at (get_or xs (length xs - 1) z)
 
   length_moved : length moved ≡ length xs
-  length_moved = length-set xs at (get_or xs (length xs - 1) 0)
+  length_moved = length-set xs at (get_or xs (length xs - 1) z)
 
-  pub length_removed : length (swap_remove xs at 0) + 1 ≡ length xs
+  pub length_removed : length (swap_remove xs at z) + 1 ≡ length xs
   length_removed = omega (arith, length-take-le (length xs - 1) moved (omega (arith, length_moved)))
 
-  read_removed : (k : ℕ) → k < length xs - 1 → get_or (swap_remove xs at 0) k 0 ≡ get_or moved k 0
-  read_removed k b = get_or-take (length xs - 1) moved k 0 b
+  read_removed : (k : ℕ) → k < length xs - 1 → get_or (swap_remove xs at z) k z ≡ get_or moved k z
+  read_removed k b = get_or-take (length xs - 1) moved k z b
 
-  pub removed_before : (k : ℕ) → k < at → get_or (swap_remove xs at 0) k 0 ≡ get_or xs k 0
-  removed_before k b = read_removed k (omega arith) ∙ get_or-set_other xs at k (get_or xs (length xs - 1) 0) 0 (λ e. omega arith)
+  pub removed_before : (k : ℕ) → k < at → get_or (swap_remove xs at z) k z ≡ get_or xs k z
+  removed_before k b = read_removed k (omega arith) ∙ get_or-set_other xs at k (get_or xs (length xs - 1) z) z (λ e. omega arith)
 
-  to_contains : (ys : List ℕ) (k x : ℕ) → k < length ys → get_or ys k 0 ≡ x → Contains ys x
-  to_contains ys k x b e = subst (Contains ys) e (Contains-get_or ys k 0 b)
+  to_contains : (ys : List X) (k : ℕ) (x : X) → k < length ys → get_or ys k z ≡ x → Contains ys x
+  to_contains ys k x b e = subst (Contains ys) e (Contains-get_or ys k z b)
 
-  pub removed_other : (x : ℕ) → Contains xs x → (get_or xs at 0 ≡ x → ⊥) → Contains (swap_remove xs at 0) x
+  pub removed_other : (x : X) → Contains xs x → (get_or xs at z ≡ x → ⊥) → Contains (swap_remove xs at z) x
   removed_other x c n =
-      let e : get_or xs c.0 0 ≡ x = get_or_default xs c.0 0 x c.1 ∙ c.2 in
-      let apart : c.0 ≡ at → ⊥ = λ q. n (ap (λ i. get_or xs i 0) (sym q) ∙ e) in
+      let e : get_or xs c.0 z ≡ x = get_or_default xs c.0 z x c.1 ∙ c.2 in
+      let apart : c.0 ≡ at → ⊥ = λ q. n (ap (λ i. get_or xs i z) (sym q) ∙ e) in
       elim (cases_lt c.0 (length xs - 1)) [
-        | inl b ↦ to_contains (swap_remove xs at 0) c.0 x (omega (arith, length_removed)) (read_removed c.0 b ∙ get_or-set_other xs at c.0 (get_or xs (length xs - 1) 0) 0 apart ∙ e)
+        | inl b ↦ to_contains (swap_remove xs at z) c.0 x (omega (arith, length_removed)) (read_removed c.0 b ∙ get_or-set_other xs at c.0 (get_or xs (length xs - 1) z) z apart ∙ e)
         | inr b ↦ (let last : c.0 ≡ length xs - 1 = omega (arith, c.1) in
             let before : at < length xs - 1 = elim (cases_lt at (length xs - 1)) [ inl y ↦ y | inr y ↦ absurd (apart (omega (arith, c.1))) ] in
-            to_contains (swap_remove xs at 0) at x (omega (arith, length_removed)) (read_removed at before ∙ get_or-set_same xs at (get_or xs (length xs - 1) 0) 0 h ∙ ap (λ i. get_or xs i 0) (sym last) ∙ e))
+            to_contains (swap_remove xs at z) at x (omega (arith, length_removed)) (read_removed at before ∙ get_or-set_same xs at (get_or xs (length xs - 1) z) z h ∙ ap (λ i. get_or xs i z) (sym last) ∙ e))
       ]
 
-  pub removed_old : (x : ℕ) → Contains (swap_remove xs at 0) x → Contains xs x
+  pub removed_old : (x : X) → Contains (swap_remove xs at z) x → Contains xs x
   removed_old x c =
       let b : c.0 < length xs - 1 = omega (arith, length_removed, c.1) in
-      let e : get_or moved c.0 0 ≡ x = sym (read_removed c.0 b) ∙ get_or_default (swap_remove xs at 0) c.0 0 x c.1 ∙ c.2 in
+      let e : get_or moved c.0 z ≡ x = sym (read_removed c.0 b) ∙ get_or_default (swap_remove xs at z) c.0 z x c.1 ∙ c.2 in
       elim (cases_eq c.0 at) [
-        | inl q ↦ to_contains xs (length xs - 1) x (omega arith) (sym (get_or-set_same xs at (get_or xs (length xs - 1) 0) 0 h) ∙ ap (λ i. get_or moved i 0) (sym q) ∙ e)
-        | inr q ↦ to_contains xs c.0 x (omega arith) (sym (get_or-set_other xs at c.0 (get_or xs (length xs - 1) 0) 0 q) ∙ e)
+        | inl q ↦ to_contains xs (length xs - 1) x (omega arith) (sym (get_or-set_same xs at (get_or xs (length xs - 1) z) z h) ∙ ap (λ i. get_or moved i z) (sym q) ∙ e)
+        | inr q ↦ to_contains xs c.0 x (omega arith) (sym (get_or-set_other xs at c.0 (get_or xs (length xs - 1) z) z q) ∙ e)
       ]
 
--- a clause taken off one list
-pub record Unlisted (ls new : List WatchList) (from at : ℕ) : Type 0 where
-  pub long : length new ≡ length ls
-  pub entries : (list_at new from).entries ≡ swap_remove (list_at ls from).entries at 0
-  pub uses : (list_at new from).uses ≡ (list_at ls from).uses
-  pub others : (c : ℕ) → (c ≡ from → ⊥) → list_at new c ≡ list_at ls c
-
--- a clause put on one list
-pub record Listed (ls new : List WatchList) (to i : ℕ) : Type 0 where
-  pub long : length new ≡ length ls
-  pub entries : (list_at new to).entries ≡ (list_at ls to).entries ++ i ∷ []
-  pub uses : (list_at new to).uses ≡ (list_at ls to).uses
-  pub others : (c : ℕ) → (c ≡ to → ⊥) → list_at new c ≡ list_at ls c
-
-pub Unlisted-set : (ls : List WatchList) (from at : ℕ) (w old : WatchList) → from < length ls → old ≡ get_or ls from old → w.entries ≡ swap_remove old.entries at 0 → w.uses ≡ old.uses → Unlisted ls (set ls from w) from at
+pub Unlisted-set : (ls : List WatchList) (from at : ℕ) (w old : WatchList) → from < length ls → old ≡ get_or ls from old → w.entries ≡ swap_remove old.entries at nobody → w.uses ≡ old.uses → Unlisted ls (set ls from w) from at
 Unlisted-set ls from at w old h e p q =
     let same : list_at (set ls from w) from ≡ w = get_or-set_same ls from w _ h in
     let was : old ≡ list_at ls from = e ∙ get_or_default ls from old _ h in
     record {
       long = length-set ls from w;
-      entries = ap (λ x. x.entries) same ∙ p ∙ ap (λ x. swap_remove x.entries at 0) was;
+      entries = ap (λ x. x.entries) same ∙ p ∙ ap (λ x. swap_remove x.entries at nobody) was;
       uses = ap (λ x. x.uses) same ∙ q ∙ ap (λ x. x.uses) was;
       others = λ c n. get_or-set_other ls from c w _ n;
     }
 
-pub Listed-set : (ls : List WatchList) (to i : ℕ) (w old : WatchList) → to < length ls → old ≡ get_or ls to old → w.entries ≡ old.entries ++ i ∷ [] → w.uses ≡ old.uses → Listed ls (set ls to w) to i
+pub Listed-set : (ls : List WatchList) (to : ℕ) (i : Watcher) (w old : WatchList) → to < length ls → old ≡ get_or ls to old → w.entries ≡ old.entries ++ i ∷ [] → w.uses ≡ old.uses → Listed ls (set ls to w) to i
 Listed-set ls to i w old h e p q =
     let same : list_at (set ls to w) to ≡ w = get_or-set_same ls to w _ h in
     let was : old ≡ list_at ls to = e ∙ get_or_default ls to old _ h in
@@ -91,24 +78,24 @@ Listed-set ls to i w old h e p q =
       others = λ c n. get_or-set_other ls to c w _ n;
     }
 
-module _ (ls new : List WatchList) (to i : ℕ) (r : Listed ls new to i) where
-  pub listed_more : (c k : ℕ) → Contains (list_at ls c).entries k → Contains (list_at new c).entries k
+module _ (ls new : List WatchList) (to : ℕ) (i : Watcher) (r : Listed ls new to i) where
+  pub listed_more : (c k : ℕ) → IsListed (list_at ls c).entries k → IsListed (list_at new c).entries k
   listed_more c k m = elim (cases_eq c to) [
-    | inl q ↦ (let z : Contains (list_at new to).entries k = subst (λ e. Contains e k) (sym r.entries) (Contains-append_left (list_at ls to).entries (i ∷ []) k (subst (λ x. Contains (list_at ls x).entries k) q m)) in
-        subst (λ x. Contains (list_at new x).entries k) (sym q) z)
-    | inr q ↦ subst (λ w. Contains w.entries k) (sym (r.others c q)) m
+    | inl q ↦ (let z : Contains (list_at new to).entries m.0 = subst (λ e. Contains e m.0) (sym r.entries) (Contains-append_left (list_at ls to).entries (i ∷ []) m.0 (subst (λ x. Contains (list_at ls x).entries m.0) q m.1.0)) in
+        (m.0, (subst (λ x. Contains (list_at new x).entries m.0) (sym q) z, m.1.1)))
+    | inr q ↦ subst (λ w. IsListed w.entries k) (sym (r.others c q)) m
   ]
 
-  pub listed_new : Contains (list_at new to).entries i
-  listed_new = subst (λ e. Contains e i) (sym r.entries) (Contains-push (list_at ls to).entries i)
+  pub listed_new : IsListed (list_at new to).entries i.place
+  listed_new = (i, (subst (λ e. Contains e i) (sym r.entries) (Contains-push (list_at ls to).entries i), refl))
 
-  pub listed_cases : (c k : ℕ) → Contains (list_at new c).entries k → Contains (list_at ls c).entries k ⊎ (i ≡ k)
-  listed_cases c k m = elim (cases_eq c to) [
-    | inl q ↦ elim (Contains-push_cases (list_at ls to).entries i k (subst (λ e. Contains e k) r.entries (subst (λ x. Contains (list_at new x).entries k) q m))) [
-      | inl y ↦ inl (subst (λ x. Contains (list_at ls x).entries k) (sym q) y)
-      | inr y ↦ inr y
+  pub listed_cases : (c : ℕ) (w : Watcher) → Contains (list_at new c).entries w → Contains (list_at ls c).entries w ⊎ ((c ≡ to) × (i ≡ w))
+  listed_cases c w m = elim (cases_eq c to) [
+    | inl q ↦ elim (Contains-push_cases (list_at ls to).entries i w (subst (λ e. Contains e w) r.entries (subst (λ x. Contains (list_at new x).entries w) q m))) [
+      | inl y ↦ inl (subst (λ x. Contains (list_at ls x).entries w) (sym q) y)
+      | inr y ↦ inr (q, y)
     ]
-    | inr q ↦ inl (subst (λ w. Contains w.entries k) (r.others c q) m)
+    | inr q ↦ inl (subst (λ x. Contains x.entries w) (r.others c q) m)
   ]
 
   pub listed_length : (c : ℕ) → ((c ≡ to) × (length (list_at new c).entries ≡ length (list_at ls c).entries + 1) × ((list_at new c).uses ≡ (list_at ls c).uses)) ⊎ ((c ≡ to → ⊥) × (list_at new c ≡ list_at ls c))
@@ -118,27 +105,27 @@ module _ (ls new : List WatchList) (to i : ℕ) (r : Listed ls new to i) where
   ]
 
 module _ (ls new : List WatchList) (from at : ℕ) (r : Unlisted ls new from at) (h : at < length (list_at ls from).entries) where
-  pub unlisted_old : (c k : ℕ) → Contains (list_at new c).entries k → Contains (list_at ls c).entries k
-  unlisted_old c k m = elim (cases_eq c from) [
-    | inl q ↦ subst (λ x. Contains (list_at ls x).entries k) (sym q) (removed_old (list_at ls from).entries at h k (subst (λ e. Contains e k) r.entries (subst (λ x. Contains (list_at new x).entries k) q m)))
-    | inr q ↦ subst (λ w. Contains w.entries k) (r.others c q) m
+  pub unlisted_old : (c : ℕ) (w : Watcher) → Contains (list_at new c).entries w → Contains (list_at ls c).entries w
+  unlisted_old c w m = elim (cases_eq c from) [
+    | inl q ↦ subst (λ x. Contains (list_at ls x).entries w) (sym q) (removed_old (list_at ls from).entries at nobody h w (subst (λ e. Contains e w) r.entries (subst (λ x. Contains (list_at new x).entries w) q m)))
+    | inr q ↦ subst (λ x. Contains x.entries w) (r.others c q) m
   ]
 
   -- another clause, or another list
-  pub unlisted_other : (c k : ℕ) → ((c ≡ from) → get_or (list_at ls from).entries at 0 ≡ k → ⊥) → Contains (list_at ls c).entries k → Contains (list_at new c).entries k
+  pub unlisted_other : (c k : ℕ) → ((c ≡ from) → (get_or (list_at ls from).entries at nobody).place ≡ k → ⊥) → IsListed (list_at ls c).entries k → IsListed (list_at new c).entries k
   unlisted_other c k n m = elim (cases_eq c from) [
-    | inl q ↦ subst (λ x. Contains (list_at new x).entries k) (sym q) (subst (λ e. Contains e k) (sym r.entries) (removed_other (list_at ls from).entries at h k (subst (λ x. Contains (list_at ls x).entries k) q m) (n q)))
-    | inr q ↦ subst (λ w. Contains w.entries k) (sym (r.others c q)) m
+    | inl q ↦ (m.0, (subst (λ x. Contains (list_at new x).entries m.0) (sym q) (subst (λ e. Contains e m.0) (sym r.entries) (removed_other (list_at ls from).entries at nobody h m.0 (subst (λ x. Contains (list_at ls x).entries m.0) q m.1.0) (λ e. n q (ap (λ w. w.place) e ∙ m.1.1)))), m.1.1))
+    | inr q ↦ subst (λ w. IsListed w.entries k) (sym (r.others c q)) m
   ]
 
   pub unlisted_length : (c : ℕ) → ((c ≡ from) × (length (list_at new c).entries + 1 ≡ length (list_at ls c).entries) × ((list_at new c).uses ≡ (list_at ls c).uses)) ⊎ ((c ≡ from → ⊥) × (list_at new c ≡ list_at ls c))
   unlisted_length c = elim (cases_eq c from) [
-    | inl q ↦ inl (q, ap (λ x. length (list_at new x).entries + 1) q ∙ ap (λ e. length e + 1) r.entries ∙ length_removed (list_at ls from).entries at h ∙ ap (λ x. length (list_at ls x).entries) (sym q), ap (λ x. (list_at new x).uses) q ∙ r.uses ∙ ap (λ x. (list_at ls x).uses) (sym q))
+    | inl q ↦ inl (q, ap (λ x. length (list_at new x).entries + 1) q ∙ ap (λ e. length e + 1) r.entries ∙ length_removed (list_at ls from).entries at nobody h ∙ ap (λ x. length (list_at ls x).entries) (sym q), ap (λ x. (list_at new x).uses) q ∙ r.uses ∙ ap (λ x. (list_at ls x).uses) (sym q))
     | inr q ↦ inr (q, r.others c q)
   ]
 
 pub unlisted_count : (ls new : List WatchList) (from at : ℕ) → Unlisted ls new from at → at < length (list_at ls from).entries → length (list_at new from).entries + 1 ≡ length (list_at ls from).entries
-unlisted_count ls new from at r h = ap (λ e. length e + 1) r.entries ∙ length_removed (list_at ls from).entries at h
+unlisted_count ls new from at r h = ap (λ e. length e + 1) r.entries ∙ length_removed (list_at ls from).entries at nobody h
 
 -- clauses that want a watch
 cond_first : (a b : Bool) (x y : ℕ) → (a ≡ true) ⊎ (b ≡ true) → cond (a || b) x y ≡ x

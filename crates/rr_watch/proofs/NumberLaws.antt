@@ -1,24 +1,19 @@
 -- clauses with the numbers of their places
-use Rattle.std.proofs.Common.{◌≡◌, inl, inr, ℕ, ◌+◌, ◌-◌, ◌<◌, List, [], ◌∷◌, ◌++◌, length, get_or, take, refl, sym, ◌∙◌, ap, subst, arith}
-use Rattle.std.specs.Prelude.{All, Contains, Option, Some, None, slice_get}
+use Rattle.std.proofs.Common.{◌≡◌, inl, inr, ℕ, ◌+◌, ◌-◌, ◌<◌, List, [], ◌∷◌, ◌++◌, length, get_or, take, sym, ◌∙◌, ap, subst, arith}
+use Rattle.std.specs.Prelude.{All, Some, None, slice_get}
 use Rattle.std.proofs.lemmas.List.{take_more, length-take-le, length-map, get_or-map}
-use Rattle.std.proofs.lemmas.List.Elements.{All-nil, All-cons, All-weaker}
+use Rattle.std.proofs.lemmas.List.Elements.{All-nil, All-cons}
 use Rattle.std.proofs.lemmas.Option.{slice_get-get_or, get_or_from_slice_get}
 use Rattle.std.proofs.lemmas.Bool.{cases_lt}
-use Rattle.rr_cnf.specs.Clauses.{Literal, IsWithin}
+use Rattle.rr_cnf.specs.Clauses.{Clauses, Literal, IsWithin}
 use Rattle.rr_watch.specs.Watches.{Numbered, Named, AreHeld, numbered_from}
-use Rattle.rr_watch.specs.Lists.{IsPropagator, all_numbered, numbered, held_at}
+use Rattle.rr_watch.specs.Holdings.{Adds, all_numbered, held_at, numbered}
 use Rattle.rr_watch.specs.declared.propagator.Propagator.{Propagator}
-use Rattle.rr_watch.specs.declared.propagator.Held.{Held}
 use Rattle.rr_watch.specs.Lists.{Whole}
 use Rattle.rr_watch.proofs.EntryLaws.{All-from_contains}
-use Rattle.rr_watch.proofs.ListLaws.{named_at, named_place}
-
-numbered_push : (n : ℕ) (cs : List (List Literal)) (c : List Literal) → numbered_from n (cs ++ c ∷ []) ≡ numbered_from n cs ++ record { id = n + length cs; clause = c } ∷ []
-numbered_push n [] c = ap (λ k. record { id = k; clause = c } ∷ []) (omega arith)
-numbered_push n (x ∷ xs) c =
-    let e : n + 1 + length xs ≡ n + length (x ∷ xs) = omega arith in
-    ap (λ t. record { id = n; clause = x } ∷ t) (numbered_push (n + 1) xs c ∙ ap (λ k. numbered_from (n + 1) xs ++ record { id = k; clause = c } ∷ []) e)
+use Rattle.rr_watch.proofs.HandLaws.{numbered_length, numbered_push}
+use Rattle.rr_watch.specs.declared.hand.Source.TheVariants.{OfFormula}
+use Rattle.rr_watch.proofs.ListLaws.{named_place}
 
 pub numbered_below : (n m : ℕ) (cs : List (List Literal)) → n + length cs ≡ m → All (λ x. x.id < m) (numbered_from n cs)
 numbered_below n m [] e = All-nil (λ (x : Numbered). x.id < m)
@@ -42,22 +37,22 @@ not_missing cs i h e =
     let z : None ≡ Some (get_or cs i []) = e ∙ ap (slice_get cs) at ∙ slice_get-get_or cs i [] h in cc
 
 -- what callers may know of the clauses
-pub are_held : (p : Propagator) → Whole p → AreHeld p.trail.vars (all_numbered p.held.items)
+pub are_held : (p : Propagator) → Whole p → AreHeld p.trail.vars (all_numbered p.hand.held)
 are_held p w = record {
-  within = All-from_contains (λ (n : Numbered). All (IsWithin p.trail.vars) n.clause) (all_numbered p.held.items) (λ n m.
-      let k = named_place p.held.items n.id n.clause m in
+  within = All-from_contains (λ (n : Numbered). All (IsWithin p.trail.vars) n.clause) (all_numbered p.hand.held) (λ n m.
+      let k = named_place p.hand.held n.id n.clause m in
       subst (All (IsWithin p.trail.vars)) k.1.2 (w.within k.0 k.1.0));
   rising = λ j k d e a b.
-      let kb : k < length p.held.items = omega (arith, length-map p.held.items numbered) in
-      let jb : j < length p.held.items = omega arith in
-      let x : (get_or (all_numbered p.held.items) j d).id ≡ (held_at p.held.items j).id = ap (λ n. n.id) (get_or-map numbered p.held.items j _ d jb) in
-      let y : (get_or (all_numbered p.held.items) k e).id ≡ (held_at p.held.items k).id = ap (λ n. n.id) (get_or-map numbered p.held.items k _ e kb) in
+      let kb : k < length p.hand.held = omega (arith, length-map p.hand.held numbered) in
+      let jb : j < length p.hand.held = omega arith in
+      let x : (get_or (all_numbered p.hand.held) j d).id ≡ (held_at p.hand.held j).id = ap (λ n. n.id) (get_or-map numbered p.hand.held j _ d jb) in
+      let y : (get_or (all_numbered p.hand.held) k e).id ≡ (held_at p.hand.held k).id = ap (λ n. n.id) (get_or-map numbered p.hand.held k _ e kb) in
       let z = w.rising j k a kb in
       omega (arith, x, y, z);
 }
 
 -- one id, one place
-pub one_place : (p : Propagator) → Whole p → (j k : ℕ) → j < length p.held.items → k < length p.held.items → (held_at p.held.items j).id ≡ (held_at p.held.items k).id → j ≡ k
+pub one_place : (p : Propagator) → Whole p → (j k : ℕ) → j < length p.hand.held → k < length p.hand.held → (held_at p.hand.held j).id ≡ (held_at p.hand.held k).id → j ≡ k
 one_place p w j k a b e = elim (cases_lt j k) [
   | inl x ↦ absurd (let z = w.rising j k x b in omega (arith, z, e))
   | inr x ↦ elim (cases_lt k j) [
@@ -66,10 +61,43 @@ one_place p w j k a b e = elim (cases_lt j k) [
   ]
 ]
 
-pub one_clause : (p : Propagator) → Whole p → (k id : ℕ) (c : List Literal) → k < length p.held.items → (held_at p.held.items k).id ≡ id → Named (all_numbered p.held.items) id c → c ≡ (held_at p.held.items k).clause
+pub one_clause : (p : Propagator) → Whole p → (k id : ℕ) (c : List Literal) → k < length p.hand.held → (held_at p.hand.held k).id ≡ id → Named (all_numbered p.hand.held) id c → c ≡ (held_at p.hand.held k).clause
 one_clause p w k id c b e m =
-    let j = named_place p.held.items id c m in
-    sym j.1.2 ∙ ap (λ i. (held_at p.held.items i).clause) (one_place p w j.0 k j.1.0 b (j.1.1 ∙ sym e))
+    let j = named_place p.hand.held id c m in
+    sym j.1.2 ∙ ap (λ i. (held_at p.hand.held i).clause) (one_place p w j.0 k j.1.0 b (j.1.1 ∙ sym e))
 
-pub no_clause : (p : Propagator) (id : ℕ) (c : List Literal) → ((k : ℕ) → k < length p.held.items → (held_at p.held.items k).id ≡ id → ⊥) → Named (all_numbered p.held.items) id c → ⊥
-no_clause p id c f m = let j = named_place p.held.items id c m in f j.0 j.1.0 j.1.1
+pub no_clause : (p : Propagator) (id : ℕ) (c : List Literal) → ((k : ℕ) → k < length p.hand.held → (held_at p.hand.held k).id ≡ id → ⊥) → Named (all_numbered p.hand.held) id c → ⊥
+no_clause p id c f m = let j = named_place p.hand.held id c m in f j.0 j.1.0 j.1.1
+
+-- the first clauses of a formula
+pub record Loaded (f : Clauses) (p : Propagator) (i : ℕ) : Type 0 where
+  pub whole : Whole p
+  pub trail : p.trail ≡ record { vars = f.vars; entries = []; depth = 0 }
+  pub formula : p.hand.formula ≡ f.clauses
+  pub known : p.hand.known ≡ i
+  pub clauses : all_numbered p.hand.held ≡ numbered_from 1 (take i f.clauses)
+
+module _ (f : Clauses) (p : Propagator) (i : ℕ) (l : Loaded f p i) (inside : i < length f.clauses) (x : List Literal) (s : Some x ≡ slice_get f.clauses (i + 1 - 1)) where
+  pub loaded_below : All (λ n. n.id < p.hand.known + 1) (all_numbered p.hand.held)
+  loaded_below = subst (λ ns. All (λ n. n.id < p.hand.known + 1) ns) (sym l.clauses) (subst (λ k. All (λ n. n.id < k + 1) (numbered_from 1 (take i f.clauses))) (sym l.known) (below_next f.clauses i inside))
+
+  at : get_or f.clauses i [] ≡ x
+  at = (let e : i + 1 - 1 ≡ i = omega arith in get_or_from_slice_get f.clauses i x [] (ap (slice_get f.clauses) (sym e) ∙ sym s))
+
+  pub loaded_source : (p.hand.known < length p.hand.formula) × (length p.hand.held ≡ p.hand.known) × (x ≡ get_or p.hand.formula p.hand.known [])
+  loaded_source = (
+    omega (arith, l.known, inside, ap length l.formula),
+    omega (arith, sym (length-map p.hand.held numbered), ap length l.clauses, numbered_length 1 (take i f.clauses), length-take-le i f.clauses (omega arith), l.known),
+    sym (ap (λ cs. get_or cs p.hand.known []) l.formula ∙ ap (λ k. get_or f.clauses k []) l.known ∙ at),
+  )
+
+  pub Loaded-more : (q : Propagator) → Whole q → q.trail ≡ p.trail → Adds p.hand q.hand OfFormula x → Loaded f q (i + 1)
+  Loaded-more q w t a =
+      let n : p.hand.known + 1 ≡ i + 1 = omega (arith, l.known) in
+      record {
+        whole = w;
+        trail = t ∙ l.trail;
+        formula = a.formula ∙ l.formula;
+        known = a.known ∙ n;
+        clauses = a.clauses ∙ ap (λ k. all_numbered p.hand.held ++ record { id = k; clause = x } ∷ []) n ∙ ap (λ ns. ns ++ record { id = i + 1; clause = x } ∷ []) l.clauses ∙ numbered_more f.clauses i x inside s;
+      }

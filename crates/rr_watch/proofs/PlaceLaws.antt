@@ -1,14 +1,13 @@
 -- which literals of a new clause serve as watched ones
-use Rattle.std.proofs.Common.{◌≡◌, ◌⊎◌, inl, inr, ℕ, ◌+◌, ◌<◌, ◌≤◌, List, length, get_or, refl, sym, ◌∙◌, ap, subst, arith}
-use Rattle.std.specs.Prelude.{All, Contains, Option, Some, None}
+use Rattle.std.proofs.Common.{◌≡◌, ◌⊎◌, inl, inr, ℕ, ◌<◌, ◌≤◌, List, length, sym, ◌∙◌, ap, subst, arith}
+use Rattle.std.specs.Prelude.{Contains, Some, None}
 use Rattle.std.proofs.lemmas.List.Elements.{All-contains, Contains-get_or}
 use Rattle.std.proofs.lemmas.Bool.{cases_lt, cases_eq}
 use Rattle.rr_cnf.specs.Clauses.{Literal, negated}
 use Rattle.rr_cnf.specs.Codes.{code_of, same_code}
-use Rattle.rr_cnf.specs.Partial.{IsUnit}
 use Rattle.rr_watch.specs.Trails.{Entry, Standing, entry, lits, IsTrail}
 use Rattle.rr_watch.specs.Watches.{MayAdd, Asserts, HasLate}
-use Rattle.rr_watch.specs.Lists.{AreAlike, literal_at, RankIs, IsApart, IsBest, BestIs, Serves, Excuse}
+use Rattle.rr_watch.specs.Lists.{AreAlike, literal_at, RankIs, IsBest, BestIs, Serves}
 use Rattle.rr_watch.proofs.EntryLaws.{holds_at, decisions-le}
 use Rattle.rr_watch.proofs.TrailLaws.{negated-negated}
 
@@ -66,7 +65,7 @@ module _ (tr : Standing) (lawful : IsTrail tr.entries tr.depth) (fits : length t
           let g = bf.greatest a.lit a.unit.member tt in
           a.unit.not_false (is_false a.lit g.0 g.1.0 (omega (arith, g.1.1, x.1.2, low)))
 
-  pub serves_second : Serves tr.entries head late (literal_at c s) (literal_at c f)
+  pub serves_second : Serves tr.entries head late (literal_at c s) c
   serves_second j b e =
       let bj : j < length tr.entries = omega arith in
       let under = seen (subst (Contains (lits tr.entries)) e (holds_at tr.entries j bj)) j b in
@@ -88,7 +87,7 @@ module _ (tr : Standing) (lawful : IsTrail tr.entries tr.depth) (fits : length t
           let r = rank_false (negated (entry tr.entries h.place).lit) g.0 h.place g.1.0 h.inside is in
           omega (arith, r, g.1.1, h.level, under, mine)
 
-  pub serves_first : Serves tr.entries head late (literal_at c f) (literal_at c s)
+  pub serves_first : Serves tr.entries head late (literal_at c f) c
   serves_first j b e =
       let bj : j < length tr.entries = omega arith in
       let n = subst (Contains (lits tr.entries)) e (holds_at tr.entries j bj) in

@@ -1,22 +1,20 @@
 -- the state between the steps of propagation, as it changes
-use Rattle.std.proofs.Common.{◌≡◌, ◌⊎◌, inl, inr, ℕ, ◌+◌, ◌-◌, ◌*◌, ◌<◌, ◌≤◌, Bool, true, false, not, cond, List, [], ◌∷◌, ◌++◌, length, get_or, set, take, map, refl, sym, ◌∙◌, ap, subst, arith}
-use Rattle.std.specs.Prelude.{All, Contains, Option, Some, None}
-use Rattle.std.proofs.lemmas.List.{get_or-take, length-take-le, length_push, get_or_default, get_or_append_left}
-use Rattle.std.proofs.Math.Seq.{get_or-append_seam}
-use Rattle.std.proofs.lemmas.List.Elements.{All-contains, Contains-append_left, Contains-push, Contains-push_cases, Contains-get_or}
-use Rattle.std.proofs.lemmas.Bool.{cases_lt, cases_eq, true≢false, false≢true}
-use Rattle.std.proofs.Math.Bool.{not-not}
+use Rattle.std.proofs.Common.{◌≡◌, ◌⊎◌, inl, inr, ℕ, ◌+◌, ◌*◌, ◌<◌, ◌≤◌, Bool, true, false, not, List, [], ◌∷◌, ◌++◌, length, get_or, refl, sym, ◌∙◌, ap, subst, arith}
+use Rattle.std.specs.Prelude.{All, Contains, Some, None}
+use Rattle.std.proofs.lemmas.List.{get_or-take, length_push, get_or_default}
+use Rattle.std.proofs.lemmas.List.Elements.{All-contains, Contains-get_or}
+use Rattle.std.proofs.lemmas.Bool.{cases_lt, true≢false, false≢true}
 use Rattle.rr_cnf.specs.Clauses.{Literal, negated, IsWithin}
 use Rattle.rr_cnf.specs.Codes.{code_of}
 use Rattle.rr_cnf.specs.Partial.{IsFalse, IsUnit, IsQuiet}
-use Rattle.rr_watch.specs.Trails.{Entry, Standing, entry, lits, IsTrail, AreForced, Forces, IsCut, IsCutBack}
-use Rattle.rr_watch.specs.Watches.{Numbered, Named, bare}
-use Rattle.rr_watch.specs.WatchLists.{WatchList}
-use Rattle.rr_watch.specs.Lists.{literal_at, held_at, list_at, first_of, second_of, numbered, all_numbered, has, wants, wanted, Excuse, Serves, IsPlaced, IsLong, IsShort, IsSettled, IsPropagator, IsServed, IsOther, IsReplacement, HasRoom}
-use Rattle.rr_watch.specs.declared.propagator.Held.{Held}
-use Rattle.rr_watch.proofs.EntryLaws.{entry_old, entry_new, place_cases, place_of, holds_at, AreForced-push, AreForced-take, AreForced-more}
+use Rattle.rr_watch.specs.Trails.{Entry, Standing, entry, lits, IsTrail, AreForced, Forces, IsCutBack}
+use Rattle.rr_watch.specs.Watches.{Named, bare}
+use Rattle.rr_watch.specs.WatchLists.{WatchList, IsListed, nobody}
+use Rattle.rr_watch.specs.Holdings.{Held, all_numbered, held_at}
+use Rattle.rr_watch.specs.Lists.{watcher_at, Unlisted, literal_at, list_at, first_of, second_of, wanted, Excuse, Serves, IsLong, IsShort, IsSettled, IsPropagator, IsServed, IsOther, HasRoom}
+use Rattle.rr_watch.proofs.EntryLaws.{entry_old, entry_new, place_cases, place_of, holds_at, AreForced-push, AreForced-take}
 use Rattle.rr_watch.proofs.TrailLaws.{negated-negated}
-use Rattle.rr_watch.proofs.ListLaws.{Unlisted, Listed, listed_more, listed_new, listed_cases, listed_length, unlisted_old, unlisted_other, unlisted_length, removed_before, length_removed, wants_watched, wants_unwatched, wants_least, wants_few, has_bit, bit, wanted_set, wanted_push, held_old, held_new, held_same, held_other, named_at, bare_place, numbered_set, numbered_push, ids_below, code_same}
+use Rattle.rr_watch.proofs.ListLaws.{unlisted_old, unlisted_other, unlisted_length, bare_place, code_same}
 
 pub negated_same : (a b : Literal) → negated a ≡ negated b → a ≡ b
 negated_same a b e = sym (negated-negated a) ∙ ap negated e ∙ negated-negated b
@@ -41,16 +39,16 @@ not_both t d tr l a b =
 
 -- the trail grows by one entry
 module _ (t : List Entry) (e : Entry) where
-  Excuse-push : (late j : ℕ) (o : Literal) → j < length t → Excuse t late j o → Excuse (t ++ e ∷ []) late j o
-  Excuse-push late j o h x = record {
+  Excuse-push : (late j : ℕ) (c : List Literal) → j < length t → Excuse t late j c → Excuse (t ++ e ∷ []) late j c
+  Excuse-push late j c h x = record {
     place = x.place;
     inside = omega (arith, x.inside, length_push t e);
-    literal = ap (λ y. y.lit) (entry_old t e x.place x.inside) ∙ x.literal;
+    member = subst (λ y. Contains c y.lit) (sym (entry_old t e x.place x.inside)) x.member;
     level = λ b. let k = x.level b in omega (arith, k, ap (λ y. y.level) (entry_old t e x.place x.inside), ap (λ y. y.level) (entry_old t e j h));
   }
 
-  Serves-push : (head late : ℕ) (w o : Literal) → head ≤ length t → Serves t head late w o → Serves (t ++ e ∷ []) head late w o
-  Serves-push head late w o le s = λ j h q. let hj : j < length t = omega arith in Excuse-push late j o hj (s j h (ap (λ y. y.lit) (sym (entry_old t e j hj)) ∙ q))
+  Serves-push : (head late : ℕ) (w : Literal) (c : List Literal) → head ≤ length t → Serves t head late w c → Serves (t ++ e ∷ []) head late w c
+  Serves-push head late w c le s = λ j h q. let hj : j < length t = omega arith in Excuse-push late j c hj (s j h (ap (λ y. y.lit) (sym (entry_old t e j hj)) ∙ q))
 
   IsLong-push : (ls : List WatchList) (head late k : ℕ) (h : Held) → head ≤ length t → IsLong t ls head late k h → IsLong (t ++ e ∷ []) ls head late k h
   IsLong-push ls head late k h le x = record {
@@ -58,8 +56,8 @@ module _ (t : List Entry) (e : Entry) where
     differ = x.differ;
     first_listed = x.first_listed;
     second_listed = x.second_listed;
-    first_serves = Serves-push head late (first_of h) (second_of h) le x.first_serves;
-    second_serves = Serves-push head late (second_of h) (first_of h) le x.second_serves;
+    first_serves = Serves-push head late (first_of h) h.clause le x.first_serves;
+    second_serves = Serves-push head late (second_of h) h.clause le x.second_serves;
   }
 
   IsSettled-push : (c : List Literal) → IsSettled t c → IsSettled (t ++ e ∷ []) c
@@ -70,8 +68,8 @@ module _ (t : List Entry) (e : Entry) where
     level = ap (λ y. y.level) (entry_old t e x.place x.inside) ∙ x.level;
   }
 
-Serves-late : (t : List Entry) (head late less : ℕ) (w o : Literal) → less ≤ late → Serves t head late w o → Serves t head less w o
-Serves-late t head late less w o le s = λ j h q. let x = s j h q in record { place = x.place; inside = x.inside; literal = x.literal; level = λ b. x.level (omega arith) }
+Serves-late : (t : List Entry) (head late less : ℕ) (w : Literal) (c : List Literal) → less ≤ late → Serves t head late w c → Serves t head less w c
+Serves-late t head late less w c le s = λ j h q. let x = s j h q in record { place = x.place; inside = x.inside; member = x.member; level = λ b. x.level (omega arith) }
 
 IsLong-late : (t : List Entry) (ls : List WatchList) (head late less k : ℕ) (h : Held) → less ≤ late → IsLong t ls head late k h → IsLong t ls head less k h
 IsLong-late t ls head late less k h le x = record {
@@ -79,8 +77,8 @@ IsLong-late t ls head late less k h le x = record {
   differ = x.differ;
   first_listed = x.first_listed;
   second_listed = x.second_listed;
-  first_serves = Serves-late t head late less (first_of h) (second_of h) le x.first_serves;
-  second_serves = Serves-late t head late less (second_of h) (first_of h) le x.second_serves;
+  first_serves = Serves-late t head late less (first_of h) h.clause le x.first_serves;
+  second_serves = Serves-late t head late less (second_of h) h.clause le x.second_serves;
 }
 
 module _ (tr : Standing) (hs : List Held) (ls : List WatchList) (short : List ℕ) (settled head late : ℕ) (p : IsPropagator tr hs ls short settled head late) where
@@ -143,8 +141,8 @@ module _ (tr : Standing) (hs : List Held) (ls : List WatchList) (short : List �
         differ = y.differ;
         first_listed = y.first_listed;
         second_listed = y.second_listed;
-        first_serves = serves (first_of (held_at hs k)) (second_of (held_at hs k)) y.first_serves;
-        second_serves = serves (second_of (held_at hs k)) (first_of (held_at hs k)) y.second_serves;
+        first_serves = serves (first_of (held_at hs k)) (held_at hs k).clause y.first_serves;
+        second_serves = serves (second_of (held_at hs k)) (held_at hs k).clause y.second_serves;
       })
       | inr y ↦ inr y
     ];
@@ -164,8 +162,8 @@ module _ (tr : Standing) (hs : List Held) (ls : List WatchList) (short : List �
       inside : (i : ℕ) → i < length tr.entries → (entry tr.entries i).level ≤ level → i < length new.entries
       inside i x y = elim (cases_lt i (length new.entries)) [ inl z ↦ z | inr z ↦ absurd (let q = b.cut.undone i z x in omega (arith, q)) ]
 
-      serves : (w o : Literal) → Serves tr.entries head late w o → Serves new.entries h l w o
-      serves w o s = λ j x q.
+      serves : (w : Literal) (c : List Literal) → Serves tr.entries head late w c → Serves new.entries h l w c
+      serves w c s = λ j x q.
           let hj : j < length new.entries = omega arith in
           let e = same j hj in
           let y = s j (omega arith) (ap (λ z. z.lit) (sym e) ∙ q) in
@@ -175,8 +173,8 @@ module _ (tr : Standing) (hs : List Held) (ls : List WatchList) (short : List �
           record {
             place = y.place;
             inside = i;
-            literal = ap (λ z. z.lit) (same y.place i) ∙ y.literal;
-            level = λ c. omega (arith, low, ap (λ z. z.level) e, ap (λ z. z.level) (same y.place i));
+            member = subst (λ z. Contains c z.lit) (sym (same y.place i)) y.member;
+            level = λ x. omega (arith, low, ap (λ z. z.level) e, ap (λ z. z.level) (same y.place i));
           }
 
       stays : (c : List Literal) → IsSettled tr.entries c → IsSettled new.entries c
@@ -268,14 +266,14 @@ module _ (tr : Standing) (hs : List Held) (ls : List WatchList) (short : List �
       | inl y ↦ inl (record {
         placed = y.placed;
         differ = y.differ;
-        first_listed = subst (λ e. Contains e k) (sym (r.entries (code_of (first_of (held_at hs k))))) y.first_listed;
-        second_listed = subst (λ e. Contains e k) (sym (r.entries (code_of (second_of (held_at hs k))))) y.second_listed;
+        first_listed = subst (λ e. IsListed e k) (sym (r.entries (code_of (first_of (held_at hs k))))) y.first_listed;
+        second_listed = subst (λ e. IsListed e k) (sym (r.entries (code_of (second_of (held_at hs k))))) y.second_listed;
         first_serves = y.first_serves;
         second_serves = y.second_serves;
       })
       | inr y ↦ inr y
     ];
-    listed = λ code k m. p.listed code k (subst (λ e. Contains e k) (r.entries code) m);
+    listed = λ code w m. p.listed code w (subst (λ e. Contains e w) (r.entries code) m);
     room = λ code. let a = p.room code in let b = r.uses code in omega (arith, a, b, ap length (r.entries code));
     shorts = p.shorts;
     settled_few = p.settled_few;
@@ -286,7 +284,7 @@ module _ (tr : Standing) (hs : List Held) (ls : List WatchList) (short : List �
 
   -- the next literal has been seen by the clauses that watch its negation
   pub State-next : (q : Literal) → head < length tr.entries → (entry tr.entries head).lit ≡ negated q
-      → ((i : ℕ) → i < length (list_at ls (code_of q)).entries → IsServed tr.entries (held_at hs (get_or (list_at ls (code_of q)).entries i 0)) q)
+      → ((i : ℕ) → i < length (list_at ls (code_of q)).entries → IsServed tr.entries (held_at hs (watcher_at ls q i).place).clause)
       → IsPropagator tr hs ls short settled (head + 1) late
   State-next q inside here all = record {
     sized = p.sized;
@@ -304,8 +302,8 @@ module _ (tr : Standing) (hs : List Held) (ls : List WatchList) (short : List �
         differ = y.differ;
         first_listed = y.first_listed;
         second_listed = y.second_listed;
-        first_serves = serves k (first_of (held_at hs k)) (second_of (held_at hs k)) y.first_listed y.first_serves (λ e s. s.first e y.differ);
-        second_serves = serves k (second_of (held_at hs k)) (first_of (held_at hs k)) y.second_listed y.second_serves (λ e s. s.second e y.differ);
+        first_serves = serves k (first_of (held_at hs k)) y.first_listed y.first_serves;
+        second_serves = serves k (second_of (held_at hs k)) y.second_listed y.second_serves;
       })
       | inr y ↦ inr y
     ];
@@ -318,19 +316,20 @@ module _ (tr : Standing) (hs : List Held) (ls : List WatchList) (short : List �
     pending = λ k a x b. p.pending k (omega arith) x b;
   }
     where
-      served : (k : ℕ) → Contains (list_at ls (code_of q)).entries k → IsServed tr.entries (held_at hs k) q
-      served k m = subst (λ i. IsServed tr.entries (held_at hs i) q) (get_or_default (list_at ls (code_of q)).entries m.0 0 k m.1 ∙ m.2) (all m.0 m.1)
+      served : (k : ℕ) → IsListed (list_at ls (code_of q)).entries k → IsServed tr.entries (held_at hs k).clause
+      served k m = subst (λ i. IsServed tr.entries (held_at hs i).clause) (ap (λ w. w.place) (get_or_default (list_at ls (code_of q)).entries m.1.0.0 nobody m.0 m.1.0.1 ∙ m.1.0.2) ∙ m.1.1) (all m.1.0.0 m.1.0.1)
 
-      serves : (k : ℕ) (w o : Literal) → Contains (list_at ls (code_of w)).entries k → Serves tr.entries head late w o → (w ≡ q → IsServed tr.entries (held_at hs k) q → Contains (lits tr.entries) o) → Serves tr.entries (head + 1) late w o
-      serves k w o m s f = λ j x e. elim (cases_lt j head) [
+      serves : (k : ℕ) (w : Literal) → IsListed (list_at ls (code_of w)).entries k → Serves tr.entries head late w (held_at hs k).clause → Serves tr.entries (head + 1) late w (held_at hs k).clause
+      serves k w m s = λ j x e. elim (cases_lt j head) [
         | inl y ↦ s j y e
         | inr y ↦ (let at : j ≡ head = omega arith in
             let same : w ≡ q = negated_same w q (sym e ∙ ap (λ i. (entry tr.entries i).lit) at ∙ here) in
-            let z = place_of tr.entries o (f same (served k (subst (λ l. Contains (list_at ls (code_of l)).entries k) same m))) in
+            let f = served k (subst (λ l. IsListed (list_at ls (code_of l)).entries k) same m) in
+            let z = place_of tr.entries f.0 f.1.1 in
             record {
               place = z.0;
               inside = z.1.0;
-              literal = z.1.1;
+              member = subst (Contains (held_at hs k).clause) (sym z.1.1) f.1.0;
               level = λ b.
                   let low = p.lawful.below z.0 z.1.0 in
                   let top = p.pending head (omega arith) inside (omega arith) in
@@ -345,11 +344,11 @@ module _ (tr : Standing) (hs : List Held) (ls : List WatchList) (short : List �
       subst (λ x. (IsFalse (lits tr.entries) x → ⊥) × ((l : Literal) → IsUnit (lits tr.entries) x l → ⊥)) k.1.1 (elim (p.keeps k.0 k.1.0) [ inl x ↦ long k.0 x | inr x ↦ brief k.0 x ])
     where
       -- what a false watched literal shows
-      shows : (w o : Literal) → Serves tr.entries head late w o → Contains (lits tr.entries) (negated w) → Contains (lits tr.entries) o
-      shows w o s f =
+      shows : (w : Literal) (c : List Literal) → Serves tr.entries head late w c → Contains (lits tr.entries) (negated w) → IsServed tr.entries c
+      shows w c s f =
           let j = place_of tr.entries (negated w) f in
           let x = s j.0 (omega (arith, j.1.0)) j.1.1 in
-          subst (Contains (lits tr.entries)) x.literal (holds_at tr.entries x.place x.inside)
+          ((entry tr.entries x.place).lit, (x.member, holds_at tr.entries x.place x.inside))
 
       member : (xs : List Literal) (i : ℕ) → i < length xs → Contains xs (literal_at xs i)
       member xs i b = Contains-get_or xs i _ b
@@ -361,19 +360,18 @@ module _ (tr : Standing) (hs : List Held) (ls : List WatchList) (short : List �
           let b = member h.clause h.second x.placed.second in
           let both = not_both tr.entries tr.depth p.lawful in (
             λ f. let first_false = All-contains (λ (l : Literal). Contains (lits tr.entries) (negated l)) h.clause (first_of h) f a in
-                let second_false = All-contains (λ (l : Literal). Contains (lits tr.entries) (negated l)) h.clause (second_of h) f b in
-                both (second_of h) (shows (first_of h) (second_of h) x.first_serves first_false) second_false,
-            λ l u. let one = All-contains (λ (m : Literal). (m ≡ l) ⊎ Contains (lits tr.entries) (negated m)) h.clause (first_of h) u.others a in
-                let two = All-contains (λ (m : Literal). (m ≡ l) ⊎ Contains (lits tr.entries) (negated m)) h.clause (second_of h) u.others b in
-                elim one [
-                  | inl e ↦ elim two [
+                let s = shows (first_of h) h.clause x.first_serves first_false in
+                both s.0 s.1.1 (All-contains (λ (l : Literal). Contains (lits tr.entries) (negated l)) h.clause s.0 f s.1.0),
+            λ l u. let no : IsServed tr.entries h.clause → ⊥ = λ s. elim (All-contains (λ (m : Literal). (m ≡ l) ⊎ Contains (lits tr.entries) (negated m)) h.clause s.0 u.others s.1.0) [
+              | inl e ↦ u.not_true (subst (Contains (lits tr.entries)) e s.1.1)
+              | inr g ↦ both s.0 s.1.1 g
+            ] in
+                elim (All-contains (λ (m : Literal). (m ≡ l) ⊎ Contains (lits tr.entries) (negated m)) h.clause (first_of h) u.others a) [
+                  | inl e ↦ elim (All-contains (λ (m : Literal). (m ≡ l) ⊎ Contains (lits tr.entries) (negated m)) h.clause (second_of h) u.others b) [
                     | inl g ↦ x.differ (e ∙ sym g)
-                    | inr g ↦ u.not_true (subst (Contains (lits tr.entries)) e (shows (second_of h) (first_of h) x.second_serves g))
+                    | inr g ↦ no (shows (second_of h) h.clause x.second_serves g)
                   ]
-                  | inr e ↦ (let true_now = shows (first_of h) (second_of h) x.first_serves e in elim two [
-                    | inl g ↦ u.not_true (subst (Contains (lits tr.entries)) g true_now)
-                    | inr g ↦ both (second_of h) true_now g
-                  ])
+                  | inr e ↦ no (shows (first_of h) h.clause x.first_serves e)
                 ],
           )
 
@@ -387,7 +385,7 @@ module _ (tr : Standing) (hs : List Held) (ls : List WatchList) (short : List �
           )
 
   -- a clause is taken off the list of a literal that it does not watch
-  pub State-unlist : (new : List WatchList) (q : Literal) (at : ℕ) → at < length (list_at ls (code_of q)).entries → Unlisted ls new (code_of q) at → IsOther (held_at hs (get_or (list_at ls (code_of q)).entries at 0)) q None → IsPropagator tr hs new short settled head late
+  pub State-unlist : (new : List WatchList) (q : Literal) (at : ℕ) → at < length (list_at ls (code_of q)).entries → Unlisted ls new (code_of q) at → IsOther (held_at hs (watcher_at ls q at).place) q None → IsPropagator tr hs new short settled head late
   State-unlist new q at inside r other = record {
     sized = r.long ∙ p.sized;
     few = p.few;
@@ -409,7 +407,7 @@ module _ (tr : Standing) (hs : List Held) (ls : List WatchList) (short : List �
       })
       | inr y ↦ inr y
     ];
-    listed = λ c k m. p.listed c k (unlisted_old ls new (code_of q) at r inside c k m);
+    listed = λ c w m. p.listed c w (unlisted_old ls new (code_of q) at r inside c w m);
     room = λ c. let a = p.room c in elim (unlisted_length ls new (code_of q) at r inside c) [
       | inl y ↦ omega (arith, a, y.1, y.2)
       | inr y ↦ subst (λ w. length w.entries + wanted hs c ≤ w.uses) (sym y.1) a

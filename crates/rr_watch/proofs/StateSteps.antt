@@ -1,22 +1,22 @@
 -- the state between the steps of propagation, as clauses come and watches move
-use Rattle.std.proofs.Common.{◌≡◌, ◌⊎◌, inl, inr, ℕ, suc, zero, ◌+◌, ◌-◌, ◌*◌, ◌<◌, ◌≤◌, Bool, true, false, not, cond, List, [], ◌∷◌, ◌++◌, length, get_or, set, take, map, refl, sym, ◌∙◌, ap, subst, arith}
-use Rattle.std.specs.Prelude.{All, Contains, Option, Some, None}
+use Rattle.std.proofs.Common.{true, false, ◌≡◌, ◌⊎◌, inl, inr, ℕ, suc, zero, ◌+◌, ◌*◌, ◌<◌, ◌≤◌, List, [], ◌∷◌, ◌++◌, length, get_or, set, refl, sym, ◌∙◌, ap, subst, arith}
+use Rattle.std.specs.Prelude.{All, Contains, Some}
 use Rattle.std.proofs.lemmas.List.{length_push, length-set, get_or_default, get_or_append_left}
 use Rattle.std.proofs.Math.Seq.{get_or-append_seam}
-use Rattle.std.proofs.lemmas.List.Elements.{All-contains, All-get_or, Contains-append_left, Contains-push, Contains-push_cases, Contains-get_or}
-use Rattle.std.proofs.lemmas.Bool.{cases_lt, cases_eq}
+use Rattle.std.proofs.lemmas.List.Elements.{All-get_or, Contains-append_left, Contains-push, Contains-get_or}
+use Rattle.std.proofs.lemmas.Bool.{true≢false, cases_lt, cases_eq}
 use Rattle.std.proofs.lemmas.List.Sums.{get_or-le-sum_by}
 use Rattle.rr_cnf.specs.Clauses.{Literal, negated, IsWithin}
-use Rattle.rr_cnf.specs.Codes.{code_of}
+use Rattle.rr_cnf.specs.Codes.{code_of, same_code}
 use Rattle.rr_watch.specs.Trails.{Entry, Standing, entry, lits, AreForced, IsTrail}
-use Rattle.rr_watch.specs.Watches.{Numbered, Named}
-use Rattle.rr_watch.specs.WatchLists.{WatchList}
-use Rattle.rr_watch.specs.Lists.{AreAlike, literal_at, held_at, list_at, first_of, second_of, numbered, all_numbered, has, wants, wanted, Excuse, Serves, IsPlaced, IsLong, IsShort, IsSettled, IsPropagator, IsServed, IsOther, IsReplacement}
-use Rattle.rr_watch.specs.declared.propagator.Held.{Held}
+use Rattle.rr_watch.specs.Watches.{Named}
+use Rattle.rr_watch.specs.WatchLists.{WatchList, IsListed, blocker_of, is_brief, nobody}
+use Rattle.rr_watch.specs.declared.watchers.Watcher.{Watcher}
+use Rattle.rr_watch.specs.Holdings.{Held, all_numbered, held_at, numbered}
+use Rattle.rr_watch.specs.Lists.{IsWatcher, watcher_at, Unlisted, Listed, AreAlike, literal_at, list_at, first_of, second_of, has, wants, wanted, Serves, IsPlaced, IsLong, IsShort, IsSettled, IsPropagator, IsServed, IsOther, IsReplacement}
 use Rattle.rr_watch.proofs.EntryLaws.{holds_at, AreForced-more}
 use Rattle.rr_watch.proofs.TrailLaws.{IsTrail-none}
-use Rattle.rr_watch.proofs.ListLaws.{Unlisted, Listed, listed_more, listed_new, listed_cases, listed_length, unlisted_old, unlisted_other, unlisted_length, unlisted_count, removed_before, bit_le, wants_watched, wants_unwatched, wants_least, wants_few, has_bit, bit, wanted_set, wanted_push, held_old, held_new, held_same, held_other, numbered_set, numbered_push, ids_below, code_same}
-use Rattle.rr_watch.proofs.StateLaws.{not_both}
+use Rattle.rr_watch.proofs.ListLaws.{listed_more, listed_new, listed_cases, listed_length, unlisted_old, unlisted_other, unlisted_length, unlisted_count, removed_before, bit_le, wants_watched, wants_unwatched, wants_least, wants_few, has_bit, bit, wanted_set, wanted_push, held_old, held_new, held_same, held_other, numbered_set, numbered_push, ids_below, code_same}
 
 member : (xs : List Literal) (i : ℕ) → i < length xs → Contains xs (literal_at xs i)
 member xs i b = Contains-get_or xs i _ b
@@ -25,20 +25,20 @@ member xs i b = Contains-get_or xs i _ b
 module _ (tr : Standing) (hs : List Held) (ls : List WatchList) (short : List ℕ) (settled head late : ℕ) (p : IsPropagator tr hs ls short settled head late)
     (middle : List WatchList) (q : Literal) (at i other found : ℕ) (h : Held)
     (inside : at < length (list_at ls (code_of q)).entries)
-    (index : i ≡ get_or (list_at ls (code_of q)).entries at 0)
+    (index : i ≡ (watcher_at ls q at).place)
     (is_other : IsOther (held_at hs i) q (Some other))
     (is_found : IsReplacement tr.entries (held_at hs i).clause (literal_at (held_at hs i).clause other) (Some found))
     (next : head < length tr.entries) (falsified : (entry tr.entries head).lit ≡ negated q)
     (id : h.id ≡ (held_at hs i).id) (clause : h.clause ≡ (held_at hs i).clause) (first : h.first ≡ other) (second : h.second ≡ found)
     (off : Unlisted ls middle (code_of q) at) where
-  listed_here : Contains (list_at ls (code_of q)).entries i
-  listed_here = subst (Contains (list_at ls (code_of q)).entries) (sym index) (Contains-get_or (list_at ls (code_of q)).entries at 0 inside)
+  watches : IsWatcher hs (code_of q) (watcher_at ls q at)
+  watches = p.listed (code_of q) (watcher_at ls q at) (Contains-get_or (list_at ls (code_of q)).entries at nobody inside)
 
   pub index_in : i < length hs
-  index_in = (p.listed (code_of q) i listed_here).0
+  index_in = omega (arith, index, watches.inside)
 
   placed : IsPlaced (held_at hs i)
-  placed = (p.listed (code_of q) i listed_here).1
+  placed = subst (λ k. IsPlaced (held_at hs k)) (sym index) watches.placed
 
   other_in : other < length (held_at hs i).clause
   other_in = elim is_other [ inl x ↦ subst (λ n. n < length (held_at hs i).clause) (sym x.1) placed.second | inr x ↦ subst (λ n. n < length (held_at hs i).clause) (sym x.1) placed.first ]
@@ -66,17 +66,17 @@ module _ (tr : Standing) (hs : List Held) (ls : List WatchList) (short : List �
     | inr x ↦ (λ e. was.differ (sym (ap (literal_at (held_at hs i).clause) x.1) ∙ e ∙ sym x.0))
   ]
 
-  other_listed : Contains (list_at ls (code_of (literal_at (held_at hs i).clause other))).entries i
+  other_listed : IsListed (list_at ls (code_of (literal_at (held_at hs i).clause other))).entries i
   other_listed = elim is_other [
-    | inl x ↦ subst (λ n. Contains (list_at ls (code_of (literal_at (held_at hs i).clause n))).entries i) (sym x.1) was.second_listed
-    | inr x ↦ subst (λ n. Contains (list_at ls (code_of (literal_at (held_at hs i).clause n))).entries i) (sym x.1) was.first_listed
+    | inl x ↦ subst (λ n. IsListed (list_at ls (code_of (literal_at (held_at hs i).clause n))).entries i) (sym x.1) was.second_listed
+    | inr x ↦ subst (λ n. IsListed (list_at ls (code_of (literal_at (held_at hs i).clause n))).entries i) (sym x.1) was.first_listed
   ]
 
-  -- once it is seen that the other is false, q is true
-  other_serves : Serves tr.entries head late (literal_at (held_at hs i).clause other) q
+  -- once it is seen that the other is false, a literal of the clause is true
+  other_serves : Serves tr.entries head late (literal_at (held_at hs i).clause other) (held_at hs i).clause
   other_serves = elim is_other [
-    | inl x ↦ subst (λ n. Serves tr.entries head late (literal_at (held_at hs i).clause n) q) (sym x.1) (subst (Serves tr.entries head late (second_of (held_at hs i))) x.0 was.second_serves)
-    | inr x ↦ subst (λ n. Serves tr.entries head late (literal_at (held_at hs i).clause n) q) (sym x.1) (subst (Serves tr.entries head late (first_of (held_at hs i))) x.0 was.first_serves)
+    | inl x ↦ subst (λ n. Serves tr.entries head late (literal_at (held_at hs i).clause n) (held_at hs i).clause) (sym x.1) was.second_serves
+    | inr x ↦ subst (λ n. Serves tr.entries head late (literal_at (held_at hs i).clause n) (held_at hs i).clause) (sym x.1) was.first_serves
   ]
 
   q_false : Contains (lits tr.entries) (negated q)
@@ -146,43 +146,44 @@ module _ (tr : Standing) (hs : List Held) (ls : List WatchList) (short : List �
       let one : wants (code_of (literal_at (held_at hs i).clause found)) (held_at hs i) ≤ wanted hs (code_of (literal_at (held_at hs i).clause found)) = get_or-le-sum_by (wants (code_of (literal_at (held_at hs i).clause found))) hs i _ index_in in
       omega (arith, r, one, wants_found, ap (λ x. length x.entries) same, ap (λ x. x.uses) same)
 
-  module _ (new : List WatchList) (on : Listed middle new (code_of (literal_at (held_at hs i).clause found)) i) where
-    now_listed : (c k : ℕ) → (c ≡ code_of q → i ≡ k → ⊥) → Contains (list_at ls c).entries k → Contains (list_at new c).entries k
-    now_listed c k n m = listed_more middle new _ i on c k (unlisted_other ls middle (code_of q) at off inside c k (λ e z. n e (index ∙ z)) m)
+  module _ (new : List WatchList) (w : Watcher) (on : Listed middle new (code_of (literal_at (held_at hs i).clause found)) w)
+      (w_place : w.place ≡ i) (w_blocker : blocker_of w ≡ literal_at (held_at hs i).clause other) (w_long : is_brief w ≡ false) where
+    now_listed : (c k : ℕ) → (c ≡ code_of q → i ≡ k → ⊥) → IsListed (list_at ls c).entries k → IsListed (list_at new c).entries k
+    now_listed c k n m = listed_more middle new _ w on c k (unlisted_other ls middle (code_of q) at off inside c k (λ e z. n e (index ∙ z)) m)
 
     IsLong-now : IsLong tr.entries new head late i h
     IsLong-now = record {
       placed = record { few = subst (λ c. length c ≤ 4294967295) (sym clause) placed.few; first = subst (λ n. n < length h.clause) (sym first) (subst (λ c. other < length c) (sym clause) other_in); second = subst (λ n. n < length h.clause) (sym second) (subst (λ c. found < length c) (sym clause) is_found.0) };
       differ = λ e. is_found.1 (sym new_second ∙ sym e ∙ new_first);
-      first_listed = subst (λ m. Contains (list_at new (code_of m)).entries i) (sym new_first) (now_listed (code_of (literal_at (held_at hs i).clause other)) i (λ e z. code_same (literal_at (held_at hs i).clause other) q e apart) other_listed);
-      second_listed = subst (λ m. Contains (list_at new (code_of m)).entries i) (sym new_second) (listed_new middle new _ i on);
-      first_serves = λ j x e. absurd (let y = other_serves j x (e ∙ ap negated new_first) in not_both tr.entries tr.depth p.lawful q (subst (Contains (lits tr.entries)) y.literal (holds_at tr.entries y.place y.inside)) q_false);
+      first_listed = subst (λ m. IsListed (list_at new (code_of m)).entries i) (sym new_first) (now_listed (code_of (literal_at (held_at hs i).clause other)) i (λ e z. code_same (literal_at (held_at hs i).clause other) q e apart) other_listed);
+      second_listed = subst (λ m. IsListed (list_at new (code_of m)).entries i) (sym new_second) (subst (IsListed (list_at new (code_of (literal_at (held_at hs i).clause found))).entries) w_place (listed_new middle new _ w on));
+      first_serves = subst (λ m. Serves tr.entries head late m h.clause) (sym new_first) (subst (Serves tr.entries head late (literal_at (held_at hs i).clause other)) (sym clause) other_serves);
       second_serves = λ j x e. absurd (is_found.2 (subst (Contains (lits tr.entries)) (e ∙ ap negated new_second) (holds_at tr.entries j (omega (arith, p.seen)))));
     }
 
     room_now : (c : ℕ) → length (list_at new c).entries + wanted (set hs i h) c ≤ (list_at new c).uses
     room_now c =
-        let w = wanted_set hs i c h index_in in
+        let more = wanted_set hs i c h index_in in
         let was_room = p.room c in
-        elim (listed_length middle new (code_of (literal_at (held_at hs i).clause found)) i on c) [
+        elim (listed_length middle new (code_of (literal_at (held_at hs i).clause found)) w on c) [
           | inl x ↦ elim (unlisted_length ls middle (code_of q) at off inside c) [
             | inl y ↦ absurd (code_same (literal_at (held_at hs i).clause found) q (sym x.0 ∙ y.0) found_apart)
             | inr y ↦ (let none = wants_watched c h (inr (ap code_of new_second ∙ sym x.0)) in
                 let one = ap (λ z. wants z (held_at hs i)) x.0 ∙ wants_found in
                 let len = ap (λ z. length z.entries) y.1 in
                 let uses1 = ap (λ z. z.uses) y.1 in
-                omega (arith, w, was_room, x.1, x.2, none, one, len, uses1))
+                omega (arith, more, was_room, x.1, x.2, none, one, len, uses1))
           ]
           | inr x ↦ (let len2 = ap (λ z. length z.entries) x.1 in
               let uses2 = ap (λ z. z.uses) x.1 in
               elim (unlisted_length ls middle (code_of q) at off inside c) [
                 | inl y ↦ (let few = wants_few c h in
                     let zero_wish = ap (λ z. wants z (held_at hs i)) y.0 ∙ wants_watched (code_of q) (held_at hs i) q_watched in
-                    omega (arith, w, was_room, y.1, y.2, few, zero_wish, len2, uses2))
+                    omega (arith, more, was_room, y.1, y.2, few, zero_wish, len2, uses2))
                 | inr y ↦ (let less = wants_else c y.0 in
                     let len = ap (λ z. length z.entries) y.1 in
                     let uses1 = ap (λ z. z.uses) y.1 in
-                    omega (arith, w, was_room, less, len, uses1, len2, uses2))
+                    omega (arith, more, was_room, less, len, uses1, len2, uses2))
               ])
         ]
 
@@ -211,7 +212,10 @@ module _ (tr : Standing) (hs : List Held) (ls : List WatchList) (short : List �
           | inr y ↦ inr y
         ])
       ];
-      listed = λ c k m. by_index k (elim (listed_cases middle new _ i on c k m) [ inl x ↦ inl (p.listed c k (unlisted_old ls middle (code_of q) at off inside c k x)) | inr x ↦ inr x ]);
+      listed = λ c v m. elim (listed_cases middle new _ w on c v m) [
+        | inl x ↦ stays c v (p.listed c v (unlisted_old ls middle (code_of q) at off inside c v x))
+        | inr x ↦ subst (IsWatcher (set hs i h) c) x.1 (here c)
+      ];
       room = room_now;
       shorts = λ s b. let z = p.shorts s b in (omega (arith, z.0, length-set hs i h), subst AreAlike (sym (same_clause (get_or short s 0))) z.1);
       settled_few = p.settled_few;
@@ -220,32 +224,41 @@ module _ (tr : Standing) (hs : List Held) (ls : List WatchList) (short : List �
       pending = p.pending;
     }
       where
-        here : (k : ℕ) → k ≡ i → (k < length (set hs i h)) × IsPlaced (held_at (set hs i h) k)
-        here k e = (subst (λ x. x < length (set hs i h)) (sym e) (omega (arith, index_in, length-set hs i h)), subst (λ x. IsPlaced (held_at (set hs i h) x)) (sym e) (subst IsPlaced (sym (held_same hs i h index_in)) IsLong-now.placed))
-
-        by_index : (k : ℕ) → ((k < length hs) × IsPlaced (held_at hs k)) ⊎ (i ≡ k) → (k < length (set hs i h)) × IsPlaced (held_at (set hs i h) k)
-        by_index k (inr e) = here k (sym e)
-        by_index k (inl x) = elim (cases_eq k i) [
-          | inl e ↦ here k e
-          | inr e ↦ (omega (arith, x.0, length-set hs i h), subst IsPlaced (sym (held_other hs i k h e)) x.1)
+        placed_now : (k : ℕ) → IsPlaced (held_at hs k) → IsPlaced (held_at (set hs i h) k)
+        placed_now k x = elim (cases_eq k i) [
+          | inl e ↦ subst (λ j. IsPlaced (held_at (set hs i h) j)) (sym e) (subst IsPlaced (sym (held_same hs i h index_in)) IsLong-now.placed)
+          | inr e ↦ subst IsPlaced (sym (held_other hs i k h e)) x
         ]
+
+        stays : (c : ℕ) (v : Watcher) → IsWatcher hs c v → IsWatcher (set hs i h) c v
+        stays c v x = record {
+          inside = omega (arith, x.inside, length-set hs i h);
+          placed = placed_now v.place x.placed;
+          member = subst (λ y. Contains y (blocker_of v)) (sym (same_clause v.place)) x.member;
+          brief = λ b. subst (λ y. All (λ (m : Literal). (code_of m ≡ c) ⊎ (m ≡ blocker_of v)) y) (sym (same_clause v.place)) (x.brief b);
+        }
+
+        here : (c : ℕ) → IsWatcher (set hs i h) c w
+        here c = record {
+          inside = omega (arith, index_in, w_place, length-set hs i h);
+          placed = placed_now w.place (subst (λ k. IsPlaced (held_at hs k)) (sym w_place) placed);
+          member = subst (λ y. Contains y (blocker_of w)) (sym (same_clause w.place)) (subst (λ k. Contains (held_at hs k).clause (blocker_of w)) (sym w_place) (subst (Contains (held_at hs i).clause) (sym w_blocker) (member (held_at hs i).clause other other_in)));
+          brief = λ b. absurd (true≢false (sym b ∙ w_long));
+        }
 
     pub rewatch_length : length (list_at new (code_of q)).entries + 1 ≡ length (list_at ls (code_of q)).entries
     rewatch_length = ap (λ w. length w.entries + 1) (on.others (code_of q) away) ∙ unlisted_count ls middle (code_of q) at off inside
 
-    pub rewatch_served : ((j : ℕ) → j < at → IsServed tr.entries (held_at hs (get_or (list_at ls (code_of q)).entries j 0)) q) → (j : ℕ) → j < at → IsServed tr.entries (held_at (set hs i h) (get_or (list_at new (code_of q)).entries j 0)) q
+    pub rewatch_served : ((j : ℕ) → j < at → IsServed tr.entries (held_at hs (watcher_at ls q j).place).clause) → (j : ℕ) → j < at → IsServed tr.entries (held_at (set hs i h) (watcher_at new q j).place).clause
     rewatch_served f j b =
-        let same = ap (λ w. get_or w.entries j 0) (on.others (code_of q) away) ∙ ap (λ e. get_or e j 0) off.entries ∙ removed_before (list_at ls (code_of q)).entries at inside j b in
-        subst (λ k. IsServed tr.entries (held_at (set hs i h) k) q) (sym same) (elim (cases_eq (get_or (list_at ls (code_of q)).entries j 0) i) [
-          | inl e ↦ subst (λ k. IsServed tr.entries (held_at (set hs i h) k) q) (sym e) (subst (λ x. IsServed tr.entries x q) (sym (held_same hs i h index_in)) (record { first = λ e d. absurd (apart (sym new_first ∙ e)); second = λ e d. absurd (found_apart (sym new_second ∙ e)) }))
-          | inr e ↦ subst (λ x. IsServed tr.entries x q) (sym (held_other hs i (get_or (list_at ls (code_of q)).entries j 0) h e)) (f j b)
-        ])
+        let same = ap (λ x. get_or x.entries j nobody) (on.others (code_of q) away) ∙ ap (λ e. get_or e j nobody) off.entries ∙ removed_before (list_at ls (code_of q)).entries at nobody inside j b in
+        subst (λ v. IsServed tr.entries (held_at (set hs i h) v.place).clause) (sym same) (subst (IsServed tr.entries) (sym (same_clause (watcher_at ls q j).place)) (f j b))
 
 -- the clauses before the place of one that was taken off the list
 pub served_unlisted : (t : List Entry) (hs : List Held) (ls new : List WatchList) (q : Literal) (at : ℕ) → at < length (list_at ls (code_of q)).entries → Unlisted ls new (code_of q) at
-    → ((i : ℕ) → i < at → IsServed t (held_at hs (get_or (list_at ls (code_of q)).entries i 0)) q) → (i : ℕ) → i < at → IsServed t (held_at hs (get_or (list_at new (code_of q)).entries i 0)) q
+    → ((i : ℕ) → i < at → IsServed t (held_at hs (watcher_at ls q i).place).clause) → (i : ℕ) → i < at → IsServed t (held_at hs (watcher_at new q i).place).clause
 served_unlisted t hs ls new q at inside r f i b =
-    subst (λ k. IsServed t (held_at hs k) q) (sym (ap (λ e. get_or e i 0) r.entries ∙ removed_before (list_at ls (code_of q)).entries at inside i b)) (f i b)
+    subst (λ w. IsServed t (held_at hs w.place).clause) (sym (ap (λ e. get_or e i nobody) r.entries ∙ removed_before (list_at ls (code_of q)).entries at nobody inside i b)) (f i b)
 
 -- a literal's lists are there
 pub code_in : (n : ℕ) (l : Literal) → IsWithin n l → code_of l < 2 * n + 2
@@ -275,12 +288,30 @@ module _ (tr : Standing) (hs : List Held) (ls : List WatchList) (short : List �
     | inr x ↦ subst (λ y. All (IsWithin tr.vars) y.clause) (sym (new_at k x)) within
   ]
 
+  watcher_more : (c : ℕ) (v : Watcher) → IsWatcher hs c v → IsWatcher (hs ++ h ∷ []) c v
+  watcher_more c v x = record {
+    inside = omega (arith, x.inside, length_push hs h);
+    placed = subst IsPlaced (sym (held_old hs h v.place x.inside)) x.placed;
+    member = subst (λ y. Contains y.clause (blocker_of v)) (sym (held_old hs h v.place x.inside)) x.member;
+    brief = λ b. subst (λ y. All (λ (m : Literal). (code_of m ≡ c) ⊎ (m ≡ blocker_of v)) y.clause) (sym (held_old hs h v.place x.inside)) (x.brief b);
+  }
+
+  watcher_new : (c : ℕ) (v : Watcher) → v.place ≡ length hs → IsPlaced h → Contains h.clause (blocker_of v) → (is_brief v ≡ true → All (λ m. (code_of m ≡ c) ⊎ (m ≡ blocker_of v)) h.clause) → IsWatcher (hs ++ h ∷ []) c v
+  watcher_new c v e placed m f = record {
+    inside = omega (arith, e, length_push hs h);
+    placed = subst IsPlaced (sym (new_at v.place e)) placed;
+    member = subst (λ y. Contains y.clause (blocker_of v)) (sym (new_at v.place e)) m;
+    brief = λ b. subst (λ y. All (λ (m : Literal). (code_of m ≡ c) ⊎ (m ≡ blocker_of v)) y.clause) (sym (new_at v.place e)) (f b);
+  }
+
   -- a clause that watches two literals
-  pub State-hold : (middle new : List WatchList) → IsPlaced h → (first_of h ≡ second_of h → ⊥) → Serves tr.entries head late (first_of h) (second_of h) → Serves tr.entries head late (second_of h) (first_of h)
+  pub State-hold : (middle new : List WatchList) (v w : Watcher) → IsPlaced h → (first_of h ≡ second_of h → ⊥) → Serves tr.entries head late (first_of h) h.clause → Serves tr.entries head late (second_of h) h.clause
       → ((c : ℕ) → length (list_at ls c).entries + (wanted hs c + bit (has h.clause c)) ≤ (list_at ls c).uses)
-      → Listed ls middle (code_of (first_of h)) (length hs) → Listed middle new (code_of (second_of h)) (length hs)
+      → Listed ls middle (code_of (first_of h)) v → Listed middle new (code_of (second_of h)) w
+      → v.place ≡ length hs → w.place ≡ length hs → blocker_of v ≡ second_of h → blocker_of w ≡ first_of h
+      → (is_brief v ≡ true → length h.clause ≡ 2) → (is_brief w ≡ true → length h.clause ≡ 2)
       → IsPropagator tr (hs ++ h ∷ []) new short settled head late
-  State-hold middle new placed differ one two spare a b = record {
+  State-hold middle new v w placed differ one two spare a b v_place w_place v_blocker w_blocker v_brief w_brief = record {
     sized = b.long ∙ a.long ∙ p.sized;
     few = omega (arith, few, length_push hs h);
     lawful = p.lawful;
@@ -305,16 +336,19 @@ module _ (tr : Standing) (hs : List Held) (ls : List WatchList) (short : List �
       | inr y ↦ inl (subst (IsLong tr.entries new head late k) (sym (new_at k y)) (record {
         placed = placed;
         differ = differ;
-        first_listed = subst (Contains (list_at new (code_of (first_of h))).entries) (sym y) (listed_more middle new (code_of (second_of h)) (length hs) b (code_of (first_of h)) (length hs) (listed_new ls middle (code_of (first_of h)) (length hs) a));
-        second_listed = subst (Contains (list_at new (code_of (second_of h))).entries) (sym y) (listed_new middle new (code_of (second_of h)) (length hs) b);
+        first_listed = subst (IsListed (list_at new (code_of (first_of h))).entries) (v_place ∙ sym y) (listed_more middle new (code_of (second_of h)) w b (code_of (first_of h)) v.place (listed_new ls middle (code_of (first_of h)) v a));
+        second_listed = subst (IsListed (list_at new (code_of (second_of h))).entries) (w_place ∙ sym y) (listed_new middle new (code_of (second_of h)) w b);
         first_serves = one;
         second_serves = two;
       }))
     ];
-    listed = λ c k m. by_index k (elim (listed_cases middle new (code_of (second_of h)) (length hs) b c k m) [
-      | inl x ↦ elim (listed_cases ls middle (code_of (first_of h)) (length hs) a c k x) [ inl y ↦ inl (p.listed c k y) | inr y ↦ inr y ]
-      | inr x ↦ inr x
-    ]);
+    listed = λ c x m. elim (listed_cases middle new (code_of (second_of h)) w b c x m) [
+      | inl y ↦ elim (listed_cases ls middle (code_of (first_of h)) v a c x y) [
+        | inl z ↦ watcher_more c x (p.listed c x z)
+        | inr z ↦ subst (IsWatcher (hs ++ h ∷ []) c) z.1 (subst (λ n. IsWatcher (hs ++ h ∷ []) n v) (sym z.0) (watcher_new (code_of (first_of h)) v v_place placed (subst (Contains h.clause) (sym v_blocker) (member h.clause h.second placed.second)) (λ q. pair (first_of h) (blocker_of v) (λ k i l. subst (λ n. (code_of (literal_at h.clause k) ≡ code_of (first_of h)) ⊎ (literal_at h.clause k ≡ n)) (sym v_blocker) (two_places k i l)) (v_brief q))))
+      ]
+      | inr z ↦ subst (IsWatcher (hs ++ h ∷ []) c) z.1 (subst (λ n. IsWatcher (hs ++ h ∷ []) n w) (sym z.0) (watcher_new (code_of (second_of h)) w w_place placed (subst (Contains h.clause) (sym w_blocker) (member h.clause h.first placed.first)) (λ q. pair (second_of h) (blocker_of w) (λ k i l. subst (λ n. (code_of (literal_at h.clause k) ≡ code_of (second_of h)) ⊎ (literal_at h.clause k ≡ n)) (sym w_blocker) (other_way k (two_places k i l))) (w_brief q))))
+    ];
     room = λ c. room_now c;
     shorts = λ s x. let z = p.shorts s x in (omega (arith, z.0, length_push hs h), subst (λ y. AreAlike y.clause) (sym (held_old hs h (get_or short s 0) z.0)) z.1);
     settled_few = p.settled_few;
@@ -323,32 +357,48 @@ module _ (tr : Standing) (hs : List Held) (ls : List WatchList) (short : List �
     pending = p.pending;
   }
     where
-      stays : (c k : ℕ) → Contains (list_at ls c).entries k → Contains (list_at new c).entries k
-      stays c k m = listed_more middle new (code_of (second_of h)) (length hs) b c k (listed_more ls middle (code_of (first_of h)) (length hs) a c k m)
+      stays : (c k : ℕ) → IsListed (list_at ls c).entries k → IsListed (list_at new c).entries k
+      stays c k m = listed_more middle new (code_of (second_of h)) w b c k (listed_more ls middle (code_of (first_of h)) v a c k m)
 
-      by_index : (k : ℕ) → ((k < length hs) × IsPlaced (held_at hs k)) ⊎ (length hs ≡ k) → (k < length (hs ++ h ∷ [])) × IsPlaced (held_at (hs ++ h ∷ []) k)
-      by_index k (inl x) = (omega (arith, x.0, length_push hs h), subst IsPlaced (sym (held_old hs h k x.0)) x.1)
-      by_index k (inr e) = (omega (arith, length_push hs h, e), subst IsPlaced (sym (new_at k (sym e))) placed)
+      apart : h.first ≡ h.second → ⊥
+      apart e = differ (ap (literal_at h.clause) e)
+
+      -- in a clause of two literals there is no third place
+      two_places : (k : ℕ) → k < length h.clause → length h.clause ≡ 2 → (code_of (literal_at h.clause k) ≡ code_of (first_of h)) ⊎ (literal_at h.clause k ≡ second_of h)
+      two_places k i l = elim (cases_eq k h.first) [
+        | inl e ↦ inl (ap (λ n. code_of (literal_at h.clause n)) e)
+        | inr e ↦ inr (ap (literal_at h.clause) (elim (cases_eq k h.second) [
+          | inl f ↦ f
+          | inr f ↦ (let x = placed.first in let y = placed.second in absurd (elim (cases_eq h.first h.second) [ inl g ↦ apart g | inr g ↦ omega (arith, i, l, x, y, e, f, g) ]))
+        ]))
+      ]
+
+      other_way : (k : ℕ) → (code_of (literal_at h.clause k) ≡ code_of (first_of h)) ⊎ (literal_at h.clause k ≡ second_of h) → (code_of (literal_at h.clause k) ≡ code_of (second_of h)) ⊎ (literal_at h.clause k ≡ first_of h)
+      other_way k (inl e) = inr (same_code (literal_at h.clause k) (first_of h) e)
+      other_way k (inr e) = inl (ap code_of e)
+
+      pair : (l m : Literal) → ((k : ℕ) → k < length h.clause → length h.clause ≡ 2 → (code_of (literal_at h.clause k) ≡ code_of l) ⊎ (literal_at h.clause k ≡ m)) → length h.clause ≡ 2 → All (λ x. (code_of x ≡ code_of l) ⊎ (x ≡ m)) h.clause
+      pair l m f e = λ k d i. subst (λ x. (code_of x ≡ code_of l) ⊎ (x ≡ m)) (get_or_default h.clause k (record { var = 0; negative = false }) d i) (f k i e)
 
       room_now : (c : ℕ) → length (list_at new c).entries + wanted (hs ++ h ∷ []) c ≤ (list_at new c).uses
       room_now c =
-          let w = wanted_push hs c h in
+          let more = wanted_push hs c h in
           let s = spare c in
-          elim (listed_length middle new (code_of (second_of h)) (length hs) b c) [
-            | inl x ↦ elim (listed_length ls middle (code_of (first_of h)) (length hs) a c) [
+          elim (listed_length middle new (code_of (second_of h)) w b c) [
+            | inl x ↦ elim (listed_length ls middle (code_of (first_of h)) v a c) [
               | inl y ↦ absurd (code_same (first_of h) (second_of h) (sym y.0 ∙ x.0) differ)
               | inr y ↦ (let none = wants_watched c h (inr (sym x.0)) in
                   let one_more = ap (λ z. bit (has h.clause z)) x.0 ∙ has_bit h.clause (second_of h) (member h.clause h.second placed.second) in
-                  omega (arith, w, s, x.1, x.2, none, one_more, ap (λ z. length z.entries) y.1, ap (λ z. z.uses) y.1))
+                  omega (arith, more, s, x.1, x.2, none, one_more, ap (λ z. length z.entries) y.1, ap (λ z. z.uses) y.1))
             ]
             | inr x ↦ (let len2 = ap (λ z. length z.entries) x.1 in
                 let uses2 = ap (λ z. z.uses) x.1 in
-                elim (listed_length ls middle (code_of (first_of h)) (length hs) a c) [
+                elim (listed_length ls middle (code_of (first_of h)) v a c) [
                   | inl y ↦ (let none = wants_watched c h (inl (sym y.0)) in
                       let one_more = ap (λ z. bit (has h.clause z)) y.0 ∙ has_bit h.clause (first_of h) (member h.clause h.first placed.first) in
-                      omega (arith, w, s, y.1, y.2, none, one_more, len2, uses2))
+                      omega (arith, more, s, y.1, y.2, none, one_more, len2, uses2))
                   | inr y ↦ (let least = wants_least c h in
-                      omega (arith, w, s, least, len2, uses2, ap (λ z. length z.entries) y.1, ap (λ z. z.uses) y.1))
+                      omega (arith, more, s, least, len2, uses2, ap (λ z. length z.entries) y.1, ap (λ z. z.uses) y.1))
                 ])
           ]
 
@@ -373,7 +423,7 @@ module _ (tr : Standing) (hs : List Held) (ls : List WatchList) (short : List �
       ])
       | inr y ↦ inr (subst (λ z. IsShort (short ++ length hs ∷ []) k z.clause) (sym (new_at k y)) (record { alike = alike; listed = subst (Contains (short ++ length hs ∷ [])) (sym y) (Contains-push short (length hs)) }))
     ];
-    listed = λ c k m. let x = p.listed c k m in (omega (arith, x.0, length_push hs h), subst IsPlaced (sym (held_old hs h k x.0)) x.1);
+    listed = λ c v m. watcher_more c v (p.listed c v m);
     room = λ c. let s = spare c in omega (arith, s, wanted_push hs c h, wants_least c h);
     shorts = λ s x. elim (cases_lt s (length short)) [
       | inl y ↦ (let z = p.shorts s y in
@@ -405,7 +455,7 @@ empty_at ls c a = elim (cases_lt c (length ls)) [
   | inr b ↦ beyond ls c _ b
 ]
 
-pub State-none : (tr : Standing) (ls : List WatchList) (late : ℕ) → tr.entries ≡ [] → tr.depth ≡ 0 → tr.vars ≤ 4294967294 → length ls ≡ 2 * tr.vars + 2 → All (λ w. w ≡ record { entries = []; uses = 0 }) ls → IsPropagator tr [] ls [] 0 0 late
+pub State-none : (tr : Standing) (ls : List WatchList) (late : ℕ) → tr.entries ≡ [] → tr.depth ≡ 0 → tr.vars ≤ 1073741823 → length ls ≡ 2 * tr.vars + 2 → All (λ w. w ≡ record { entries = []; uses = 0 }) ls → IsPropagator tr [] ls [] 0 0 late
 State-none tr ls late none zero_depth most sized empty = record {
   sized = sized;
   few = omega arith;
@@ -417,7 +467,7 @@ State-none tr ls late none zero_depth most sized empty = record {
   rising = λ j k a b. absurd (omega (arith, b));
   within = λ k b. absurd (omega (arith, b));
   keeps = λ k b. absurd (omega (arith, b));
-  listed = λ c k m. absurd (let z = m.1 in let e = ap (λ w. length w.entries) (empty_at ls c empty) in omega (arith, z, e));
+  listed = λ c w m. absurd (let z = m.1 in let e = ap (λ x. length x.entries) (empty_at ls c empty) in omega (arith, z, e));
   room = λ c. let e = ap (λ w. length w.entries) (empty_at ls c empty) in omega (arith, e);
   shorts = λ s b. absurd (omega (arith, b));
   settled_few = omega arith;

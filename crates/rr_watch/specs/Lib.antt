@@ -1,4 +1,5 @@
 pub mod Trails
 pub mod WatchLists
+pub mod Holdings
 pub mod Lists
 pub mod Watches

@@ -1,22 +1,20 @@
 -- clauses with their watched literals, and the lists of the clauses that watch each literal
-use Rattle.std.specs.Prelude.{◌≡◌, ℕ, ◌+◌, ◌*◌, ◌-◌, ◌<◌, ◌≤◌, ◌⊎◌, ◌==◌, ◌||◌, ◌^◌, Bool, false, cond, List, [], ◌∷◌, ◌++◌, length, get_or, map, All, Contains, Option, Some, None, vec_len, vec_capacity}
-use Rattle.std.specs.List.{list_any, sum_by}
+use Rattle.std.specs.Prelude.{◌≡◌, ℕ, ◌+◌, ◌*◌, ◌<◌, ◌≤◌, ◌⊎◌, ◌==◌, ◌||◌, Bool, true, false, cond, List, [], ◌∷◌, ◌++◌, length, get_or, All, Contains, Option, Some, None}
+use Rattle.std.specs.List.{list_any, sum_by, swap_remove}
 use Rattle.rr_cnf.specs.Clauses.{Literal, negated, IsWithin}
 use Rattle.rr_cnf.specs.Codes.{code_of}
 use Rattle.rr_cnf.specs.Partial.{IsFalse}
 use Rattle.rr_watch.specs.Trails.{Entry, entry, lits, Standing, IsTrail, AreForced, Grown}
-use Rattle.rr_watch.specs.Watches.{Numbered, Named}
-use Rattle.rr_watch.specs.WatchLists.{WatchList}
-use Rattle.rr_watch.specs.declared.propagator.Held.{Held}
+use Rattle.rr_watch.specs.Watches.{Named}
+use Rattle.rr_watch.specs.WatchLists.{WatchList, IsListed, blocker_of, is_brief, nobody}
+use Rattle.rr_watch.specs.declared.watchers.Watcher.{Watcher}
+use Rattle.rr_watch.specs.Holdings.{Held, held_at, all_numbered}
 use Rattle.rr_watch.specs.declared.propagator.Propagator.{Propagator}
 use Rattle.rr_watch.specs.declared.propagator.Step.{Step}
 use Rattle.rr_watch.specs.declared.propagator.Step.TheVariants.{Kept, Moved, False}
 
 abbrev pub literal_at : List Literal → ℕ → Literal
 literal_at c k = get_or c k (record { var = 0; negative = false })
-
-abbrev pub held_at : List Held → ℕ → Held
-held_at hs k = get_or hs k (record { id = 0; clause = []; first = 0; second = 0 })
 
 abbrev pub list_at : List WatchList → ℕ → WatchList
 list_at ls c = get_or ls c (record { entries = []; uses = 0 })
@@ -27,12 +25,6 @@ first_of h = literal_at h.clause h.first
 
 abbrev pub second_of : Held → Literal
 second_of h = literal_at h.clause h.second
-
-abbrev pub numbered : Held → Numbered
-numbered h = record { id = h.id; clause = h.clause }
-
-abbrev pub all_numbered : List Held → List Numbered
-all_numbered hs = map numbered hs
 
 -- the clause has the literal of this code
 abbrev pub has : List Literal → ℕ → Bool
@@ -46,16 +38,16 @@ wants code h = cond ((code_of (first_of h) == code) || (code_of (second_of h) ==
 abbrev pub wanted : List Held → ℕ → ℕ
 wanted hs code = sum_by (wants code) hs
 
--- the literal is true, and where the place j is before late, its level is not above that of j
-pub record Excuse (t : List Entry) (late j : ℕ) (o : Literal) : Type 0 where
+-- a literal of the clause is true, and where the place j is before late, its level is not above that of j
+pub record Excuse (t : List Entry) (late j : ℕ) (c : List Literal) : Type 0 where
   pub place : ℕ
   pub inside : place < length t
-  pub literal : (entry t place).lit ≡ o
+  pub member : Contains c (entry t place).lit
   pub level : j < late → (entry t place).level ≤ (entry t j).level
 
--- once it is seen that w is false, o is true
-abbrev pub Serves : List Entry → ℕ → ℕ → Literal → Literal → Type 0
-Serves t head late w o = (j : ℕ) → j < head → (entry t j).lit ≡ negated w → Excuse t late j o
+-- once it is seen that w is false, a literal of the clause is true
+abbrev pub Serves : List Entry → ℕ → ℕ → Literal → List Literal → Type 0
+Serves t head late w c = (j : ℕ) → j < head → (entry t j).lit ≡ negated w → Excuse t late j c
 
 -- both places are in the clause, whose length fits 32 bits
 pub record IsPlaced (h : Held) : Type 0 where
@@ -63,14 +55,22 @@ pub record IsPlaced (h : Held) : Type 0 where
   pub first : h.first < length h.clause
   pub second : h.second < length h.clause
 
+-- a clause in the list of the literal of this code, and another literal of it; where there is no third,
+-- its literals are these two
+pub record IsWatcher (hs : List Held) (c : ℕ) (w : Watcher) : Type 0 where
+  pub inside : w.place < length hs
+  pub placed : IsPlaced (held_at hs w.place)
+  pub member : Contains (held_at hs w.place).clause (blocker_of w)
+  pub brief : is_brief w ≡ true → All (λ m. (code_of m ≡ c) ⊎ (m ≡ blocker_of w)) (held_at hs w.place).clause
+
 -- a clause that watches two literals, in whose lists it stands
 pub record IsLong (t : List Entry) (ls : List WatchList) (head late k : ℕ) (h : Held) : Type 0 where
   pub placed : IsPlaced h
   pub differ : first_of h ≡ second_of h → ⊥
-  pub first_listed : Contains (list_at ls (code_of (first_of h))).entries k
-  pub second_listed : Contains (list_at ls (code_of (second_of h))).entries k
-  pub first_serves : Serves t head late (first_of h) (second_of h)
-  pub second_serves : Serves t head late (second_of h) (first_of h)
+  pub first_listed : IsListed (list_at ls (code_of (first_of h))).entries k
+  pub second_listed : IsListed (list_at ls (code_of (second_of h))).entries k
+  pub first_serves : Serves t head late (first_of h) h.clause
+  pub second_serves : Serves t head late (second_of h) h.clause
 
 -- the clause has no two literals
 abbrev pub AreAlike : List Literal → Type 0
@@ -94,13 +94,13 @@ pub record IsPropagator (tr : Standing) (hs : List Held) (ls : List WatchList) (
   pub few : length hs ≤ 4294967295
   pub lawful : IsTrail tr.entries tr.depth
   pub fits : length tr.entries ≤ tr.vars
-  pub most : tr.vars ≤ 4294967294
+  pub most : tr.vars ≤ 1073741823
   pub trail_within : (k : ℕ) → k < length tr.entries → IsWithin tr.vars (entry tr.entries k).lit
   pub forced : AreForced (Named (all_numbered hs)) tr.entries
   pub rising : (j k : ℕ) → j < k → k < length hs → (held_at hs j).id < (held_at hs k).id
   pub within : (k : ℕ) → k < length hs → All (IsWithin tr.vars) (held_at hs k).clause
   pub keeps : (k : ℕ) → k < length hs → IsLong tr.entries ls head late k (held_at hs k) ⊎ IsShort short k (held_at hs k).clause
-  pub listed : (c k : ℕ) → Contains (list_at ls c).entries k → (k < length hs) × IsPlaced (held_at hs k)
+  pub listed : (c : ℕ) (w : Watcher) → Contains (list_at ls c).entries w → IsWatcher hs c w
   pub room : (c : ℕ) → length (list_at ls c).entries + wanted hs c ≤ (list_at ls c).uses
   pub shorts : (s : ℕ) → s < length short → (get_or short s 0 < length hs) × AreAlike (held_at hs (get_or short s 0)).clause
   pub settled_few : settled ≤ length short
@@ -109,35 +109,42 @@ pub record IsPropagator (tr : Standing) (hs : List Held) (ls : List WatchList) (
   pub pending : (k : ℕ) → head ≤ k → k < length tr.entries → k < late → (entry tr.entries k).level ≡ tr.depth
 
 abbrev pub Whole : Propagator → Type 0
-Whole p = IsPropagator p.trail p.held.items p.lists.items p.short.items p.settled p.head p.late
+Whole p = IsPropagator p.trail p.hand.held p.lists p.short.items p.settled p.head p.late
 
 -- the same clauses, and a trail that grew by forced literals
 pub record Advances (old new : Propagator) : Type 0 where
   pub vars : new.trail.vars ≡ old.trail.vars
   pub depth : new.trail.depth ≡ old.trail.depth
-  pub clauses : all_numbered new.held.items ≡ all_numbered old.held.items
+  pub clauses : all_numbered new.hand.held ≡ all_numbered old.hand.held
   pub grown : Grown old.trail.entries new.trail.entries
 
 -- the same clauses and the same trail
 pub record Stays (old new : Propagator) : Type 0 where
   pub trail : new.trail ≡ old.trail
-  pub clauses : all_numbered new.held.items ≡ all_numbered old.held.items
+  pub clauses : all_numbered new.hand.held ≡ all_numbered old.hand.held
 
 -- all literals of the clause that the id names are false
 abbrev pub IsConflict : Propagator → ℕ → Type 0
-IsConflict p id = (c : List Literal) × (Named (all_numbered p.held.items) id c × IsFalse (lits p.trail.entries) c)
+IsConflict p id = (c : List Literal) × (Named (all_numbered p.hand.held) id c × IsFalse (lits p.trail.entries) c)
 
--- if the clause watches q, its other watched literal is true
-pub record IsServed (t : List Entry) (h : Held) (q : Literal) : Type 0 where
-  pub first : first_of h ≡ q → (first_of h ≡ second_of h → ⊥) → Contains (lits t) (second_of h)
-  pub second : second_of h ≡ q → (first_of h ≡ second_of h → ⊥) → Contains (lits t) (first_of h)
+-- a literal of the clause is true
+abbrev pub IsServed : List Entry → List Literal → Type 0
+IsServed t c = (l : Literal) × (Contains c l × Contains (lits t) l)
+
+-- the watcher at this place of the literal's list
+abbrev pub watcher_at : List WatchList → Literal → ℕ → Watcher
+watcher_at ls q at = get_or (list_at ls (code_of q)).entries at nobody
+
+-- the clause at this place of the literal's list
+abbrev pub watching_at : Propagator → Literal → ℕ → Held
+watching_at p q at = held_at p.hand.held (watcher_at p.lists q at).place
 
 -- the clauses at the first places of the literal's list have seen that it is false
 abbrev pub AreServed : Propagator → Literal → ℕ → Type 0
-AreServed p q at = (i : ℕ) → i < at → IsServed p.trail.entries (held_at p.held.items (get_or (list_at p.lists.items (code_of q)).entries i 0)) q
+AreServed p q at = (i : ℕ) → i < at → IsServed p.trail.entries (watching_at p q i).clause
 
 abbrev pub list_len : Propagator → Literal → ℕ
-list_len p q = length (list_at p.lists.items (code_of q)).entries
+list_len p q = length (list_at p.lists (code_of q)).entries
 
 -- what one step leaves at the place of a literal's list
 abbrev pub SteppedIs : Propagator → Propagator → Literal → ℕ → Step → Type 0
@@ -189,6 +196,20 @@ abbrev pub BestIs : List Entry → List Literal → Option Literal → Option �
 BestIs t c o None = (m : Literal) → Contains c m → IsApart m o → ⊥
 BestIs t c o (Some p) = IsBest t c o p
 
+-- a clause taken off one list
+pub record Unlisted (ls new : List WatchList) (from at : ℕ) : Type 0 where
+  pub long : length new ≡ length ls
+  pub entries : (list_at new from).entries ≡ swap_remove (list_at ls from).entries at nobody
+  pub uses : (list_at new from).uses ≡ (list_at ls from).uses
+  pub others : (c : ℕ) → (c ≡ from → ⊥) → list_at new c ≡ list_at ls c
+
+-- a clause put on one list
+pub record Listed (ls new : List WatchList) (to : ℕ) (w : Watcher) : Type 0 where
+  pub long : length new ≡ length ls
+  pub entries : (list_at new to).entries ≡ (list_at ls to).entries ++ w ∷ []
+  pub uses : (list_at new to).uses ≡ (list_at ls to).uses
+  pub others : (c : ℕ) → (c ≡ to → ⊥) → list_at new c ≡ list_at ls c
+
 -- the lists have room for one clause more that has these literals
 pub record HasRoom (old new : List WatchList) (c : List Literal) : Type 0 where
   pub long : length new ≡ length old
@@ -197,22 +218,17 @@ pub record HasRoom (old new : List WatchList) (c : List Literal) : Type 0 where
 
 -- one clause more with these literals fits
 abbrev pub HasSpare : Propagator → List Literal → Type 0
-HasSpare p c = (code : ℕ) → length (list_at p.lists.items code).entries + (wanted p.held.items code + cond (has c code) 1 0) ≤ (list_at p.lists.items code).uses
+HasSpare p c = (code : ℕ) → length (list_at p.lists code).entries + (wanted p.hand.held code + cond (has c code) 1 0) ≤ (list_at p.lists code).uses
 
 -- the clause may stand behind the others
 pub record IsNew (p : Propagator) (h : Held) : Type 0 where
-  pub few : length p.held.items < 4294967295
-  pub id : All (λ n. n.id < h.id) (all_numbered p.held.items)
+  pub few : length p.hand.held < 4294967295
+  pub id : All (λ n. n.id < h.id) (all_numbered p.hand.held)
   pub within : All (IsWithin p.trail.vars) h.clause
-  pub room : vec_len p.held < vec_capacity p.held
 
 -- a literal of the clause is true
 abbrev pub IsForcedShort : Propagator → ℕ → Type 0
-IsForcedShort p s = (l : Literal) × (Contains (held_at p.held.items (get_or p.short.items s 0)).clause l × Contains (lits p.trail.entries) l)
+IsForcedShort p s = (l : Literal) × (Contains (held_at p.hand.held (get_or p.short.items s 0)).clause l × Contains (lits p.trail.entries) l)
 
 abbrev pub AreForcedShort : Propagator → ℕ → Type 0
 AreForcedShort p n = (s : ℕ) → s < n → IsForcedShort p s
-
--- the clause at this place of the literal's list
-abbrev pub watcher_at : Propagator → Literal → ℕ → Held
-watcher_at p q at = held_at p.held.items (get_or (list_at p.lists.items (code_of q)).entries at 0)

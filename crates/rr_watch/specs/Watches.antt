@@ -1,5 +1,5 @@
 -- clauses under a trail
-use Rattle.std.specs.Prelude.{◌≡◌, ℕ, ◌+◌, ◌-◌, ◌<◌, ◌≤◌, ◌⊎◌, List, [], ◌∷◌, length, get_or, map, All, Contains, Option, Some, None}
+use Rattle.std.specs.Prelude.{◌≡◌, ℕ, ◌+◌, ◌<◌, ◌⊎◌, List, [], ◌∷◌, length, get_or, map, All, Contains}
 use Rattle.rr_cnf.specs.Clauses.{Literal, negated, IsWithin}
 use Rattle.rr_cnf.specs.Partial.{IsFalse, IsQuiet, IsUnit}
 use Rattle.rr_watch.specs.Trails.{Entry, IsCut, entry, lits}

@@ -3,6 +3,7 @@
 //! right where it is quiet exactly where no clause is false or unit. It stands on `rr_cnf`.
 #![tactic(auto)]
 
+mod hand;
 mod propagator;
 mod trail;
 mod watch;

@@ -1,26 +1,20 @@
 //! Propagation with two watched literals for each clause.
-ghost use Rattle.std.specs.Prelude.{◌≡◌, ℕ, ◌+◌, ◌*◌, ◌<◌, ◌≤◌, ◌++◌, ◌∷◌, [], All, Contains, cond, get_or, length, List, IfOk, IfSome, IfNone, IsTrue, ◌↔◌, OnErr, OnOk, OnSome, Some, None, vec_capacity, vec_len};
+ghost use Rattle.std.specs.Prelude.{◌≡◌, ℕ, ◌+◌, ◌*◌, ◌<◌, ◌≤◌, ◌++◌, ◌∷◌, [], All, Contains, cond, get_or, length, List, set, IfOk, IfSome, IfNone, IsTrue, ◌↔◌, OnErr, OnOk, OnSome, Some, None, vec_capacity, vec_len};
 ghost use Rattle.rr_cnf.specs.Clauses.{IsWithin, Literal, negated};
 ghost use Rattle.rr_cnf.specs.Codes.{code_of};
 ghost use Rattle.rr_cnf.specs.Partial.{IsQuiet};
 ghost use Rattle.rr_watch.specs.Trails.{Entry, Forces, IsCut, Standing, entry, lits};
-ghost use Rattle.rr_watch.specs.Lists.{Advances, AreAlike, AreServed, BestIs, HasRoom, IsApart, IsConflict, IsNext, IsOther, IsPlaced, IsReplacement, IsSettled, HasSpare, IsForcedShort, AreForcedShort, IsNew, KeepsPlace, RankIs, Serves, watcher_at, Stays, SteppedIs, Whole, all_numbered, first_of, has, held_at, list_at, list_len, literal_at, second_of, wanted};
+ghost use Rattle.rr_watch.specs.Lists.{Advances, AreAlike, AreServed, IsWatcher, watching_at, BestIs, IsApart, IsConflict, IsNext, IsOther, IsPlaced, IsReplacement, IsSettled, HasSpare, IsForcedShort, AreForcedShort, IsNew, KeepsPlace, RankIs, Serves, watcher_at, Stays, SteppedIs, Whole, first_of, has, list_at, list_len, literal_at, second_of, wanted};
+ghost use Rattle.rr_watch.specs.WatchLists.{blocker_of};
+ghost use Rattle.rr_watch.specs.Holdings.{Adds, Held, IsSource, all_numbered, coming, held_at, id_of};
+ghost use Rattle.rr_watch.specs.declared.hand.Watched.{Watched};
 ghost use Rattle.rr_watch.specs.Watches.{MayAdd, Named, Numbered, bare};
 
+use crate::hand::{Hand, Source, Watched};
 use crate::trail::Trail;
-use crate::watchers::Watchers;
-use rr_cnf::{Clause, Formula, Lit};
+use crate::watchers::{WatchLists, Watcher};
+use rr_cnf::{Formula, Lit};
 use std::alloc::{AllocError, Global};
-
-/// A clause with its id, and the places in it of its two watched literals, which differ. In a clause
-/// whose literals are all the same, or that has none, both places are 0.
-#[derive(Drop)]
-pub(crate) struct Held {
-    pub(crate) id: u64,
-    pub(crate) clause: Clause,
-    first: u32,
-    second: u32,
-}
 
 /// What became of a clause when a literal that it watched was seen to be false.
 enum Step {
@@ -34,11 +28,11 @@ enum Step {
 
 /// The clauses, the lists of those that watch each literal, and the trail.
 #[derive(Drop)]
-pub(crate) struct Propagator {
+pub(crate) struct Propagator<'f> {
     pub(crate) trail: Trail,
-    pub(crate) held: Vec<Held>,
-    /// By the code of the literal, the places of the clauses that watch it.
-    pub(crate) lists: Vec<Watchers>,
+    pub(crate) hand: Hand<'f>,
+    /// For each literal, the places of the clauses that watch it.
+    pub(crate) lists: WatchLists,
     /// The places of the clauses that watch nothing.
     short: Vec<u32>,
     /// As many of these are true for good.
@@ -55,13 +49,6 @@ const NOT_FALSE: u64 = 4_294_967_296;
 const NEVER: usize = usize::MAX;
 /// The most clauses, and the most literals of one, so that their places fit 32 bits.
 const MOST_CLAUSES: usize = 4_294_967_295;
-
-/// The place of the lists of a literal.
-pub(crate) fn code(lit: Lit) -> usize
-    ensures { result ≡ code_of lit }
-{
-    2 * lit.var() as usize + usize::from(lit.is_negative())
-}
 
 /// The literal's rank as one to watch: best one that is not false, and else of the greatest level.
 fn rank(trail: &Trail, lit: Lit) -> u64
@@ -123,30 +110,18 @@ fn replacement(trail: &Trail, clause: &[Lit], other: Lit) -> Option<u32>
     None
 }
 
-// Takes the room for one clause more in the list of each of these literals.
-fn expect(lists: &mut Vec<Watchers>, clause: &[Lit]) -> Result<(), AllocError>
-    requires { All (λ l. code_of l < length lists.old.items) clause.now }
-    ensures ok { OnOk result (HasRoom lists.old.items lists.new.items clause.now) }
-    ensures err { OnErr result (HasRoom lists.old.items lists.new.items []) }
-{
-    for lit in clause {
-        lists[code(*lit)].expect()?;
-    }
-    Ok(())
-}
-
-impl Propagator {
+impl<'f> Propagator<'f> {
     /// No clauses yet, and nothing true. Takes the room that the formula's clauses will need.
-    pub(crate) fn new(alloc: Global, formula: &Formula) -> Result<Propagator, AllocError>
-        requires { formula.now.vars ≤ 4294967294 }
+    pub(crate) fn new(alloc: Global, formula: &'f Formula) -> Result<Propagator<'f>, AllocError>
+        requires { formula.now.vars ≤ 1073741823 }
         ensures whole { IfOk result Whole }
         ensures trail { IfOk result (λ p. p.trail ≡ record { vars = formula.now.vars; entries = []; depth = 0 }) }
-        ensures clauses { IfOk result (λ p. p.held.items ≡ []) }
+        ensures hand { IfOk result (λ p. p.hand ≡ record { formula = formula.now.clauses; known = 0; held = [] }) }
     {
         Ok(Propagator {
             trail: Trail::new(alloc, formula.vars())?,
-            held: Vec::with_capacity(alloc, formula.len() as usize)?,
-            lists: empty_lists(alloc, formula)?,
+            hand: Hand::new(alloc, formula)?,
+            lists: WatchLists::new(alloc, formula)?,
             short: Vec::new(alloc),
             settled: 0,
             head: 0,
@@ -154,60 +129,56 @@ impl Propagator {
         })
     }
 
-    /// Holds one more clause.
-    pub(crate) fn add(&mut self, alloc: Global, id: u64, clause: &[Lit]) -> Result<(), AllocError>
+    /// Holds one more clause: the formula's next one, or a copy of another one.
+    pub(crate) fn add(
+        &mut self,
+        alloc: Global,
+        source: Source,
+        clause: &[Lit],
+    ) -> Result<(), AllocError>
         requires whole { Whole self.old }
         requires within { All (IsWithin self.old.trail.vars) clause.now }
-        requires id { All (λ n. n.id < id) (all_numbered self.old.held.items) }
+        requires id { All (λ n. n.id < id_of self.old.hand source) (all_numbered self.old.hand.held) }
         requires may { MayAdd self.old.trail.entries self.old.trail.depth clause.now }
+        requires from { IsSource self.old.hand source clause.now }
         ensures whole { Whole self.new }
         ensures trail { self.new.trail ≡ self.old.trail }
-        ensures ok { OnOk result (all_numbered self.new.held.items ≡ all_numbered self.old.held.items ++ record { id = id; clause = clause.now } ∷ []) }
-        ensures err { OnErr result (all_numbered self.new.held.items ≡ all_numbered self.old.held.items) }
+        ensures ok { OnOk result (Adds self.old.hand self.new.hand source clause.now) }
+        ensures err { OnErr result (self.new.hand ≡ self.old.hand) }
     {
-        if self.held.len() >= MOST_CLAUSES || clause.len() >= MOST_CLAUSES {
+        if self.hand.len() >= MOST_CLAUSES || clause.len() >= MOST_CLAUSES {
             return Err(AllocError);
         }
-        let copy = Clause::from_lits(alloc, clause)?;
-        self.held.reserve(1)?;
         self.short.reserve(1)?;
-        expect(&mut self.lists, clause)?;
-        self.place(id, copy);
-        Ok(())
+        self.lists.expect(clause)?;
+        self.place(alloc, source, clause)
     }
 
-    // Holds a clause for which there is room.
-    fn place(&mut self, id: u64, clause: Clause)
+    // Holds a clause for which the lists have room.
+    fn place(&mut self, alloc: Global, source: Source, clause: &[Lit]) -> Result<(), AllocError>
         requires whole { Whole self.old }
-        requires within { All (IsWithin self.old.trail.vars) clause }
-        requires few { length clause < 4294967295 }
-        requires id { All (λ n. n.id < id) (all_numbered self.old.held.items) }
-        requires may { MayAdd self.old.trail.entries self.old.trail.depth clause }
-        requires places { length self.old.held.items < 4294967295 }
-        requires held { vec_len self.old.held < vec_capacity self.old.held }
+        requires within { All (IsWithin self.old.trail.vars) clause.now }
+        requires few { length clause.now < 4294967295 }
+        requires id { All (λ n. n.id < id_of self.old.hand source) (all_numbered self.old.hand.held) }
+        requires may { MayAdd self.old.trail.entries self.old.trail.depth clause.now }
+        requires from { IsSource self.old.hand source clause.now }
+        requires places { length self.old.hand.held < 4294967295 }
         requires short { vec_len self.old.short < vec_capacity self.old.short }
-        requires lists { HasSpare self.old clause }
+        requires lists { HasSpare self.old clause.now }
         ensures whole { Whole self.new }
         ensures trail { self.new.trail ≡ self.old.trail }
-        ensures clauses { all_numbered self.new.held.items ≡ all_numbered self.old.held.items ++ record { id = id; clause = clause } ∷ [] }
+        ensures ok { OnOk result (Adds self.old.hand self.new.hand source clause.now) }
+        ensures err { OnErr result (self.new.hand ≡ self.old.hand) }
     {
-        let lits = clause.lits();
-        let Some(first) = best(&self.trail, lits, &None) else {
-            self.hold_short(id, clause);
-            return;
+        let Some(first) = best(&self.trail, clause, &None) else {
+            return self.hold_short(alloc, source, clause);
         };
-        let lit = lits[first as usize];
-        let Some(second) = best(&self.trail, lits, &Some(lit)) else {
-            self.hold_short(id, clause);
-            return;
+        let lit = clause[first as usize];
+        let Some(second) = best(&self.trail, clause, &Some(lit)) else {
+            return self.hold_short(alloc, source, clause);
         };
-        self.rewind(lits[second as usize]);
-        self.hold(Held {
-            id,
-            clause,
-            first,
-            second,
-        });
+        self.rewind(clause[second as usize]);
+        self.hold(alloc, source, clause, Watched { first, second })
     }
 
     // Goes back to before the current level, if the literal is false.
@@ -231,45 +202,62 @@ impl Propagator {
     }
 
     // Holds a clause that watches two literals.
-    fn hold(&mut self, held: Held)
+    fn hold(
+        &mut self,
+        alloc: Global,
+        source: Source,
+        clause: &[Lit],
+        watched: Watched,
+    ) -> Result<(), AllocError>
         requires whole { Whole self.old }
-        requires new { IsNew self.old held }
-        requires placed { IsPlaced held }
-        requires differ { first_of held ≡ second_of held → ⊥ }
-        requires first { Serves self.old.trail.entries self.old.head self.old.late (first_of held) (second_of held) }
-        requires second { Serves self.old.trail.entries self.old.head self.old.late (second_of held) (first_of held) }
-        requires lists { HasSpare self.old held.clause }
+        requires from { IsSource self.old.hand source clause.now }
+        requires new { IsNew self.old (coming self.old.hand source clause.now watched) }
+        requires placed { IsPlaced (coming self.old.hand source clause.now watched) }
+        requires differ { literal_at clause.now watched.first ≡ literal_at clause.now watched.second → ⊥ }
+        requires first { Serves self.old.trail.entries self.old.head self.old.late (literal_at clause.now watched.first) clause.now }
+        requires second { Serves self.old.trail.entries self.old.head self.old.late (literal_at clause.now watched.second) clause.now }
+        requires lists { HasSpare self.old clause.now }
         ensures whole { Whole self.new }
         ensures trail { self.new.trail ≡ self.old.trail }
-        ensures clauses { self.new.held.items ≡ self.old.held.items ++ held ∷ [] }
+        ensures ok { OnOk result (Adds self.old.hand self.new.hand source clause.now) }
+        ensures err { OnErr result (self.new.hand ≡ self.old.hand) }
     {
-        let index = self.held.len() as u32;
-        let lits = held.clause.lits();
-        let first = code(lits[held.first as usize]);
-        let second = code(lits[held.second as usize]);
-        self.lists[first].push(index);
-        self.lists[second].push(index);
-        self.held.push_reserved(held);
+        let index = self.hand.len() as u32;
+        let first = clause[watched.first as usize];
+        let second = clause[watched.second as usize];
+        let brief = clause.len() == 2;
+        self.hand.push(alloc, source, clause, watched)?;
+        self.lists.push(first, Watcher::new(index, second, brief));
+        self.lists.push(second, Watcher::new(index, first, brief));
+        Ok(())
     }
 
     // Holds a clause that has no two literals.
-    fn hold_short(&mut self, id: u64, clause: Clause)
+    fn hold_short(
+        &mut self,
+        alloc: Global,
+        source: Source,
+        clause: &[Lit],
+    ) -> Result<(), AllocError>
         requires whole { Whole self.old }
-        requires new { IsNew self.old record { id = id; clause = clause; first = 0; second = 0 } }
-        requires alike { AreAlike clause }
+        requires from { IsSource self.old.hand source clause.now }
+        requires new { IsNew self.old (coming self.old.hand source clause.now record { first = 0; second = 0 }) }
+        requires alike { AreAlike clause.now }
         requires short { vec_len self.old.short < vec_capacity self.old.short }
-        requires lists { HasSpare self.old clause }
+        requires lists { HasSpare self.old clause.now }
         ensures whole { Whole self.new }
         ensures trail { self.new.trail ≡ self.old.trail }
-        ensures clauses { self.new.held.items ≡ self.old.held.items ++ record { id = id; clause = clause; first = 0; second = 0 } ∷ [] }
+        ensures ok { OnOk result (Adds self.old.hand self.new.hand source clause.now) }
+        ensures err { OnErr result (self.new.hand ≡ self.old.hand) }
     {
-        self.short.push_reserved(self.held.len() as u32);
-        self.held.push_reserved(Held {
-            id,
-            clause,
+        let index = self.hand.len() as u32;
+        let none = Watched {
             first: 0,
             second: 0,
-        });
+        };
+        self.hand.push(alloc, source, clause, none)?;
+        self.short.push_reserved(index);
+        Ok(())
     }
 
     /// Undoes the later levels.
@@ -280,7 +268,7 @@ impl Propagator {
         ensures vars { self.new.trail.vars ≡ self.old.trail.vars }
         ensures depth { self.new.trail.depth ≡ level }
         ensures cut { IsCut self.old.trail.entries self.new.trail.entries level }
-        ensures clauses { all_numbered self.new.held.items ≡ all_numbered self.old.held.items }
+        ensures clauses { all_numbered self.new.hand.held ≡ all_numbered self.old.hand.held }
     {
         self.trail.back(level);
         let len = self.trail.lits().len();
@@ -300,7 +288,7 @@ impl Propagator {
         requires not_false { Contains (lits self.old.trail.entries) (negated lit) → ⊥ }
         ensures whole { Whole self.new }
         ensures trail { self.new.trail ≡ record self.old.trail { entries = self.old.trail.entries ++ record { lit = lit; level = self.old.trail.depth + 1; reason = None } ∷ []; depth = self.old.trail.depth + 1 } }
-        ensures clauses { all_numbered self.new.held.items ≡ all_numbered self.old.held.items }
+        ensures clauses { all_numbered self.new.hand.held ≡ all_numbered self.old.hand.held }
     {
         self.late = late_with(self.late, self.head, self.trail.lits().len());
         self.trail.decide(lit);
@@ -312,7 +300,7 @@ impl Propagator {
         requires whole { Whole self.old }
         ensures whole { Whole self.new }
         ensures advances { Advances self.old self.new }
-        ensures quiet { IfNone result (IsQuiet (bare (all_numbered self.new.held.items)) (lits self.new.trail.entries)) }
+        ensures quiet { IfNone result (IsQuiet (bare (all_numbered self.new.hand.held)) (lits self.new.trail.entries)) }
         ensures conflict { IfSome result (IsConflict self.new) }
     {
         if let Some(id) = self.force_short() {
@@ -357,9 +345,8 @@ impl Propagator {
         ensures conflict { IfSome result (IsConflict self.new) }
     {
         let index = self.short[place] as usize;
-        let held = &self.held[index];
-        match held.clause.lits().first() {
-            None => Some(held.id),
+        match self.hand.clause(index).lits().first() {
+            None => Some(self.hand.id(index)),
             Some(lit) => {
                 let lit = *lit;
                 self.enforce(index, lit)
@@ -378,7 +365,7 @@ impl Propagator {
         ensures conflict { IfSome result (IsConflict self.new) }
     {
         let mut at = 0;
-        while at < self.lists[code(falsified)].entries().len() {
+        while at < self.lists.len(falsified) {
             match self.step(falsified, at) {
                 Step::Kept => at += 1,
                 Step::Moved => {}
@@ -387,6 +374,19 @@ impl Propagator {
         }
         self.head += 1;
         None
+    }
+
+    // The watcher at this place of a literal's list.
+    fn watcher(&self, falsified: Lit, at: usize) -> Watcher
+        requires whole { Whole self.now }
+        requires next { IsNext self.now falsified }
+        requires at { at < list_len self.now falsified }
+        ensures is { result ≡ watcher_at self.now.lists falsified at }
+        ensures watches { IsWatcher self.now.hand.held (code_of falsified) result }
+        ensures within { All (IsWithin self.now.trail.vars) (held_at self.now.hand.held result.place).clause }
+        ensures blocker { IsWithin self.now.trail.vars (blocker_of result) }
+    {
+        self.lists.entry(falsified, at)
     }
 
     // Has one clause see that a literal is false which it may watch.
@@ -400,40 +400,77 @@ impl Propagator {
         ensures keeps { KeepsPlace self.old self.new }
         ensures stepped { SteppedIs self.old self.new falsified at result }
     {
-        let index = self.lists[code(falsified)].entries()[at];
-        let held = &self.held[index as usize];
-        let Some(place) = held.other(falsified) else {
+        let watcher = self.watcher(falsified, at);
+        if self.trail.is_true(watcher.blocker()) {
+            return Step::Kept;
+        }
+        if watcher.is_brief() {
+            return self.settle(falsified, at, watcher.blocker());
+        }
+        self.look(falsified, at)
+    }
+
+    // Has the clause see it that is at this place of the literal's list.
+    fn look(&mut self, falsified: Lit, at: usize) -> Step
+        requires whole { Whole self.old }
+        requires next { IsNext self.old falsified }
+        requires at { at < list_len self.old falsified }
+        requires served { AreServed self.old falsified at }
+        ensures whole { Whole self.new }
+        ensures advances { Advances self.old self.new }
+        ensures keeps { KeepsPlace self.old self.new }
+        ensures stepped { SteppedIs self.old self.new falsified at result }
+    {
+        let index = self.watcher(falsified, at).place();
+        let clause = self.hand.clause(index).lits();
+        let Some(place) = other(clause, self.hand.watched(index), falsified) else {
             self.unlist(falsified, at);
             return Step::Moved;
         };
-        let other = held.clause.lits()[place as usize];
+        let other = clause[place as usize];
         if self.trail.is_true(other) {
             return Step::Kept;
         }
-        match replacement(&self.trail, held.clause.lits(), other) {
+        match replacement(&self.trail, clause, other) {
             Some(found) => {
                 self.rewatch(falsified, at, place, found);
                 Step::Moved
             }
-            None => match self.enforce(index as usize, other) {
-                Some(id) => Step::False(id),
-                None => Step::Kept,
-            },
+            None => self.settle(falsified, at, other),
+        }
+    }
+
+    // Makes the literal of such a clause true whose other literals are false.
+    fn settle(&mut self, falsified: Lit, at: usize, lit: Lit) -> Step
+        requires whole { Whole self.old }
+        requires next { IsNext self.old falsified }
+        requires at { at < list_len self.old falsified }
+        requires served { AreServed self.old falsified at }
+        requires forces { Forces (lits self.old.trail.entries) (watching_at self.old falsified at).clause lit }
+        ensures whole { Whole self.new }
+        ensures advances { Advances self.old self.new }
+        ensures keeps { KeepsPlace self.old self.new }
+        ensures stepped { SteppedIs self.old self.new falsified at result }
+    {
+        let index = self.watcher(falsified, at).place();
+        match self.enforce(index, lit) {
+            Some(id) => Step::False(id),
+            None => Step::Kept,
         }
     }
 
     // Makes a literal of a clause true whose other literals are false, or answers that it is false too.
     fn enforce(&mut self, index: usize, lit: Lit) -> Option<u64>
         requires whole { Whole self.old }
-        requires index { index < length self.old.held.items }
-        requires forces { Forces (lits self.old.trail.entries) (held_at self.old.held.items index).clause lit }
+        requires index { index < length self.old.hand.held }
+        requires forces { Forces (lits self.old.trail.entries) (held_at self.old.hand.held index).clause lit }
         ensures whole { Whole self.new }
         ensures advances { Advances self.old self.new }
         ensures state { self.new ≡ record self.old { trail = self.new.trail } }
         ensures forced { IfNone result (Contains (lits self.new.trail.entries) lit) }
         ensures conflict { IfSome result (IsConflict self.new) }
     {
-        let id = self.held[index].id;
+        let id = self.hand.id(index);
         if self.trail.is_true(lit) {
             return None;
         }
@@ -450,13 +487,13 @@ impl Propagator {
         requires next { IsNext self.old falsified }
         requires at { at < list_len self.old falsified }
         requires served { AreServed self.old falsified at }
-        requires other { IsOther (watcher_at self.old falsified at) falsified None }
+        requires other { IsOther (watching_at self.old falsified at) falsified None }
         ensures whole { Whole self.new }
         ensures stays { Stays self.old self.new }
         ensures keeps { KeepsPlace self.old self.new }
         ensures stepped { SteppedIs self.old self.new falsified at Step.Moved }
     {
-        self.lists[code(falsified)].remove(at);
+        self.lists.remove(falsified, at);
     }
 
     // Moves a clause from a list to that of the literal at the found place of it.
@@ -465,40 +502,44 @@ impl Propagator {
         requires next { IsNext self.old falsified }
         requires at { at < list_len self.old falsified }
         requires served { AreServed self.old falsified at }
-        requires other { IsOther (watcher_at self.old falsified at) falsified (Some other) }
-        requires found { IsReplacement self.old.trail.entries (watcher_at self.old falsified at).clause (literal_at (watcher_at self.old falsified at).clause other) (Some found) }
+        requires other { IsOther (watching_at self.old falsified at) falsified (Some other) }
+        requires found { IsReplacement self.old.trail.entries (watching_at self.old falsified at).clause (literal_at (watching_at self.old falsified at).clause other) (Some found) }
         ensures whole { Whole self.new }
         ensures stays { Stays self.old self.new }
         ensures keeps { KeepsPlace self.old self.new }
         ensures stepped { SteppedIs self.old self.new falsified at Step.Moved }
     {
-        let from = code(falsified);
-        let index = self.lists[from].entries()[at];
-        let held = &mut self.held[index as usize];
-        held.first = other;
-        held.second = found;
-        let to = code(held.clause.lits()[found as usize]);
-        self.lists[from].remove(at);
-        self.lists[to].push(index);
+        let index = self.watcher(falsified, at).place();
+        let clause = self.hand.clause(index).lits();
+        let lit = clause[found as usize];
+        let blocker = clause[other as usize];
+        let watched = Watched {
+            first: other,
+            second: found,
+        };
+        self.hand.rewatch(index, watched);
+        self.lists.remove(falsified, at);
+        self.lists
+            .push(lit, Watcher::new(index as u32, blocker, false));
     }
 
     /// The place of the clause with this id.
     pub(crate) fn find(&self, id: u64) -> Option<usize>
         requires { Whole self.now }
-        ensures found { IfSome result (λ k. (k < length self.now.held.items) × ((held_at self.now.held.items k).id ≡ id)) }
-        ensures none { IfNone result ((k : ℕ) → k < length self.now.held.items → (held_at self.now.held.items k).id ≡ id → ⊥) }
+        ensures found { IfSome result (λ k. (k < length self.now.hand.held) × ((held_at self.now.hand.held k).id ≡ id)) }
+        ensures none { IfNone result ((k : ℕ) → k < length self.now.hand.held → (held_at self.now.hand.held k).id ≡ id → ⊥) }
     {
         let guess = id.saturating_sub(1) as usize;
-        if guess < self.held.len() {
-            if self.held[guess].id == id {
+        if guess < self.hand.len() {
+            if self.hand.id(guess) == id {
                 return Some(guess);
             }
         }
         let mut low = 0;
-        let mut high = self.held.len();
+        let mut high = self.hand.len();
         while low < high {
             let middle = low + (high - low) / 2;
-            let at = self.held[middle].id;
+            let at = self.hand.id(middle);
             if at == id {
                 return Some(middle);
             }
@@ -512,21 +553,19 @@ impl Propagator {
     }
 }
 
-impl Held {
-    // The place of the other watched literal, if this one is watched.
-    fn other(&self, lit: Lit) -> Option<u32>
-        requires { IsPlaced self.now }
-        ensures { IsOther self.now lit result }
-    {
-        let lits = self.clause.lits();
-        if lits[self.first as usize] == lit {
-            return Some(self.second);
-        }
-        if lits[self.second as usize] == lit {
-            return Some(self.first);
-        }
-        None
+// The place of the other watched literal, if this one is watched.
+fn other(clause: &[Lit], watched: Watched, lit: Lit) -> Option<u32>
+    requires first { watched.first < length clause.now }
+    requires second { watched.second < length clause.now }
+    ensures { IsOther record { id = 0; clause = clause.now; first = watched.first; second = watched.second } lit result }
+{
+    if clause[watched.first as usize] == lit {
+        return Some(watched.second);
     }
+    if clause[watched.second as usize] == lit {
+        return Some(watched.first);
+    }
+    None
 }
 
 // The place of the first literal that was not seen before a decision, with the next decision.
@@ -543,35 +582,4 @@ fn level_at(trail: &Trail, place: usize) -> u32
     ensures { result ≡ (entry trail.now.entries place).level }
 {
     trail.level(trail.lits()[place])
-}
-
-// The lists of the literals of a formula, each with the room for the clauses that have the literal.
-fn empty_lists(alloc: Global, formula: &Formula) -> Result<Vec<Watchers>, AllocError>
-    requires { formula.now.vars ≤ 4294967294 }
-    ensures long { IfOk result (λ v. length v.items ≡ 2 * formula.now.vars + 2) }
-    ensures empty { IfOk result (λ v. All (λ w. w ≡ record { entries = []; uses = 0 }) v.items) }
-{
-    let rooms = rooms(alloc, formula)?;
-    let mut lists = Vec::with_capacity(alloc, rooms.len())?;
-    for room in &rooms {
-        lists.push(Watchers::with_room(alloc, *room as usize)?)?;
-    }
-    Ok(lists)
-}
-
-// By the code of a literal, the number of times that the clauses of the formula have it.
-fn rooms(alloc: Global, formula: &Formula) -> Result<Vec<u32>, AllocError>
-    requires { formula.now.vars ≤ 4294967294 }
-    ensures { IfOk result (λ v. length v.items ≡ 2 * formula.now.vars + 2) }
-{
-    let mut rooms = vec![in alloc; 0; 2 * formula.vars() as usize + 2]?;
-    for index in 0..formula.len() {
-        if let Some(clause) = formula.clause(index + 1) {
-            for lit in clause.lits() {
-                let at = code(*lit);
-                rooms[at] = u32::saturating_add(rooms[at], 1);
-            }
-        }
-    }
-    Ok(rooms)
 }

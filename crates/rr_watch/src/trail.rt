@@ -7,8 +7,8 @@ use rr_cnf::Lit;
 use std::alloc::{AllocError, Global};
 use std::marker::Model;
 
-/// The most variables that a trail takes, so that a level fits 32 bits.
-pub(crate) const MOST_VARS: u64 = 4_294_967_294;
+/// The most variables that a trail takes, so that a literal and a mark beside it fit 32 bits.
+pub(crate) const MOST_VARS: u64 = 1_073_741_823;
 
 /// The true literals, in the order in which they became so, and for each variable its value, and the
 /// level and the reason that it got last.

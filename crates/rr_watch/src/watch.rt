@@ -4,6 +4,7 @@ ghost use Rattle.rr_cnf.specs.Clauses.{IsWithin, Literal, negated};
 ghost use Rattle.rr_watch.specs.Trails.{AreForced, Entry, Grown, IsTrail, Reason, decisions, entry, lits};
 ghost use Rattle.rr_watch.specs.Watches.{AreHeld, IsBack, MayAdd, Named, Numbered, PropagatedIs, numbered_from};
 
+use crate::hand::Source;
 use crate::propagator::Propagator;
 use crate::trail::MOST_VARS;
 use rr_cnf::{Clause, Formula, Lit};
@@ -20,42 +21,42 @@ pub enum Propagated {
 }
 
 /// Clauses, and a trail: the literals that are taken to be true, decided ones and ones that clauses
-/// force. A level is the number of decisions up to a literal.
+/// force. A level is the number of decisions up to a literal. The clauses of the formula are read in
+/// it, so that several watches share one.
 #[derive(Drop)]
-pub struct Watch {
-    pub(crate) propagator: Propagator,
+pub struct Watch<'f> {
+    pub(crate) propagator: Propagator<'f>,
 }
 
-impl Model for Watch {
+impl<'f> Model for Watch<'f> {
     ghost use Rattle.rr_watch.specs.Watches.{State};
-    ghost use Rattle.rr_watch.specs.Lists.{Whole, all_numbered};
+    ghost use Rattle.rr_watch.specs.Lists.{Whole};
+    ghost use Rattle.rr_watch.specs.Holdings.{all_numbered};
 
     ghost Value = { State };
 
-    ghost view = { λ w. record { vars = w.propagator.trail.vars; clauses = all_numbered w.propagator.held.items; trail = w.propagator.trail.entries; depth = w.propagator.trail.depth } };
+    ghost view = { λ w. record { vars = w.propagator.trail.vars; clauses = all_numbered w.propagator.hand.held; trail = w.propagator.trail.entries; depth = w.propagator.trail.depth } };
 
     ghost invariant = { λ w. Whole w.propagator };
 }
 
-impl Watch {
+impl<'f> Watch<'f> {
     /// Holds the clauses of a formula by their numbers, with no literal true. Takes the room for every
-    /// assignment, and is out of memory too beyond 2^32 - 2 variables, 2^32 - 1 clauses or as many
+    /// assignment, and is out of memory too beyond 2^30 - 1 variables, 2^32 - 1 clauses or as many
     /// literals in one.
-    pub fn new(alloc: Global, formula: &Formula) -> Result<Watch, AllocError>
+    pub fn new(alloc: Global, formula: &'f Formula) -> Result<Watch<'f>, AllocError>
         ensures { IfOk result (λ w. w ≡ record { vars = formula.now.vars; clauses = numbered_from 1 formula.now.clauses; trail = []; depth = 0 }) }
     {
         if formula.vars() > MOST_VARS {
             return Err(AllocError);
         }
-        let mut watch = Watch {
-            propagator: Propagator::new(alloc, formula)?,
-        };
+        let mut propagator = Propagator::new(alloc, formula)?;
         for index in 0..formula.len() {
             if let Some(clause) = formula.clause(index + 1) {
-                watch.add(alloc, index + 1, clause)?;
+                propagator.add(alloc, Source::OfFormula, clause.lits())?;
             }
         }
-        Ok(watch)
+        Ok(Watch { propagator })
     }
 
     /// Holds one more clause, whose id exceeds all others. While decisions stand, one literal of it is
@@ -68,7 +69,7 @@ impl Watch {
         ensures ok { OnOk result (self.new ≡ record self.old { clauses = self.old.clauses ++ record { id = id; clause = clause.now } ∷ [] }) }
         ensures err { OnErr result (self.new ≡ self.old) }
     {
-        self.propagator.add(alloc, id, clause.lits())
+        self.propagator.add(alloc, Source::Given(id), clause.lits())
     }
 
     /// Begins a new level with an open literal.
@@ -122,7 +123,7 @@ impl Watch {
     pub fn len(&self) -> u64
         ensures { result ≡ length self.now.clauses }
     {
-        self.propagator.held.len() as u64
+        self.propagator.hand.len() as u64
     }
 
     /// The number of variables.
@@ -160,7 +161,7 @@ impl Watch {
     {
         match self.propagator.find(id) {
             None => None,
-            Some(place) => Some(&self.propagator.held[place].clause),
+            Some(place) => Some(self.propagator.hand.clause(place)),
         }
     }
 

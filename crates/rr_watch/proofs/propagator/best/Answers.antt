@@ -1,7 +1,6 @@
-use Rattle.std.proofs.Common.{◌≡◌, ◌∙◌, ◌+◌, ◌<◌, inl, inr, ap, sym, subst, arith, length, true, false}
+use Rattle.std.proofs.Common.{◌∙◌, ◌+◌, ◌<◌, inl, inr, ap, sym, subst, arith, length}
 use Rattle.std.proofs.lemmas.Bool.{true≢false}
-use Rattle.std.specs.Prelude.{None, Some, IsTrue}
-use Rattle.rr_watch.specs.Lists.{IsApart}
+use Rattle.std.specs.Prelude.{Some}
 use Rattle.rr_watch.proofs.Choices.{Chosen, Chosen-same, Chosen-new, Chosen-less, Chosen-all, missing, found_is}
 use Rattle.rr_watch.proofs.propagator.best.Goals.{then-is_apart+then-is_none, then-is_none-via-then-is_none, then-is_none-via-else-is_none+then-greatest-rank, then-is_apart+else-is_none+else-greatest-rank, else-is_apart}
 use Rattle.rr_watch.proofs.propagator.best.Goals as goal

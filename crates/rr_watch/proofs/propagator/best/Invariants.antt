@@ -1,4 +1,4 @@
-use Rattle.std.proofs.Common.{◌≡◌, ◌≤◌, ◌<◌, ℕ, take, length}
+use Rattle.std.proofs.Common.{◌≡◌}
 use Rattle.rr_watch.proofs.Choices.{Chosen}
 use Rattle.rr_watch.proofs.propagator.best.Given as goal
 

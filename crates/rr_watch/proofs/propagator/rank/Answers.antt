@@ -1,4 +1,4 @@
-use Rattle.std.proofs.Common.{◌≡◌, ◌∙◌, inl, inr, ap, sym, refl, true, false}
+use Rattle.std.proofs.Common.{◌∙◌, inl, inr, ap, sym, refl}
 use Rattle.std.proofs.lemmas.Bool.{true≢false}
 use Rattle.rr_watch.proofs.EntryLaws.{place_of}
 use Rattle.rr_cnf.specs.Clauses.{negated}

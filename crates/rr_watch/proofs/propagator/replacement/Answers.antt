@@ -1,10 +1,10 @@
-use Rattle.std.proofs.Common.{◌≡◌, ◌∙◌, ◌+◌, ◌⊎◌, ◌<◌, inl, inr, ap, sym, subst, arith, length, true, false, not, eqb, take}
+use Rattle.std.proofs.Common.{◌≡◌, ◌∙◌, ◌+◌, ◌⊎◌, inl, inr, ap, sym, eqb}
 use Rattle.std.specs.Prelude.{Contains}
 use Rattle.std.proofs.lemmas.Bool.{eqb-true}
 use Rattle.rr_cnf.specs.Clauses.{Literal, negated}
 use Rattle.rr_cnf.specs.Codes.{code_of, same_code}
 use Rattle.rr_watch.specs.Trails.{lits}
-use Rattle.rr_watch.proofs.Choices.{All-read, All-whole, not_false, not_true}
+use Rattle.rr_watch.proofs.Choices.{All-read, All-whole, not_false}
 use Rattle.rr_watch.proofs.propagator.replacement.Goals.{else-ne-via-then-ne+else-not-is_false, else-ne-via-else-ne}
 use Rattle.rr_watch.proofs.propagator.replacement.Goals as goal
 

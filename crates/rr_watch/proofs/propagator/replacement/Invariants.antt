@@ -1,4 +1,4 @@
-use Rattle.std.proofs.Common.{◌≡◌, ◌⊎◌, ◌≤◌, ◌<◌, ℕ, take, length}
+use Rattle.std.proofs.Common.{◌≡◌, ◌⊎◌, take}
 use Rattle.std.specs.Prelude.{All, Contains}
 use Rattle.rr_cnf.specs.Clauses.{Literal, negated}
 use Rattle.rr_watch.specs.Trails.{lits}

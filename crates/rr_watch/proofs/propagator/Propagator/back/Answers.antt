@@ -1,7 +1,6 @@
-use Rattle.std.proofs.Common.{◌≡◌, ◌∙◌, ◌≤◌, ◌<◌, ℕ, true, false, ap, sym, subst, arith, length, eqb, inl, inr}
+use Rattle.std.proofs.Common.{◌≡◌, ◌∙◌, ap, sym, arith, length, inl, inr}
 use Rattle.std.proofs.lemmas.Bool.{eqb-true, cases_lt}
-use Rattle.std.proofs.lemmas.List.{length-map}
-use Rattle.rr_watch.specs.Trails.{entry, Entry}
+use Rattle.rr_watch.specs.Trails.{entry}
 use Rattle.rr_watch.proofs.StateLaws.{State-back}
 use Rattle.rr_watch.proofs.EntryLaws.{length_lits}
 use Rattle.rr_watch.proofs.propagator.Propagator.back.Goals.{then-self-len, else-self-len}
@@ -12,7 +11,7 @@ returns-then-level_at-level-clause-whole c =
     let o = c.args.self.now in
     let t = c.back.new.self.entries in
     let n : length c.lits-len.result.now ≡ length t = ap length c.lits-len.ensures.lits ∙ length_lits t in
-    State-back o.trail o.held.items o.lists.items o.short.items o.settled o.head o.late c.requires.whole c.back.new.self c.args.level c.min-self.result 18446744073709551615 c.back.ensures.back c.back.ensures.lawful c.back.ensures.room
+    State-back o.trail o.hand.held o.lists o.short.items o.settled o.head o.late c.requires.whole c.back.new.self c.args.level c.min-self.result 18446744073709551615 c.back.ensures.back c.back.ensures.lawful c.back.ensures.room
     (omega (arith, c.min.ensures, c.min-self.ensures)) (omega (arith, c.min.ensures, c.min-self.ensures)) (omega (arith, c.min-self.ensures, n))
     (λ k a b x. elim c.if-self-len.branch [
       | then-self-len w ↦ absurd (let h = w.if-self-len.true in omega (arith, h, n))
@@ -30,5 +29,5 @@ returns-else-level_at-level-clause-whole c =
     let o = c.args.self.now in
     let t = c.back.new.self.entries in
     let n : length c.lits-len.result.now ≡ length t = ap length c.lits-len.ensures.lits ∙ length_lits t in
-    State-back o.trail o.held.items o.lists.items o.short.items o.settled o.head o.late c.requires.whole c.back.new.self c.args.level c.min-self.result c.min-self.result c.back.ensures.back c.back.ensures.lawful c.back.ensures.room
+    State-back o.trail o.hand.held o.lists o.short.items o.settled o.head o.late c.requires.whole c.back.new.self c.args.level c.min-self.result c.min-self.result c.back.ensures.back c.back.ensures.lawful c.back.ensures.room
     (omega (arith, c.min.ensures, c.min-self.ensures)) (omega (arith, c.min.ensures, c.min-self.ensures)) (omega (arith, c.min-self.ensures, n)) (λ k a b x. absurd (omega arith))

@@ -1,4 +1,4 @@
-use Rattle.std.proofs.Common.{◌≡◌, ◌∙◌, ◌<◌, ◌≤◌, ap, sym, subst, refl, arith, length}
+use Rattle.std.proofs.Common.{◌≡◌, ◌∙◌, ap, sym, subst, arith, length}
 use Rattle.rr_watch.specs.Lists.{AreForcedShort, IsPropagator}
 use Rattle.rr_watch.proofs.AdvanceLaws.{Advances-none, Advances-trans, forced_settled, forced_more, forced_next}
 use Rattle.rr_watch.proofs.StateLaws.{State-settle}
@@ -29,5 +29,5 @@ returns-then-depth-eq0-clause-whole c =
     let h = c.depth.ensures in
     let all : AreForcedShort s (length s.short.items) = λ n b. i.done n (omega (arith, b, i.end, c.loop-place-test.false)) in
     let n : length s.short.items ≡ c.len-self.result = omega (arith, c.len-self.ensures, s.short.ok.0) in
-    subst (λ k. IsPropagator s.trail s.held.items s.lists.items s.short.items k s.head s.late) n
-    (State-settle s.trail s.held.items s.lists.items s.short.items s.settled s.head s.late i.whole (sym h ∙ c.if-depth-eq0.true) all)
+    subst (λ k. IsPropagator s.trail s.hand.held s.lists s.short.items k s.head s.late) n
+    (State-settle s.trail s.hand.held s.lists s.short.items s.settled s.head s.late i.whole (sym h ∙ c.if-depth-eq0.true) all)

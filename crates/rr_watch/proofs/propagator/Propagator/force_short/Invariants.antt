@@ -1,4 +1,4 @@
-use Rattle.std.proofs.Common.{◌≡◌, ◌≤◌, ◌<◌, ℕ, length}
+use Rattle.std.proofs.Common.{◌≡◌, length}
 use Rattle.rr_watch.specs.Lists.{Whole, Advances, AreForcedShort}
 use Rattle.rr_watch.proofs.propagator.Propagator.force_short.Given as goal
 

@@ -1,4 +1,4 @@
-use Rattle.std.proofs.Common.{◌≡◌, ◌∙◌, ◌<◌, ◌≤◌, ap, sym, subst, arith, length}
+use Rattle.std.proofs.Common.{◌∙◌, ap, sym, subst, arith, length}
 use Rattle.rr_watch.specs.Lists.{AreForcedShort}
 use Rattle.rr_watch.proofs.EntryLaws.{length_lits}
 use Rattle.rr_watch.proofs.AdvanceLaws.{Advances-trans, forced_more}
@@ -23,4 +23,4 @@ returns-clause-quiet c =
     let i = c.loop-self.invariant in
     let s = c.loop-self.self in
     let len = ap length c.lits.ensures.lits ∙ length_lits s.trail.entries in
-    quiet_at_rest s.trail s.held.items s.lists.items s.short.items s.settled s.head s.late i.whole (omega (arith, len, c.loop-self-test.false)) i.short
+    quiet_at_rest s.trail s.hand.held s.lists s.short.items s.settled s.head s.late i.whole (omega (arith, len, c.loop-self-test.false)) i.short

@@ -1,11 +1,6 @@
-use Rattle.std.proofs.Common.{◌≡◌, ◌∙◌, ◌+◌, ◌*◌, ◌<◌, ◌≤◌, ap, sym, subst, arith, length}
-use Rattle.rr_cnf.specs.Clauses.{negated}
-use Rattle.rr_cnf.specs.Codes.{code_of}
-use Rattle.rr_watch.specs.Trails.{entry}
-use Rattle.rr_watch.specs.Lists.{IsNext, IsServed, held_at, list_at}
-use Rattle.rr_watch.proofs.AdvanceLaws.{Advances-trans, KeepsPlace-trans, next_more, grown_entry}
+use Rattle.std.proofs.Common.{arith}
+use Rattle.rr_watch.proofs.AdvanceLaws.{Advances-trans, KeepsPlace-trans, next_more}
 use Rattle.rr_watch.proofs.StateLaws.{State-next}
-use Rattle.rr_watch.proofs.StateSteps.{code_in, list_is}
 use Rattle.rr_watch.proofs.propagator.Propagator.visit.Goals as goal
 
 pub loop-at-preserved-in-Kept : goal.loop-at-preserved-in-Kept
@@ -39,8 +34,4 @@ returns-clause-whole c =
     let i = c.loop-at.invariant in
     let q = c.args.falsified in
     let n = next_more c.args.self.now s q c.requires.next i.advances i.keeps in
-    let w = subst (λ l. (1 ≤ l.var) × (l.var ≤ s.trail.vars)) n.literal (i.whole.trail_within s.head n.inside) in
-    let there : c.code.result < length s.lists.items = omega (arith, c.code.ensures, code_in s.trail.vars q w, i.whole.sized) in
-    let here = list_is s.lists.items c.code.result (code_of q) c.index.result.now there c.code.ensures c.index.ensures in
-    let len = ap length c.entries.ensures ∙ ap (λ x. length x.entries) here in
-    State-next s.trail s.held.items s.lists.items s.short.items s.settled s.head s.late i.whole q n.inside n.literal (λ k b. i.served k (omega (arith, c.loop-at-test.false, len, b)))
+    State-next s.trail s.hand.held s.lists s.short.items s.settled s.head s.late i.whole q n.inside n.literal (λ k b. i.served k (omega (arith, c.loop-at-test.false, c.len.ensures, b)))

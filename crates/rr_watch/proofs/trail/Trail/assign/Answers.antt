@@ -1,8 +1,8 @@
-use Rattle.std.proofs.Common.{◌≡◌, ◌∙◌, ◌+◌, ◌*◌, ◌-◌, ◌++◌, ◌∷◌, [], ℕ, Bool, not, List, refl, sym, ap, subst, arith, length}
+use Rattle.std.proofs.Common.{◌≡◌, ◌-◌, ℕ, List, refl, sym, subst, arith, length}
 use Rattle.std.specs.Prelude.{Contains, Option, vec_capacity}
 use Rattle.std.proofs.lemmas.List.{length-set}
 use Rattle.rr_cnf.specs.Clauses.{IsWithin, negated, Literal}
-use Rattle.rr_watch.specs.Trails.{Standing, IsTrail, entries, lits, MayStand}
+use Rattle.rr_watch.specs.Trails.{Standing, entries, lits, MayStand}
 use Rattle.rr_watch.proofs.TrailLaws.{lits_entries, fits, assigned, assigned_room, assigned_lawful, IsTables-assign}
 use Rattle.rr_watch.proofs.trail.Trail.assign.Goals as goal
 

@@ -1,9 +1,7 @@
-use Rattle.std.proofs.Common.{◌≡◌, ◌∙◌, ◌<◌, ap, sym, subst, arith, length, List}
+use Rattle.std.proofs.Common.{◌≡◌, ◌∙◌, sym, subst, List}
 use Rattle.rr_cnf.specs.Clauses.{Literal}
-use Rattle.rr_watch.specs.Lists.{held_at}
 use Rattle.rr_watch.specs.Watches.{Named}
 use Rattle.rr_watch.proofs.NumberLaws.{one_clause, no_clause}
-use Rattle.rr_watch.proofs.StateLaws.{held_is}
 use Rattle.rr_watch.proofs.watch.Watch.clause.Goals as goal
 
 pub returns-in-None-clause-none : goal.returns-in-None-clause-none
@@ -13,5 +11,4 @@ pub returns-in-Some-clause-one : goal.returns-in-Some-clause-one
 returns-in-Some-clause-one c =
     let p = c.self.inside.propagator in
     let f = c.in-Some.ensures.found in
-    let same = ap (λ x. x.clause) (held_is p.held.items c.in-Some.place c.index.result.now f.0 c.index.ensures) in
-    subst (λ v. (d : List Literal) → Named v.clauses c.args.id d → d ≡ c.index.result.now.clause) c.self.view_is (λ d m. one_clause p c.self.invariant c.in-Some.place c.args.id d f.0 f.1 m ∙ sym same)
+    subst (λ v. (d : List Literal) → Named v.clauses c.args.id d → d ≡ c.clause.result.now) c.self.view_is (λ d m. one_clause p c.self.invariant c.in-Some.place c.args.id d f.0 f.1 m ∙ sym c.clause.ensures)

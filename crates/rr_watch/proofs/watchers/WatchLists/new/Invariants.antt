@@ -1,7 +1,7 @@
 use Rattle.std.proofs.Common.{◌≡◌, [], length}
 use Rattle.std.specs.Prelude.{All}
 use Rattle.rr_watch.specs.WatchLists.{WatchList}
-use Rattle.rr_watch.proofs.propagator.empty_lists.Given as goal
+use Rattle.rr_watch.proofs.watchers.WatchLists.new.Given as goal
 
 abbrev pub invariant-loop-room : goal.invariant-loop-room
 invariant-loop-room l = record {

@@ -1,5 +1,5 @@
 use Rattle.std.proofs.Common.{◌≡◌, ◌+◌, ◌*◌, length}
-use Rattle.rr_watch.proofs.propagator.rooms.Given as goal
+use Rattle.rr_watch.proofs.watchers.rooms.Given as goal
 
 abbrev pub invariant-loop-index : goal.invariant-loop-index
 invariant-loop-index l = length l.rooms.items ≡ 2 * l.formula.vars + 2

@@ -1,0 +1,166 @@
+//! The clauses at hand, and the places in them of the literals that they watch.
+ghost use Rattle.std.specs.Prelude.{◌≡◌, ℕ, ◌+◌, ◌-◌, ◌<◌, ◌≤◌, ◌++◌, ◌∷◌, [], length, set, get_or, IfOk, OnErr, OnOk};
+ghost use Rattle.rr_watch.specs.Holdings.{Held, IsSource, coming, held_at, known_with};
+
+use rr_cnf::{Clause, Formula, Lit};
+use std::alloc::{AllocError, Global};
+use std::marker::Model;
+
+/// The places in a clause of its two watched literals, which differ. In a clause whose literals are
+/// all the same, or that has none, both places are 0.
+#[derive(Clone, Copy)]
+pub(crate) struct Watched {
+    pub(crate) first: u32,
+    pub(crate) second: u32,
+}
+
+/// A clause that was added, with its id.
+#[derive(Drop)]
+pub(crate) struct Added {
+    id: u64,
+    clause: Clause,
+}
+
+/// Where a clause comes from.
+#[derive(Clone, Copy)]
+pub(crate) enum Source {
+    /// It is the formula's next one.
+    OfFormula,
+    /// It was given with this id.
+    Given(u64),
+}
+
+/// The clauses at hand: the formula's, which are read there, and behind them those that were added.
+#[derive(Drop)]
+pub(crate) struct Hand<'f> {
+    formula: &'f Formula,
+    /// So many clauses of the formula are at hand.
+    known: usize,
+    added: Vec<Added>,
+    /// For each clause at hand, what it watches.
+    watched: Vec<Watched>,
+}
+
+impl<'f> Model for Hand<'f> {
+    ghost use Rattle.rr_watch.specs.Holdings.{Holding, IsHand, numbers, watching};
+
+    ghost Value = { Holding };
+
+    ghost view = { λ h. record { formula = h.formula.now.clauses; known = h.known; held = watching (numbers h.formula.now.clauses h.known h.added.items) h.watched.items } };
+
+    ghost invariant = { λ h. IsHand h.formula.now.clauses h.known h.added.items h.watched.items };
+}
+
+impl<'f> Hand<'f> {
+    /// No clause is at hand yet. Takes the room that the formula's will need.
+    pub(crate) fn new(alloc: Global, formula: &'f Formula) -> Result<Hand<'f>, AllocError>
+        ensures { IfOk result (λ h. h ≡ record { formula = formula.now.clauses; known = 0; held = [] }) }
+    {
+        Ok(Hand {
+            formula,
+            known: 0,
+            added: Vec::new(alloc),
+            watched: Vec::with_capacity(alloc, formula.len() as usize)?,
+        })
+    }
+
+    /// The number of clauses at hand.
+    pub(crate) fn len(&self) -> usize
+        ensures { result ≡ length self.now.held }
+    {
+        self.watched.len()
+    }
+
+    /// The clause at this place.
+    pub(crate) fn clause(&self, place: usize) -> &Clause
+        requires { place < length self.now.held }
+        ensures { result.now ≡ (held_at self.now.held place).clause }
+    {
+        if place < self.known {
+            match self.formula.clause(place as u64 + 1) {
+                Some(clause) => clause,
+                None => unreachable!(),
+            }
+        } else {
+            &self.added[place - self.known].clause
+        }
+    }
+
+    /// Its id.
+    pub(crate) fn id(&self, place: usize) -> u64
+        requires { place < length self.now.held }
+        ensures { result ≡ (held_at self.now.held place).id }
+    {
+        if place < self.known {
+            place as u64 + 1
+        } else {
+            self.added[place - self.known].id
+        }
+    }
+
+    /// What it watches.
+    pub(crate) fn watched(&self, place: usize) -> Watched
+        requires { place < length self.now.held }
+        ensures first { result.first ≡ (held_at self.now.held place).first }
+        ensures second { result.second ≡ (held_at self.now.held place).second }
+    {
+        self.watched[place]
+    }
+
+    /// Has it watch other literals.
+    pub(crate) fn rewatch(&mut self, place: usize, watched: Watched)
+        requires { place < length self.old.held }
+        ensures { self.new ≡ record self.old { held = set self.old.held place record (held_at self.old.held place) { first = watched.first; second = watched.second } } }
+    {
+        self.watched[place] = watched;
+    }
+
+    // Holds the formula's next clause.
+    fn take(&mut self, watched: Watched) -> Result<(), AllocError>
+        requires some { self.old.known < length self.old.formula }
+        requires all { length self.old.held ≡ self.old.known }
+        ensures ok { OnOk result (self.new ≡ record { formula = self.old.formula; known = self.old.known + 1; held = self.old.held ++ record { id = self.old.known + 1; clause = get_or self.old.formula self.old.known []; first = watched.first; second = watched.second } ∷ [] }) }
+        ensures err { OnErr result (self.new ≡ self.old) }
+    {
+        self.watched.reserve(1)?;
+        self.watched.push_reserved(watched);
+        self.known += 1;
+        Ok(())
+    }
+
+    // Holds a copy of a clause.
+    fn copy(
+        &mut self,
+        alloc: Global,
+        id: u64,
+        clause: &[Lit],
+        watched: Watched,
+    ) -> Result<(), AllocError>
+        ensures ok { OnOk result (self.new ≡ record self.old { held = self.old.held ++ record { id = id; clause = clause.now; first = watched.first; second = watched.second } ∷ [] }) }
+        ensures err { OnErr result (self.new ≡ self.old) }
+    {
+        self.watched.reserve(1)?;
+        let clause = Clause::from_lits(alloc, clause)?;
+        self.added.push(Added { id, clause })?;
+        self.watched.push_reserved(watched);
+        Ok(())
+    }
+
+    /// Holds one more clause: the formula's next one, or a copy of another one.
+    pub(crate) fn push(
+        &mut self,
+        alloc: Global,
+        source: Source,
+        clause: &[Lit],
+        watched: Watched,
+    ) -> Result<(), AllocError>
+        requires { IsSource self.old source clause.now }
+        ensures ok { OnOk result (self.new ≡ record { formula = self.old.formula; known = known_with self.old source; held = self.old.held ++ coming self.old source clause.now watched ∷ [] }) }
+        ensures err { OnErr result (self.new ≡ self.old) }
+    {
+        match source {
+            Source::OfFormula => self.take(watched),
+            Source::Given(id) => self.copy(alloc, id, clause, watched),
+        }
+    }
+}
