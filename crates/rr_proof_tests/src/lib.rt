@@ -6,6 +6,8 @@
 #[cfg(test)]
 mod check;
 #[cfg(test)]
+mod circuits;
+#[cfg(test)]
 mod derive;
 #[cfg(test)]
 mod helpers;

@@ -1,5 +1,5 @@
 //! Small formulas to their ends, each answer checked: values against the clauses, lines one by one.
-ghost use Rattle.std.specs.Prelude.{◌≡◌, ◌+◌, ◌<◌, All, IfOk, length};
+ghost use Rattle.std.specs.Prelude.{◌≡◌, ◌≤◌, ◌+◌, ◌<◌, All, IfOk, length};
 ghost use Rattle.rr_cnf.specs.Partial.{Determined};
 ghost use Rattle.rr_solver.specs.Outcomes.{AreLines};
 
@@ -64,7 +64,7 @@ fn satisfies(formula: &Formula, bits: &[bool]) -> bool {
 
 /// How the search ends, with the number of lines; the answer is checked.
 #[derive(Debug, Clone, Copy, PartialEq, Eq)]
-enum Ending {
+pub(crate) enum Ending {
     Model,
     Refuted(usize),
     Spent(usize),
@@ -73,6 +73,19 @@ enum Ending {
 
 fn end(alloc: Global, formula: &Formula, budget: u32) -> Result<Ending, Fail> {
     let inputs = all_inputs(formula);
+    end_of(alloc, formula, inputs, budget)
+}
+
+/// The same where these variables determine all others.
+pub(crate) fn end_of(
+    alloc: Global,
+    formula: &Formula,
+    inputs: u64,
+    budget: u32,
+) -> Result<Ending, Fail>
+    requires few { inputs ≤ formula.now.vars }
+    requires determined { Determined formula.now inputs }
+{
     match solve(alloc, formula, inputs, budget)? {
         Outcome::Model(bits) => {
             if satisfies(formula, bits.as_slice()) {
@@ -291,120 +304,49 @@ fn goes_on_after_restarts(rt: HostRuntime) -> Result<(), Fail> {
     Ok(())
 }
 
-const GATES: u64 = 800;
+/// Each decision makes a clause false at once, so that the first line tells what was decided.
+const PAIRS: [&[i32]; 16] = [
+    &[1, 2],
+    &[1, -2],
+    &[-1, 2],
+    &[-1, -2],
+    &[3, 4],
+    &[3, -4],
+    &[-3, 4],
+    &[-3, -4],
+    &[5, 6],
+    &[5, -6],
+    &[-5, 6],
+    &[-5, -6],
+    &[7, 8],
+    &[7, -8],
+    &[-7, 8],
+    &[-7, -8],
+];
 
-/// A circuit as clauses, with a variable for each gate. The last variable is false.
-#[derive(Drop)]
-struct Gates {
-    formula: Formula,
-    used: u64,
+/// The literal that a member decides first.
+fn first_decided(alloc: Global, formula: &Formula, member: u32) -> Result<Option<Lit>, Fail> {
+    let mut solver = begin(alloc, formula, member)?;
+    step(&mut solver)?;
+    let line = solver.journal().lines().first();
+    let learned = line.and_then(|line| line.clause.lits().first().copied());
+    Ok(learned.map(|lit| lit.negated()))
 }
 
-impl Gates {
-    fn new(alloc: Global) -> Result<Gates, Fail> {
-        let mut formula = Formula::new(alloc, GATES);
-        push(
-            &mut formula,
-            Clause::from_lits(alloc, &[Lit::new(GATES, true)])?,
-        )?;
-        Ok(Gates { formula, used: 0 })
-    }
-
-    /// A variable that no gate has, if there is one.
-    fn fresh(&mut self) -> Lit {
-        self.used = (self.used % GATES) + 1;
-        Lit::new(self.used, false)
-    }
-
-    fn and(&mut self, alloc: Global, a: Lit, b: Lit) -> Result<Lit, Fail> {
-        let out = self.fresh();
-        let no = out.negated();
-        push(&mut self.formula, Clause::from_lits(alloc, &[no, a])?)?;
-        push(&mut self.formula, Clause::from_lits(alloc, &[no, b])?)?;
-        let both = [out, a.negated(), b.negated()];
-        push(&mut self.formula, Clause::from_lits(alloc, &both)?)?;
-        Ok(out)
-    }
-
-    fn or(&mut self, alloc: Global, a: Lit, b: Lit) -> Result<Lit, Fail> {
-        Ok(self.and(alloc, a.negated(), b.negated())?.negated())
-    }
-
-    fn xor(&mut self, alloc: Global, a: Lit, b: Lit) -> Result<Lit, Fail> {
-        let both = self.and(alloc, a, b)?;
-        let none = self.and(alloc, a.negated(), b.negated())?;
-        self.and(alloc, both.negated(), none.negated())
-    }
-
-    /// The sum of two numbers, lowest bit first, without the last carry.
-    fn add(&mut self, alloc: Global, x: &[Lit], y: &[Lit]) -> Result<Vec<Lit>, Fail> {
-        let mut sum = Vec::new(alloc);
-        let mut carry = Lit::new(GATES, false);
-        for (a, b) in x.iter().zip(y) {
-            let odd = self.xor(alloc, *a, *b)?;
-            let both = self.and(alloc, *a, *b)?;
-            let through = self.and(alloc, odd, carry)?;
-            sum.push(self.xor(alloc, odd, carry)?)?;
-            carry = self.or(alloc, both, through)?;
-        }
-        Ok(sum)
-    }
-
-    /// A number of so many bits.
-    fn number(&mut self, alloc: Global, bits: usize) -> Result<Vec<Lit>, Fail> {
-        let mut lits = Vec::new(alloc);
-        for _ in 0..bits {
-            lits.push(self.fresh())?;
-        }
-        Ok(lits)
-    }
-
-    /// One number, moved up by so many bits, where the bit is true, and else 0; in twelve bits.
-    fn row(&mut self, alloc: Global, x: &[Lit], bit: Lit, up: usize) -> Result<Vec<Lit>, Fail> {
-        let zero = Lit::new(GATES, false);
-        let mut row = Vec::new(alloc);
-        for _ in 0..up {
-            row.push(zero)?;
-        }
-        for lit in x {
-            row.push(self.and(alloc, *lit, bit)?)?;
-        }
-        for _ in row.len()..12 {
-            row.push(zero)?;
-        }
-        Ok(row)
-    }
-}
-
-/// Two numbers of six bits whose product is this number.
-fn product(alloc: Global, product: u32) -> Result<Formula, Fail> {
-    let mut gates = Gates::new(alloc)?;
-    let x = gates.number(alloc, 6)?;
-    let y = gates.number(alloc, 6)?;
-    let mut sum = gates.row(alloc, x.as_slice(), Lit::new(GATES, false), 0)?;
-    for (up, bit) in y.iter().enumerate() {
-        let row = gates.row(alloc, x.as_slice(), *bit, up)?;
-        sum = gates.add(alloc, sum.as_slice(), row.as_slice())?;
-    }
-    let mut rest = product;
-    for lit in &sum {
-        let is = if rest % 2 == 1 { *lit } else { lit.negated() };
-        push(&mut gates.formula, Clause::from_lits(alloc, &[is])?)?;
-        rest /= 2;
-    }
-    let Gates { formula, .. } = gates;
-    Ok(formula)
-}
-
-/// 43 * 47 is 2021, and 2017 is a prime.
+/// The eight members begin with eight different literals.
 #[test]
-fn finds_factors(rt: HostRuntime) -> Result<(), Fail> {
+fn members_begin_differently(rt: HostRuntime) -> Result<(), Fail> {
     let alloc = rt.alloc();
-    assert_eq!(rt;
-        end(alloc, &product(alloc, 2_021)?, 100_000)?,
-        Ending::Model
-    );
-    let end = end(alloc, &product(alloc, 2_017)?, 100_000)?;
-    assert!(rt; matches!(end, Ending::Refuted(_)), "refuted");
+    let pairs = formula(alloc, 8, &PAIRS)?;
+    let mut decided: Vec<Lit> = Vec::new(alloc);
+    for member in 1..9 {
+        match first_decided(alloc, &pairs, member)? {
+            None => assert!(rt; false, "a line"),
+            Some(lit) => {
+                assert!(rt; !decided.contains(&lit), "another literal");
+                decided.push(lit)?;
+            }
+        }
+    }
     Ok(())
 }

@@ -1,5 +1,5 @@
 //! Propagation on small formulas, and against a body that scans.
-ghost use Rattle.std.specs.Prelude.{◌≡◌, ◌+◌, ◌<◌, All, IfOk, length};
+ghost use Rattle.std.specs.Prelude.{◌≡◌, ◌+◌, ◌<◌, [], All, IfOk, length};
 
 use crate::helpers::{Numbers, clause, formula, lit, push, shared};
 use rr_cnf::{Clause, Formula, Lit};
@@ -146,9 +146,10 @@ fn sees_again_what_a_decision_hid(rt: HostRuntime) -> Result<(), Fail> {
 }
 
 /// Two decisions, and then a clause that their literals and an open one make.
-fn added(alloc: Global) -> Result<Watch, Fail> {
-    let none = Formula::new(alloc, 3);
-    let mut watch = Watch::new(alloc, &none)?;
+fn added(alloc: Global, none: &Formula) -> Result<Watch, Fail>
+    requires { none.now ≡ record { vars = 3; clauses = [] } }
+{
+    let mut watch = Watch::new(alloc, none)?;
     let one = Lit::new(1, false);
     let two = Lit::new(2, false);
     watch.decide(one);
@@ -161,7 +162,8 @@ fn added(alloc: Global) -> Result<Watch, Fail> {
 
 #[test]
 fn adds_under_decisions(rt: HostRuntime) -> Result<(), Fail> {
-    let mut watch = added(rt.alloc())?;
+    let none = Formula::new(rt.alloc(), 3);
+    let mut watch = added(rt.alloc(), &none)?;
     let three = lit(3);
     assert_eq!(rt; watch.propagate(), Propagated::Quiet);
     assert_eq!(rt; (reason(&watch, three), level(&watch, three)), (Some(9), 2));

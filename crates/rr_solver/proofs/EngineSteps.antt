@@ -1,5 +1,5 @@
 -- how the state of a search changes
-use Rattle.std.proofs.Common.{◌≡◌, ◌⊎◌, inl, inr, ℕ, suc, zero, ◌+◌, ◌^◌, ◌<◌, ◌≤◌, Bool, true, false, not, ◌||◌, List, [], ◌∷◌, ◌++◌, length, get_or, map, take, drop, refl, sym, ◌∙◌, ap, subst, arith}
+use Rattle.std.proofs.Common.{◌≡◌, ◌⊎◌, inl, inr, ℕ, suc, zero, ◌+◌, ◌<◌, ◌≤◌, Bool, true, false, not, ◌||◌, List, [], ◌∷◌, ◌++◌, length, get_or, map, take, drop, refl, sym, ◌∙◌, ap, subst, arith}
 use Rattle.std.specs.Prelude.{All, Contains, None, Ok, Err, IfOk, Result}
 use Rattle.std.specs.List.{list_any}
 use Rattle.std.proofs.Math.Seq.{take-append_seam}
@@ -15,8 +15,8 @@ use Rattle.rr_watch.specs.Trails.{AreForced, Decision, Entry, Grown, IsTrail, en
 use Rattle.rr_watch.specs.Watches.{AreHeld, IsBack, MayAdd, Named, Numbered, State, bare, numbered_from}
 use Rattle.rr_watch.proofs.NumberLaws.{numbered_below}
 use Rattle.rr_watch.proofs.EntryLaws.{AreForced-more, holds_at, take_take, entry_old, entry_new, take_old, place_cases}
-use Rattle.rr_solver.specs.Analysis.{Greatest, Learns}
-use Rattle.rr_solver.specs.Searches.{Adds, IsFreshAfter, IsLog, IsModel, IsNewId, PassesAfter, Same, Search, SteppedIs, given}
+use Rattle.rr_solver.specs.Analysis.{AreNamed, Greatest, Learns}
+use Rattle.rr_solver.specs.Searches.{Adds, HaveOwnIds, IsFreshAfter, IsLog, IsModel, IsNewId, NamesAll, PassesAfter, Same, Search, SteppedIs, given}
 use Rattle.rr_solver.specs.Engines.{Agrees, AllStand, IsEngine, IsHand, Moves, all_handed, question, search_of}
 use Rattle.rr_solver.specs.declared.engine.Engine.{Engine}
 use Rattle.rr_solver.specs.declared.engine.Stepped.{Stepped}
@@ -24,7 +24,7 @@ use Rattle.rr_solver.specs.declared.engine.Stepped.TheVariants.{Learned as HasLe
 use Rattle.rr_solver.specs.declared.engine.Status.{Status}
 use Rattle.rr_solver.specs.declared.engine.Status.TheVariants.{Running, Model, Refuted, Failed}
 use Rattle.rr_solver.proofs.FreshSteps.{before_decision, has_decision, is_fresh, may_add, stays_quiet}
-use Rattle.rr_solver.proofs.LogSteps.{IsHand-learn, IsHand-import, IsHand-start, IsLog-fail, IsLog-import, IsLog-learn, IsLog-model, IsLog-none, IsLog-refute, all_handed_new, all_handed_old, at_hand, bare_numbered, handed_ids, length_numbered}
+use Rattle.rr_solver.proofs.LogSteps.{IsHand-learn, IsHand-import, IsHand-start, IsLog-fail, IsLog-import, IsLog-learn, IsLog-model, IsLog-none, IsLog-refute, OwnIds-import, OwnIds-learn, OwnIds-none, all_handed_new, all_handed_old, at_hand, bare_numbered, handed_ids, length_numbered}
 
 -- decisions that stand, under a trail that grows and shrinks
 module _ (hand : List (List Literal)) (inputs : ℕ) where
@@ -161,6 +161,12 @@ question_same w u count v c = clauses_is u.vars w.vars (take count (bare u.claus
 named_bare : (clauses : List Numbered) (id : ℕ) (c : List Literal) → Named clauses id c → Contains (bare clauses) c
 named_bare clauses id c m = (m.0, omega (arith, m.1, length-map clauses (λ (n : Numbered). n.clause)), get_or-map (λ n. n.clause) clauses m.0 (record { id = id; clause = c }) c m.1 ∙ ap (λ (n : Numbered). n.clause) m.2)
 
+-- a clause at hand has no id 0
+positive : (f : Clauses) (lines : List Step) (hs : List Handed) → HaveOwnIds f lines hs → (h : ℕ) (c : List Literal) → NamesAtHand f.clauses lines hs h c → 1 ≤ h
+positive f lines hs own h c (inl (inl a)) = a.0
+positive f lines hs own h c (inl (inr x)) = let w = All-contains (λ (s : Step). length f.clauses < s.id) lines x.0 own.lines_above x.1.0 in omega (arith, w, x.1.1)
+positive f lines hs own h c (inr x) = let w = All-contains (λ (y : Handed). length f.clauses < y.id) hs x.0 own.handed_above x.1.0 in omega (arith, w, x.1.1)
+
 -- the trail alone changes
 pub Engine-trail : (w : State) (inputs count last : ℕ) (j : Proof) (places : List ℕ) (status : Status) (bits : List Bool) → IsEngine w inputs count last j places status bits → (u : State) → u.vars ≡ w.vars → u.clauses ≡ w.clauses → AllStand (bare w.clauses) inputs u.trail → IsEngine u inputs count last j places status bits
 Engine-trail w inputs count last j places status bits s u v c a = subst (λ x. IsEngine x inputs count last j places status bits) (sym (state_is u w.vars u.depth w.clauses u.trail v c refl refl)) (record {
@@ -171,6 +177,7 @@ Engine-trail w inputs count last j places status bits s u v c a = subst (λ x. I
   counted_ids = s.counted_ids;
   ids = s.ids;
   line_ids = s.line_ids;
+  own_ids = s.own_ids;
   placed = s.placed;
   determined = s.determined;
   stands = a;
@@ -182,8 +189,8 @@ Engine-trail w inputs count last j places status bits s u v c a = subst (λ x. I
 module _ (w : State) (inputs count last : ℕ) (j : Proof) (places : List ℕ) where
   module _ (status : Status) (bits : List Bool) (s : IsEngine w inputs count last j places status bits) where
     -- the search ends
-    pub Engine-end : (now : Status) (new : List Bool) (more : ℕ) (k : Proof) → (now ≡ Running → ⊥) → last ≤ more → k.first ≡ j.first → All (λ x. x.id ≤ more) k.lines → IsLog (question w count) inputs (all_handed w.clauses places) k.lines now new → IsEngine w inputs count more k places now new
-    Engine-end now new more k n up first low log = record {
+    pub Engine-end : (now : Status) (new : List Bool) (more : ℕ) (k : Proof) → (now ≡ Running → ⊥) → last ≤ more → k.first ≡ j.first → All (λ x. x.id ≤ more) k.lines → HaveOwnIds (question w count) k.lines (all_handed w.clauses places) → IsLog (question w count) inputs (all_handed w.clauses places) k.lines now new → IsEngine w inputs count more k places now new
+    Engine-end now new more k n up first low own log = record {
       room = s.room;
       few = s.few;
       counted = s.counted;
@@ -191,6 +198,7 @@ module _ (w : State) (inputs count last : ℕ) (j : Proof) (places : List ℕ) w
       counted_ids = omega (arith, s.counted_ids);
       ids = All-weaker (λ (n : Numbered). n.id ≤ last) (λ (n : Numbered). n.id ≤ more) (λ n h. omega arith) w.clauses s.ids;
       line_ids = low;
+      own_ids = own;
       placed = s.placed;
       determined = s.determined;
       stands = s.stands;
@@ -199,26 +207,28 @@ module _ (w : State) (inputs count last : ℕ) (j : Proof) (places : List ℕ) w
     }
 
     pub Engine-fail : (status ≡ Refuted → ⊥) → (more : ℕ) → last ≤ more → IsEngine w inputs count more j places Failed bits
-    Engine-fail n more up = Engine-end Failed bits more j (λ r. let z : Failed ≡ Running = r in cc) up refl (All-weaker (λ (x : Step). x.id ≤ last) (λ (x : Step). x.id ≤ more) (λ x h. omega arith) j.lines s.line_ids)
+    Engine-fail n more up = Engine-end Failed bits more j (λ r. let z : Failed ≡ Running = r in cc) up refl (All-weaker (λ (x : Step). x.id ≤ last) (λ (x : Step). x.id ≤ more) (λ x h. omega arith) j.lines s.line_ids) s.own_ids
         (IsLog-fail (question w count) inputs (all_handed w.clauses places) j.lines status bits bits n s.log)
 
     -- one clause more
     pub Engine-hold : (n : Numbered) (u : State) (more : List ℕ) (k : Proof) (now : Status) → last < n.id → u.vars ≡ w.vars → u.clauses ≡ w.clauses ++ n ∷ [] → AllStand (bare w.clauses ++ n.clause ∷ []) inputs u.trail → k.first ≡ j.first → All (λ x. x.id ≤ n.id) k.lines → All (λ p. p < length w.clauses + 1) more
         → (now ≡ Running → IsHand (take count (bare w.clauses)) k.lines (all_handed (w.clauses ++ n ∷ []) more) (w.clauses ++ n ∷ []))
+        → HaveOwnIds (question w count) k.lines (all_handed (w.clauses ++ n ∷ []) more)
         → IsLog (question w count) inputs (all_handed (w.clauses ++ n ∷ []) more) k.lines now bits
         → IsEngine u inputs count n.id k more now bits
-    Engine-hold n u more k now up v c a first low placed hand log =
+    Engine-hold n u more k now up v c a first low placed hand own log =
         let q = question_hold w u count n s.counted v c in
         let long : length u.clauses ≡ length w.clauses + 1 = ap length c ∙ length_push w.clauses n in
         let q_clauses : take count (bare u.clauses) ≡ take count (bare w.clauses) = ap (λ f. f.clauses) q in
         record {
-          room = subst (λ x. x < 2 ^ 62) (sym v) s.room;
+          room = subst (λ x. x < 4294967295) (sym v) s.room;
           few = subst (λ x. inputs ≤ x) (sym v) s.few;
           counted = omega (arith, s.counted, long);
           beginning = first ∙ s.beginning;
           counted_ids = omega (arith, s.counted_ids);
           ids = subst (All (λ (x : Numbered). x.id ≤ n.id)) (sym c) (All-push (λ (x : Numbered). x.id ≤ n.id) w.clauses n (All-weaker (λ (x : Numbered). x.id ≤ last) (λ (x : Numbered). x.id ≤ n.id) (λ x h. omega arith) w.clauses s.ids) (omega arith));
           line_ids = low;
+          own_ids = subst (λ f. HaveOwnIds f k.lines (all_handed u.clauses more)) (sym q) (subst (λ cs. HaveOwnIds (question w count) k.lines (all_handed cs more)) (sym c) own);
           placed = subst (λ m. All (λ p. p < m) more) (sym long) placed;
           determined = subst (λ f. Determined f inputs) (sym q) s.determined;
           stands = subst (λ x. AllStand x inputs u.trail) (sym (ap bare c ∙ map_push (λ n. n.clause) w.clauses n)) a;
@@ -241,6 +251,7 @@ module _ (w : State) (inputs count last : ℕ) (j : Proof) (places : List ℕ) w
         (All-weaker (λ (x : Step). x.id < n.id) (λ (x : Step). x.id ≤ n.id) (λ x h. omega arith) j.lines above)
         (All-push (λ p. p < length w.clauses + 1) places place (All-weaker (λ p. p < length w.clauses) (λ p. p < length w.clauses + 1) (λ p h. omega arith) places s.placed) (omega (arith, e)))
         (λ r. subst (λ x. IsHand (take count (bare w.clauses)) j.lines x (w.clauses ++ n ∷ [])) (sym is) (IsHand-import (take count (bare w.clauses)) j.lines (all_handed w.clauses places) w.clauses (s.at_hand r) (record { id = n.id; clause = n.clause })))
+        (subst (HaveOwnIds (question w count) j.lines) (sym is) (OwnIds-import (question w count) j.lines (all_handed w.clauses places) s.own_ids (record { id = n.id; clause = n.clause }) (new_id n.id up)))
         (subst (λ x. IsLog (question w count) inputs x j.lines status bits) (sym is) (IsLog-import (question w count) inputs (all_handed w.clauses places) j.lines status bits (record { id = n.id; clause = n.clause }) above s.log))
 
   module _ (bits : List Bool) (s : IsEngine w inputs count last j places Running bits) where
@@ -258,7 +269,7 @@ module _ (w : State) (inputs count last : ℕ) (j : Proof) (places : List ℕ) w
     }
 
     pub Engine-model : (new : List Bool) → IsModel (question w count) new → IsEngine w inputs count last j places Model new
-    Engine-model new m = Engine-end Running bits s Model new last j (λ r. let z : Model ≡ Running = r in cc) (omega arith) refl s.line_ids
+    Engine-model new m = Engine-end Running bits s Model new last j (λ r. let z : Model ≡ Running = r in cc) (omega arith) refl s.line_ids s.own_ids
         (IsLog-model (question w count) inputs (all_handed w.clauses places) j.lines bits s.log new m)
 
     lead_names : (hints : List ℕ) (held : List Literal) → Leads (Named w.clauses) held hints → Leads (NamesAtHand (take count (bare w.clauses)) j.lines (all_handed w.clauses places)) held hints
@@ -267,14 +278,19 @@ module _ (w : State) (inputs count last : ℕ) (j : Proof) (places : List ℕ) w
     pub passes_empty : (id : ℕ) (clause : List Literal) (hints : List ℕ) → clause ≡ [] → Passes (Named w.clauses) [] hints → PassesAfter (question w count) j.lines (all_handed w.clauses places) (record { id = id; clause = clause; hints = hints })
     passes_empty id clause hints e p = subst (λ c. PassesAfter (question w count) j.lines (all_handed w.clauses places) (record { id = id; clause = c; hints = hints })) (sym e) (p.0, lead_names hints (map negated []) p.1)
 
+    pub names_all : (id : ℕ) (clause : List Literal) (hints : List ℕ) → AreNamed (Named w.clauses) hints → NamesAll (question w count) j.lines (all_handed w.clauses places) (record { id = id; clause = clause; hints = hints })
+    names_all id clause hints n = All-weaker (λ h. (c : List Literal) × Named w.clauses h c) (λ h. (1 ≤ h) × ((c : List Literal) × NamesAtHand (take count (bare w.clauses)) j.lines (all_handed w.clauses places) h c))
+        (λ h e. let m = hand.named h e.0 e.1 in (positive (question w count) j.lines (all_handed w.clauses places) s.own_ids h e.0 m, (e.0, m))) hints n
+
     -- the empty clause ends it
-    pub Engine-refute : (clause : List Literal) (hints : List ℕ) → clause ≡ [] → Passes (Named w.clauses) [] hints → IsEngine w inputs count (last + 1) (record { first = j.first; lines = j.lines ++ record { id = last + 1; clause = clause; hints = hints } ∷ [] }) places Refuted bits
-    Engine-refute clause hints e p =
+    pub Engine-refute : (clause : List Literal) (hints : List ℕ) → clause ≡ [] → Passes (Named w.clauses) [] hints → AreNamed (Named w.clauses) hints → IsEngine w inputs count (last + 1) (record { first = j.first; lines = j.lines ++ record { id = last + 1; clause = clause; hints = hints } ∷ [] }) places Refuted bits
+    Engine-refute clause hints e p n =
         let x : Step = record { id = last + 1; clause = clause; hints = hints } in
         let within : All (IsWithin w.vars) clause = λ k d h. absurd (omega (arith, ap length e)) in
         Engine-end Running bits s Refuted bits (last + 1) (record { first = j.first; lines = j.lines ++ x ∷ [] }) (λ r. let z : Refuted ≡ Running = r in cc) (omega arith) refl
         (All-push (λ (x : Step). x.id ≤ last + 1) j.lines x (All-weaker (λ (x : Step). x.id ≤ last) (λ (x : Step). x.id ≤ last + 1) (λ x h. omega arith) j.lines s.line_ids) (omega arith))
-        (IsLog-refute (question w count) inputs (all_handed w.clauses places) j.lines bits s.log x (new_id Running bits s (last + 1) (omega arith)) within (passes_empty (last + 1) clause hints e p) e)
+        (OwnIds-learn (question w count) j.lines (all_handed w.clauses places) s.own_ids x (new_id Running bits s (last + 1) (omega arith)))
+        (IsLog-refute (question w count) inputs (all_handed w.clauses places) j.lines bits s.log x (new_id Running bits s (last + 1) (omega arith)) within (passes_empty (last + 1) clause hints e p) (names_all (last + 1) clause hints n) e)
 
     -- what is learned
     module _ (tr : IsTrail w.trail w.depth) (forced : AreForced (Named w.clauses) w.trail) (trail_within : All (IsWithin w.vars) (lits w.trail)) (clause : List Literal) (hints : List ℕ) (level : ℕ) (l : Learns w clause hints level) (some : 0 < length clause) (false_id : ℕ) (false_clause : List Literal) (is_named : Named w.clauses false_id false_clause) (is_false : IsFalse (lits w.trail) false_clause) where
@@ -355,6 +371,7 @@ module _ (w : State) (inputs count last : ℕ) (j : Proof) (places : List ℕ) w
           pub Engine-held : IsEngine u inputs count (last + 1) j places Failed bits
           Engine-held = Engine-hold Running bits s (record { id = last + 1; clause = clause }) u places j Failed (omega arith) u_vars u_clauses (stands_more u (ap (λ x. x.trail) added)) refl more_lines more_places
               (λ r. absurd (let z : Failed ≡ Running = r in cc))
+              (subst (HaveOwnIds (question w count) j.lines) (sym same_handed) s.own_ids)
               (subst (λ x. IsLog (question w count) inputs x j.lines Failed bits) (sym same_handed) (IsLog-fail (question w count) inputs (all_handed w.clauses places) j.lines Running bits bits (λ q. let z : Running ≡ Refuted = q in cc) s.log))
 
           pub Engine-learn : IsEngine u inputs count (last + 1) (record { first = j.first; lines = j.lines ++ record { id = last + 1; clause = clause; hints = hints } ∷ [] }) places Running bits
@@ -363,7 +380,8 @@ module _ (w : State) (inputs count last : ℕ) (j : Proof) (places : List ℕ) w
               Engine-hold Running bits s (record { id = last + 1; clause = clause }) u places (record { first = j.first; lines = j.lines ++ x ∷ [] }) Running (omega arith) u_vars u_clauses (stands_more u (ap (λ x. x.trail) added)) refl
               (All-push (λ (x : Step). x.id ≤ last + 1) j.lines x more_lines (omega arith)) more_places
               (λ r. subst (λ y. IsHand (take count (bare w.clauses)) (j.lines ++ x ∷ []) y (w.clauses ++ record { id = last + 1; clause = clause } ∷ [])) (sym same_handed) (IsHand-learn (take count (bare w.clauses)) j.lines (all_handed w.clauses places) w.clauses hand x))
-              (subst (λ y. IsLog (question w count) inputs y (j.lines ++ x ∷ []) Running bits) (sym same_handed) (IsLog-learn (question w count) inputs (all_handed w.clauses places) j.lines bits s.log x (new_id Running bits s (last + 1) (omega arith)) l.within (passes (last + 1)) (fresh (last + 1))))
+              (subst (HaveOwnIds (question w count) (j.lines ++ x ∷ [])) (sym same_handed) (OwnIds-learn (question w count) j.lines (all_handed w.clauses places) s.own_ids x (new_id Running bits s (last + 1) (omega arith))))
+              (subst (λ y. IsLog (question w count) inputs y (j.lines ++ x ∷ []) Running bits) (sym same_handed) (IsLog-learn (question w count) inputs (all_handed w.clauses places) j.lines bits s.log x (new_id Running bits s (last + 1) (omega arith)) l.within (passes (last + 1)) (names_all (last + 1) clause hints l.named) (fresh (last + 1))))
 
 -- a search at its start
 pub question_new : (f : Clauses) (count : ℕ) (w : State) → count ≡ length f.clauses → w ≡ record { vars = f.vars; clauses = numbered_from 1 f.clauses; trail = []; depth = 0 } → question w count ≡ f
@@ -383,7 +401,7 @@ search_new f inputs count w j places bits c e g p b =
     ∙ ap (λ x. search_at f inputs [] [] x.depth Running bits) e
     ∙ ap (search_at f inputs [] [] 0 Running) b
 
-pub Engine-new : (f : Clauses) (inputs count : ℕ) (w : State) (j : Proof) (places : List ℕ) (bits : List Bool) → f.vars < 2 ^ 62 → inputs ≤ f.vars → Determined f inputs → count ≡ length f.clauses → w ≡ record { vars = f.vars; clauses = numbered_from 1 f.clauses; trail = []; depth = 0 } → j ≡ record { first = count + 1; lines = [] } → places ≡ [] → IsEngine w inputs count count j places Running bits
+pub Engine-new : (f : Clauses) (inputs count : ℕ) (w : State) (j : Proof) (places : List ℕ) (bits : List Bool) → f.vars < 4294967295 → inputs ≤ f.vars → Determined f inputs → count ≡ length f.clauses → w ≡ record { vars = f.vars; clauses = numbered_from 1 f.clauses; trail = []; depth = 0 } → j ≡ record { first = count + 1; lines = [] } → places ≡ [] → IsEngine w inputs count count j places Running bits
 Engine-new f inputs count w j places bits room few det c e g p =
     let whole : take count (bare (numbered_from 1 f.clauses)) ≡ f.clauses = ap (take count) (bare_numbered 1 f.clauses) ∙ take_all count f.clauses (omega (arith, c)) in
     let is : clauses_of f.vars (take count (bare (numbered_from 1 f.clauses))) ≡ f = clauses_is f.vars f.vars (take count (bare (numbered_from 1 f.clauses))) f.clauses refl whole in
@@ -395,6 +413,7 @@ Engine-new f inputs count w j places bits room few det c e g p =
       counted_ids = omega arith;
       ids = numbered_ids f.clauses count c;
       line_ids = λ k d h. absurd (omega arith);
+      own_ids = OwnIds-none (record { vars = f.vars; clauses = take count (bare (numbered_from 1 f.clauses)) });
       placed = λ k d h. absurd (omega arith);
       determined = subst (λ x. Determined x inputs) (sym is) det;
       stands = λ k h. absurd (omega arith);
@@ -452,4 +471,5 @@ moves_after a b c m n = record {
   places = n.places ∙ m.places;
   status = n.status ∙ m.status;
   bits = n.bits ∙ m.bits;
+  ready = λ r. n.ready (m.ready r);
 }

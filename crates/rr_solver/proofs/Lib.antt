@@ -4,3 +4,5 @@ pub mod LogSteps
 pub mod EngineSteps
 pub mod Values
 pub mod Ends
+pub mod Waiting
+pub mod WalkSteps

@@ -10,7 +10,7 @@ use Rattle.rr_cnf.specs.Clauses.{Literal, Clauses, IsWithin}
 use Rattle.rr_derive.specs.Derive.{Step}
 use Rattle.rr_derive.specs.Fresh.{Handed, NamesAtHand, hand_of}
 use Rattle.rr_watch.specs.Watches.{Numbered, bare, numbered_from}
-use Rattle.rr_solver.specs.Searches.{IsFreshAfter, IsLog, IsModel, IsNewId, PassesAfter, before, line}
+use Rattle.rr_solver.specs.Searches.{HaveOwnIds, IsFreshAfter, IsLog, IsModel, IsNewId, NamesAll, PassesAfter, before, line}
 use Rattle.rr_solver.specs.Engines.{IsHand, all_handed, handed_at}
 use Rattle.rr_solver.specs.declared.engine.Status.{Status}
 use Rattle.rr_solver.specs.declared.engine.Status.TheVariants.{Running, Model, Refuted, Failed}
@@ -52,6 +52,7 @@ module _ (f : Clauses) (inputs : ℕ) (hs : List Handed) (lines : List Step) whe
     above = λ k d h. absurd (omega (arith, ap length e));
     within = λ k d h. absurd (omega (arith, ap length e));
     passes = λ k h. absurd (omega (arith, ap length e));
+    hints = λ k h. absurd (omega (arith, ap length e));
     fresh = λ k h. absurd (omega (arith, ap length e));
     refuted = λ q. absurd (let z : Running ≡ Refuted = q in cc);
     model = λ q. absurd (let z : Running ≡ Model = q in cc);
@@ -63,6 +64,7 @@ module _ (f : Clauses) (inputs : ℕ) (hs : List Handed) (lines : List Step) whe
     above = log.above;
     within = log.within;
     passes = log.passes;
+    hints = log.hints;
     fresh = λ k h e. log.fresh k h (λ q. absurd (n q));
     refuted = λ q. absurd (let z : Failed ≡ Refuted = q in cc);
     model = λ q. absurd (let z : Failed ≡ Model = q in cc);
@@ -74,16 +76,23 @@ module _ (f : Clauses) (inputs : ℕ) (hs : List Handed) (lines : List Step) whe
       above = log.above;
       within = log.within;
       passes = log.passes;
+      hints = log.hints;
       fresh = λ k h e. log.fresh k h (λ q. absurd (let z : Running ≡ Refuted = q in cc));
       refuted = λ q. absurd (let z : Model ≡ Refuted = q in cc);
       model = λ q. m;
     }
 
-    module _ (s : Step) (id : IsNewId f lines hs s.id) (within : All (IsWithin f.vars) s.clause) (passes : PassesAfter f lines hs s) where
+    module _ (s : Step) (id : IsNewId f lines hs s.id) (within : All (IsWithin f.vars) s.clause) (passes : PassesAfter f lines hs s) (hints : NamesAll f lines hs s) where
       all_pass : (k : ℕ) → k < length (lines ++ s ∷ []) → PassesAfter f (take k (lines ++ s ∷ [])) (before (line (lines ++ s ∷ []) k).id hs) (line (lines ++ s ∷ []) k)
       all_pass k h = elim (cases_lt k (length lines)) [
         | inl i ↦ at_old (PassesAfter f) hs lines s k i (log.passes k i)
         | inr i ↦ at_new (PassesAfter f) hs lines s k (omega (arith, length_push lines s)) id.handed passes
+      ]
+
+      all_named : (k : ℕ) → k < length (lines ++ s ∷ []) → NamesAll f (take k (lines ++ s ∷ [])) (before (line (lines ++ s ∷ []) k).id hs) (line (lines ++ s ∷ []) k)
+      all_named k h = elim (cases_lt k (length lines)) [
+        | inl i ↦ at_old (NamesAll f) hs lines s k i (log.hints k i)
+        | inr i ↦ at_new (NamesAll f) hs lines s k (omega (arith, length_push lines s)) id.handed hints
       ]
 
       old_fresh : (k : ℕ) → k < length lines → IsFreshAfter f inputs (take k (lines ++ s ∷ [])) (before (line (lines ++ s ∷ []) k).id hs) (line (lines ++ s ∷ []) k)
@@ -94,6 +103,7 @@ module _ (f : Clauses) (inputs : ℕ) (hs : List Handed) (lines : List Step) whe
         above = All-push (λ s. length f.clauses < s.id) lines s log.above id.formula;
         within = All-push (λ s. All (IsWithin f.vars) s.clause) lines s log.within within;
         passes = all_pass;
+        hints = all_named;
         fresh = λ k h e. elim (cases_lt k (length lines)) [
           | inl i ↦ old_fresh k i
           | inr i ↦ at_new (IsFreshAfter f inputs) hs lines s k (omega (arith, length_push lines s)) id.handed fresh
@@ -107,6 +117,7 @@ module _ (f : Clauses) (inputs : ℕ) (hs : List Handed) (lines : List Step) whe
         above = All-push (λ s. length f.clauses < s.id) lines s log.above id.formula;
         within = All-push (λ s. All (IsWithin f.vars) s.clause) lines s log.within within;
         passes = all_pass;
+        hints = all_named;
         fresh = λ k h e. old_fresh k (let w = e refl in omega (arith, w, length_push lines s));
         refuted = λ q. (
           omega (arith, length_push lines s),
@@ -120,6 +131,7 @@ module _ (f : Clauses) (inputs : ℕ) (hs : List Handed) (lines : List Step) whe
     above = log.above;
     within = log.within;
     passes = λ k i. at_more (PassesAfter f) hs lines h k i (low k i) (log.passes k i);
+    hints = λ k i. at_more (NamesAll f) hs lines h k i (low k i) (log.hints k i);
     fresh = λ k i e. at_more (IsFreshAfter f inputs) hs lines h k i (low k i) (log.fresh k i e);
     refuted = log.refuted;
     model = log.model;
@@ -127,6 +139,58 @@ module _ (f : Clauses) (inputs : ℕ) (hs : List Handed) (lines : List Step) whe
     where
       low : (k : ℕ) → k < length lines → (line lines k).id ≤ h.id
       low k i = let w = All-get_or (λ s. s.id < h.id) lines k (record { id = 0; clause = []; hints = [] }) i above in omega (arith, w)
+
+-- ids of lines and of what was handed over
+abbrev no_line : Step
+no_line = record { id = 0; clause = []; hints = [] }
+
+abbrev no_handed : Handed
+no_handed = record { id = 0; clause = [] }
+
+rise_push : {X : Type 0} (xs : List X) (x : X) (id : X → ℕ) (d : X) → ((j k : ℕ) → j < k → k < length xs → id (get_or xs j d) < id (get_or xs k d)) → All (λ y. id y < id x) xs → (j k : ℕ) → j < k → k < length (xs ++ x ∷ []) → id (get_or (xs ++ x ∷ []) j d) < id (get_or (xs ++ x ∷ []) k d)
+rise_push xs x id d rise low j k a h =
+    let size = length_push xs x in
+    let inside : j < length xs = omega (arith, size) in
+    subst (λ y. id y < id (get_or (xs ++ x ∷ []) k d)) (sym (get_or_append_left xs (x ∷ []) d j inside)) (elim (cases_lt k (length xs)) [
+      | inl i ↦ subst (λ y. id (get_or xs j d) < id y) (sym (get_or_append_left xs (x ∷ []) d k i)) (rise j k a i)
+      | inr i ↦ (let last : k ≡ length xs = omega (arith, size) in
+          subst (λ y. id (get_or xs j d) < id y) (sym (ap (λ n. get_or (xs ++ x ∷ []) n d) last ∙ get_or-append_seam xs x [] d)) (All-get_or (λ y. id y < id x) xs j d inside low))
+    ])
+
+module _ (f : Clauses) where
+  pub OwnIds-none : HaveOwnIds f [] []
+  OwnIds-none = record {
+    lines_above = λ k d h. absurd (omega arith);
+    handed_above = λ k d h. absurd (omega arith);
+    lines_rise = λ j k a h. absurd (omega arith);
+    handed_rise = λ j k a h. absurd (omega arith);
+    differ = λ s h a b e. absurd (omega (arith, a.1));
+  }
+
+  module _ (lines : List Step) (hs : List Handed) (own : HaveOwnIds f lines hs) where
+    pub OwnIds-learn : (s : Step) → IsNewId f lines hs s.id → HaveOwnIds f (lines ++ s ∷ []) hs
+    OwnIds-learn s new = record {
+      lines_above = All-push (λ x. length f.clauses < x.id) lines s own.lines_above new.formula;
+      handed_above = own.handed_above;
+      lines_rise = rise_push lines s (λ x. x.id) no_line own.lines_rise new.lines;
+      handed_rise = own.handed_rise;
+      differ = λ x h a b e. elim (Contains-push_cases lines s x a) [
+        | inl i ↦ own.differ x h i b e
+        | inr i ↦ (let low = All-contains (λ (y : Handed). y.id < s.id) hs h new.handed b in omega (arith, low, e, ap (λ (y : Step). y.id) i))
+      ];
+    }
+
+    pub OwnIds-import : (h : Handed) → IsNewId f lines hs h.id → HaveOwnIds f lines (hs ++ h ∷ [])
+    OwnIds-import h new = record {
+      lines_above = own.lines_above;
+      handed_above = All-push (λ x. length f.clauses < x.id) hs h own.handed_above new.formula;
+      lines_rise = own.lines_rise;
+      handed_rise = rise_push hs h (λ x. x.id) no_handed own.handed_rise new.handed;
+      differ = λ x y a b e. elim (Contains-push_cases hs h y b) [
+        | inl i ↦ own.differ x y a i e
+        | inr i ↦ (let low = All-contains (λ (z : Step). z.id < h.id) lines x new.lines a in omega (arith, low, e, ap (λ (z : Handed). z.id) i))
+      ];
+    }
 
 -- names at hand
 Contains-map : {X Y : Type 0} (g : X → Y) (xs : List X) (x : X) → Contains xs x → Contains (map g xs) (g x)
@@ -139,12 +203,6 @@ map-Contains : {X Y : Type 0} (g : X → Y) (xs : List X) (d : X) (y : Y) → Co
 map-Contains g xs d y c =
     let h : c.0 < length xs = omega (arith, c.1, length-map xs g) in
     (get_or xs c.0 d, (Contains-get_or xs c.0 d h, sym (get_or-map g xs c.0 d y h) ∙ c.2))
-
-no_line : Step
-no_line = record { id = 0; clause = []; hints = [] }
-
-no_handed : Handed
-no_handed = record { id = 0; clause = [] }
 
 pub at_hand : (f : List (List Literal)) (lines : List Step) (hs : List Handed) (id : ℕ) (c : List Literal) → NamesAtHand f lines hs id c → Contains (hand_of f lines hs) c
 at_hand f lines hs id c n = elim n [

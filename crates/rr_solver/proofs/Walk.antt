@@ -1,8 +1,8 @@
 -- the walk back along the trail
-use Rattle.std.proofs.Common.{◌≡◌, ◌⊎◌, inl, inr, ℕ, ◌+◌, ◌<◌, ◌≤◌, Bool, true, false, List, [], ◌∷◌, ◌++◌, length, get_or, map, set, take, reverse, replicate, refl, sym, ◌∙◌, ap, subst, arith}
+use Rattle.std.proofs.Common.{◌≡◌, ◌⊎◌, inl, inr, ℕ, suc, zero, ◌+◌, ◌<◌, ◌≤◌, Bool, true, false, List, [], ◌∷◌, ◌++◌, length, get_or, map, set, take, reverse, replicate, refl, sym, ◌∙◌, ap, subst, arith}
 use Rattle.std.specs.Prelude.{All, Contains, None}
 use Rattle.std.proofs.lemmas.List.{take_more, take_all, map_push, length-set, get_or-set_same, get_or-set_other, reverse-append, length-take-le, get_or-take, get_or_default, get_or-replicate, get_or_past, length-replicate}
-use Rattle.std.proofs.lemmas.List.Elements.{All-contains, Contains-append_left, Contains-push, Contains-push_cases}
+use Rattle.std.proofs.lemmas.List.Elements.{All-contains, All-cons, All-nil, Contains-append_left, Contains-push, Contains-push_cases}
 use Rattle.std.proofs.lemmas.Bool.{cases_lt, cases_eq, false≢true}
 use Rattle.rr_cnf.specs.Clauses.{Literal, negated, IsWithin}
 use Rattle.rr_cnf.specs.Partial.{IsFalse, IsUnit}
@@ -12,7 +12,7 @@ use Rattle.rr_derive.proofs.MarkLaws.{All-from_contains, negated-negated, Contai
 use Rattle.rr_watch.specs.Trails.{Entry, Forces, IsTrail, entry, lits}
 use Rattle.rr_watch.specs.Watches.{Named, State}
 use Rattle.rr_watch.proofs.EntryLaws.{lit_at, holds_at, place_of}
-use Rattle.rr_solver.specs.Analysis.{IsMarked, Marked, Kept, Greatest, Learns}
+use Rattle.rr_solver.specs.Analysis.{AreNamed, IsMarked, Marked, Kept, Greatest, Learns}
 
 -- the marks of a clause, literal by literal
 pub Marked-none : (s : List Bool) → Marked s [] s
@@ -109,6 +109,7 @@ pub record Walk (named : ℕ → List Literal → Type 0) (t : List Entry) (d : 
   pub inside : k ≤ length t
   pub leads : (x : List Literal) → Gives t k c seen x → Leads named x (reverse hints)
   pub hinted : (x : List Literal) → Gives t k c seen x → (l : Literal) → Contains (lits t) l → IsMarked seen l.var → Hinted named x (reverse hints) (negated l)
+  pub names : AreNamed named (reverse hints)
   pub kept : (m : Literal) → Contains c m → Kept t d k m
   pub marked : (m : Literal) → Contains c m → IsMarked seen m.var
   pub greatest : Greatest t d c level
@@ -123,6 +124,7 @@ module _ (named : ℕ → List Literal → Type 0) (t : List Entry) (d : ℕ) wh
       | inr b ↦ (let e : negated b.0 ≡ l = true_same t d tr (negated b.0) l (false_in b.0 b.1.0) k b.1.1 in
           (c, (n, inl (subst (Contains c) (sym (negated-negated b.0) ∙ ap negated e) b.1.0))))
     ];
+    names = All-cons (λ h. (y : List Literal) × named h y) id [] (c, n) (All-nil (λ h. (y : List Literal) × named h y));
     kept = λ l k. absurd (omega (arith, k.1));
     marked = λ l k. absurd (omega (arith, k.1));
     greatest = record { bound = λ l k. absurd (omega (arith, k.1)); is = inl refl };
@@ -147,6 +149,7 @@ module _ (named : ℕ → List Literal → Type 0) (t : List Entry) (d : ℕ) wh
       inside = omega (arith, w.inside);
       leads = λ x g. w.leads x (up x g);
       hinted = λ x g. w.hinted x (up x g);
+      names = w.names;
       kept = λ m h. lower m (w.kept m h);
       marked = w.marked;
       greatest = w.greatest;
@@ -165,6 +168,7 @@ module _ (named : ℕ → List Literal → Type 0) (t : List Entry) (d : ℕ) wh
       inside = omega (arith, w.inside);
       leads = λ x g. w.leads x (up x g);
       hinted = λ x g. w.hinted x (up x g);
+      names = w.names;
       kept = λ m h. elim (Contains-push_cases c (negated (entry t k).lit) m h) [
         | inl a ↦ lower m (w.kept m a)
         | inr e ↦ record { place = k; low = omega arith; inside = at; is = sym (negated-negated (entry t k).lit) ∙ ap negated e; level = why.0; why = why.1 }
@@ -209,6 +213,7 @@ module _ (named : ℕ → List Literal → Type 0) (t : List Entry) (d : ℕ) wh
           ],
         ),
       );
+      names = subst (AreNamed named) (sym turned) (All-cons (λ h. (y : List Literal) × named h y) id (reverse hints) (r, n) w.names);
       kept = λ q h. lower q (w.kept q h);
       marked = λ q h. m.kept q.var (w.marked q h);
       greatest = w.greatest;
@@ -252,6 +257,7 @@ pub Learns-walk : (s : State) (c : List Literal) (seen : List Bool) (hints : Lis
 Learns-walk s c seen hints level tr within w = record {
   passes = (All-from_contains (λ l. Contains c (negated l) → ⊥) c (λ l h k. apart l h k), w.leads (map negated c) gives);
   hinted = λ l h. subst (Hinted (Named s.clauses) (map negated c) (reverse hints)) (negated-negated l) (w.hinted (map negated c) gives (negated l) (true_one l h) (w.marked l h));
+  named = w.names;
   kept = w.kept;
   greatest = w.greatest;
   within = All-from_contains (IsWithin s.vars) c (λ l h. All-contains (IsWithin s.vars) (lits s.trail) (negated l) within (true_one l h));
@@ -307,3 +313,12 @@ none_marked n v e = elim (cases_lt v n) [
 
 pub var_at : (t : List Entry) (ls : List Literal) (n k : ℕ) → ls ≡ lits t → k < length t → All (IsWithin n) ls → (entry t k).lit.var ≤ n
 var_at t ls n k e h w = let z = All-contains (IsWithin n) (lits t) (entry t k).lit (subst (All (IsWithin n)) e w) (holds_at t k h) in z.1
+
+-- over places of which none is marked
+pub Walk-over : (named : ℕ → List Literal → Type 0) (t : List Entry) (d : ℕ) → IsTrail t d → (c : List Literal) (seen : List Bool) (hints : List ℕ) (level : ℕ) (n k : ℕ) → Walk named t d (k + n) c seen hints level → ((j : ℕ) → k ≤ j → j < k + n → IsMarked seen (entry t j).lit.var → ⊥) → Walk named t d k c seen hints level
+Walk-over named t d tr c seen hints level zero k w none = subst (λ i. Walk named t d i c seen hints level) (omega arith) w
+Walk-over named t d tr c seen hints level (suc n) k w none =
+    let e : k + suc n ≡ k + n + 1 = omega arith in
+    Walk-over named t d tr c seen hints level n k
+    (Walk-skip named t d tr (k + n) c seen hints level (subst (λ i. Walk named t d i c seen hints level) e w) (none (k + n) (omega arith) (omega arith)))
+    (λ j a b. none j a (omega arith))

@@ -32,11 +32,15 @@ pub record Greatest (t : List Entry) (depth : ℕ) (clause : List Literal) (leve
   pub bound : (m : Literal) → Contains clause m → (j : ℕ) → j < length t → (entry t j).lit ≡ negated m → (entry t j).level < depth → (entry t j).level ≤ level
   pub is : (level ≡ 0) ⊎ ((m : Literal) × (Contains clause m × ((j : ℕ) × ((j < length t) × ((entry t j).lit ≡ negated m) × ((entry t j).level ≡ level) × (level < depth)))))
 
--- what is learned: a clause that passes the hint check, whose literals stand in hinted clauses, and the
--- level to go back to
+abbrev pub AreNamed : (ℕ → List Literal → Type 0) → List ℕ → Type 0
+AreNamed named hints = All (λ h. (c : List Literal) × named h c) hints
+
+-- what is learned: a clause that passes the hint check, whose hints name clauses and whose literals stand
+-- in hinted ones, and the level to go back to
 pub record Learns (s : State) (clause : List Literal) (hints : List ℕ) (level : ℕ) : Type 0 where
   pub passes : Passes (Named s.clauses) clause hints
   pub hinted : (l : Literal) → Contains clause l → Hinted (Named s.clauses) (map negated clause) hints l
+  pub named : AreNamed (Named s.clauses) hints
   pub kept : (m : Literal) → Contains clause m → Kept s.trail s.depth 0 m
   pub greatest : Greatest s.trail s.depth clause level
   pub within : All (IsWithin s.vars) clause

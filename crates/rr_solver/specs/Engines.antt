@@ -1,12 +1,13 @@
 -- what a search keeps between its steps
-use Rattle.std.specs.Prelude.{◌≡◌, ℕ, ◌+◌, ◌^◌, ◌<◌, ◌≤◌, Bool, true, List, [], length, get_or, take, map, All, Contains, None}
+use Rattle.std.specs.Prelude.{◌≡◌, ℕ, ◌+◌, ◌<◌, ◌≤◌, Bool, true, List, [], length, get_or, take, map, All, Contains, None}
 use Rattle.rr_cnf.specs.Clauses.{Literal, Clauses, IsWithin, literal_true, negated}
 use Rattle.rr_cnf.specs.Partial.{IsQuiet, Determined}
 use Rattle.rr_derive.specs.Derive.{Step, Proof}
 use Rattle.rr_derive.specs.Fresh.{Handed, NamesAtHand, hand_of}
 use Rattle.rr_watch.specs.Trails.{Entry, entry, lits}
 use Rattle.rr_watch.specs.Watches.{Named, Numbered, State, bare}
-use Rattle.rr_solver.specs.Searches.{Search, IsLog, given}
+use Rattle.rr_solver.specs.Searches.{HaveOwnIds, Search, IsLog, given}
+use Rattle.rr_solver.specs.Workspaces.{IsReady}
 use Rattle.rr_solver.specs.declared.engine.Status.{Status}
 use Rattle.rr_solver.specs.declared.engine.Status.TheVariants.{Running}
 use Rattle.rr_solver.specs.declared.engine.Engine.{Engine}
@@ -36,13 +37,14 @@ abbrev pub question : State → ℕ → Clauses
 question w count = record { vars = w.vars; clauses = take count (bare w.clauses) }
 
 pub record IsEngine (w : State) (inputs count last : ℕ) (j : Proof) (places : List ℕ) (status : Status) (bits : List Bool) : Type 0 where
-  pub room : w.vars < 2 ^ 62
+  pub room : w.vars < 4294967295
   pub few : inputs ≤ w.vars
   pub counted : count ≤ length w.clauses
   pub beginning : j.first ≡ count + 1
   pub counted_ids : count ≤ last
   pub ids : All (λ n. n.id ≤ last) w.clauses
   pub line_ids : All (λ s. s.id ≤ last) j.lines
+  pub own_ids : HaveOwnIds (question w count) j.lines (all_handed w.clauses places)
   pub placed : All (λ p. p < length w.clauses) places
   pub determined : Determined (question w count) inputs
   pub stands : AllStand (bare w.clauses) inputs w.trail
@@ -51,6 +53,10 @@ pub record IsEngine (w : State) (inputs count last : ℕ) (j : Proof) (places : 
 
 abbrev pub Whole : Engine → Type 0
 Whole e = IsEngine e.watch e.inputs e.count e.last e.journal e.handed.items e.status e.assignment.items
+
+-- the notes of the workspace are those of the trail
+abbrev pub Ready : Engine → Type 0
+Ready e = IsReady (lits e.watch.trail) e.watch.vars e.work
 
 -- the search as callers see it
 abbrev pub search_of : Engine → Search
@@ -75,6 +81,7 @@ pub record Moves (old new : Engine) : Type 0 where
   pub places : new.handed.items ≡ old.handed.items
   pub status : new.status ≡ old.status
   pub bits : new.assignment.items ≡ old.assignment.items
+  pub ready : Ready old → Ready new
 
 -- the bits make the held literals true
 abbrev pub Agrees : List Bool → ℕ → List Literal → Type 0

@@ -1,4 +1,5 @@
 pub mod Analysis
+pub mod Workspaces
 pub mod Searches
 pub mod Engines
 pub mod Outcomes

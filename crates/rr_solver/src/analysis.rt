@@ -1,10 +1,14 @@
 //! The clause that is learned from a false clause.
-ghost use Rattle.std.specs.Prelude.{◌≡◌, ◌^◌, ◌<◌, All, length, List, IfOk};
+ghost use Rattle.std.specs.Prelude.{◌≡◌, ◌^◌, ◌<◌, All, length, List, IfOk, OnOk};
 ghost use Rattle.rr_cnf.specs.Clauses.{IsWithin, Literal};
+ghost use Rattle.rr_watch.specs.Trails.{lits};
 ghost use Rattle.rr_watch.specs.Watches.{Named};
-ghost use Rattle.rr_solver.specs.Analysis.{IsConflict, Learns, Marked, Resolves};
+ghost use Rattle.rr_solver.specs.Analysis.{IsConflict, Learns, Resolves};
+ghost use Rattle.rr_solver.specs.Workspaces.{IsReady, KeepsNotes, Met};
 
+use crate::chains::Chains;
 use crate::order::Order;
+use crate::workspace::Workspace;
 use rr_cnf::{Clause, Lit};
 use rr_watch::Watch;
 use std::alloc::{AllocError, Global};
@@ -17,96 +21,87 @@ pub(crate) struct Learned {
     pub(crate) level: u32,
 }
 
-// Marks the variables of a clause.
-fn mark(seen: &mut Vec<bool>, clause: &[Lit])
-    requires { All (λ l. l.var < length seen.old.items) clause.now }
-    ensures { Marked seen.old.items clause.now seen.new.items }
-{
-    for lit in clause {
-        seen[lit.var() as usize] = true;
-    }
-}
-
 // Marks the variables of the clause with this id.
-fn mark_named(watch: &Watch, seen: &mut Vec<bool>, id: u64)
-    requires room { watch.now.vars < length seen.old.items }
+fn meet_named(watch: &Watch<'_>, work: &mut Workspace, id: u64) -> Result<(), AllocError>
+    requires room { watch.now.vars < length work.old.seen }
     requires named { (c : List Literal) × Named watch.now.clauses id c }
-    ensures { (c : List Literal) → Named watch.now.clauses id c → Marked seen.old.items c seen.new.items }
+    ensures keeps { KeepsNotes work.old work.new }
+    ensures met { (c : List Literal) → Named watch.now.clauses id c → OnOk result (Met work.old c work.new) }
 {
     if let Some(clause) = watch.clause(id) {
-        mark(seen, clause.lits());
+        work.meet_all(clause.lits())?;
     }
+    Ok(())
 }
 
-// Whether the other literals of a literal's reason are marked or false on level 0, so that resolving
-// with it brings nothing new.
-fn is_implied(watch: &Watch, seen: &Vec<bool>, reason: u64, lit: Lit) -> bool {
-    match watch.clause(reason) {
-        None => false,
-        Some(clause) => clause.lits().iter().all(|other| {
-            let is_seen = seen.get(other.var() as usize).copied().unwrap_or(false);
-            is_seen || *other == lit || watch.level(*other) == 0
-        }),
-    }
-}
-
-// The id of the clause to resolve with: of a forced literal on level 0, on the last level, or implied
-// by others that are marked.
-fn resolved_by(watch: &Watch, seen: &Vec<bool>, lit: Lit) -> Option<u64>
-    requires { IsWithin watch.now.vars lit }
-    ensures { Resolves watch.now.trail watch.now.depth lit result }
+// The id of the clause to resolve with: of a forced literal on level 0, on the last level, or that follows
+// from marked ones.
+fn resolved_by(
+    watch: &Watch<'_>,
+    work: &Workspace,
+    chains: &mut Chains,
+    lit: Lit,
+) -> Result<Option<u64>, AllocError>
+    requires lit { IsWithin watch.now.vars lit }
+    requires room { watch.now.vars < length work.now.seen }
+    ensures { IfOk result (Resolves watch.now.trail watch.now.depth lit) }
 {
     let _trail = watch.trail();
-    let reason = watch.reason(lit)?;
     let level = watch.level(lit);
-    if level == 0 || level == watch.depth() || is_implied(watch, seen, reason, lit) {
-        Some(reason)
+    let Some(reason) = watch.reason(lit) else {
+        return Ok(None);
+    };
+    if level == 0 || level == watch.depth() || chains.follows(watch, work, lit)? {
+        Ok(Some(reason))
     } else {
-        None
+        Ok(None)
     }
 }
 
-/// Resolves the false clause backwards along the trail, and moves the inputs that it meets to the front
-/// of the order.
+/// Resolves the false clause backwards along the trail. The order hears of the inputs that it meets, and
+/// of the levels on which the learned clause stands.
 pub(crate) fn analyze(
     alloc: Global,
-    watch: &Watch,
+    watch: &Watch<'_>,
     order: &mut Order,
+    work: &mut Workspace,
+    chains: &mut Chains,
     id: u64,
 ) -> Result<Learned, AllocError>
-    requires room { watch.now.vars < 2 ^ 62 }
+    requires room { watch.now.vars < 4294967295 }
+    requires ready { IsReady (lits watch.now.trail) watch.now.vars work.old }
     requires conflict { IsConflict watch.now id }
-    ensures { IfOk result (λ r. Learns watch.now r.clause r.hints.items r.level) }
+    ensures ready { IsReady (lits watch.now.trail) watch.now.vars work.new }
+    ensures learns { IfOk result (λ r. Learns watch.now r.clause r.hints.items r.level) }
 {
     let trail = watch.trail();
     let depth = watch.depth();
-    let mut seen = vec![in alloc; false; watch.vars() as usize + 1]?;
     let mut clause = Vec::new(alloc);
     let mut hints = Vec::new(alloc);
     let mut level = 0;
+    work.begin(trail);
+    chains.begin();
     hints.push(id)?;
-    mark_named(watch, &mut seen, id);
-    let mut place = trail.len();
-    while place > 0 {
-        place -= 1;
+    meet_named(watch, work, id)?;
+    while let Some(place) = work.pop() {
         let lit = trail[place];
-        if seen[lit.var() as usize] {
-            order.bump(lit.var());
-            match resolved_by(watch, &seen, lit) {
-                Some(reason) => {
-                    hints.push(reason)?;
-                    mark_named(watch, &mut seen, reason);
-                }
-                None => {
-                    clause.push(lit.negated())?;
-                    let at = watch.level(lit);
-                    if at < depth && level < at {
-                        level = at;
-                    }
+        order.bump(lit.var());
+        match resolved_by(watch, work, chains, lit)? {
+            Some(reason) => {
+                hints.push(reason)?;
+                meet_named(watch, work, reason)?;
+            }
+            None => {
+                clause.push(lit.negated())?;
+                let at = watch.level(lit);
+                order.bump_level(at);
+                if at < depth && level < at {
+                    level = at;
                 }
             }
         }
     }
+    order.decay();
     hints.reverse();
     Ok(Learned {
         clause: Clause::from_lits(alloc, clause.as_slice())?,

@@ -5,12 +5,15 @@ ghost use Rattle.rr_cnf.specs.Partial.{Determined, IsAssigned, IsFalse, IsQuiet}
 ghost use Rattle.rr_derive.specs.Derive.{Passes};
 ghost use Rattle.rr_watch.specs.Trails.{Entry, entry, lits};
 ghost use Rattle.rr_watch.specs.Watches.{IsBack, Named, PropagatedIs, bare};
-ghost use Rattle.rr_solver.specs.Analysis.{IsConflict, Learns};
+ghost use Rattle.rr_solver.specs.Analysis.{AreNamed, IsConflict, Learns};
 ghost use Rattle.rr_solver.specs.Searches.{IsNewId, Same, SteppedIs};
-ghost use Rattle.rr_solver.specs.Engines.{Agrees, IsOpenInput, Moves, Whole, search_of};
+ghost use Rattle.rr_solver.specs.Engines.{Agrees, IsOpenInput, Moves, Ready, Whole, search_of};
 
 use crate::analysis::{Learned, analyze};
+use crate::chains::Chains;
 use crate::order::Order;
+use crate::restarts::Restarts;
+use crate::workspace::Workspace;
 use rr_cnf::{Clause, Formula, Lit};
 use rr_derive::Journal;
 use rr_watch::{Propagated, Watch};
@@ -42,11 +45,14 @@ pub enum Stepped {
 
 /// The clauses at hand, the lines that were learned, and where the search stands.
 #[derive(Drop)]
-pub(crate) struct Engine {
+pub(crate) struct Engine<'f> {
     alloc: Global,
-    pub(crate) watch: Watch,
+    pub(crate) watch: Watch<'f>,
     pub(crate) journal: Journal,
     order: Order,
+    work: Workspace,
+    chains: Chains,
+    restarts: Restarts,
     inputs: u64,
     /// So many of the clauses at hand are the formula, the first ones.
     count: u64,
@@ -59,10 +65,11 @@ pub(crate) struct Engine {
     pub(crate) assignment: Vec<bool>,
 }
 
-const MOST_VARS: u64 = 1 << 61;
+/// The most variables, so that their places in a trail fit 32 bits.
+const MOST_VARS: u64 = 4_294_967_294;
 
 /// An input that has no value, if there is one.
-fn open_input(watch: &Watch, order: &mut Order, inputs: u64) -> Option<Lit>
+fn open_input(watch: &Watch<'_>, order: &mut Order, inputs: u64) -> Option<Lit>
     requires few { inputs ≤ watch.now.vars }
     requires room { watch.now.vars < 2 ^ 62 }
     ensures { MatchOption result ((v : ℕ) → 1 ≤ v → v ≤ inputs → IsAssigned (lits watch.now.trail) v) (IsOpenInput (lits watch.now.trail) inputs) }
@@ -80,7 +87,7 @@ fn open_input(watch: &Watch, order: &mut Order, inputs: u64) -> Option<Lit>
 }
 
 /// The values of the variables, by their numbers.
-fn bits_of(alloc: Global, watch: &Watch) -> Result<Vec<bool>, AllocError>
+fn bits_of(alloc: Global, watch: &Watch<'_>) -> Result<Vec<bool>, AllocError>
     requires room { watch.now.vars < 2 ^ 62 }
     ensures long { IfOk result (λ v. length v.items ≡ watch.now.vars + 1) }
     ensures agrees { IfOk result (λ v. Agrees v.items watch.now.vars (lits watch.now.trail)) }
@@ -94,7 +101,7 @@ fn bits_of(alloc: Global, watch: &Watch) -> Result<Vec<bool>, AllocError>
 }
 
 /// Whether the variable is true.
-fn is_true(watch: &Watch, var: u64) -> bool
+fn is_true(watch: &Watch<'_>, var: u64) -> bool
     requires room { watch.now.vars < 2 ^ 62 }
     requires low { 1 ≤ var }
     requires high { var ≤ watch.now.vars }
@@ -109,7 +116,7 @@ fn is_true(watch: &Watch, var: u64) -> bool
 }
 
 /// Tells the order which literals will lose their values on the way back to a level.
-fn release(watch: &Watch, order: &mut Order, level: u32) {
+fn release(watch: &Watch<'_>, order: &mut Order, level: u32) {
     let trail = watch.trail();
     let mut place = trail.len();
     while place > 0 {
@@ -122,17 +129,18 @@ fn release(watch: &Watch, order: &mut Order, level: u32) {
     }
 }
 
-impl Engine {
+impl<'f> Engine<'f> {
     /// Holds the formula, with nothing learned.
     pub(crate) fn new(
         alloc: Global,
-        formula: &Formula,
+        formula: &'f Formula,
         inputs: u64,
         member: u32,
-    ) -> Result<Engine, AllocError>
+    ) -> Result<Engine<'f>, AllocError>
         requires few { inputs ≤ formula.now.vars }
         requires determined { Determined formula.now inputs }
         ensures whole { IfOk result Whole }
+        ensures ready { IfOk result Ready }
         ensures search { IfOk result (λ e. search_of e ≡ record { formula = formula.now; inputs = inputs; lines = []; handed = []; depth = 0; status = Status.Running; bits = [] }) }
     {
         let vars = formula.vars();
@@ -149,6 +157,9 @@ impl Engine {
             watch,
             journal: Journal::new(alloc, count + 1),
             order: Order::new(alloc, inputs, member)?,
+            work: Workspace::new(alloc, vars)?,
+            chains: Chains::new(alloc, vars)?,
+            restarts: Restarts::new(),
             inputs,
             count,
             last: count,
@@ -180,16 +191,19 @@ impl Engine {
         ensures room { length self.new.watch.trail ≤ self.new.watch.vars }
     {
         self.watch.decide(lit);
+        self.order.decide(self.watch.depth(), lit);
         let _trail = self.watch.trail();
     }
 
     // Takes the values of the variables as the answer.
     fn finish(&mut self) -> Result<Stepped, AllocError>
         requires whole { Whole self.old }
+        requires ready { Ready self.old }
         requires running { self.old.status ≡ Status.Running }
         requires quiet { IsQuiet (bare self.old.watch.clauses) (lits self.old.watch.trail) }
         requires assigned { (v : ℕ) → 1 ≤ v → v ≤ self.old.inputs → IsAssigned (lits self.old.watch.trail) v }
         ensures whole { Whole self.new }
+        ensures ready { Ready self.new }
         ensures same { Same (search_of self.old) (search_of self.new) }
         ensures result { IfOk result (SteppedIs (search_of self.old) (search_of self.new)) }
         ensures kept { OnErr result (self.new.journal ≡ self.old.journal) }
@@ -214,10 +228,13 @@ impl Engine {
     // Adds the empty clause.
     fn refute(&mut self, clause: Clause, hints: Vec<u64>) -> Result<Stepped, AllocError>
         requires whole { Whole self.old }
+        requires ready { Ready self.old }
         requires running { self.old.status ≡ Status.Running }
         requires empty { clause ≡ [] }
         requires passes { Passes (Named self.old.watch.clauses) [] hints.items }
+        requires named { AreNamed (Named self.old.watch.clauses) hints.items }
         ensures whole { Whole self.new }
+        ensures ready { Ready self.new }
         ensures same { Same (search_of self.old) (search_of self.new) }
         ensures result { IfOk result (SteppedIs (search_of self.old) (search_of self.new)) }
         ensures kept { OnErr result (self.new.journal ≡ self.old.journal) }
@@ -233,11 +250,13 @@ impl Engine {
     // Goes back, holds the learned clause and writes its line.
     fn keep(&mut self, learned: Learned) -> Result<Stepped, AllocError>
         requires whole { Whole self.old }
+        requires ready { Ready self.old }
         requires running { self.old.status ≡ Status.Running }
         requires some { 0 < length learned.clause }
         requires conflict { (id : ℕ) × IsConflict self.old.watch id }
         requires learns { Learns self.old.watch learned.clause learned.hints.items learned.level }
         ensures whole { Whole self.new }
+        ensures ready { Ready self.new }
         ensures same { Same (search_of self.old) (search_of self.new) }
         ensures result { IfOk result (SteppedIs (search_of self.old) (search_of self.new)) }
         ensures kept { OnErr result (self.new.journal ≡ self.old.journal) }
@@ -254,7 +273,8 @@ impl Engine {
         release(&self.watch, &mut self.order, level);
         self.watch.back(level);
         self.last = id;
-        let _kept = self.watch.trail();
+        let kept = self.watch.trail();
+        self.work.cut(kept.len());
         self.watch.add(self.alloc, id, &clause)?;
         self.journal.push_at(id, clause, hints)?;
         self.status = Status::Running;
@@ -264,15 +284,24 @@ impl Engine {
     // Learns from a false clause.
     fn learn(&mut self, id: u64) -> Result<Stepped, AllocError>
         requires whole { Whole self.old }
+        requires ready { Ready self.old }
         requires running { self.old.status ≡ Status.Running }
         requires conflict { IsConflict self.old.watch id }
         ensures whole { Whole self.new }
+        ensures ready { Ready self.new }
         ensures same { Same (search_of self.old) (search_of self.new) }
         ensures result { IfOk result (SteppedIs (search_of self.old) (search_of self.new)) }
         ensures kept { OnErr result (self.new.journal ≡ self.old.journal) }
         ensures going { OnErr result (self.new.status ≡ Status.Refuted → ⊥) }
     {
-        let learned = analyze(self.alloc, &self.watch, &mut self.order, id)?;
+        let learned = analyze(
+            self.alloc,
+            &self.watch,
+            &mut self.order,
+            &mut self.work,
+            &mut self.chains,
+            id,
+        )?;
         if learned.clause.lits().is_empty() {
             let Learned { clause, hints, .. } = learned;
             return self.refute(clause, hints);
@@ -283,8 +312,10 @@ impl Engine {
     // Decides and propagates until a clause is false or every input has a value.
     fn search(&mut self) -> Result<Stepped, AllocError>
         requires whole { Whole self.old }
+        requires ready { Ready self.old }
         requires running { self.old.status ≡ Status.Running }
         ensures whole { Whole self.new }
+        ensures ready { Ready self.new }
         ensures same { Same (search_of self.old) (search_of self.new) }
         ensures result { IfOk result (SteppedIs (search_of self.old) (search_of self.new)) }
         ensures kept { OnErr result (self.new.journal ≡ self.old.journal) }
@@ -305,23 +336,42 @@ impl Engine {
     // Gives up.
     fn fail(&mut self)
         requires whole { Whole self.old }
+        requires ready { Ready self.old }
         requires going { self.old.status ≡ Status.Refuted → ⊥ }
         ensures whole { Whole self.new }
+        ensures ready { Ready self.new }
         ensures search { search_of self.new ≡ record (search_of self.old) { status = Status.Failed } }
     {
         self.status = Status::Failed;
     }
 
+    // Begins anew where that is due.
+    fn renew(&mut self)
+        requires whole { Whole self.old }
+        requires ready { Ready self.old }
+        ensures whole { Whole self.new }
+        ensures ready { Ready self.new }
+        ensures search { (d : ℕ) × (search_of self.new ≡ record (search_of self.old) { depth = d }) }
+        ensures journal { self.new.journal ≡ self.old.journal }
+    {
+        if self.restarts.is_due() {
+            self.restart();
+        }
+    }
+
     /// Learns one fresh line, or ends.
     pub(crate) fn step(&mut self) -> Result<Stepped, AllocError>
         requires whole { Whole self.old }
+        requires ready { Ready self.old }
         requires running { self.old.status ≡ Status.Running }
         ensures whole { Whole self.new }
+        ensures ready { Ready self.new }
         ensures same { Same (search_of self.old) (search_of self.new) }
         ensures result { IfOk result (SteppedIs (search_of self.old) (search_of self.new)) }
         ensures kept { OnErr result (self.new.journal ≡ self.old.journal) }
         ensures failed { OnErr result (self.new.status ≡ Status.Failed) }
     {
+        self.renew();
         match self.search() {
             Ok(stepped) => Ok(stepped),
             Err(error) => {
@@ -334,10 +384,12 @@ impl Engine {
     /// Holds a clause that was handed over. Stays the same where memory runs out.
     pub(crate) fn import(&mut self, id: u64, clause: &Clause) -> Result<(), AllocError>
         requires whole { Whole self.old }
+        requires ready { Ready self.old }
         requires depth { self.old.watch.depth ≡ 0 }
         requires id { IsNewId (search_of self.old).formula (search_of self.old).lines (search_of self.old).handed id }
         requires within { All (IsWithin self.old.watch.vars) clause.now }
         ensures whole { Whole self.new }
+        ensures ready { Ready self.new }
         ensures ok { OnOk result (search_of self.new ≡ record (search_of self.old) { handed = (search_of self.old).handed ++ record { id = id; clause = clause.now } ∷ [] }) }
         ensures err { OnErr result (search_of self.new ≡ search_of self.old) }
     {
@@ -355,11 +407,15 @@ impl Engine {
 
     /// Takes every decision back.
     pub(crate) fn restart(&mut self)
-        requires { Whole self.old }
+        requires whole { Whole self.old }
+        requires ready { Ready self.old }
         ensures whole { Whole self.new }
+        ensures ready { Ready self.new }
         ensures search { search_of self.new ≡ record (search_of self.old) { depth = 0 } }
+        ensures journal { self.new.journal ≡ self.old.journal }
     {
         release(&self.watch, &mut self.order, 0);
         self.watch.back(0);
+        self.work.cut(self.watch.trail().len());
     }
 }

@@ -5,10 +5,13 @@
 #![tactic(auto)]
 
 mod analysis;
+mod chains;
 mod engine;
 mod order;
 mod outcome;
+mod restarts;
 mod solver;
+mod workspace;
 
 pub use engine::{Status, Stepped};
 pub use outcome::{Outcome, solve};

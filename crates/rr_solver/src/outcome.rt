@@ -1,10 +1,9 @@
 //! A search by one member alone.
-ghost use Rattle.std.specs.Prelude.{◌≡◌, ◌≤◌, IfOk};
+ghost use Rattle.std.specs.Prelude.{◌≤◌, IfOk};
 ghost use Rattle.rr_cnf.specs.Partial.{Determined};
 ghost use Rattle.rr_solver.specs.Outcomes.{OutcomeIs};
-ghost use Rattle.rr_solver.specs.Searches.{Same, SteppedIs};
 
-use crate::engine::{Status, Stepped};
+use crate::engine::Stepped;
 use crate::solver::Solver;
 use rr_cnf::Formula;
 use rr_derive::Journal;
@@ -21,21 +20,6 @@ pub enum Outcome {
     Spent(Journal),
 }
 
-/// After so many lines a search begins anew at level 0.
-const ROUND: u32 = 256;
-
-/// A step, from level 0 where a round begins.
-fn step(solver: &mut Solver, number: u32) -> Result<Stepped, AllocError>
-    requires { solver.old.status ≡ Status.Running }
-    ensures same { Same solver.old solver.new }
-    ensures result { IfOk result (SteppedIs solver.old solver.new) }
-{
-    if number % ROUND == 0 {
-        solver.restart();
-    }
-    solver.conflict_step()
-}
-
 /// Searches until the formula is satisfied or refuted, or `budget` lines are learned. Only the
 /// variables 1 to `inputs` are decided, which determine all others.
 pub fn solve(
@@ -49,8 +33,8 @@ pub fn solve(
     ensures { IfOk result (OutcomeIs formula.now inputs budget) }
 {
     let mut solver = Solver::new(alloc, formula, inputs, 1)?;
-    for number in 0..budget {
-        match step(&mut solver, number)? {
+    for _number in 0..budget {
+        match solver.conflict_step()? {
             Stepped::Learned => {}
             Stepped::Model => return Ok(Outcome::Model(solver.into_assignment())),
             Stepped::Refuted => return Ok(Outcome::Refuted(solver.into_journal())),

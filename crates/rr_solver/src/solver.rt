@@ -3,7 +3,7 @@ ghost use Rattle.std.specs.Prelude.{◌≡◌, ℕ, ◌+◌, ◌^◌, ◌<◌, �
 ghost use Rattle.rr_cnf.specs.Clauses.{IsWithin};
 ghost use Rattle.rr_cnf.specs.Partial.{Determined};
 ghost use Rattle.rr_derive.specs.Fresh.{Fresh};
-ghost use Rattle.rr_solver.specs.Searches.{IsLogOf, IsModel, IsNewId, Same, SteppedIs, held_of};
+ghost use Rattle.rr_solver.specs.Searches.{HaveOwnIds, IsLogOf, IsModel, IsNewId, Same, SteppedIs, held_of};
 
 use crate::engine::{Engine, Status, Stepped};
 use rr_cnf::{Clause, Formula};
@@ -13,30 +13,30 @@ use std::marker::Model;
 
 /// One member of a search: it decides inputs, propagates, and learns a clause from each false one.
 #[derive(Drop)]
-pub struct Solver {
-    engine: Engine,
+pub struct Solver<'f> {
+    engine: Engine<'f>,
 }
 
-impl Model for Solver {
+impl<'f> Model for Solver<'f> {
     ghost use Rattle.rr_solver.specs.Searches.{Search};
-    ghost use Rattle.rr_solver.specs.Engines.{Whole, search_of};
+    ghost use Rattle.rr_solver.specs.Engines.{Ready, Whole, search_of};
 
     ghost Value = { Search };
 
     ghost view = { λ s. search_of s.engine };
 
-    ghost invariant = { λ s. Whole s.engine };
+    ghost invariant = { λ s. Whole s.engine × Ready s.engine };
 }
 
-impl Solver {
+impl<'f> Solver<'f> {
     /// A solver for the formula that decides only the variables 1 to `inputs`, which determine all
     /// others. The member's number, from 1, varies the order of its decisions.
     pub fn new(
         alloc: Global,
-        formula: &Formula,
+        formula: &'f Formula,
         inputs: u64,
         member: u32,
-    ) -> Result<Solver, AllocError>
+    ) -> Result<Solver<'f>, AllocError>
         requires few { inputs ≤ formula.now.vars }
         requires determined { Determined formula.now inputs }
         ensures { IfOk result (λ s. s ≡ record { formula = formula.now; inputs = inputs; lines = []; handed = []; depth = 0; status = Status.Running; bits = [] }) }
@@ -89,6 +89,7 @@ impl Solver {
     pub fn journal(&self) -> &Journal
         ensures lines { result.now.lines ≡ self.now.lines }
         ensures log { IsLogOf self.now }
+        ensures ids { HaveOwnIds self.now.formula self.now.lines self.now.handed }
         ensures fresh { (self.now.status ≡ Status.Refuted → ⊥) → Fresh self.now.formula.clauses self.now.inputs (held_of self.now.handed self.now.lines) self.now.lines }
     {
         let _lines = self.engine.journal.lines();
@@ -113,10 +114,12 @@ impl Solver {
         self.engine.assignment.as_slice()
     }
 
-    pub(crate) fn into_journal(self) -> Journal
-        ensures lines { result.lines ≡ self.lines }
-        ensures log { IsLogOf self }
-        ensures fresh { (self.status ≡ Status.Refuted → ⊥) → Fresh self.formula.clauses self.inputs (held_of self.handed self.lines) self.lines }
+    /// The lines that were learned, by value.
+    pub fn into_journal(self) -> Journal
+        ensures lines { result.lines ≡ self.entry.lines }
+        ensures log { IsLogOf self.entry }
+        ensures ids { HaveOwnIds self.entry.formula self.entry.lines self.entry.handed }
+        ensures fresh { (self.entry.status ≡ Status.Refuted → ⊥) → Fresh self.entry.formula.clauses self.entry.inputs (held_of self.entry.handed self.entry.lines) self.entry.lines }
     {
         let Solver { engine } = self;
         let Engine { journal, .. } = engine;
@@ -124,8 +127,10 @@ impl Solver {
         journal
     }
 
-    pub(crate) fn into_assignment(self) -> Vec<bool>
-        ensures { result.items ≡ self.bits }
+    /// The values that satisfy the formula, by value, once a step has found them.
+    pub fn into_assignment(self) -> Vec<bool>
+        ensures bits { result.items ≡ self.entry.bits }
+        ensures model { self.entry.status ≡ Status.Model → IsModel self.entry.formula result.items }
     {
         let Solver { engine } = self;
         let Engine { assignment, .. } = engine;

@@ -8,8 +8,8 @@ use Rattle.rr_solver.proofs.outcome.solve.Goals as goal
 pub loop-number-preserved : goal.loop-number-preserved
 loop-number-preserved c =
     let i = c.loop-number.invariant in
-    let e = c.in_ok-step.ensures in
-    let p = subst (SteppedIs c.loop-number.solver c.step.new.solver) c.in-Learned.is e.result in
+    let e = c.in_ok-conflict_step.ensures in
+    let p = subst (SteppedIs c.loop-number.solver c.conflict_step.new.self) c.in-Learned.is (e.running i.status) in
     record {
       formula = e.same.formula ∙ i.formula;
       inputs = e.same.inputs ∙ i.inputs;
@@ -21,13 +21,13 @@ loop-number-preserved c =
 pub returns-in-Refuted : goal.returns-in-Refuted
 returns-in-Refuted c =
     let i = c.loop-number.invariant in
-    let e = c.in_ok-step.ensures in
-    let p = subst (SteppedIs c.loop-number.solver c.step.new.solver) c.in-Refuted.is e.result in
-    refuted_of c.args.formula.now c.step.new.solver c.into_journal.result.lines c.into_journal.ensures.log p.0 (e.same.formula ∙ i.formula) (e.same.handed ∙ i.handed) c.into_journal.ensures.lines
+    let e = c.in_ok-conflict_step.ensures in
+    let p = subst (SteppedIs c.loop-number.solver c.conflict_step.new.self) c.in-Refuted.is (e.running i.status) in
+    refuted_of c.args.formula.now c.conflict_step.new.self c.into_journal.result.lines c.into_journal.ensures.log p.0 (e.same.formula ∙ i.formula) (e.same.handed ∙ i.handed) c.into_journal.ensures.lines
 
 pub returns : goal.returns
 returns c =
     let i = c.loop-number.invariant in
     let j = c.into_journal-2.ensures in
-    let end : length c.loop-number.solver.lines ≡ c.args.budget = omega (arith, i.lines, c.loop-number-test.false, c.loop-number.auto.number-end) in
+    let end : length c.loop-number.solver.lines ≡ c.args.budget = omega (arith, i.lines, c.loop-number-test.false, c.loop-number.auto._number-end) in
     spent_of c.args.formula.now c.args.inputs c.args.budget c.loop-number.solver c.into_journal-2.result.lines j.log (j.fresh (λ q. absurd (let z : Running ≡ Refuted = sym i.status ∙ q in cc))) i.formula i.inputs i.handed j.lines end

@@ -7,6 +7,6 @@ invariant-loop-number l = record {
   formula : l.solver.formula ≡ l.formula;
   inputs : l.solver.inputs ≡ l.inputs;
   handed : l.solver.handed ≡ [];
-  lines : length l.solver.lines ≡ l.number;
+  lines : length l.solver.lines ≡ l._number;
   status : l.solver.status ≡ Running;
 }

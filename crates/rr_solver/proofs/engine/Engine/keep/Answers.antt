@@ -1,9 +1,11 @@
-use Rattle.std.proofs.Common.{◌≡◌, ◌∙◌, ◌+◌, ◌++◌, ◌∷◌, [], ap, refl, subst, arith}
+use Rattle.std.proofs.Common.{◌≡◌, ◌∙◌, ◌+◌, ◌++◌, ◌∷◌, [], length, ap, refl, subst, arith}
+use Rattle.rr_watch.proofs.EntryLaws.{length_lits}
+use Rattle.rr_solver.proofs.WalkSteps.{ready_cut}
 use Rattle.std.specs.Prelude.{All}
 use Rattle.rr_cnf.specs.Clauses.{IsWithin}
 use Rattle.rr_solver.specs.Engines.{IsEngine}
 use Rattle.rr_solver.specs.declared.engine.Status.TheVariants.{Running}
-use Rattle.rr_solver.proofs.EngineSteps.{Engine-back, Engine-held, Engine-learn, fresh, may_hold, new_id, passes, same_all_handed, same_question}
+use Rattle.rr_solver.proofs.EngineSteps.{Engine-back, Engine-held, Engine-learn, fresh, may_hold, names_all, new_id, passes, same_all_handed, same_question}
 use Rattle.rr_solver.proofs.engine.Engine.keep.Goals as goal
 
 pub add-requires-clause-may : goal.add-requires-clause-may
@@ -86,7 +88,32 @@ returns-clause-result c =
           id = new_id o.watch o.inputs o.count o.last o.journal o.handed.items Running o.assignment.items s c.in_ok-id.id (omega (arith, id));
           within = c.requires.learns.within;
           passes = passes o.watch o.inputs o.count o.last o.journal o.handed.items o.assignment.items s t.lawful t.forced within c.args.learned.clause c.args.learned.hints.items c.args.learned.level c.requires.learns c.requires.some f.0 f.1.0 f.1.1.0 f.1.1.1 c.in_ok-id.id;
+          hints = names_all o.watch o.inputs o.count o.last o.journal o.handed.items o.assignment.items s c.in_ok-id.id c.args.learned.clause c.args.learned.hints.items c.requires.learns.named;
         },
         fresh o.watch o.inputs o.count o.last o.journal o.handed.items o.assignment.items s t.lawful t.forced within c.args.learned.clause c.args.learned.hints.items c.args.learned.level c.requires.learns c.requires.some f.0 f.1.0 f.1.1.0 f.1.1.1 c.in_ok-id.id,
       ),
     )
+
+pub returns-in_err-add-clause-ready : goal.returns-in_err-add-clause-ready
+returns-in_err-add-clause-ready c =
+    let o = c.args.self.now in
+    let b = c.back.ensures in
+    let size = ap length c.trail-kept.ensures.trail ∙ length_lits c.back.new.self.trail in
+    let r = ready_cut o.watch.trail c.back.new.self.trail (length c.trail-kept.result.now) o.watch.vars c.back.new.self.vars o.work c.cut.new.self size b.cut.front b.cut.shorter c.cut.ensures b.vars c.requires.ready in
+    rw c.in_err-add.ensures.err r
+
+pub returns-in_err-push_at-clause-ready : goal.returns-in_err-push_at-clause-ready
+returns-in_err-push_at-clause-ready c =
+    let o = c.args.self.now in
+    let b = c.back.ensures in
+    let size = ap length c.trail-kept.ensures.trail ∙ length_lits c.back.new.self.trail in
+    let r = ready_cut o.watch.trail c.back.new.self.trail (length c.trail-kept.result.now) o.watch.vars c.back.new.self.vars o.work c.cut.new.self size b.cut.front b.cut.shorter c.cut.ensures b.vars c.requires.ready in
+    rw c.in_ok-add.ensures.ok r
+
+pub returns-clause-ready : goal.returns-clause-ready
+returns-clause-ready c =
+    let o = c.args.self.now in
+    let b = c.back.ensures in
+    let size = ap length c.trail-kept.ensures.trail ∙ length_lits c.back.new.self.trail in
+    let r = ready_cut o.watch.trail c.back.new.self.trail (length c.trail-kept.result.now) o.watch.vars c.back.new.self.vars o.work c.cut.new.self size b.cut.front b.cut.shorter c.cut.ensures b.vars c.requires.ready in
+    rw c.in_ok-add.ensures.ok r

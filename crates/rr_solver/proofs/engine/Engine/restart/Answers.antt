@@ -1,4 +1,6 @@
-use Rattle.std.proofs.Common.{length, sym, subst}
+use Rattle.std.proofs.Common.{ap, length, sym, subst, ◌∙◌}
+use Rattle.rr_watch.proofs.EntryLaws.{length_lits}
+use Rattle.rr_solver.proofs.WalkSteps.{ready_cut}
 use Rattle.rr_watch.specs.Watches.{bare}
 use Rattle.rr_solver.specs.Engines.{AllStand}
 use Rattle.rr_solver.proofs.EngineSteps.{AllStand-take, Engine-trail}
@@ -9,5 +11,12 @@ returns-clause-whole c =
     let o = c.args.self.now in
     let b = c.back.ensures in
     let n = length c.back.new.self.trail in
-    Engine-trail o.watch o.inputs o.count o.last o.journal o.handed.items o.status o.assignment.items c.requires c.back.new.self b.vars b.clauses
-    (subst (AllStand (bare o.watch.clauses) o.inputs) (sym b.cut.front) (AllStand-take (bare o.watch.clauses) o.inputs o.watch.trail n b.cut.shorter c.requires.stands))
+    Engine-trail o.watch o.inputs o.count o.last o.journal o.handed.items o.status o.assignment.items c.requires.whole c.back.new.self b.vars b.clauses
+    (subst (AllStand (bare o.watch.clauses) o.inputs) (sym b.cut.front) (AllStand-take (bare o.watch.clauses) o.inputs o.watch.trail n b.cut.shorter c.requires.whole.stands))
+
+pub returns-clause-ready : goal.returns-clause-ready
+returns-clause-ready c =
+    let o = c.args.self.now in
+    let b = c.back.ensures in
+    let size = ap length c.trail.ensures.trail ∙ length_lits c.back.new.self.trail in
+    ready_cut o.watch.trail c.back.new.self.trail (length c.trail.result.now) o.watch.vars c.back.new.self.vars o.work c.cut.new.self size b.cut.front b.cut.shorter c.cut.ensures b.vars c.requires.ready

@@ -10,5 +10,5 @@ returns-in-Conflict-clause-result c =
 pub returns-in-None-clause-result : goal.returns-in-None-clause-result
 returns-in-None-clause-result c =
     let m = moves_after c.args.self.now c.loop-id.self c.propagate.new.self c.loop-id.invariant.moves c.propagate.ensures.moves in
-    let n : Moves c.args.self.now (record c.propagate.new.self { order = c.open_input.new.order }) = record { vars = m.vars; clauses = m.clauses; inputs = m.inputs; count = m.count; last = m.last; journal = m.journal; places = m.places; status = m.status; bits = m.bits } in
+    let n : Moves c.args.self.now (record c.propagate.new.self { order = c.open_input.new.order }) = record { vars = m.vars; clauses = m.clauses; inputs = m.inputs; count = m.count; last = m.last; journal = m.journal; places = m.places; status = m.status; bits = m.bits; ready = m.ready } in
     ok_after c.args.self.now (record c.propagate.new.self { order = c.open_input.new.order }) n c.finish.new.self c.finish.result c.finish.ensures.result

@@ -10,4 +10,4 @@ pub returns-clause-fresh : goal.returns-clause-fresh
 returns-clause-fresh c =
     let e = c.self.inside.engine in
     subst (λ v. (v.status ≡ Refuted → ⊥) → Fresh v.formula.clauses v.inputs (held_of v.handed v.lines) v.lines) c.self.view_is
-    (all_fresh (question e.watch e.count) e.inputs (all_handed e.watch.clauses e.handed.items) e.journal.lines e.status e.assignment.items c.self.invariant.log c.lines-lines.ensures.rising)
+    (all_fresh (question e.watch e.count) e.inputs (all_handed e.watch.clauses e.handed.items) e.journal.lines e.status e.assignment.items c.self.invariant.0.log c.lines-lines.ensures.rising)

@@ -10,4 +10,4 @@ pub returns-clause-handed : goal.returns-clause-handed
 returns-clause-handed c =
     let e = c.self.inside.engine in
     subst (λ v. All (λ h. h.id ≤ e.last) v.handed) c.self.view_is
-    (All-weaker (λ (h : Handed). h.id < e.last + 1) (λ (h : Handed). h.id ≤ e.last) (λ h x. omega arith) (all_handed e.watch.clauses e.handed.items) (handed_ids e.watch.clauses e.handed.items e.last c.self.invariant.ids c.self.invariant.placed))
+    (All-weaker (λ (h : Handed). h.id < e.last + 1) (λ (h : Handed). h.id ≤ e.last) (λ h x. omega arith) (all_handed e.watch.clauses e.handed.items) (handed_ids e.watch.clauses e.handed.items e.last c.self.invariant.0.ids c.self.invariant.0.placed))
