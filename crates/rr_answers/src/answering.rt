@@ -1,5 +1,10 @@
 //! The answers, from what the search found.
-ghost use Rattle.std.specs.Prelude.{◌≡◌, ◌<◌, ◌≤◌, ◌^◌, ℕ, [], IfOk, length, string_bytes};
+ghost use Rattle.std.specs.Prelude.{◌≡◌, ◌<◌, ◌≤◌, ◌^◌, ℕ, [], IfOk, OnOk, length, string_bytes};
+ghost use Rattle.rr_certify.specs.Certificates.{IsJudged};
+ghost use Rattle.rr_check.specs.declared.verdict.Verdict.TheVariants.{Accepted};
+ghost use Rattle.rr_circuit.specs.Aag.{aag};
+ghost use Rattle.rr_derive.specs.Derive.{Refutes};
+ghost use Rattle.rr_derive.specs.Lrat.{AreWritable, lrat};
 ghost use Rattle.rr_syntax.specs.Items.{NumberedSource};
 ghost use Rattle.rr_syntax.specs.View.{plain_source};
 ghost use Rattle.rr_lex.specs.Tokens.{lexemes, words_of, AreTokens};
@@ -8,6 +13,7 @@ ghost use Rattle.rr_instance.specs.Instances.{instance_source};
 ghost use Rattle.rr_report.specs.Views.{plain_answer};
 ghost use Rattle.rr_respell.specs.Laws.{AreNamed};
 ghost use Rattle.rr_respell.specs.Printing.{printed};
+ghost use Rattle.rr_tseitin.specs.Tseitin.{formula_of as tseitin};
 ghost use Rattle.rr_changes.specs.Texts.{report as report_of};
 ghost use Rattle.rr_answers.specs.Certified.{certificate as certificate_of};
 ghost use Rattle.rr_answers.specs.Texts.{beyond_text, open_text, unchanged_text};
@@ -38,7 +44,8 @@ pub fn unchanged(alloc: Global, bytes: &[u8]) -> Found<'_>
 }
 
 /// The answer that prints the source with the changes of a choice, writes the certificate of fewer, and
-/// reports how many proposals were tested.
+/// reports how many proposals were tested. A check accepts the certificate where the lines refute the
+/// circuit's formula.
 pub fn repaired<'b>(
     alloc: Global,
     bytes: &[u8],
@@ -58,6 +65,7 @@ pub fn repaired<'b>(
     requires named { AreNamed list.now }
     requires few { length choice.now.picks.items < 2 ^ 32 }
     ensures files { IfOk result (λ found. (plain_answer found).files ≡ certificate_of cert.now circuit.now journal.now) }
+    ensures accepted { OnOk result (Refutes (tseitin circuit.now).clauses journal.now.lines → AreWritable (tseitin circuit.now) journal.now.lines → IsJudged (aag circuit.now) (lrat journal.now) Accepted) }
     ensures printed { IfOk result (λ found. (plain_answer found).out ≡ printed bytes.now (lexemes tokens.now) list.now choice.now.picks.items (plain_source source.now)) }
     ensures tree { IfOk result (λ found. IsTree (plain_answer found).out (instance_source list.now choice.now.picks.items (plain_source source.now))) }
     ensures notes { IfOk result (λ found. (plain_answer found).notes ≡ report_of (lexemes tokens.now) list.now choice.now.picks.items proposals) }
@@ -74,7 +82,8 @@ pub fn repaired<'b>(
     })
 }
 
-/// The answer that no choice among so many sites matches, with its certificate.
+/// The answer that no choice among so many sites matches, with its certificate, which a check accepts where
+/// the lines refute the circuit's formula.
 pub fn beyond<'b>(
     alloc: Global,
     sites: usize,
@@ -83,6 +92,7 @@ pub fn beyond<'b>(
     journal: &Journal,
 ) -> Result<Found<'b>, AllocError>
     ensures files { IfOk result (λ found. (plain_answer found).files ≡ certificate_of cert.now circuit.now journal.now) }
+    ensures accepted { OnOk result (Refutes (tseitin circuit.now).clauses journal.now.lines → AreWritable (tseitin circuit.now) journal.now.lines → IsJudged (aag circuit.now) (lrat journal.now) Accepted) }
     ensures printed { IfOk result (λ found. (plain_answer found).out ≡ []) }
     ensures notes { IfOk result (λ found. (plain_answer found).notes ≡ beyond_text sites) }
     ensures status { IfOk result (λ found. (plain_answer found).status ≡ 1) }

@@ -1,6 +1,12 @@
 //! The files of a certificate.
-ghost use Rattle.std.specs.Prelude.{◌≡◌, ◌++◌, IfOk, map, string_bytes};
+ghost use Rattle.std.specs.Prelude.{◌≡◌, ◌++◌, IfOk, OnOk, map, string_bytes};
+ghost use Rattle.rr_certify.specs.Certificates.{IsJudged};
+ghost use Rattle.rr_check.specs.declared.verdict.Verdict.TheVariants.{Accepted};
+ghost use Rattle.rr_circuit.specs.Aag.{aag};
+ghost use Rattle.rr_derive.specs.Derive.{Refutes};
+ghost use Rattle.rr_derive.specs.Lrat.{AreWritable, lrat};
 ghost use Rattle.rr_report.specs.Views.{file_of};
+ghost use Rattle.rr_tseitin.specs.Tseitin.{formula_of as tseitin};
 ghost use Rattle.rr_answers.specs.Certified.{certificate};
 
 use rr_circuit::{Circuit, write_aag};
@@ -19,14 +25,16 @@ fn named(alloc: Global, cert: &str, ending: &str, bytes: Vec<u8>) -> Result<File
     Ok(file)
 }
 
-/// The circuit as AIGER, its formula as DIMACS, and the lines of the journal as LRAT, in this order.
+/// The circuit as AIGER, its formula as DIMACS, and the lines of the journal as LRAT, in this order. Where
+/// the lines refute the formula, the texts are accepted by a check.
 pub(crate) fn certificate(
     alloc: Global,
     cert: &str,
     circuit: &Circuit,
     journal: &Journal,
 ) -> Result<Vec<File>, AllocError>
-    ensures { IfOk result (λ files. map file_of files.items ≡ certificate cert.now circuit.now journal.now) }
+    ensures files { IfOk result (λ files. map file_of files.items ≡ certificate cert.now circuit.now journal.now) }
+    ensures accepted { OnOk result (Refutes (tseitin circuit.now).clauses journal.now.lines → AreWritable (tseitin circuit.now) journal.now.lines → IsJudged (aag circuit.now) (lrat journal.now) Accepted) }
 {
     let aag = write_aag(alloc, circuit)?;
     let circuit_file = named(alloc, cert, ".aag", aag)?;

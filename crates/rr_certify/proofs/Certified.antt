@@ -2,22 +2,24 @@
 use Rattle.std.proofs.Common.{◌≡◌, ◌∙◌, ◌⊎◌, inl, inr, ◌+◌, ◌-◌, ◌<◌, ◌≤◌, ℕ, zero, suc, List, [], ◌∷◌, ◌++◌, length, take, drop, refl, sym, ap, subst, arith, append_assoc}
 use Rattle.std.specs.Prelude.{Result, Ok, Err, IfOk, MatchResult}
 use Rattle.std.proofs.lemmas.Bool.{cases_lt}
-use Rattle.std.proofs.lemmas.List.{length-take, take-append-drop}
+use Rattle.std.proofs.lemmas.List.{append-nil, length-take, take-append-drop}
 use Rattle.rr_cnf.specs.Clauses.{Clauses, IsSatisfiable}
 use Rattle.rr_circuit.specs.Values.{OutputNetlist}
-use Rattle.rr_circuit.specs.Aag.{AreLines, Begins, IsBadLine, text_of}
+use Rattle.rr_circuit.specs.Aag.{aag, AreLines, Begins, IsBadLine, IsCircuit, text_of}
 use Rattle.rr_circuit.proofs.AagLaws.{text_of-append}
 use Rattle.rr_circuit.proofs.AagWhole.{reads_back, text_of_circuit}
 use Rattle.rr_tseitin.specs.Tseitin.{formula_of}
 use Rattle.rr_tseitin.proofs.TseitinLaws.{satisfiable-iff}
-use Rattle.rr_derive.specs.Derive.{Step}
-use Rattle.rr_derive.specs.Lrat.{IsCause}
+use Rattle.rr_derive.specs.Derive.{Proof, Refutes, Step}
+use Rattle.rr_derive.specs.Lrat.{AreWritable, IsCause, lrat}
 use Rattle.rr_derive.specs.declared.read.ProofFault.{ProofFault}
 use Rattle.rr_derive.specs.declared.read.ProofFault.TheVariants.{BadProof, RatLine, Memory}
 use Rattle.rr_derive.proofs.LratLaws.{one_cause, one_proof_text, proof_or_cause}
 use Rattle.rr_derive.proofs.Soundness.{unsatisfiable}
+use Rattle.rr_derive.proofs.WrittenLaws.{written_is_read}
 use Rattle.rr_check.specs.declared.verdict.Verdict.{Verdict}
 use Rattle.rr_check.specs.declared.verdict.Verdict.TheVariants as found
+use Rattle.rr_check.specs.declared.verdict.Verdict.TheVariants.{Accepted}
 use Rattle.rr_check.specs.Verdicts.{VerdictIs}
 use Rattle.rr_check.proofs.Whole.{one}
 use Rattle.rr_certify.specs.declared.fault.Flaw.{Flaw}
@@ -142,3 +144,17 @@ module _ (circuit proof : List ℕ) where
       → IfOk r (λ v. v ≡ found.Accepted → IsNeverTrue circuit)
   sound_of (Ok v) j = λ is. sound v j is
   sound_of (Err fault) j = tt
+
+-- the written texts of a circuit and of lines that refute its formula
+pub written_accepted : (c : OutputNetlist) (p : Proof) → IsCircuit c → Refutes (formula_of c).clauses p.lines → AreWritable (formula_of c) p.lines → IsJudged (aag c) (lrat p) Accepted
+written_accepted c p w r a = record {
+  formula = formula_of c;
+  steps = p.lines;
+  circuit_read = record {
+    netlist = c;
+    read = record { text = record { rest = []; text = sym (append-nil (aag c)); unread = tt }; circuit = w };
+    is = refl;
+  };
+  proof_read = written_is_read (formula_of c) p w.bounds.0 r.0 a;
+  judged = r;
+}

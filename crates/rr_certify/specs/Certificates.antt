@@ -2,13 +2,14 @@
 use Rattle.std.specs.Prelude.{◌≡◌, ⊤, ℕ, List, length}
 use Rattle.rr_cnf.specs.Clauses.{Clauses}
 use Rattle.rr_circuit.specs.Values.{OutputNetlist}
-use Rattle.rr_circuit.specs.Aag.{IsBadLine, IsCircuit, IsTextOf}
+use Rattle.rr_circuit.specs.Aag.{aag, IsBadLine, IsCircuit, IsTextOf}
 use Rattle.rr_tseitin.specs.Tseitin.{formula_of, CanBeTrue}
-use Rattle.rr_derive.specs.Derive.{Step}
-use Rattle.rr_derive.specs.Lrat.{IsCause, IsProofText}
+use Rattle.rr_derive.specs.Derive.{Proof, Refutes, Step}
+use Rattle.rr_derive.specs.Lrat.{AreWritable, IsCause, IsProofText, lrat}
 use Rattle.rr_derive.specs.declared.read.ProofFault.{ProofFault}
 use Rattle.rr_derive.specs.declared.read.ProofFault.TheVariants.{BadProof, RatLine}
 use Rattle.rr_check.specs.declared.verdict.Verdict.{Verdict}
+use Rattle.rr_check.specs.declared.verdict.Verdict.TheVariants.{Accepted}
 use Rattle.rr_check.specs.Verdicts.{VerdictIs}
 use Rattle.rr_certify.specs.declared.fault.Flaw.{Flaw}
 use Rattle.rr_certify.specs.declared.fault.Flaw.TheVariants as flaw
@@ -60,3 +61,7 @@ pub record IsNeverTrue (circuit : List ℕ) : Type 0 where
   pub netlist : OutputNetlist
   pub read : IsCircuitOf circuit netlist
   pub never : CanBeTrue netlist → ⊥
+
+-- the texts that are written of a circuit and of lines that refute its formula are accepted
+abbrev pub WrittenIsAccepted : Type 0
+WrittenIsAccepted = (c : OutputNetlist) (p : Proof) → IsCircuit c → Refutes (formula_of c).clauses p.lines → AreWritable (formula_of c) p.lines → IsJudged (aag c) (lrat p) Accepted

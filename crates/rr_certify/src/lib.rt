@@ -13,7 +13,7 @@ mod fault;
 mod laws;
 
 pub use fault::{CertificateFault, Flaw};
-pub use laws::one_outcome;
+pub use laws::{one_outcome, written_is_accepted};
 pub use rr_check::Verdict;
 use rr_check::first_bad;
 use rr_circuit::{AagFault, Circuit, read_aag};

@@ -9,3 +9,4 @@ pub mod LratLines
 pub mod Signs
 pub mod LratText
 pub mod LratLaws
+pub mod WrittenLaws

@@ -99,12 +99,12 @@ module _ (clauses vars : ℕ) (bytes : List ℕ) where
       absurd (bad_or_rat vars y.last y.rest y.bad_line (subst IsRat h x.bad_line))
 
 -- what was written is read
-record Whole (vars last count : ℕ) (text : List ℕ) (steps : List Step) : Type 0 where
+pub record Whole (vars last count : ℕ) (text : List ℕ) (steps : List Step) : Type 0 where
   pub end : ℕ
   pub lines : ℕ
   pub read : Read vars end lines [] last count text steps
 
-written : (vars last count : ℕ) (steps : List Step) → AreKept last vars steps → Whole vars last count (flat_map (λ s. step_line s ++ codes "\n") steps) steps
+pub written : (vars last count : ℕ) (steps : List Step) → AreKept last vars steps → Whole vars last count (flat_map (λ s. step_line s ++ codes "\n") steps) steps
 written vars last count [] k = record { end = last; lines = count; read = here last count [] refl refl refl }
 written vars last count (s ∷ ss) k =
     let rest = flat_map (λ s. step_line s ++ codes "\n") ss in

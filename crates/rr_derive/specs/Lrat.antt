@@ -1,11 +1,11 @@
 -- the text of a proof, and the grammar of such texts line by line (LRAT: L. Cruz-Filipe,
 -- M. J. H. Heule, W. A. Hunt, M. Kaufmann, P. Schneider-Kamp, "Efficient certified RAT
 -- verification", 2017), where RAT lines are told and not taken
-use Rattle.std.specs.Prelude.{◌≡◌, ◌≢◌, ◌⊎◌, ⊤, ℕ, ◌+◌, ◌^◌, ◌<◌, ◌≤◌, true, false, List, [], ◌∷◌, ◌++◌, Contains, codes, decimal, map}
+use Rattle.std.specs.Prelude.{◌≡◌, ◌≢◌, ◌⊎◌, ⊤, ℕ, ◌+◌, ◌^◌, ◌<◌, ◌≤◌, true, false, All, List, [], ◌∷◌, ◌++◌, Contains, codes, decimal, length, map, slice_index_or, take}
 use Rattle.std.specs.List.{AllByRecursion, flat_map}
-use Rattle.rr_cnf.specs.Clauses.{Literal, negated}
+use Rattle.rr_cnf.specs.Clauses.{Clauses, IsWithin, Literal, negated}
 use Rattle.rr_cnf.specs.Dimacs.{literal_text}
-use Rattle.rr_derive.specs.Derive.{IsNoTautology, Proof, Step}
+use Rattle.rr_derive.specs.Derive.{Derives, IsNoTautology, IsRising, Names, Proof, Step}
 use Rattle.rr_derive.specs.declared.read.ProofFault.{ProofFault}
 use Rattle.rr_derive.specs.declared.read.ProofFault.TheVariants.{BadProof, RatLine, Memory}
 
@@ -145,7 +145,24 @@ pub record IsReadable (clauses vars : ℕ) (p : Proof) : Type 0 where
   pub first : p.first ≡ clauses + 1
   pub kept : AreKept clauses vars p.lines
 
+-- each hint of each line names a clause of the formula or of a line before
+abbrev pub AreHinted : List (List Literal) → List Step → Type 0
+AreHinted formula lines = (k : ℕ) (d : Step) → k < length lines → All (λ h. (c : List Literal) × Names formula (take k lines) h c) (slice_index_or lines k d).hints
+
+-- lines over a formula that have a text: their ids rise above the formula's and are numbers of a proof, their literals are
+-- the formula's, and their hints name clauses before them
+pub record AreWritable (f : Clauses) (lines : List Step) : Type 0 where
+  pub rising : IsRising lines
+  pub above : All (λ s. length f.clauses < s.id) lines
+  pub numbers : All (λ s. s.id < 2 ^ 62) lines
+  pub within : All (λ s. All (IsWithin f.vars) s.clause) lines
+  pub hinted : AreHinted f.clauses lines
+
 -- ---- laws
+
+-- the text of such lines, where each passes the hint check, is a proof text of them
+abbrev pub WrittenIsRead : Type 0
+WrittenIsRead = (f : Clauses) (p : Proof) → f.vars < 2 ^ 62 → Derives f.clauses p.lines → AreWritable f p.lines → IsProofText (length f.clauses) f.vars (lrat p) p.lines
 
 -- no bytes have two proofs
 abbrev pub OneProof : Type 0

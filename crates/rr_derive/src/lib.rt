@@ -14,5 +14,5 @@ pub use check::{Workspace, check_line};
 pub use fresh::fresh_lines_are_few;
 pub use laws::refuted_means_unsatisfiable;
 pub use line::{Journal, Line};
-pub use read::{ProofFault, one_fault, one_proof, proof_or_fault, read_lrat};
+pub use read::{ProofFault, one_fault, one_proof, proof_or_fault, read_lrat, written_is_read};
 pub use write::write_lrat;

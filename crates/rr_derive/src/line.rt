@@ -60,6 +60,16 @@ impl Journal {
         self.lines.as_slice()
     }
 
+    /// The lines by value, whose ids rise from `first` on.
+    pub fn into_lines(self) -> Vec<Line>
+        ensures lines { result.items ≡ self.lines }
+        ensures rising { IsRising self.lines }
+        ensures first { All (λ s. self.first ≤ s.id) self.lines }
+    {
+        let Journal { lines, .. } = self;
+        lines
+    }
+
     /// Adds a line behind the others, whose id must be at least the first and above all others. The
     /// journal stays the same where memory runs out.
     pub fn push_at(&mut self, id: u64, clause: Clause, hints: Vec<u64>) -> Result<(), AllocError>

@@ -5,7 +5,7 @@ ghost use Rattle.rr_cnf.specs.Clauses.{IsWithin};
 ghost use Rattle.rr_cnf.specs.Codes.{code_of};
 ghost use Rattle.rr_cnf.specs.Dimacs.{literal_text};
 ghost use Rattle.rr_derive.specs.Derive.{IsNoTautology, Proof};
-ghost use Rattle.rr_derive.specs.Lrat.{BreaksRule, HasBothSigns, HasVariableAbove, IsCause, IsNumber, IsProofText, IsReadable, Keeps, OneFault, OneProof, ProofOrFault, lrat, positive};
+ghost use Rattle.rr_derive.specs.Lrat.{BreaksRule, HasBothSigns, HasVariableAbove, IsCause, IsNumber, IsProofText, IsReadable, Keeps, OneFault, OneProof, ProofOrFault, lrat, positive, WrittenIsRead};
 ghost use Rattle.rr_derive.specs.Reading.{AreIds, EntryIs, GoesOn, HintsAre, IsEnd, IsNoDeletion, IsNumberless, KeptBy, LiteralsAre, MayKeep, NoIds, NumbersEnd, ReadsAs, StopsAt, id_text};
 
 use crate::line::{Journal, Line};
@@ -315,6 +315,12 @@ fn read_lines(alloc: Global, bytes: &[u8], clauses: u64, vars: u64) -> Result<Jo
 /// No bytes have two proofs.
 pub fn one_proof()
     ensures { OneProof }
+{}
+
+/// The text that is written of lines over a formula of fewer than 2^62 variables, where each passes the
+/// hint check and names clauses before it, is read as these lines.
+pub fn written_is_read()
+    ensures { WrittenIsRead }
 {}
 
 /// No bytes have both a proof and a first bad line.

@@ -1,7 +1,7 @@
 //! Small formulas by one and by several members, and the gate.
 ghost use Rattle.std.specs.Prelude.{◌≡◌, ◌≤◌, IfOk, IfSome, OnOk};
 ghost use Rattle.rr_cnf.specs.Partial.{Determined};
-ghost use Rattle.rr_solver.specs.Outcomes.{AreLines};
+ghost use Rattle.rr_derive.specs.Lrat.{AreWritable};
 ghost use Rattle.rr_members.specs.Groups.{AnswerIs};
 
 use rr_cnf::{Clause, Formula, Lit};
@@ -124,7 +124,7 @@ fn add(alloc: Global, formula: &mut Formula, lits: &[Lit]) -> Result<(), Fail> {
 
 /// Whether every line passes the hint check.
 fn all_pass(alloc: Global, formula: &Formula, journal: &Journal) -> Result<bool, Fail>
-    requires { AreLines formula.now journal.now.lines }
+    requires { AreWritable formula.now journal.now.lines }
 {
     if formula.vars() >= 1 << 40 {
         return Ok(false);
@@ -152,7 +152,7 @@ fn pigeons_by_three_members(rt: HostRuntime) -> Result<(), Fail> {
 }
 
 /// Rounds of four events until a member has ended.
-fn ended<R: Threads + Sync>(rt: &R, members: &mut Members) -> Result<Option<Round>, Fail>
+fn ended<R: Threads + Sync>(rt: &R, members: &mut Members<'_>) -> Result<Option<Round>, Fail>
     ensures answer { IfOk result (λ r. IfSome r (AnswerIs members.new)) }
     ensures same { OnOk result (members.new.formula ≡ members.old.formula) }
 {

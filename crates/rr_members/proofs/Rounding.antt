@@ -1,12 +1,13 @@
 -- what a round is for all members
-use Rattle.std.proofs.Common.{◌≡◌, ℕ, suc, zero, ◌+◌, ◌-◌, ◌^◌, ◌<◌, ◌≤◌, Bool, List, ◌∷◌, length, map, replicate, refl, sym, ◌∙◌, ap, subst, arith}
+use Rattle.std.proofs.Common.{◌≡◌, inl, inr, ℕ, suc, zero, ◌+◌, ◌-◌, ◌^◌, ◌<◌, ◌≤◌, Bool, List, [], ◌∷◌, length, get_or, map, replicate, refl, sym, ◌∙◌, ap, subst, arith}
 use Rattle.std.specs.Prelude.{All, Some, None, IsSome, slice_index_or}
-use Rattle.std.proofs.lemmas.Bool.{false≢true}
-use Rattle.std.proofs.lemmas.List.{get_or-map, length-map, length-replicate, get_or-replicate}
+use Rattle.std.proofs.Math.Seq.{get_or-append_seam}
+use Rattle.std.proofs.lemmas.Bool.{cases_lt, false≢true}
+use Rattle.std.proofs.lemmas.List.{get_or-map, get_or_append_left, length-map, length_push, length-replicate, get_or-replicate}
 use Rattle.std.proofs.lemmas.List.Elements.{All-map, All-push}
 use Rattle.rr_cnf.specs.Clauses.{Clauses, IsWithin}
 use Rattle.rr_derive.specs.Derive.{Step}
-use Rattle.rr_solver.specs.Outcomes.{AreLines}
+use Rattle.rr_derive.specs.Lrat.{AreHinted, AreWritable}
 use Rattle.rr_solver.specs.Searches.{IsModel, Search, line}
 use Rattle.rr_solver.specs.declared.engine.Status.TheVariants.{Running, Model, Refuted, Failed}
 use Rattle.rr_rounds.specs.declared.place.Place.{Place}
@@ -17,7 +18,9 @@ use Rattle.rr_rounds.specs.Rounds.{HandsOver, HasMade, IsRound, Reached, begun, 
 use Rattle.rr_members.specs.Seats.{Seated, ending_by, member_of}
 use Rattle.rr_members.specs.Sharing.{AllTook, all_shorts, nobody, seat, state_of}
 use Rattle.rr_members.specs.Groups.{Asked, EachRan, Group, IsFirst, IsFirstEnded, IsGroup, NoneEnded, formula_of, group_of, inputs_of, new_seat}
+use Rattle.rr_rounds.proofs.Joining.{joined_hinted, joined_with_hinted}
 use Rattle.rr_rounds.proofs.Lawful.{no_step}
+use Rattle.rr_rounds.proofs.Ordered.{lists_all}
 use Rattle.rr_rounds.proofs.Reaching.{lawful}
 use Rattle.rr_rounds.proofs.Standing.{standing}
 use Rattle.rr_members.proofs.Playing.{Reached-moves, played, played_are, played_made, played_moved}
@@ -158,19 +161,45 @@ module _ (g : Clauses) (inputs count : ℕ) (s : State) (r : Reached g inputs co
       let one = all k no_step inside in
       subst (λ p. All (IsWithin g.vars) (line_of s p).step.clause) (sym (a.is d)) (subst (λ (x : Step). All (IsWithin g.vars) x.clause) (get_or-map (λ (y : Learned). y.step) m.lines k nothing no_step a.at.inside) one)
 
-  pub joined_lines : AreLines g (joined g s)
-  joined_lines = record {
-    above = All-map (λ (x : Step). length g.clauses < x.id) (joined_step g s) (in_order s) (λ k d h. omega arith);
-    within = All-map (λ (x : Step). All (IsWithin g.vars) x.clause) (joined_step g s) (in_order s) line_within;
+  ids : (k : ℕ) (d : Step) → k < length (joined g s) → (get_or (joined g s) k d).id ≡ length g.clauses + 1 + k
+  ids k d h = (lists_all g inputs count s r).2 k d (omega (arith, h, length-map (in_order s) (joined_step g s)))
+
+  -- lines whose ids go on behind the formula
+  by_ids : (lines : List Step) → ((k : ℕ) (d : Step) → k < length lines → (get_or lines k d).id ≡ length g.clauses + 1 + k) → length g.clauses + length lines < 2 ^ 62 → All (λ x. All (IsWithin g.vars) x.clause) lines → AreHinted g.clauses lines → AreWritable g lines
+  by_ids lines id small within hinted = record {
+    rising = λ j k d e a h. let x = id j d (omega arith) in let y = id k e h in omega (arith, x, y);
+    above = λ k d h. let x = id k d h in omega (arith, x);
+    numbers = λ k d h. let x = id k d h in omega (arith, x, small);
+    within = within;
+    hinted = hinted;
   }
 
-  pub all_lines : (m : ℕ) (e : Step) → (member s m).ending ≡ Some (emptied e) → AreLines g (joined_with g s m e)
-  all_lines m e is =
-      let empty = ((lawful g inputs count s r m).ending e is).1 in
-      record {
-        above = All-push (λ (x : Step). length g.clauses < x.id) (joined g s) (last_step g s m e) joined_lines.above (omega arith);
-        within = All-push (λ (x : Step). All (IsWithin g.vars) x.clause) (joined g s) (last_step g s m e) joined_lines.within (λ k d h. absurd (omega (arith, h, ap length empty)));
-      }
+  all_within : All (λ (x : Step). All (IsWithin g.vars) x.clause) (joined g s)
+  all_within = All-map (λ (x : Step). All (IsWithin g.vars) x.clause) (joined_step g s) (in_order s) line_within
+
+  module _ (small : length g.clauses + 1 + length (in_order s) < 2 ^ 62) where
+    pub joined_lines : AreWritable g (joined g s)
+    joined_lines = by_ids (joined g s) ids (omega (arith, small, length-map (in_order s) (joined_step g s))) all_within (joined_hinted g inputs count s r)
+
+    module _ (m : ℕ) (e : Step) (is : (member s m).ending ≡ Some (emptied e)) where
+      ids_with : (k : ℕ) (d : Step) → k < length (joined_with g s m e) → (get_or (joined_with g s m e) k d).id ≡ length g.clauses + 1 + k
+      ids_with k d h =
+          let size = length-map (in_order s) (joined_step g s) in
+          elim (cases_lt k (length (joined g s))) [
+            | inl i ↦ ap (λ (x : Step). x.id) (get_or_append_left (joined g s) (last_step g s m e ∷ []) d k i) ∙ ids k d i
+            | inr i ↦
+                (let last : k ≡ length (joined g s) = omega (arith, length_push (joined g s) (last_step g s m e)) in
+                ap (λ n. (get_or (joined_with g s m e) n d).id) last
+                ∙ ap (λ (x : Step). x.id) (get_or-append_seam (joined g s) (last_step g s m e) [] d)
+                ∙ ap (λ n. length g.clauses + 1 + n) (sym (last ∙ size)))
+          ]
+
+      pub all_lines : AreWritable g (joined_with g s m e)
+      all_lines =
+          let empty = ((lawful g inputs count s r m).ending e is).1.1 in
+          by_ids (joined_with g s m e) ids_with (omega (arith, small, length_push (joined g s) (last_step g s m e), length-map (in_order s) (joined_step g s)))
+          (All-push (λ (x : Step). All (IsWithin g.vars) x.clause) (joined g s) (last_step g s m e) all_within (λ k d h. absurd (omega (arith, h, ap length empty))))
+          (joined_with_hinted g inputs count s r m e is)
 
 -- the first that has ended
 module _ (v : Group) (round : ℕ) (seats : List Seated) (failed : Bool) (is : group_of round seats failed ≡ v) where

@@ -1,14 +1,14 @@
 -- rounds after which none has ended
-use Rattle.std.proofs.Common.{◌≡◌, ◌*◌, ◌⊎◌, inl, inr, ℕ, ◌+◌, ◌-◌, ◌<◌, ◌≤◌, ◌==◌, min, Bool, false, cond, List, [], ◌∷◌, length, get_or, replicate, refl, sym, ◌∙◌, ap, subst, arith}
+use Rattle.std.proofs.Common.{◌≡◌, ◌*◌, ◌⊎◌, inl, inr, ℕ, ◌+◌, ◌-◌, ◌^◌, ◌<◌, ◌≤◌, ◌==◌, min, Bool, false, cond, List, [], ◌∷◌, length, get_or, replicate, refl, sym, ◌∙◌, ap, subst, arith}
 use Rattle.std.specs.Prelude.{IsSome, None}
 use Rattle.std.proofs.lemmas.Bool.{cases_eq, eq-eqb, false≢true, ne_eqb}
 use Rattle.std.proofs.lemmas.List.{length-replicate, length-set, length_push, get_or-replicate}
 use Rattle.std.proofs.lemmas.List.Sums.{sum_by-cons}
 use Rattle.rr_cnf.specs.Clauses.{Clauses}
 use Rattle.rr_derive.specs.Derive.{Derives, Step}
-use Rattle.rr_solver.specs.Outcomes.{AreLines}
+use Rattle.rr_derive.specs.Lrat.{AreWritable}
 use Rattle.rr_rounds.specs.States.{Member, State, idle, member}
-use Rattle.rr_rounds.specs.Joined.{joined}
+use Rattle.rr_rounds.specs.Joined.{in_order, joined}
 use Rattle.rr_rounds.specs.Rounds.{AreMoves, Event, learns, solves, refutes, IsRound, May, Move, Reached, begun, by_hand, after, moved, moved_all, moves_of, start}
 use Rattle.rr_members.specs.Groups.{Group, NoneEnded}
 use Rattle.rr_members.specs.Searched.{IsSpent, Played, begun as begun_rounds, next}
@@ -137,8 +137,8 @@ module _ (f : Clauses) (inputs count budget spent : ℕ) (g h : Group) (w : Goes
             more ∙ ap (λ k. k + min (budget - spent) 256) (w.lines m l) ∙ ap (λ k. spent + k) (sym many);
       }
 
-pub is_spent : (f : Clauses) (inputs count budget spent : ℕ) (g : Group) → 1 ≤ count → Goes f inputs count budget spent g → budget ≤ spent → (lines : List Step) → lines ≡ joined g.formula g.state → IsSpent f inputs count budget lines
-is_spent f inputs count budget spent g some w all lines is =
+pub is_spent : (f : Clauses) (inputs count budget spent : ℕ) (g : Group) → 1 ≤ count → Goes f inputs count budget spent g → budget ≤ spent → (lines : List Step) → lines ≡ joined g.formula g.state → length g.formula.clauses + 1 + length (in_order g.state) < 2 ^ 62 → IsSpent f inputs count budget lines
+is_spent f inputs count budget spent g some w all lines is small =
     let end : spent ≡ budget = let a = w.low in omega arith in
     let r = played_reached f inputs count budget spent g.state w.played in
     let journal : lines ≡ joined f g.state = is ∙ ap (λ x. joined x g.state) w.question in
@@ -153,5 +153,5 @@ is_spent f inputs count budget spent g some w all lines is =
       journal = journal;
       derives = subst (Derives f.clauses) (sym journal) (joined_derives f inputs count g.state r);
       few = let a = lines_few f inputs count g.state r 0 in let b = w.lines 0 (omega arith) in omega (arith, a, b, end);
-      lawful = subst (AreLines f) (sym journal) (joined_lines f inputs count g.state r);
+      lawful = subst (AreWritable f) (sym journal) (joined_lines f inputs count g.state r (subst (λ (x : Clauses). length x.clauses + 1 + length (in_order g.state) < 2 ^ 62) w.question small));
     }

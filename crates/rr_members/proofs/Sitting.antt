@@ -8,7 +8,7 @@ use Rattle.std.proofs.lemmas.Bool.{cases_lt, ne_eqb, eq-eqb}
 use Rattle.rr_cnf.specs.Clauses.{Clauses}
 use Rattle.rr_derive.specs.Derive.{Step}
 use Rattle.rr_derive.specs.Fresh.{Handed}
-use Rattle.rr_solver.specs.Searches.{Adds, IsFreshAfter, IsNewId, PassesAfter, Same, Search, SteppedIs, line}
+use Rattle.rr_solver.specs.Searches.{Adds, IsFreshAfter, IsNewId, NamesAll, PassesAfter, Same, Search, SteppedIs, line}
 use Rattle.rr_solver.specs.declared.engine.Status.TheVariants.{Running, Model, Refuted, Failed}
 use Rattle.rr_solver.specs.declared.engine.Stepped.{Stepped}
 use Rattle.rr_solver.specs.declared.engine.Stepped.TheVariants.{Learned as HasLearned, Model as HasModel, Refuted as HasRefuted}
@@ -112,6 +112,7 @@ module _ (round : ℕ) (old new : Search) (rounds : List ℕ) (origins : List Or
     id = subst (λ ss. IsNewId old.formula ss (handed (member_of seated)) a.added.id) (sym own_steps) (subst (λ hs. IsNewId old.formula old.lines hs a.added.id) (sym own_handed) a.id);
     within = a.within;
     passes = subst (λ ss. PassesAfter old.formula ss (handed (member_of seated)) a.added) (sym own_steps) (subst (λ hs. PassesAfter old.formula old.lines hs a.added) (sym own_handed) a.passes);
+    hints = subst (λ ss. NamesAll old.formula ss (handed (member_of seated)) a.added) (sym own_steps) (subst (λ hs. NamesAll old.formula old.lines hs a.added) (sym own_handed) a.hints);
   }
 
   pub does_learn : (more : List ℕ) → more ≡ rounds ++ round ∷ [] → SteppedIs old new HasLearned → Does round (record { search = old; rounds = rounds; origins = origins }) (record { search = new; rounds = more; origins = origins })

@@ -2,7 +2,7 @@
 use Rattle.std.specs.Prelude.{◌≡◌, ℕ, ◌^◌, ◌<◌, ◌≤◌, Bool, List, [], length, Some, None, IsSome}
 use Rattle.rr_cnf.specs.Clauses.{Clauses}
 use Rattle.rr_derive.specs.Derive.{Refutes, Step}
-use Rattle.rr_solver.specs.Outcomes.{AreLines}
+use Rattle.rr_derive.specs.Lrat.{AreWritable}
 use Rattle.rr_solver.specs.Searches.{IsModel}
 use Rattle.rr_solver.specs.declared.engine.Status.TheVariants.{Running, Failed}
 use Rattle.rr_rounds.specs.States.{Ending, emptied, solved, State, member}
@@ -64,7 +64,7 @@ NoneEnded s = (m : ℕ) → m < length s.members → (member s m).ending ≡ Non
 abbrev pub AnswerIs : Group → Round → Type 0
 AnswerIs g Going = NoneEnded g.state
 AnswerIs g (Model bits) = (m : ℕ) × (IsFirst g.state m (solved bits.items) × IsModel g.formula bits.items)
-AnswerIs g (Refuted j) = (m : ℕ) × ((e : Step) × (IsFirst g.state m (emptied e) × ((j.lines ≡ joined_with g.formula g.state m e) × (Refutes g.formula.clauses j.lines × AreLines g.formula j.lines))))
+AnswerIs g (Refuted j) = (m : ℕ) × ((e : Step) × (IsFirst g.state m (emptied e) × ((j.lines ≡ joined_with g.formula g.state m e) × (Refutes g.formula.clauses j.lines × AreWritable g.formula j.lines))))
 
 -- a member that has done nothing
 abbrev pub new_seat : Clauses → ℕ → Seated

@@ -3,7 +3,7 @@ use Rattle.std.specs.Prelude.{◌≡◌, ℕ, ◌+◌, ◌-◌, ◌*◌, ◌^◌
 use Rattle.rr_cnf.specs.Clauses.{Clauses}
 use Rattle.rr_derive.specs.Derive.{Derives, Refutes, Step}
 use Rattle.rr_derive.specs.Fresh.{Fresh}
-use Rattle.rr_solver.specs.Outcomes.{AreLines}
+use Rattle.rr_derive.specs.Lrat.{AreWritable}
 use Rattle.rr_solver.specs.Searches.{IsModel, held_of}
 use Rattle.rr_solver.specs.declared.outcome.Outcome.{Outcome}
 use Rattle.rr_solver.specs.declared.outcome.Outcome.TheVariants.{Model as Solved, Refuted as Unsolvable, Spent}
@@ -30,10 +30,10 @@ pub record IsSpent (f : Clauses) (inputs count budget : ℕ) (lines : List Step)
   pub journal : lines ≡ joined f state
   pub derives : Derives f.clauses lines
   pub few : budget ≤ inputs * 3 ^ inputs
-  pub lawful : AreLines f lines
+  pub lawful : AreWritable f lines
 
 -- a satisfying assignment, a refutation, or the budget spent
 abbrev pub SearchedIs : Clauses → ℕ → ℕ → ℕ → Outcome → Type 0
 SearchedIs f inputs count budget (Solved bits) = IsModel f bits.items
-SearchedIs f inputs count budget (Unsolvable j) = Refutes f.clauses j.lines × AreLines f j.lines
+SearchedIs f inputs count budget (Unsolvable j) = Refutes f.clauses j.lines × AreWritable f j.lines
 SearchedIs f inputs count budget (Spent j) = IsSpent f inputs count budget j.lines

@@ -1,7 +1,6 @@
 -- what is kept of the members: their searches, with the round of each line and the line from which each
 -- handed clause comes
-use Rattle.std.specs.Prelude.{◌≡◌, ℕ, ◌+◌, ◌-◌, ◌<◌, ◌≤◌, ◌⊎◌, Bool, List, [], ◌∷◌, length, map, Option, Some, None, IsSome}
-use Rattle.rr_cnf.specs.Clauses.{Clauses}
+use Rattle.std.specs.Prelude.{◌≡◌, ℕ, ◌+◌, ◌-◌, ◌≤◌, ◌⊎◌, Bool, List, [], ◌∷◌, length, map, Option, Some, None, IsSome}
 use Rattle.rr_derive.specs.Derive.{Step}
 use Rattle.rr_derive.specs.Fresh.{Handed}
 use Rattle.rr_solver.specs.Searches.{Search, Same, line}
@@ -9,7 +8,7 @@ use Rattle.rr_solver.specs.declared.engine.Status.{Status}
 use Rattle.rr_solver.specs.declared.engine.Status.TheVariants.{Running, Model, Refuted, Failed}
 use Rattle.rr_solver.specs.declared.engine.Stepped.{Stepped}
 use Rattle.rr_solver.specs.declared.engine.Stepped.TheVariants.{Learned as HasLearned, Model as HasModel, Refuted as HasRefuted}
-use Rattle.rr_rounds.specs.States.{learned, taken, Ending, emptied, solved, Learned, Member, Taken}
+use Rattle.rr_rounds.specs.States.{Ending, emptied, solved, Learned, Member, Taken}
 use Rattle.rr_rounds.specs.declared.place.Place.{Place}
 use Rattle.rr_rounds.specs.Rounds.{Event, MayAll, May, after, after_all}
 use Rattle.rr_members.specs.declared.seat.Origin.{Origin}

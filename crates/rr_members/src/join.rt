@@ -7,7 +7,7 @@ ghost use Rattle.rr_members.specs.Seats.{member_of};
 ghost use Rattle.rr_members.specs.Sharing.{AreLong, seat, state_of};
 
 use crate::members::Members;
-use crate::seat::Seat;
+use crate::seat::{MOST_ID, Seat};
 use rr_cnf::Clause;
 use rr_derive::Journal;
 use rr_rounds::Place;
@@ -54,7 +54,7 @@ impl Ids {
 
 fn push_line(
     order: &mut Vec<Place>,
-    seat: &Seat,
+    seat: &Seat<'_>,
     place: usize,
     line: usize,
     round: u64,
@@ -73,7 +73,7 @@ fn push_line(
 
 fn push_lines(
     order: &mut Vec<Place>,
-    seat: &Seat,
+    seat: &Seat<'_>,
     place: usize,
     round: u64,
 ) -> Result<(), AllocError>
@@ -85,7 +85,7 @@ fn push_lines(
     Ok(())
 }
 
-fn push_round(order: &mut Vec<Place>, seats: &[Seat], round: u64) -> Result<(), AllocError>
+fn push_round(order: &mut Vec<Place>, seats: &[Seat<'_>], round: u64) -> Result<(), AllocError>
     ensures { OnOk result (order.new.items ≡ order.old.items ++ flat (length seats.now) (λ i. lines_in round i (member_of (seat seats.now i)))) }
 {
     for (place, seat) in seats.iter().enumerate() {
@@ -95,7 +95,7 @@ fn push_round(order: &mut Vec<Place>, seats: &[Seat], round: u64) -> Result<(), 
 }
 
 /// All lines in the order of the joined journal.
-fn order_of(alloc: Global, seats: &[Seat], last: u64) -> Result<Vec<Place>, AllocError>
+fn order_of(alloc: Global, seats: &[Seat<'_>], last: u64) -> Result<Vec<Place>, AllocError>
     requires { last < 2 ^ 63 }
     ensures { IfOk result (λ v. v.items ≡ in_order (state_of last seats.now)) }
 {
@@ -107,7 +107,7 @@ fn order_of(alloc: Global, seats: &[Seat], last: u64) -> Result<Vec<Place>, Allo
 }
 
 /// An id of 0 for each line.
-fn no_ids(alloc: Global, seats: &[Seat]) -> Result<Vec<Ids>, AllocError>
+fn no_ids(alloc: Global, seats: &[Seat<'_>]) -> Result<Vec<Ids>, AllocError>
     ensures { IfOk result (λ v. AreLong seats.now v.items) }
 {
     let mut ids = Vec::new(alloc);
@@ -133,20 +133,24 @@ fn get_id(ids: &[Ids], place: Place) -> u64
     ids[place.member].get(place.line)
 }
 
-/// The id of the line at this place of the order.
+/// The id of the line at this place of the order, a number that the text of a proof can hold.
 fn id_at(count: u64, index: usize) -> Result<u64, AllocError>
-    ensures { IfOk result (λ id. id ≡ count + 1 + index) }
+    ensures value { IfOk result (λ id. id ≡ count + 1 + index) }
+    ensures small { IfOk result (λ id. id < 2 ^ 62) }
 {
     match count.checked_add(index as u64) {
         None => Err(AllocError),
-        Some(before) => match before.checked_add(1) {
-            None => Err(AllocError),
-            Some(id) => Ok(id),
-        },
+        Some(before) => {
+            if before < MOST_ID {
+                Ok(before + 1)
+            } else {
+                Err(AllocError)
+            }
+        }
     }
 }
 
-impl Members {
+impl<'f> Members<'f> {
     /// The joined ids of all lines.
     fn all_ids(&self, order: &[Place]) -> Result<Vec<Ids>, AllocError>
         requires going { self.now.failed ≡ false }
@@ -224,8 +228,10 @@ impl Members {
         requires ids { HasIds self.now.formula self.now.state ids.now }
         ensures first { IfOk result (λ j. j.first ≡ length self.now.formula.clauses + 1) }
         ensures lines { IfOk result (λ j. j.lines ≡ joined self.now.formula self.now.state) }
+        ensures small { OnOk result (length self.now.formula.clauses + 1 + length (in_order self.now.state) < 2 ^ 62) }
     {
         let count = self.count;
+        let _next = id_at(count, order.len())?;
         let mut journal = Journal::new(self.alloc, id_at(count, 0)?);
         for (index, place) in order.iter().enumerate() {
             let id = id_at(count, index)?;
@@ -237,7 +243,8 @@ impl Members {
     /// The joined journal.
     pub(crate) fn joined(&self) -> Result<Journal, AllocError>
         requires { self.now.failed ≡ false }
-        ensures { IfOk result (λ j. j.lines ≡ joined self.now.formula self.now.state) }
+        ensures lines { IfOk result (λ j. j.lines ≡ joined self.now.formula self.now.state) }
+        ensures small { OnOk result (length self.now.formula.clauses + 1 + length (in_order self.now.state) < 2 ^ 62) }
     {
         let order = order_of(self.alloc, self.seats.as_slice(), self.round)?;
         let ids = self.all_ids(order.as_slice())?;
@@ -250,7 +257,8 @@ impl Members {
         requires going { self.now.failed ≡ false }
         requires place { place < length self.now.state.members }
         requires refuted { (e : Step) × ((member self.now.state place).ending ≡ Some (emptied e)) }
-        ensures { IfOk result (λ j. (e : Step) × (((member self.now.state place).ending ≡ Some (emptied e)) × (j.lines ≡ joined_with self.now.formula self.now.state place e))) }
+        ensures small { OnOk result (length self.now.formula.clauses + 1 + length (in_order self.now.state) < 2 ^ 62) }
+        ensures lines { IfOk result (λ j. (e : Step) × (((member self.now.state place).ending ≡ Some (emptied e)) × (j.lines ≡ joined_with self.now.formula self.now.state place e))) }
     {
         let order = order_of(self.alloc, self.seats.as_slice(), self.round)?;
         let ids = self.all_ids(order.as_slice())?;

@@ -18,20 +18,20 @@ use std::thread;
 use std::thread::Threads;
 
 /// Each member's events of a round, in a thread of its own.
-fn all_work<R: Threads + Sync, G: Gate + Sync>(
+fn all_work<'f, R: Threads + Sync, G: Gate + Sync>(
     rt: &R,
     alloc: Global,
-    seats: Vec<Seat>,
+    seats: Vec<Seat<'f>>,
     steps: u32,
     round: u64,
     gate: &G,
-) -> Result<Vec<Seat>, AllocError>
+) -> Result<Vec<Seat<'f>>, AllocError>
     requires { (k : ℕ) → k < length seats.items → (seat seats.items k).search.status ≡ Failed → ⊥ }
-    ensures { IfOk result (λ v. EachRan steps round seats.items v.items) }
+    ensures { IfOk result (λ v. EachRan steps round seats.entry.items v.items) }
 {
-    let run = |seat: Seat| -> Worked
+    let run = |seat|
         requires { seat.search.status ≡ Failed → ⊥ }
-        ensures { OnOk result.outcome (Ran steps round seat result.seat) }
+        ensures { OnOk result.outcome (Ran steps round seat.entry result.seat) }
     { work(seat, steps, round, gate) };
     let all = thread::map_vec(rt, seats, &run)?;
     let seats = seats_of(alloc, all)?;
@@ -39,9 +39,9 @@ fn all_work<R: Threads + Sync, G: Gate + Sync>(
 }
 
 /// The members after their work, where memory lasted for each.
-fn seats_of(alloc: Global, all: Vec<Worked>) -> Result<Vec<Seat>, AllocError>
-    ensures seats { IfOk result (λ v. v.items ≡ map (λ one. one.seat) all.items) }
-    ensures lasted { OnOk result (All (λ one. IsOk one.outcome) all.items) }
+fn seats_of<'f>(alloc: Global, all: Vec<Worked<'f>>) -> Result<Vec<Seat<'f>>, AllocError>
+    ensures seats { IfOk result (λ v. v.items ≡ map (λ one. one.seat) all.entry.items) }
+    ensures lasted { OnOk result (All (λ one. IsOk one.outcome) all.entry.items) }
 {
     let mut seats = Vec::new(alloc);
     for one in all {
@@ -62,11 +62,11 @@ pub enum Round {
     Refuted(Journal),
 }
 
-/// The members of a search.
+/// The members of a search, which share its formula.
 #[derive(Drop)]
-pub struct Members {
+pub struct Members<'f> {
     pub(crate) alloc: Global,
-    pub(crate) seats: Vec<Seat>,
+    pub(crate) seats: Vec<Seat<'f>>,
     /// The number of the round that comes next, from 0.
     pub(crate) round: u64,
     /// The number of the formula's clauses.
@@ -75,7 +75,7 @@ pub struct Members {
     pub(crate) failed: bool,
 }
 
-impl Model for Members {
+impl<'f> Model for Members<'f> {
     ghost use Rattle.std.specs.Prelude.{◌≡◌, false};
     ghost use Rattle.rr_members.specs.Groups.{Group, IsGroup, group_of};
 
@@ -86,15 +86,15 @@ impl Model for Members {
     ghost invariant = { λ m. m.failed ≡ false → IsGroup m.seats.items m.round m.count };
 }
 
-impl Members {
+impl<'f> Members<'f> {
     /// Members with the numbers 1 to `count`, which decide only the variables 1 to `inputs`, which
     /// determine all others.
     pub fn new(
         alloc: Global,
-        formula: &Formula,
+        formula: &'f Formula,
         inputs: u64,
         count: u32,
-    ) -> Result<Members, AllocError>
+    ) -> Result<Members<'f>, AllocError>
         requires few { inputs ≤ formula.now.vars }
         requires determined { Determined formula.now inputs }
         requires some { 1 ≤ count }
@@ -203,12 +203,12 @@ impl Members {
 /// After so many rounds there are no more.
 const MOST_ROUND: u64 = (1 << 63) - 1;
 
-fn new_seats(
+fn new_seats<'f>(
     alloc: Global,
-    formula: &Formula,
+    formula: &'f Formula,
     inputs: u64,
     count: u32,
-) -> Result<Vec<Seat>, AllocError>
+) -> Result<Vec<Seat<'f>>, AllocError>
     requires few { inputs ≤ formula.now.vars }
     requires determined { Determined formula.now inputs }
     ensures { IfOk result (λ v. v.items ≡ replicate count (new_seat formula.now inputs)) }
@@ -221,7 +221,7 @@ fn new_seats(
 }
 
 /// The place of the lowest-numbered member that has ended.
-fn first_ended(seats: &[Seat]) -> Option<usize>
+fn first_ended(seats: &[Seat<'_>]) -> Option<usize>
     ensures { MatchOption result ((k : ℕ) → k < length seats.now → (member_of (seat seats.now k)).ending ≡ None) (IsFirstEnded seats.now) }
 {
     for (place, seat) in seats.iter().enumerate() {

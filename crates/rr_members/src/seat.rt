@@ -32,12 +32,12 @@ pub(crate) struct Origin {
 }
 
 /// The greatest id of a clause that can be handed over.
-const MOST_ID: u64 = (1 << 62) - 1;
+pub(crate) const MOST_ID: u64 = (1 << 62) - 1;
 
 #[derive(Drop)]
-pub(crate) struct Seat {
+pub(crate) struct Seat<'f> {
     number: u32,
-    pub(crate) solver: Solver,
+    pub(crate) solver: Solver<'f>,
     /// The round of each line but the empty one.
     pub(crate) rounds: Vec<u64>,
     /// In the order in which the clauses were handed over.
@@ -46,7 +46,7 @@ pub(crate) struct Seat {
     pub(crate) stepped: Stepped,
 }
 
-impl Model for Seat {
+impl<'f> Model for Seat<'f> {
     ghost use Rattle.rr_members.specs.Seats.{IsSeat, Seated};
 
     ghost Value = { Seated };
@@ -56,14 +56,14 @@ impl Model for Seat {
     ghost invariant = { λ s. IsSeat s.solver s.rounds.items s.origins.items s.stepped };
 }
 
-impl Seat {
+impl<'f> Seat<'f> {
     /// A member with this number, which has done nothing.
     pub(crate) fn new(
         alloc: Global,
-        formula: &Formula,
+        formula: &'f Formula,
         inputs: u64,
         number: u32,
-    ) -> Result<Seat, AllocError>
+    ) -> Result<Seat<'f>, AllocError>
         requires few { inputs ≤ formula.now.vars }
         requires determined { Determined formula.now inputs }
         ensures { IfOk result (λ s. s ≡ record { search = record { formula = formula.now; inputs = inputs; lines = []; handed = []; depth = 0; status = Status.Running; bits = [] }; rounds = []; origins = [] }) }
@@ -145,7 +145,7 @@ impl Seat {
     }
 }
 
-impl Seat {
+impl<'f> Seat<'f> {
     /// The number of lines but the empty one.
     pub(crate) fn len(&self) -> usize
         ensures { result ≡ length (member_of self.now).lines }
@@ -356,15 +356,15 @@ fn clause_at(lines: &[Line], line: usize) -> &Clause
 
 /// A member after its events of a round, and whether memory lasted.
 #[derive(Drop)]
-pub(crate) struct Worked {
-    pub(crate) seat: Seat,
+pub(crate) struct Worked<'f> {
+    pub(crate) seat: Seat<'f>,
     pub(crate) outcome: Result<(), AllocError>,
 }
 
 /// The member's events of a round, behind the gate.
-pub(crate) fn work<G: Gate>(mut seat: Seat, steps: u32, round: u64, gate: &G) -> Worked
+pub(crate) fn work<'f, G: Gate>(mut seat: Seat<'f>, steps: u32, round: u64, gate: &G) -> Worked<'f>
     requires { seat.search.status ≡ Status.Failed → ⊥ }
-    ensures { OnOk result.outcome (Ran steps round seat result.seat) }
+    ensures { OnOk result.outcome (Ran steps round seat.entry result.seat) }
 {
     gate.pass(seat.number);
     let outcome = seat.advance(steps, round);

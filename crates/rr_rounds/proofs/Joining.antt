@@ -1,22 +1,23 @@
 -- the joined journal derives from the formula
-use Rattle.std.proofs.Common.{◌≡◌, ◌⊎◌, inl, inr, ℕ, suc, zero, ◌-◌, ◌*◌, ◌^◌, ◌<◌, ◌≤◌, ◌==◌, Bool, true, false, cond, List, [], ◌∷◌, ◌++◌, length, get_or, map, take, refl, sym, ◌∙◌, ap, subst, arith}
-use Rattle.std.specs.Prelude.{Contains, Option, Some, None, nat_lt}
+use Rattle.std.proofs.Common.{◌≡◌, ◌⊎◌, inl, inr, ℕ, suc, zero, ◌+◌, ◌-◌, ◌*◌, ◌^◌, ◌<◌, ◌≤◌, ◌==◌, Bool, true, false, cond, List, [], ◌∷◌, ◌++◌, length, get_or, map, take, refl, sym, ◌∙◌, ap, subst, arith}
+use Rattle.std.specs.Prelude.{All, Contains, Option, Some, None, nat_lt}
 use Rattle.std.specs.List.{find}
 use Rattle.std.specs.Option.{option_map}
 use Rattle.std.proofs.Math.Seq.{get_or-append_seam, take-append_seam}
 use Rattle.std.proofs.lemmas.Bool.{cases_Bool, cases_lt, cases_order, cond-true, cond-false, eqb-true, eq-eqb, false_from_ne_true, ltb-true, both_ways}
 use Rattle.std.proofs.lemmas.List.{get_or-map, get_or-take, get_or_append_left, get_or_past, length-map, length-take-le, length_push, take-append-le, take-map}
-use Rattle.std.proofs.lemmas.List.Elements.{All-contains, All-get_or, Contains-append_cases, Contains-append_left, Contains-append_right, Contains-get_or, Contains-push, Contains-push_cases, filter_passes}
+use Rattle.std.proofs.lemmas.List.Elements.{All-contains, All-get_or, All-map, Contains-append_cases, Contains-append_left, Contains-append_right, Contains-get_or, Contains-push, Contains-push_cases, filter_passes}
 use Rattle.std.proofs.lemmas.Option.{slice_get_within}
 use Rattle.rr_cnf.specs.Clauses.{Clauses, Literal, negated}
 use Rattle.rr_derive.specs.Derive.{Derives, IsRising, Leads, Names, Passes, Refutes, Step}
 use Rattle.rr_derive.specs.Fresh.{Fresh, Handed, NamesAtHand}
+use Rattle.rr_derive.specs.Lrat.{AreHinted}
 use Rattle.rr_derive.proofs.Few.{few}
-use Rattle.rr_solver.specs.Searches.{PassesAfter, before, held_of, line}
+use Rattle.rr_solver.specs.Searches.{NamesAll, PassesAfter, before, held_of, line}
 use Rattle.rr_solver.specs.declared.engine.Status.TheVariants.{Running, Refuted}
 use Rattle.rr_solver.proofs.Ends.{all_fresh}
 use Rattle.rr_solver.proofs.LogSteps.{from_before}
-use Rattle.rr_rounds.specs.States.{no_taken, taken, emptied, Learned, Member, State, Taken, handed, learned, line_of, member, nothing, steps}
+use Rattle.rr_rounds.specs.States.{no_taken, taken, emptied, Learned, Member, State, Taken, handed, learned, member, nothing, steps}
 use Rattle.rr_rounds.specs.declared.place.Place.{Place}
 use Rattle.rr_rounds.specs.Joined.{Name, flat, id_of, in_order, joined, joined_id, joined_step, joined_with, last_step, names, names_of, own_name, renumbered, standing_before, taken_name}
 use Rattle.rr_rounds.specs.Rounds.{Reached}
@@ -71,6 +72,10 @@ map_cases g xs d y c =
 Leads-renumbered : (named to : ℕ → List Literal → Type 0) (g : ℕ → ℕ) → ((id : ℕ) (c : List Literal) → named id c → to (g id) c) → (hints : List ℕ) (held : List Literal) → Leads named held hints → Leads to held (map g hints)
 Leads-renumbered named to g means [] held l = l
 Leads-renumbered named to g means (h ∷ hs) held l = (l.0, (means h l.0 l.1.0, elim l.1.1 [ inl f ↦ inl f | inr w ↦ inr (w.0, (w.1.0, Leads-renumbered named to g means hs (held ++ w.0 ∷ []) w.1.1)) ]))
+
+-- the line passes behind these lines, and its hints name clauses of the formula and of them
+abbrev pub Stands : List (List Literal) → List Step → Step → Type 0
+Stands formula ls x = Passes (Names formula ls) x.clause x.hints × All (λ h. (c : List Literal) × Names formula ls h c) x.hints
 
 module _ (place : ℕ) (m : Member) (w : AreApart m) where
   abbrev pub own : ℕ → Name
@@ -198,19 +203,22 @@ module _ (f : Clauses) (inputs : ℕ) (s : State) (m : ℕ) (w : IsMember f inpu
         let new : joined_id f s t.origin ≡ renumbered f s m h = sym (renumbered_name (taken_name t) (taken_contained m (member s m) apart b.0 b.1.0)) ∙ ap (renumbered f s m) id in
         inr (joined_step f s t.origin, (Contains-map (joined_step f s) before_it t.origin b.1.1.1, new, sym (w.origins b.0 b.1.0).clause ∙ ap (λ (y : Handed). y.clause) b.1.1.0 ∙ x.1.2))
 
-    pub Passes-renumbered : (x : Step) → Passes (NamesAtHand f.clauses ls hs) x.clause x.hints → Passes (Names f.clauses (map (joined_step f s) before_it)) x.clause (map (renumbered f s m) x.hints)
-    Passes-renumbered x p = (p.0, Leads-renumbered (NamesAtHand f.clauses ls hs) (Names f.clauses (map (joined_step f s) before_it)) (renumbered f s m) renamed x.hints (map negated x.clause) p.1)
+    pub Stands-renumbered : (id : ℕ) (x : Step) → PassesAfter f ls hs x × NamesAll f ls hs x → Stands f.clauses (map (joined_step f s) before_it) (record { id = id; clause = x.clause; hints = map (renumbered f s m) x.hints })
+    Stands-renumbered id x p = (
+      (p.0.0, Leads-renumbered (NamesAtHand f.clauses ls hs) (Names f.clauses (map (joined_step f s) before_it)) (renumbered f s m) renamed x.hints (map negated x.clause) p.0.1),
+      All-map (λ (h : ℕ). (c : List Literal) × Names f.clauses (map (joined_step f s) before_it) h c) (renumbered f s m) x.hints (λ k d h. let y = p.1 k d h in (y.1.0, renamed (get_or x.hints k d) y.1.0 y.1.1)),
+    )
 
-  -- a line passes behind those that stand before it
-  pub line_passes : (k : ℕ) → m < length s.members → k < length (member s m).lines → Passes (Names f.clauses (map (joined_step f s) (standing_before s (record { member = m; line = k })))) (learned (member s m) k).step.clause (map (renumbered f s m) (learned (member s m) k).step.hints)
-  line_passes k low h =
+  -- a line stands behind those before it
+  pub line_stands : (k : ℕ) → m < length s.members → k < length (member s m).lines → Stands f.clauses (map (joined_step f s) (standing_before s (record { member = m; line = k }))) (joined_step f s (record { member = m; line = k }))
+  line_stands k low h =
       let p : Place = record { member = m; line = k } in
       let size = length-map (member s m).lines (λ (y : Learned). y.step) in
       let inside : k < length (steps (member s m)) = omega (arith, size) in
       let front = length-take-le k (steps (member s m)) (omega (arith, size)) in
       let n = (line (steps (member s m)) k).id in
       let x = (learned (member s m) k).step in
-      Passes-renumbered (standing_before s p) (take k (steps (member s m))) (before n (handed (member s m)))
+      Stands-renumbered (standing_before s p) (take k (steps (member s m))) (before n (handed (member s m)))
       (λ y c.
       let j : c.0 < k = omega (arith, c.1, front) in
       let l : c.0 < length (member s m).lines = omega arith in (
@@ -232,16 +240,17 @@ module _ (f : Clauses) (inputs : ℕ) (s : State) (m : ℕ) (w : IsMember f inpu
       let passes : nat_lt y.id n ≡ true = All-contains (λ (z : Handed). nat_lt z.id n ≡ true) (before n (handed (member s m))) y (filter_passes (λ z. nat_lt z.id n) (handed (member s m))) c in
       let earlier : (taken (member s m) from.0).handed.id < x.id = let a = ltb-true y.id n passes in let e = ap (λ (z : Handed). z.id) from.1.1 in let i = ap (λ (z : Step). z.id) (own_step k h) in omega (arith, a, e, i) in
       (from.0, (from.1.0, (from.1.1, earlier_round s p (taken (member s m) from.0).origin o.at (o.before k h earlier)))))
-      x (subst (λ (y : Step). Passes (NamesAtHand f.clauses (take k (steps (member s m))) (before n (handed (member s m)))) y.clause y.hints) (own_step k h) (w.log.passes k inside))
+      (joined_id f s p) x
+      (subst (λ (y : Step). PassesAfter f (take k (steps (member s m))) (before n (handed (member s m))) y × NamesAll f (take k (steps (member s m))) (before n (handed (member s m))) y) (own_step k h) (w.log.passes k inside, w.log.hints k inside))
     where
       get_or-any : {X : Type 0} (xs : List X) (i : ℕ) (d e : X) → i < length xs → get_or xs i d ≡ get_or xs i e
       get_or-any [] i d e h = absurd (omega arith)
       get_or-any (x ∷ xs) zero d e h = refl
       get_or-any (x ∷ xs) (suc i) d e h = get_or-any xs i d e (omega arith)
 
-  -- the empty line passes behind all lines
-  pub ending_passes : m < length s.members → (e : Step) → PassesAfter f (steps (member s m)) (handed (member s m)) e → Passes (Names f.clauses (joined f s)) e.clause (map (renumbered f s m) e.hints)
-  ending_passes low e p = Passes-renumbered (in_order s) (steps (member s m)) (handed (member s m))
+  -- the empty line stands behind all lines
+  pub ending_stands : m < length s.members → (e : Step) → PassesAfter f (steps (member s m)) (handed (member s m)) e × NamesAll f (steps (member s m)) (handed (member s m)) e → Stands f.clauses (joined f s) (last_step f s m e)
+  ending_stands low e p = Stands-renumbered (in_order s) (steps (member s m)) (handed (member s m))
       (λ y c.
       let from = map_cases (λ (l : Learned). l.step) (member s m).lines nothing y c in
       (from.0, (from.1.0, (from.1.1, listed s (record { member = m; line = from.0 }) (record { low = low; inside = from.1.0 }) (w.upto from.0 from.1.0)))))
@@ -249,42 +258,52 @@ module _ (f : Clauses) (inputs : ℕ) (s : State) (m : ℕ) (w : IsMember f inpu
       let from = map_cases (λ (t : Taken). t.handed) (member s m).taken no_taken y c in
       let o = w.origins from.0 from.1.0 in
       (from.0, (from.1.0, (from.1.1, listed s (taken (member s m) from.0).origin o.at (let a = o.old in omega arith)))))
-      e p
+      (length f.clauses + 1 + length (in_order s)) e p
 
 module _ (f : Clauses) (inputs count : ℕ) (s : State) (r : Reached f inputs count s) where
-  pub joined_derives : Derives f.clauses (joined f s)
-  joined_derives p h d =
+  stands_at : (p : ℕ) → p < length (joined f s) → (d : Step) → Stands f.clauses (take p (joined f s)) (get_or (joined f s) p d)
+  stands_at p h d =
       let inside : p < length (in_order s) = omega (arith, length-map (in_order s) (joined_step f s)) in
       let a = standing s p inside in
       let q = a.place in
       let here : joined_step f s q ≡ get_or (joined f s) p d = sym (get_or-map (joined_step f s) (in_order s) p q d inside ∙ ap (joined_step f s) (a.is q)) in
       let front : map (joined_step f s) (standing_before s q) ≡ take p (joined f s) = sym (take-map (joined_step f s) p (in_order s) ∙ ap (map (joined_step f s)) a.earlier) in
-      subst (λ (x : Step). Passes (Names f.clauses (take p (joined f s))) x.clause x.hints) here
-      (subst (λ ls. Passes (Names f.clauses ls) (line_of s q).step.clause (map (renumbered f s q.member) (line_of s q).step.hints)) front
-      (line_passes f inputs s q.member (lawful f inputs count s r q.member) q.line a.at.low a.at.inside))
+      subst (Stands f.clauses (take p (joined f s))) here
+      (subst (λ ls. Stands f.clauses ls (joined_step f s q)) front
+      (line_stands f inputs s q.member (lawful f inputs count s r q.member) q.line a.at.low a.at.inside))
 
-  pub joined_refutes : (m : ℕ) (e : Step) → (member s m).ending ≡ Some (emptied e) → Refutes f.clauses (joined_with f s m e)
-  joined_refutes m e is =
-      let w = lawful f inputs count s r m in
-      let t = w.ending e is in
-      let low = some_member s m e is in (
-        λ p h d. elim (cases_lt p (length (joined f s))) [
-          | inl i ↦ subst (λ (x : Step). Passes (Names f.clauses (take p (joined_with f s m e))) x.clause x.hints) (sym (get_or_append_left (joined f s) (last_step f s m e ∷ []) d p i))
-              (subst (λ ls. Passes (Names f.clauses ls) (get_or (joined f s) p d).clause (get_or (joined f s) p d).hints) (sym (take-append-le p (joined f s) (last_step f s m e ∷ []) (omega arith))) (joined_derives p i d))
+  pub joined_derives : Derives f.clauses (joined f s)
+  joined_derives p h d = (stands_at p h d).0
+
+  pub joined_hinted : AreHinted f.clauses (joined f s)
+  joined_hinted p d h = (stands_at p h d).1
+
+  module _ (m : ℕ) (e : Step) (is : (member s m).ending ≡ Some (emptied e)) where
+    some_member : (s : State) (m : ℕ) (e : Step) → (member s m).ending ≡ Some (emptied e) → m < length s.members
+    some_member s m e is = elim (cases_lt m (length s.members)) [
+      | inl l ↦ l
+      | inr l ↦ absurd (let z : None ≡ Some (emptied e) = sym (ap (λ (x : Member). x.ending) (get_or_past s.members m _ l)) ∙ is in cc)
+    ]
+
+    stands_with : (p : ℕ) → p < length (joined_with f s m e) → (d : Step) → Stands f.clauses (take p (joined_with f s m e)) (get_or (joined_with f s m e) p d)
+    stands_with p h d =
+        let w = lawful f inputs count s r m in
+        let t = w.ending e is in
+        elim (cases_lt p (length (joined f s))) [
+          | inl i ↦ subst (Stands f.clauses (take p (joined_with f s m e))) (sym (get_or_append_left (joined f s) (last_step f s m e ∷ []) d p i))
+              (subst (λ ls. Stands f.clauses ls (get_or (joined f s) p d)) (sym (take-append-le p (joined f s) (last_step f s m e ∷ []) (omega arith))) (stands_at p i d))
           | inr i ↦
               (let last : p ≡ length (joined f s) = omega (arith, length_push (joined f s) (last_step f s m e)) in
-              subst (λ n. Passes (Names f.clauses (take n (joined_with f s m e))) (get_or (joined_with f s m e) n d).clause (get_or (joined_with f s m e) n d).hints) (sym last)
-              (subst (λ (x : Step). Passes (Names f.clauses (take (length (joined f s)) (joined_with f s m e))) x.clause x.hints) (sym (get_or-append_seam (joined f s) (last_step f s m e) [] d))
-              (subst (λ ls. Passes (Names f.clauses ls) e.clause (map (renumbered f s m) e.hints)) (sym (take-append_seam (joined f s) (last_step f s m e ∷ []))) (ending_passes f inputs s m w low e t.0))))
-        ],
-        (last_step f s m e, (Contains-push (joined f s) (last_step f s m e), t.1)),
-      )
-    where
-      some_member : (s : State) (m : ℕ) (e : Step) → (member s m).ending ≡ Some (emptied e) → m < length s.members
-      some_member s m e is = elim (cases_lt m (length s.members)) [
-        | inl l ↦ l
-        | inr l ↦ absurd (let z : None ≡ Some (emptied e) = sym (ap (λ (x : Member). x.ending) (get_or_past s.members m _ l)) ∙ is in cc)
-      ]
+              subst (λ n. Stands f.clauses (take n (joined_with f s m e)) (get_or (joined_with f s m e) n d)) (sym last)
+              (subst (Stands f.clauses (take (length (joined f s)) (joined_with f s m e))) (sym (get_or-append_seam (joined f s) (last_step f s m e) [] d))
+              (subst (λ ls. Stands f.clauses ls (last_step f s m e)) (sym (take-append_seam (joined f s) (last_step f s m e ∷ []))) (ending_stands f inputs s m w (some_member s m e is) e (t.0, t.1.0)))))
+        ]
+
+    pub joined_refutes : Refutes f.clauses (joined_with f s m e)
+    joined_refutes = (λ p h d. (stands_with p h d).0, (last_step f s m e, (Contains-push (joined f s) (last_step f s m e), ((lawful f inputs count s r m).ending e is).1.1)))
+
+    pub joined_with_hinted : AreHinted f.clauses (joined_with f s m e)
+    joined_with_hinted p d h = (stands_with p h d).1
 
   pub lines_rising : (m : ℕ) → IsRising (steps (member s m))
   lines_rising m j k d e a h =

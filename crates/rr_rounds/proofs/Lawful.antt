@@ -8,7 +8,7 @@ use Rattle.std.proofs.lemmas.List.Elements.{All-append, All-get_or, All-map, Con
 use Rattle.rr_cnf.specs.Clauses.{Clauses, Literal, negated}
 use Rattle.rr_derive.specs.Derive.{Step}
 use Rattle.rr_derive.specs.Fresh.{Handed, NamesAtHand}
-use Rattle.rr_solver.specs.Searches.{IsFreshAfter, IsLog, IsNewId, PassesAfter}
+use Rattle.rr_solver.specs.Searches.{IsFreshAfter, IsLog, IsNewId, NamesAll, PassesAfter}
 use Rattle.rr_solver.specs.declared.engine.Status.TheVariants.{Running}
 use Rattle.rr_solver.proofs.LogSteps.{IsLog-import, IsLog-learn, IsLog-none}
 use Rattle.rr_solver.proofs.EngineSteps.{Leads-more}
@@ -37,7 +37,7 @@ pub record IsMember (f : Clauses) (inputs : ℕ) (s : State) (m : Member) : Type
   pub apart : (j k : ℕ) → j < k → k < length m.taken → (taken m j).handed.id < (taken m k).handed.id
   pub differ : (j k : ℕ) → j < length m.taken → k < length m.lines → (taken m j).handed.id ≡ (learned m k).step.id → ⊥
   pub origins : (j : ℕ) → j < length m.taken → IsOrigin s m (taken m j)
-  pub ending : (e : Step) → m.ending ≡ Some (emptied e) → PassesAfter f (steps m) (handed m) e × (e.clause ≡ [])
+  pub ending : (e : Step) → m.ending ≡ Some (emptied e) → PassesAfter f (steps m) (handed m) e × (NamesAll f (steps m) (handed m) e × (e.clause ≡ []))
 
 -- a later state: each line is still there
 pub record Grows (old new : State) : Type 0 where
@@ -130,7 +130,7 @@ module _ (f : Clauses) (inputs : ℕ) where
       pub IsMember-learns : m.ending ≡ None → IsMember f inputs s (record m { lines = m.lines ++ record { round = s.round; step = x } ∷ [] })
       unfolding more
       IsMember-learns going = record {
-        log = subst (λ ss. IsLog f inputs (handed m) ss Running []) (sym (map_push (λ (y : Learned). y.step) m.lines (record { round = s.round; step = x }))) (IsLog-learn f inputs (handed m) (steps m) [] w.log x may.id may.within may.passes fresh);
+        log = subst (λ ss. IsLog f inputs (handed m) ss Running []) (sym (map_push (λ (y : Learned). y.step) m.lines (record { round = s.round; step = x }))) (IsLog-learn f inputs (handed m) (steps m) [] w.log x may.id may.within may.passes may.hints fresh);
         rising = by_pair (λ y z. y.step.id < z.step.id) w.rising id_below;
         rounds = by_pair (λ y z. y.round ≤ z.round) w.rounds w.upto;
         upto = by_line (λ y. y.round ≤ s.round) w.upto (omega arith);
@@ -171,7 +171,7 @@ module _ (f : Clauses) (inputs : ℕ) where
       apart = w.apart;
       differ = w.differ;
       origins = λ j h. let o = w.origins j h in record { at = o.at; clause = o.clause; old = o.old; before = o.before };
-      ending = λ e q. (let same : x ≡ e = let z : Some (emptied x) ≡ Some (emptied e) = q in cc in subst (λ (y : Step). PassesAfter f (steps m) (handed m) y × (y.clause ≡ [])) same (may.passes, empty));
+      ending = λ e q. (let same : x ≡ e = let z : Some (emptied x) ≡ Some (emptied e) = q in cc in subst (λ (y : Step). PassesAfter f (steps m) (handed m) y × (NamesAll f (steps m) (handed m) y × (y.clause ≡ []))) same (may.passes, (may.hints, empty)));
     }
 
     -- clauses of lines of the round that ends are handed over to the member
@@ -277,5 +277,10 @@ module _ (f : Clauses) (inputs : ℕ) where
                 before = λ k l b. absurd (let x = line_below j k i h l in let z = ap (λ (t : Taken). t.handed.id) is in omega (arith, x, b, z));
               }))
         ];
-        ending = λ e q. let p = w.ending e q in ((p.0.0, Leads-more (NamesAtHand f.clauses (steps m) (handed m)) (NamesAtHand f.clauses (steps m) (map (λ t. t.handed) (m.taken ++ more))) names_stay e.hints (map negated e.clause) p.0.1), p.1);
+        ending = λ e q.
+            let p = w.ending e q in
+            let after = NamesAtHand f.clauses (steps m) (map (λ t. t.handed) (m.taken ++ more)) in (
+              (p.0.0, Leads-more (NamesAtHand f.clauses (steps m) (handed m)) after names_stay e.hints (map negated e.clause) p.0.1),
+              (λ k d h. let x = p.1.0 k d h in (x.0, (x.1.0, names_stay (get_or e.hints k d) x.1.0 x.1.1)), p.1.1),
+            );
       }

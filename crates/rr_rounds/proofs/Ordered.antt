@@ -1,23 +1,15 @@
 -- The lines of the order, each with its joined id.
-use Rattle.std.proofs.Common.{◌≡◌, ◌⊎◌, inl, inr, ℕ, ◌+◌, ◌-◌, ◌<◌, ◌≤◌, ◌==◌, Bool, true, false, List, [], ◌∷◌, length, get_or, map, set, take, Option, refl, sym, ◌∙◌, ap, subst, arith}
-use Rattle.std.specs.Prelude.{All, Contains, Some, None}
-use Rattle.std.specs.List.{find}
-use Rattle.std.specs.Option.{option_map}
-use Rattle.std.proofs.lemmas.Bool.{cases_Bool, cases_eq, cond-true, cond-false}
-use Rattle.std.proofs.lemmas.List.{get_or-map, get_or-set_other, get_or-set_same, get_or-take, get_or_default, get_or_read, length-map, length-set, length-take-le, take_all}
-use Rattle.std.proofs.lemmas.List.Elements.{Contains-append_left, Contains-append_right, Contains-push}
-use Rattle.rr_cnf.specs.Clauses.{Clauses, Literal}
+use Rattle.std.proofs.Common.{◌≡◌, ℕ, ◌+◌, ◌<◌, ◌≤◌, List, length, get_or, take, refl, sym, ◌∙◌, ap, subst, arith}
+use Rattle.std.specs.Prelude.{Contains}
+use Rattle.std.proofs.lemmas.List.{get_or-map, length-take-le}
+use Rattle.rr_cnf.specs.Clauses.{Clauses}
 use Rattle.rr_derive.specs.Derive.{Step}
 use Rattle.rr_rounds.specs.declared.place.Place.{Place}
-use Rattle.rr_solver.specs.Searches.{line}
-use Rattle.rr_solver.specs.declared.engine.Status.{Status}
-use Rattle.rr_solver.specs.declared.engine.Status.TheVariants.{Running, Model, Refuted, Failed}
-use Rattle.rr_rounds.specs.States.{emptied, solved, Member, State, line_of, member}
-use Rattle.rr_rounds.specs.Joined.{HasIds, IsLine, Name, id_of, in_order, joined, joined_id, joined_step, names, names_of, renumbered}
+use Rattle.rr_rounds.specs.States.{State, line_of}
+use Rattle.rr_rounds.specs.Joined.{IsLine, in_order, joined, joined_id, joined_step}
 use Rattle.rr_rounds.specs.Rounds.{Reached}
 use Rattle.rr_rounds.proofs.Standing.{listed, standing}
 use Rattle.rr_rounds.proofs.Reaching.{lawful}
-use Rattle.rr_rounds.proofs.Joining.{apart_of, name_cases}
 
 abbrev pub no_place : Place
 no_place = record { member = 0; line = 0 }

@@ -3,7 +3,8 @@ use Rattle.std.specs.Prelude.{◌≡◌, ℕ, ◌+◌, ◌*◌, ◌^◌, ◌<◌
 use Rattle.rr_cnf.specs.Clauses.{Clauses, IsWithin}
 use Rattle.rr_derive.specs.Derive.{Derives, Refutes, Step}
 use Rattle.rr_derive.specs.Fresh.{Fresh}
-use Rattle.rr_solver.specs.Searches.{IsFreshAfter, IsModel, IsNewId, PassesAfter, held_of}
+use Rattle.rr_derive.specs.Lrat.{AreHinted}
+use Rattle.rr_solver.specs.Searches.{IsFreshAfter, IsModel, IsNewId, NamesAll, PassesAfter, held_of}
 use Rattle.rr_rounds.specs.States.{emptied, solved, Learned, Member, State, Taken, handed, idle, learned, line_of, member, steps, taken}
 use Rattle.rr_rounds.specs.declared.place.Place.{Place}
 use Rattle.rr_rounds.specs.Joined.{IsLine, flat, in_order, joined, joined_with}
@@ -20,11 +21,12 @@ pub record Move : Type 0 where
   pub event : Event
 
 -- a member may write this line: it has a new id and the formula's variables, and passes the hint check
--- against the formula, the member's lines and what was handed over to it
+-- against the formula, the member's lines and what was handed over to it, which its hints name
 pub record MayWrite (f : Clauses) (m : Member) (s : Step) : Type 0 where
   pub id : IsNewId f (steps m) (handed m) s.id
   pub within : All (IsWithin f.vars) s.clause
   pub passes : PassesAfter f (steps m) (handed m) s
+  pub hints : NamesAll f (steps m) (handed m) s
 
 abbrev pub May : Clauses → ℕ → Member → Event → Type 0
 May f inputs m (learns s) = (m.ending ≡ None) × (MayWrite f m s × IsFreshAfter f inputs (steps m) (handed m) s)
@@ -139,6 +141,12 @@ JoinedDerives = (f : Clauses) (inputs count : ℕ) (s : State) → Reached f inp
 abbrev pub JoinedRefutes : Type 0
 JoinedRefutes = (f : Clauses) (inputs count : ℕ) (s : State) (m : ℕ) (e : Step) → Reached f inputs count s
     → (member s m).ending ≡ Some (emptied e) → Refutes f.clauses (joined_with f s m e)
+
+-- each hint of it names a clause of the formula or of a line before; also behind the empty line of a member
+abbrev pub JoinedIsHinted : Type 0
+JoinedIsHinted = (f : Clauses) (inputs count : ℕ) (s : State) → Reached f inputs count s
+    → AreHinted f.clauses (joined f s)
+    × ((m : ℕ) (e : Step) → (member s m).ending ≡ Some (emptied e) → AreHinted f.clauses (joined_with f s m e))
 
 -- the lines of each member are fresh
 abbrev pub AllFresh : Type 0

@@ -1,5 +1,5 @@
 //! What is true of every order of events.
-ghost use Rattle.rr_rounds.specs.Rounds.{AllFresh, EventsCommute, JoinedDerives, JoinedListsAll, JoinedRefutes, LinesAreFew, OrderOfEventsIsFree};
+ghost use Rattle.rr_rounds.specs.Rounds.{AllFresh, EventsCommute, JoinedDerives, JoinedIsHinted, JoinedListsAll, JoinedRefutes, LinesAreFew, OrderOfEventsIsFree};
 
 /// Events of different members may be exchanged.
 pub fn events_commute()
@@ -24,6 +24,11 @@ pub fn joined_derives()
 /// With the empty line of a member it refutes the formula.
 pub fn joined_refutes()
     ensures { JoinedRefutes }
+{}
+
+/// The hints of the joined journal name clauses of the formula and of lines before.
+pub fn joined_is_hinted()
+    ensures { JoinedIsHinted }
 {}
 
 /// The lines of each member are fresh.

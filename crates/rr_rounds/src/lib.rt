@@ -7,7 +7,7 @@ mod laws;
 mod place;
 
 pub use laws::{
-    all_fresh, events_commute, joined_derives, joined_lists_all, joined_refutes, lines_are_few,
-    order_of_events_is_free,
+    all_fresh, events_commute, joined_derives, joined_is_hinted, joined_lists_all, joined_refutes,
+    lines_are_few, order_of_events_is_free,
 };
 pub use place::Place;

@@ -11,7 +11,7 @@ use Rattle.rr_tseitin.specs.Tseitin.{formula_of, CanBeTrue, MakeOutputsTrue}
 use Rattle.rr_derive.specs.Derive.{Step, Refutes}
 use Rattle.rr_derive.proofs.Soundness.{unsatisfiable}
 use Rattle.rr_members.specs.Searched.{IsSpent}
-use Rattle.rr_solver.specs.Outcomes.{AreLines}
+use Rattle.rr_derive.specs.Lrat.{AreWritable}
 use Rattle.rr_solver.specs.Searches.{IsModel, given as value_of}
 use Rattle.rr_choice.specs.declared.pick.Pick.{Pick}
 use Rattle.rr_choice.specs.Choices.{cost, decode, total_bits, IsChoice}
@@ -128,14 +128,14 @@ module _ (t : Task) (w : IsTask t) (bound : ℕ) (circuit : OutputNetlist) (inpu
       (values : List Bool) → IsModel f values → (c : List Pick) → c ≡ decode t.sites (take (total_bits t.sites) (drop 1 values)) → IsMending t c × (cost c ≤ bound)
   mended_by f e = subst (λ (g : Clauses). ((a : ℕ → Bool) → Satisfies a g.clauses → MakeOutputsTrue circuit (λ i. a (i + 1))) → (values : List Bool) → IsModel g values → (c : List Pick) → c ≡ decode t.sites (take (total_bits t.sites) (drop 1 values)) → IsMending t c × (cost c ≤ bound)) (sym e) mended
 
-  closed : FewNames t.sites → (IsSatisfiable (formula_of circuit).clauses ↔ CanBeTrue circuit) → (lines : List Step) → Refutes (formula_of circuit).clauses lines × AreLines (formula_of circuit) lines → IsClosed t bound circuit lines
+  closed : FewNames t.sites → (IsSatisfiable (formula_of circuit).clauses ↔ CanBeTrue circuit) → (lines : List Step) → Refutes (formula_of circuit).clauses lines × AreWritable (formula_of circuit) lines → IsClosed t bound circuit lines
   closed few alike lines r = record {
     refuted = λ j of. record { faithful = faithful j t.sites of.stands; refuted = r.0; lawful = r.1 };
     dearer = λ j of. above t bound circuit j of (faithful j t.sites of.stands) few alike lines r.0;
   }
 
-  pub closed_by : (f : Clauses) → f ≡ formula_of circuit → FewNames t.sites → (IsSatisfiable f.clauses ↔ CanBeTrue circuit) → (lines : List Step) → Refutes f.clauses lines × AreLines f lines → IsClosed t bound circuit lines
-  closed_by f e = subst (λ (g : Clauses). FewNames t.sites → (IsSatisfiable g.clauses ↔ CanBeTrue circuit) → (lines : List Step) → Refutes g.clauses lines × AreLines g lines → IsClosed t bound circuit lines) (sym e) closed
+  pub closed_by : (f : Clauses) → f ≡ formula_of circuit → FewNames t.sites → (IsSatisfiable f.clauses ↔ CanBeTrue circuit) → (lines : List Step) → Refutes f.clauses lines × AreWritable f lines → IsClosed t bound circuit lines
+  closed_by f e = subst (λ (g : Clauses). FewNames t.sites → (IsSatisfiable g.clauses ↔ CanBeTrue circuit) → (lines : List Step) → Refutes g.clauses lines × AreWritable g lines → IsClosed t bound circuit lines) (sym e) closed
 
   pub left_by : (f : Clauses) → f ≡ formula_of circuit → (n : ℕ) → n ≡ circuit.netlist.inputs → (lines : List Step) → IsSpent f n t.members t.budget lines → IsOpen t bound circuit lines
   left_by f e n i lines h = record {

@@ -3,6 +3,7 @@
 use Rattle.std.specs.Prelude.{◌≡◌, ℕ, ◌-◌, ◌<◌, ◌≤◌, List, length, map}
 use Rattle.rr_circuit.specs.Values.{OutputNetlist}
 use Rattle.rr_derive.specs.Derive.{Step, Refutes}
+use Rattle.rr_derive.specs.Lrat.{AreWritable}
 use Rattle.rr_choice.specs.declared.pick.Choice.{Choice}
 use Rattle.rr_choice.specs.declared.pick.Pick.{Pick}
 use Rattle.rr_choice.specs.Choices.{cost, total_bits, IsChoice}
@@ -12,7 +13,6 @@ use Rattle.rr_search.specs.declared.answer.Answer.{Answer}
 use Rattle.rr_search.specs.declared.answer.Answer.TheVariants.{Unchanged, Repair, NoRepair, Spent}
 use Rattle.rr_search.specs.declared.answer.Job.{Job}
 use Rattle.rr_search.specs.Least.{Least, NoneMatches}
-use Rattle.rr_solver.specs.Outcomes.{AreLines}
 use Rattle.rr_trace.specs.Tables.{Table}
 use Rattle.rr_trace.specs.View.{plain_table}
 use Rattle.rr_transition.specs.Cycles.{Cycle, Design, instance_design, switch_places}
@@ -60,11 +60,11 @@ pub record IsTask (t : Task) : Type 0 where
 abbrev pub Mends : Design → Task → List Pick → Type 0
 Mends j t c = Matches (instance_design t.sites c j) t.table
 
--- the circuit asks whether at most so many changes mend the design, and the lines show that they do not
+-- the circuit asks whether at most so many changes mend the design, and the lines, which have a text, show that they do not
 pub record IsRefuted (j : Design) (t : Task) (bound : ℕ) (circuit : OutputNetlist) (lines : List Step) : Type 0 where
   pub faithful : Faithful circuit j t.sites t.table bound
   pub refuted : Refutes (formula_of circuit).clauses lines
-  pub lawful : AreLines (formula_of circuit) lines
+  pub lawful : AreWritable (formula_of circuit) lines
 
 -- a choice of cost k that mends the design, which does not match as it is; k is the least cost, and it is refuted that fewer
 -- changes do

@@ -1,4 +1,3 @@
-use Rattle.std.specs.Prelude.{Ok, Err, Result, IfOk, MatchResult}
 use Rattle.rr_certify.proofs.Certified.{sound_of}
 use Rattle.rr_certify.proofs.judge.Goals as goal
 

@@ -31,7 +31,7 @@ loop-index-preserved c =
     let lt : c.loop-index.index < length c.args.order.now = omega arith in
     let going = ap (λ x. x.failed) c.self.view_is ∙ c.requires.going in
     let count : i.count ≡ length v.formula.clauses = (c.self.invariant going).counted ∙ ap (λ x. length x.formula.clauses) c.self.view_is in
-    let id : c.in_ok-id.id ≡ length v.formula.clauses + 1 + c.loop-index.index = c.in_ok-id.ensures ∙ ap (λ n. n + 1 + c.loop-index.index) count in
+    let id : c.in_ok-id.id ≡ length v.formula.clauses + 1 + c.loop-index.index = c.in_ok-id.ensures.value ∙ ap (λ n. n + 1 + c.loop-index.index) count in
     Put-more v.formula v.state c.args.order.now c.requires.order c.loop-index.ids.items c.loop-index.index c.loop-index.invariant (get_or c.args.order.now c.loop-index.index no_place) c.in_ok-id.id c.put_id.new.ids.items lt
     (get_or_default c.args.order.now c.loop-index.index no_place _ lt) id c.put_id.ensures
 

@@ -2,7 +2,7 @@ use Rattle.std.proofs.Common.{◌≡◌, ◌∙◌, ℕ, ◌<◌, ◌-◌, lengt
 use Rattle.std.specs.Prelude.{None}
 use Rattle.std.proofs.lemmas.List.{get_or_read}
 use Rattle.rr_derive.specs.Derive.{Refutes}
-use Rattle.rr_solver.specs.Outcomes.{AreLines}
+use Rattle.rr_derive.specs.Lrat.{AreWritable}
 use Rattle.rr_solver.specs.Searches.{IsModel, line}
 use Rattle.rr_rounds.specs.States.{emptied, solved}
 use Rattle.rr_members.specs.Seats.{Seated, member_of}
@@ -53,7 +53,7 @@ returns-in_ok-journal-in-Some c =
     let going = ap (λ x. x.failed) c.self.view_is ∙ c.requires in
     let first = subst (λ xs. IsFirstEnded xs c.in-Some.place) c.as_slice.ensures.value c.in-Some.ensures in
     let r = reached_of v i.round i.seats.items i.failed c.self.view_is i.count (c.self.invariant going) in
-    let j = c.in_ok-journal-in-Some.ensures in
+    let j = c.in_ok-journal-in-Some.ensures.lines in
     let lines = c.in_ok-journal-in-Some.journal.lines in (
       c.in-Some.place,
       (
@@ -64,7 +64,7 @@ returns-in_ok-journal-in-Some c =
             j.1.1,
             (
               subst (Refutes v.formula.clauses) (sym j.1.1) (joined_refutes v.formula v.inputs (length i.seats.items) v.state r c.in-Some.place j.0 j.1.0),
-              subst (AreLines v.formula) (sym j.1.1) (all_lines v.formula v.inputs (length i.seats.items) v.state r c.in-Some.place j.0 j.1.0),
+              subst (AreWritable v.formula) (sym j.1.1) (all_lines v.formula v.inputs (length i.seats.items) v.state r c.in_ok-journal-in-Some.ensures.small c.in-Some.place j.0 j.1.0),
             ),
           ),
         ),

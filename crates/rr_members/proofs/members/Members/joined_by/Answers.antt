@@ -17,7 +17,7 @@ push-requires-clause-id c =
     let lt : c.loop-index.index < length c.args.order.now = omega arith in
     let going = ap (λ x. x.failed) c.self.view_is ∙ c.requires.going in
     let count : c.self.inside.count ≡ length v.formula.clauses = (c.self.invariant going).counted ∙ ap (λ x. length x.formula.clauses) c.self.view_is in
-    c.in_ok-id.ensures ∙ ap (λ n. n + 1 + c.loop-index.index) count ∙ sym (numbered v.formula v.state c.args.order.now c.requires.order c.loop-index.index no_place lt).id
+    c.in_ok-id.ensures.value ∙ ap (λ n. n + 1 + c.loop-index.index) count ∙ sym (numbered v.formula v.state c.args.order.now c.requires.order c.loop-index.index no_place lt).id
 
 pub push-requires-clause-last : goal.push-requires-clause-last
 push-requires-clause-last c =
@@ -26,4 +26,4 @@ push-requires-clause-last c =
     let going = ap (λ x. x.failed) c.self.view_is ∙ c.requires.going in
     let count : c.self.inside.count ≡ length v.formula.clauses = (c.self.invariant going).counted ∙ ap (λ x. length x.formula.clauses) c.self.view_is in
     subst (All (λ (x : Step). x.id < c.in_ok-id.id)) (sym c.loop-index.invariant.lines)
-    (joined_below v.formula v.state c.args.order.now c.requires.order c.loop-index.index (omega arith) c.in_ok-id.id (c.in_ok-id.ensures ∙ ap (λ n. n + 1 + c.loop-index.index) count))
+    (joined_below v.formula v.state c.args.order.now c.requires.order c.loop-index.index (omega arith) c.in_ok-id.id (c.in_ok-id.ensures.value ∙ ap (λ n. n + 1 + c.loop-index.index) count))

@@ -15,11 +15,11 @@ push_at-requires-clause-last c =
     let is : order ≡ in_order v.state = c.in_ok-order.ensures ∙ ap (λ s. in_order (state_of i.round s)) c.as_slice.ensures.value ∙ ap (λ x. in_order x.state) c.self.view_is in
     let size : c.len.result ≡ length order = search rules in
     let count = counted_of v i.round i.seats.items i.failed c.self.view_is i.count (c.self.invariant going) in
-    let id : c.in_ok-id.id ≡ length v.formula.clauses + 1 + length order = c.in_ok-id.ensures ∙ ap (λ n. n + 1 + c.len.result) count ∙ ap (λ n. length v.formula.clauses + 1 + n) size in
+    let id : c.in_ok-id.id ≡ length v.formula.clauses + 1 + length order = c.in_ok-id.ensures.value ∙ ap (λ n. n + 1 + c.len.result) count ∙ ap (λ n. length v.formula.clauses + 1 + n) size in
     subst (All (λ (x : Step). x.id < c.in_ok-id.id)) (sym c.in_ok-journal.ensures.lines) (all_below v.formula v.state order is c.in_ok-id.id id)
 
-pub returns : goal.returns
-returns c =
+pub returns-clause-lines : goal.returns-clause-lines
+returns-clause-lines c =
     let v = c.args.self.now in
     let i = c.self.inside in
     let order = c.in_ok-order.order.items in
@@ -31,7 +31,7 @@ returns c =
     let e = c.requires.refuted.0 in
     let same = same_member v i.round i.seats.items i.failed c.self.view_is c.args.place c.requires.place x c.index-seat.ensures in
     let p = emptied_by x.search.status x.search.bits x.search.lines e (ap (λ m. m.ending) (sym same) ∙ c.requires.refuted.1) in
-    let id : c.in_ok-id.id ≡ length v.formula.clauses + 1 + length (in_order v.state) = c.in_ok-id.ensures ∙ ap (λ n. n + 1 + c.len.result) count ∙ ap (λ n. length v.formula.clauses + 1 + n) (size ∙ ap length is) in
+    let id : c.in_ok-id.id ≡ length v.formula.clauses + 1 + length (in_order v.state) = c.in_ok-id.ensures.value ∙ ap (λ n. n + 1 + c.len.result) count ∙ ap (λ n. length v.formula.clauses + 1 + n) (size ∙ ap length is) in
     let clause : c.in_ok-clause.clause ≡ e.clause = c.in_ok-clause.ensures ∙ c.lits.ensures ∙ c.last_clause.ensures ∙ ap (λ s. s.clause) p.1 in
     let hints : c.in_ok-hints.hints.items ≡ map (renumbered v.formula v.state c.args.place) e.hints = c.in_ok-hints.ensures ∙ ap (map (renumbered v.formula v.state c.args.place)) (c.last_hints.ensures ∙ ap (λ s. s.hints) p.1) in (
       e,
