@@ -6,8 +6,13 @@ use Rattle.rr_syntax.specs.Tree.{SourceText}
 use Rattle.rr_syntax.specs.declared.site.Site.{Site as ArenaSite}
 use Rattle.rr_lex.specs.Tokens.{Lexeme}
 use Rattle.rr_grammar.specs.Trees.{IsTree}
+use Rattle.rr_circuit.specs.Aag.{aag}
 use Rattle.rr_circuit.specs.Values.{OutputNetlist}
-use Rattle.rr_derive.specs.Derive.{Proof}
+use Rattle.rr_tseitin.specs.Tseitin.{formula_of}
+use Rattle.rr_derive.specs.Derive.{Proof, Refutes}
+use Rattle.rr_derive.specs.Lrat.{AreWritable, lrat}
+use Rattle.rr_check.specs.declared.verdict.Verdict.TheVariants.{Accepted}
+use Rattle.rr_certify.specs.Certificates.{IsJudged}
 use Rattle.rr_flat.specs.Inputs.{row_inputs}
 use Rattle.rr_flat.specs.Plain.{Flat}
 use Rattle.rr_flat.specs.declared.fault.Limit.TheVariants as limit
@@ -58,11 +63,15 @@ choice_length (s ∷ ss) (p ∷ ps) h = ap suc (choice_length ss ps h.1)
 
 -- answers
 
+-- a check accepts the texts where the lines refute the circuit's formula
+abbrev pub IsAcceptedWhere : OutputNetlist → Proof → Type 0
+IsAcceptedWhere circuit p = Refutes (formula_of circuit).clauses p.lines → AreWritable (formula_of circuit) p.lines → IsJudged (aag circuit) (lrat p) Accepted
+
 module _ (w : Wish) (design : List ℕ) (tokens : List Lexeme) (source : SourceText) (t : Task) (answer : Answer) where
-  pub repair_told : (proposals : ℕ) (c : List Pick) (k : ℕ) (circuit : OutputNetlist) (p : Proof) → search.IsRepair (design_of w source) t c k circuit p.lines → answer.files ≡ certificate w.cert circuit p
+  pub repair_told : (proposals : ℕ) (c : List Pick) (k : ℕ) (circuit : OutputNetlist) (p : Proof) → search.IsRepair (design_of w source) t c k circuit p.lines → answer.files ≡ certificate w.cert circuit p → IsAcceptedWhere circuit p
       → answer.out ≡ printed design tokens t.sites c source → IsTree answer.out (instance_source t.sites c source) → answer.notes ≡ report tokens t.sites c proposals → answer.status ≡ 0
       → IsAnswer w design tokens source t.sites t.table answer
-  repair_told proposals c k circuit p r files out tree notes status = inr (inl (record {
+  repair_told proposals c k circuit p r files accepted out tree notes status = inr (inl (record {
     faulty = r.faulty;
     choice = c;
     chosen = r.choice;
@@ -73,21 +82,21 @@ module _ (w : Wish) (design : List ℕ) (tokens : List Lexeme) (source : SourceT
     tree = tree;
     circuit = circuit;
     proof = p;
-    fewer = record { faithful = subst (λ (n : ℕ). Faithful circuit (design_of w source) t.sites t.table (n - 1)) (sym r.costs) r.fewer.faithful; refutes = r.fewer.refuted };
+    fewer = record { faithful = subst (λ (n : ℕ). Faithful circuit (design_of w source) t.sites t.table (n - 1)) (sym r.costs) r.fewer.faithful; refutes = r.fewer.refuted; accepted = accepted r.fewer.refuted r.fewer.lawful };
     files = files;
     proposals = proposals;
     notes = notes;
     status = status;
   }))
 
-  pub beyond_told : (n : ℕ) (circuit : OutputNetlist) (p : Proof) → search.IsBeyondRepair (design_of w source) t circuit p.lines → length t.sites ≡ n → answer.files ≡ certificate w.cert circuit p
+  pub beyond_told : (n : ℕ) (circuit : OutputNetlist) (p : Proof) → search.IsBeyondRepair (design_of w source) t circuit p.lines → length t.sites ≡ n → answer.files ≡ certificate w.cert circuit p → IsAcceptedWhere circuit p
       → answer.out ≡ [] → answer.notes ≡ beyond_text n → answer.status ≡ 1 → IsAnswer w design tokens source t.sites t.table answer
-  beyond_told n circuit p r e files out notes status = inr (inr (inl (record {
+  beyond_told n circuit p r e files accepted out notes status = inr (inr (inl (record {
     faulty = r.faulty;
     none = r.none;
     circuit = circuit;
     proof = p;
-    all = record { faithful = r.all.faithful; refutes = r.all.refuted };
+    all = record { faithful = r.all.faithful; refutes = r.all.refuted; accepted = accepted r.all.refuted r.all.lawful };
     files = files;
     printed = out;
     notes = notes ∙ ap beyond_text (sym e);

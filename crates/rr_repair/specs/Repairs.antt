@@ -11,8 +11,12 @@ use Rattle.rr_flat.specs.Plain.{Flat}
 use Rattle.rr_flat.specs.Signals.{Signal, Text}
 use Rattle.rr_flat.specs.declared.fault.Limit.TheVariants as limit
 use Rattle.rr_elaborate.specs.Designs.{IsDesignOf}
+use Rattle.rr_circuit.specs.Aag.{aag}
 use Rattle.rr_circuit.specs.Values.{OutputNetlist}
 use Rattle.rr_derive.specs.Derive.{Proof, Refutes}
+use Rattle.rr_derive.specs.Lrat.{lrat}
+use Rattle.rr_check.specs.declared.verdict.Verdict.TheVariants.{Accepted}
+use Rattle.rr_certify.specs.Certificates.{IsJudged}
 use Rattle.rr_trace.specs.Tables.{Table, table_of}
 use Rattle.rr_trace.specs.Tops.{ports_of}
 use Rattle.rr_run.specs.Refusals.{Refusal as RunRefusal, TooMany}
@@ -83,10 +87,11 @@ pub record IsUnchanged (w : Wish) (design : List ℕ) (source : SourceText) (row
   pub notes : answer.notes ≡ unchanged_text
   pub status : answer.status ≡ 0
 
--- a circuit that is true where at most so many changes match, and lines that refute its formula
+-- a circuit that is true where at most so many changes match, and lines that refute its formula; a check accepts their texts
 pub record IsRefutation (j : Design) (sites : List Site) (rows : Table) (bound : ℕ) (circuit : OutputNetlist) (proof : Proof) : Type 0 where
   pub faithful : Faithful circuit j sites rows bound
   pub refutes : Refutes (formula_of circuit).clauses proof.lines
+  pub accepted : IsJudged (aag circuit) (lrat proof) Accepted
 
 -- a choice of at least one change whose instance matches, and none of fewer changes does: the source is printed with these
 -- changes, its tree is the instance, and the certificate of fewer changes is written

@@ -1,14 +1,15 @@
 -- What an answer tells.
-use Rattle.std.proofs.Common.{inl, inr, ℕ, List}
+use Rattle.std.proofs.Common.{◌≡◌, inl, inr, ℕ, ◌*◌, ◌^◌, ◌<◌, ◌≤◌, List, subst, arith}
 use Rattle.rr_syntax.specs.Tree.{SourceText}
 use Rattle.rr_lex.specs.Tokens.{Lexeme}
+use Rattle.rr_choice.specs.Choices.{total_bits}
 use Rattle.rr_choice.specs.Sites.{Site}
 use Rattle.rr_trace.specs.Tables.{Table}
 use Rattle.rr_unroll.specs.Matches.{Matches}
 use Rattle.rr_report.specs.Found.{Answer}
 use Rattle.rr_repair.specs.Repairs.{IsAnswer, IsBeyond, IsOpen, IsRepaired, IsTaken, IsUnchanged, Wish, design_of}
 use Rattle.rr_repair_laws.specs.Outcomes.{IsAsItWas}
-use Rattle.rr_repair_laws.specs.Laws.{EachAnswer, MatchingStays, TellsOutcome}
+use Rattle.rr_repair_laws.specs.Laws.{AmpleSettles, EachAnswer, MatchingStays, TellsOutcome}
 use Rattle.rr_repair_laws.proofs.Once.{matching_mends, moved_matches, one_taking}
 
 module _ (w : Wish) (design table : List ℕ) (answer : Answer) (ts : List Lexeme) (a : SourceText) (ss : List Site) (x : Table) (taken : IsTaken w design table ts a ss x) where
@@ -46,6 +47,15 @@ module _ (w : Wish) (design table : List ℕ) (answer : Answer) (ts : List Lexem
   stays matches (inr (inr (inl b))) = absurd (b.faulty matches)
   stays matches (inr (inr (inr o))) = absurd (o.faulty matches)
 
+  -- a member that has learned its budget has few lines
+  settles : total_bits ss * 3 ^ total_bits ss < w.budget → IsAnswer w design ts a ss x answer → answer.status ≡ 2 → ⊥
+  settles more (inl u) two = omega (arith, u.status, two)
+  settles more (inr (inl r)) two = omega (arith, r.status, two)
+  settles more (inr (inr (inl b))) two = omega (arith, b.status, two)
+  settles more (inr (inr (inr o))) two =
+      let few : w.budget ≤ total_bits ss * 3 ^ total_bits ss = subst (λ (n : ℕ). w.budget ≤ n * 3 ^ n) o.faithful.inputs o.spent.few in
+      omega (arith, more, few)
+
 pub each_answer : EachAnswer
 each_answer w design table answer a = of_answer w design table answer a.tokens a.source a.sites a.rows a.taken a.is
 
@@ -53,3 +63,8 @@ pub matching_stays : MatchingStays
 matching_stays w design table answer m a =
     let one = one_taking w design table m.tokens a.tokens m.source a.source m.sites a.sites m.rows a.rows m.taken a.taken in
     stays w design table answer a.tokens a.source a.sites a.rows a.taken (moved_matches w one m.matches) a.is
+
+pub ample_settles : AmpleSettles
+ample_settles w design table answer m a two =
+    let one = one_taking w design table m.tokens a.tokens m.source a.source m.sites a.sites m.rows a.rows m.taken a.taken in
+    settles w design table answer a.tokens a.source a.sites a.rows a.taken (subst (λ (ss : List Site). total_bits ss * 3 ^ total_bits ss < w.budget) one.sites m.ample) a.is two

@@ -8,7 +8,7 @@ use Rattle.rr_run.specs.Refusals.{Refusal as RunRefusal}
 use Rattle.rr_run.specs.Runs.{IsSameRefusal}
 use Rattle.rr_report.specs.Found.{Answer}
 use Rattle.rr_repair.specs.Repairs.{AnswersRepair, IsTaken, Refuses, Wish}
-use Rattle.rr_repair_laws.specs.Outcomes.{IsAsItWas, IsDespaired, IsLeftOpen, IsMatching, IsMendable, IsMended, IsUnmendable}
+use Rattle.rr_repair_laws.specs.Outcomes.{IsAmple, IsAsItWas, IsDespaired, IsLeftOpen, IsMatching, IsMendable, IsMended, IsUnmendable}
 
 -- two ways to take the files are one
 pub record IsOneTaking (ts us : List Lexeme) (a b : SourceText) (ss rs : List Site) (x y : Table) : Type 0 where
@@ -44,6 +44,10 @@ TellsOutcome w design table answer = (IsMended w design table answer × (IsMenda
 
 abbrev pub EachAnswer : Type 0
 EachAnswer = (w : Wish) (design table : List ℕ) (answer : Answer) → AnswersRepair w design table answer → TellsOutcome w design table answer
+
+-- no answer leaves a repair open where the budget is ample
+abbrev pub AmpleSettles : Type 0
+AmpleSettles = (w : Wish) (design table : List ℕ) (answer : Answer) → IsAmple w design table → AnswersRepair w design table answer → answer.status ≡ 2 → ⊥
 
 -- where the design matches as it is, each answer prints it so
 abbrev pub MatchingStays : Type 0

@@ -1,9 +1,9 @@
 -- What a design and its table come to, apart from any answer; and which of these an answer tells.
-use Rattle.std.specs.Prelude.{◌≡◌, ◌⊎◌, ℕ, List, []}
+use Rattle.std.specs.Prelude.{◌≡◌, ◌⊎◌, ℕ, ◌*◌, ◌^◌, ◌<◌, List, []}
 use Rattle.rr_syntax.specs.Tree.{SourceText}
 use Rattle.rr_lex.specs.Tokens.{Lexeme}
 use Rattle.rr_choice.specs.declared.pick.Pick.{Pick}
-use Rattle.rr_choice.specs.Choices.{IsChoice}
+use Rattle.rr_choice.specs.Choices.{total_bits, IsChoice}
 use Rattle.rr_choice.specs.Sites.{Site}
 use Rattle.rr_trace.specs.Tables.{Table}
 use Rattle.rr_transition.specs.Cycles.{instance_design}
@@ -42,6 +42,15 @@ pub record IsUnmendable (w : Wish) (design table : List ℕ) : Type 0 where
   pub rows : Table
   pub taken : IsTaken w design table tokens source sites rows
   pub none : NoneMatches (design_of w source) sites rows
+
+-- both are taken, and each member may learn more than c * 3^c lines, for the c bits that write a choice of the sites
+pub record IsAmple (w : Wish) (design table : List ℕ) : Type 0 where
+  pub tokens : List Lexeme
+  pub source : SourceText
+  pub sites : List Site
+  pub rows : Table
+  pub taken : IsTaken w design table tokens source sites rows
+  pub ample : total_bits sites * 3 ^ total_bits sites < w.budget
 
 -- ---- of an answer
 -- both files are taken, and the answer prints the source as it is, or with the fewest changes that match

@@ -1,5 +1,5 @@
 //! Laws of what files come to, as contracts of functions that do nothing.
-ghost use Rattle.rr_repair_laws.specs.Laws.{EachAnswer, MatchingIsMendable, MatchingStays, MendableOrNot, OneRefusal, OneTaking, TakenOrRefused};
+ghost use Rattle.rr_repair_laws.specs.Laws.{AmpleSettles, EachAnswer, MatchingIsMendable, MatchingStays, MendableOrNot, OneRefusal, OneTaking, TakenOrRefused};
 
 /// Two files are taken in one way or refused by one refusal, but for the byte that is told of a text
 /// without a tree; and not some choice matches where none does.
@@ -12,8 +12,10 @@ pub fn repair_outcomes()
 {}
 
 /// Each answer has status 0 where some choice matches, 1 where none does, or 2 where it leaves this
-/// open; and a design that matches as it is is printed as it is.
+/// open; a design that matches as it is is printed as it is; and none is left open where each member may
+/// learn more than c * 3^c lines, for the c bits that write a choice.
 pub fn repair_answers()
     ensures each { EachAnswer }
     ensures stays { MatchingStays }
+    ensures settles { AmpleSettles }
 {}

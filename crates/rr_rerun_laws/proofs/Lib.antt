@@ -1,2 +1,3 @@
 pub mod Ports
 pub mod Reruns
+pub mod Checking

@@ -1,4 +1,5 @@
 //! The law of what a repair prints, as a contract of a function that does nothing.
+ghost use Rattle.rr_rerun_laws.specs.Checks.{CheckAccepts, CheckAcceptsNone};
 ghost use Rattle.rr_rerun_laws.specs.Reruns.{RunAgrees, RunsAgain};
 
 /// Where a repair prints a source, and its bytes are read as a text, they have a run on the table of the
@@ -6,4 +7,11 @@ ghost use Rattle.rr_rerun_laws.specs.Reruns.{RunAgrees, RunsAgain};
 pub fn repair_then_run()
     ensures again { RunsAgain }
     ensures agrees { RunAgrees }
+{}
+
+/// The certificate that a repair writes, that fewer changes do not match or that none do, is accepted by a
+/// check.
+pub fn repair_then_check()
+    ensures mended { CheckAccepts }
+    ensures none { CheckAcceptsNone }
 {}

@@ -28,14 +28,14 @@ use Rattle.rr_repair.specs.Repairs.{AnswersRepair, Wish}
 use Rattle.rr_repair_laws.specs.Laws.{TellsOutcome}
 use Rattle.rr_repair_laws.specs.Outcomes.{IsAsItWas}
 use Rattle.rr_repair_laws.proofs.Once.{matching_mends}
-use Rattle.rr_repair_laws.proofs.Told.{each_answer, matching_stays}
+use Rattle.rr_repair_laws.proofs.Told.{ample_settles, each_answer, matching_stays}
 use Rattle.rr_make.specs.Makes.{TellsMake}
 use Rattle.rr_make.proofs.Once.{each_make}
 use Rattle.rr_top.specs.Outcomes.{Outcome, mended, unmendable, ran, listed, checked, made, IsToldBy, Tells, outcome_status, verdict_status}
 use Rattle.rr_top.specs.Commands.{AnswersRun, AnswersSites, AnswersCheck, AsksRepair, BothGiven, Command, Due, HasOneOutcome, Refuses, WhereOne, WhereTwo, check_command, command_of_plan, repair_command, run_command, sites_command, wish}
 use Rattle.rr_top.specs.Expected.{Expected, absent, refused, unparsed, done, IsChecked, IsPlaced, Judges}
 use Rattle.rr_top.specs.Endings.{CommandEnds}
-use Rattle.rr_top.specs.Execution.{Ends, IsUsage, Execution, IsExecution, IsRepaired, IsBeyondRepair, IsUnsettled, HoldsFiles, HoldsFirst, LeavesOpen, AsksNoRepair, IsSimulated, IsListed, IsSummed, IsNotMade, IsUndecided, IsAccepted, IsRejected, HasDone, HasFailed, HoldsNeverTrue, IsCheck, IsRefused, IsAbsent, IsReadFault, IsReportFault, Fails, IsFailure, IsMatchingRepair, PrintsAsItWas, IsExhausted, IsUnread, WhereCommand, SomeFault, ShowsOutcome, Follows, AllGiven, NoneRefuses, NoFaults}
+use Rattle.rr_top.specs.Execution.{Ends, IsUsage, Execution, IsExecution, IsRepaired, IsBeyondRepair, IsUnsettled, HoldsFiles, HoldsFirst, LeavesOpen, AsksNoRepair, IsSimulated, IsListed, IsSummed, IsNotMade, IsUndecided, IsAccepted, IsRejected, HasDone, HasFailed, HoldsNeverTrue, IsCheck, IsRefused, IsAbsent, IsReadFault, IsReportFault, Fails, IsFailure, IsAmpleRepair, IsMatchingRepair, PrintsAsItWas, IsExhausted, IsUnread, WhereCommand, SomeFault, ShowsOutcome, Follows, AllGiven, NoneRefuses, NoFaults}
 use Rattle.rr_top.proofs.Judging.{placed_or_syntax}
 use Rattle.rr_top.proofs.Readings.{given_given}
 use Rattle.rr_top.proofs.Table.{left_asks, one_in_table, writes_nothing}
@@ -682,7 +682,36 @@ module _ (r : Execution) (design : List ℕ) (m : IsMatchingRepair r design) whe
   as_it_was : (o : Option Plan) → o ≡ Some plan_in → Came r o → PrintsAsItWas r design
   as_it_was o is came = settled o is came (of_verdict r o plan_in is m.held m.told (done mended) judged_in came)
 
+-- a repair whose budget is ample
+module _ (r : Execution) (m : IsAmpleRepair r) where
+  abbrev ample_plan : Plan
+  ample_plan = repair m.design_name m.table_name m.cert m.top m.clock m.budget m.members
+
+  abbrev ample_wish : Wish
+  ample_wish = wish m.cert m.top m.clock m.budget m.members
+
+  abbrev ample_command : Command
+  ample_command = repair_command m.design_name m.table_name ample_wish
+
+  settles_in : (answer : Answer) → Due ample_command (Some m.held) answer → answer.status ≡ 2 → ⊥
+  settles_in answer due two =
+      let given : Given (Some m.held) ample_command.reads (m.design ∷ (m.table ∷ [])) = (m.given.design_given, (m.given.table_given, tt)) in
+      let files = given_given m.held ample_command.reads due.files (m.design ∷ (m.table ∷ [])) due.given given in
+      let answers : AnswersRepair ample_wish m.design m.table answer = subst (λ (fs : List (List ℕ)). ample_command.answers fs answer) files due.answers in
+      ample_settles ample_wish m.design m.table answer m.ample answers two
+
+  never_open : (o : Option Plan) → o ≡ Some ample_plan → Came r o → r.status ≡ 2 → ⊥
+  never_open o is (came_fault f w s h) two = omega (arith, s, two)
+  never_open o is (came_memory c n k a s) two = omega (arith, s, two)
+  never_open o is (came_usage c n h k a s) two = omega (arith, s, two)
+  never_open o is (came_absent c plan p a s) two = omega (arith, s, two)
+  never_open o is (came_refused c plan p a s) two = omega (arith, s, two)
+  never_open o is (came_done c plan p answer due shelf out notes s) two = settles_in answer (rw (same_plan o plan ample_plan p is, m.told) at due) (sym s ∙ two)
+
 module _ {r : Execution} (c : IsExecution r) where
+  pub execution_settles : IsAmpleRepair r → r.status ≡ 2 → ⊥
+  execution_settles m = never_open r m (command_of r.arguments) m.arguments (execution_came c)
+
   pub execution_done : r.status ≡ 0 → WhereCommand r.arguments (HasDone r)
   execution_done is = of_repaired r (command_of r.arguments) (execution_came c) is
 

@@ -25,7 +25,7 @@ use Rattle.rr_effects.specs.Reads.{AbsentAt, Gave, IsRead}
 use Rattle.rr_effects.specs.Delivery.{Reports, StopsAtWrite, file_at, with_files}
 use Rattle.rr_answers.specs.Texts.{unchanged_text}
 use Rattle.rr_repair.specs.Repairs.{Wish}
-use Rattle.rr_repair_laws.specs.Outcomes.{IsDespaired, IsLeftOpen, IsMatching, IsMended}
+use Rattle.rr_repair_laws.specs.Outcomes.{IsAmple, IsDespaired, IsLeftOpen, IsMatching, IsMended}
 use Rattle.rr_made.specs.Made.{made_design, made_table}
 use Rattle.rr_make.specs.Makes.{IsMadeCount, IsMadeOpen, IsUnmade, made_wish, summary}
 use Rattle.rr_top.specs.Outcomes.{Outcome, mended, unmendable, ran, listed, checked, made}
@@ -365,6 +365,24 @@ pub record IsMatchingRepair (r : Execution) (design : List ℕ) : Type 0 where
 abbrev pub PrintsAsItWas : Execution → List ℕ → Type 0
 PrintsAsItWas r design = ((r.status ≡ 0) × (Appends r.before.out r.after.out design × (Appends r.notes_before r.notes_after unchanged_text × KeepsShelf r.before r.after)))
     ⊎ ((r.status ≡ 5) ⊎ ((r.status ≡ 4) × SomeFault r))
+
+-- The arguments ask for a repair, a told shelf holds both files, and each member may learn more than c * 3^c lines, for the c
+-- bits that write a choice of the sites.
+pub record IsAmpleRepair (r : Execution) : Type 0 where
+  pub held : Held
+  pub told : r.before.held ≡ Some held
+  pub design_name : List ℕ
+  pub table_name : List ℕ
+  pub cert : List ℕ
+  pub top : Option (List ℕ)
+  pub clock : Option (List ℕ)
+  pub budget : ℕ
+  pub members : ℕ
+  pub arguments : command_of r.arguments ≡ Some (repair design_name table_name cert top clock budget members)
+  pub design : List ℕ
+  pub table : List ℕ
+  pub given : BothGiven (Some held) design_name table_name design table
+  pub ample : IsAmple (wish cert top clock budget members) design table
 
 -- what `repair` and `make` alone may do is not asked for
 abbrev pub AsksNoRepair : List (List ℕ) → Type 0

@@ -13,7 +13,7 @@ ghost use Rattle.rr_effects.specs.Outside.{outside};
 ghost use Rattle.rr_top.specs.Commands.{AsksRepair, InRange, command_of_plan};
 ghost use Rattle.rr_top.specs.Expected.{Expected, Judges};
 ghost use Rattle.rr_top.specs.Endings.{CommandEnds};
-ghost use Rattle.rr_top.specs.Execution.{Ends, execution, IsExecution, HasDone, HasFailed, HoldsNeverTrue, IsCheck, IsRefused, IsAbsent, IsExhausted, IsFailure, IsMatchingRepair, IsUnread, PrintsAsItWas, WhereCommand, SomeFault, Follows, AllGiven, AsksNoRepair, LeavesOpen, NoneRefuses, NoFaults};
+ghost use Rattle.rr_top.specs.Execution.{Ends, execution, IsExecution, HasDone, HasFailed, HoldsNeverTrue, IsCheck, IsRefused, IsAbsent, IsExhausted, IsFailure, IsAmpleRepair, IsMatchingRepair, IsUnread, PrintsAsItWas, WhereCommand, SomeFault, Follows, AllGiven, AsksNoRepair, LeavesOpen, NoneRefuses, NoFaults};
 ghost use Rattle.rr_top.specs.Views.{SaysWhy};
 
 use bumpalo::Bump;
@@ -235,6 +235,14 @@ pub fn run<R: Threads + Sync, H: Shelf, K: Sink, E: Sink>(
         (outside (H.told shelf.old) (H.faults shelf.old) (K.written out.old) (K.faults out.old))
         (outside (H.told shelf.new) (H.faults shelf.new) (K.written out.new) (K.faults out.new))
         (E.written notes.old) (E.written notes.new) (E.faults notes.old) (E.faults notes.new) result) design }
+
+    // Where each member may learn more than c * 3^c lines, for the c bits that write a choice of the sites, no repair is left
+    // open.
+    ensures settles { IsAmpleRepair
+        (execution (map string_bytes arguments.now)
+        (outside (H.told shelf.old) (H.faults shelf.old) (K.written out.old) (K.faults out.old))
+        (outside (H.told shelf.new) (H.faults shelf.new) (K.written out.new) (K.faults out.new))
+        (E.written notes.old) (E.written notes.new) (E.faults notes.old) (E.faults notes.new) result) → result ≡ 2 → ⊥ }
 
     // Plain arguments, files that are held within their limits, no refusal that is due and no fault: the command is done, or
     // memory ran out, or a repair is left open.

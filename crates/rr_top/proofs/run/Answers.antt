@@ -1,4 +1,4 @@
-use Rattle.rr_top.proofs.Executions.{execution_done, execution_certified, execution_failed, execution_refused, execution_faulty, execution_failure, execution_left, execution_exhausted, execution_usage, execution_not_plain, execution_kept, execution_shelf, execution_out, execution_notes, execution_decided, execution_as_it_was, execution_complete}
+use Rattle.rr_top.proofs.Executions.{execution_done, execution_certified, execution_failed, execution_refused, execution_faulty, execution_failure, execution_left, execution_exhausted, execution_usage, execution_not_plain, execution_kept, execution_shelf, execution_out, execution_notes, execution_decided, execution_as_it_was, execution_complete, execution_settles}
 use Rattle.rr_top.proofs.run.Goals as goal
 
 pub returns-clause-done : goal.returns-clause-done
@@ -24,6 +24,9 @@ returns-clause-failure g c = execution_failure c.conduct.ensures
 
 pub returns-clause-as_it_was : goal.returns-clause-as_it_was
 returns-clause-as_it_was g c = execution_as_it_was c.conduct.ensures
+
+pub returns-clause-settles : goal.returns-clause-settles
+returns-clause-settles g c = execution_settles c.conduct.ensures
 
 pub returns-clause-exhausted : goal.returns-clause-exhausted
 returns-clause-exhausted g c = execution_exhausted c.conduct.ensures
