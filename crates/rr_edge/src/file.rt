@@ -1,15 +1,24 @@
 //! A shelf of real files. It tells nothing of what they hold.
+ghost use Rattle.std.specs.Bool.{OnTrue};
+ghost use Rattle.std.specs.Io.KnownBytes.{Appends};
 ghost use Rattle.std.specs.Prelude.{◌≡◌, ◌≤◌, ◌^◌, ◌-◌, ℕ, ◌+◌, min, vec_len, IfOk, None, IsErrOf};
 ghost use Rattle.rr_edge.specs.Faults.{Faulted};
-ghost use Rattle.rr_edge.specs.File.{file_fault_count, ReadsFile, WritesFile};
+ghost use Rattle.rr_edge.specs.File.{file_fault_count, ReadsFile, Took, WritesFile};
 ghost use Rattle.rr_edge.specs.Shelf.{Reads, Writes, Counts, count_after};
 
 use crate::reader::{ReadFault, read_front};
 use crate::writer::write_front;
 use crate::{Shelf, ShelfFault};
 use std::alloc::Global;
-use std::fs::{File, OpenFile};
+use std::fs::{self, File, OpenFile, OpenOptions, Permissions};
+use std::io::{ErrorKind, Write};
 use std::rt::Files;
+
+/// Room for the name of the file that is written beside another; a longer name is longer than the system takes.
+const ROOM: usize = 4096;
+
+/// What is put behind a name for the file beside it.
+const PART: &[u8] = b".part";
 
 /// Files by their paths. A file that isn't there, or can't be opened, is a fault.
 #[derive(Drop)]
@@ -59,17 +68,114 @@ fn read_file<R: Files>(rt: &R, alloc: Global, name: &str, limit: u64) -> Result<
     }
 }
 
-/// What a write of the file answers, before a fault is counted.
+/// Why bytes do not stand beside a name.
+enum Beside {
+    /// They are to be written in place: the name is that of no plain file, or nothing can be made beside it.
+    Never,
+    /// A write failed, and the name has what it had.
+    Failed,
+}
+
+/// What a write of the file answers, before a fault is counted. The bytes are written beside the name and take it once they
+/// are whole, so that after a fault it has what it had; where that cannot be, they are written in place.
 fn write_file<R: Files>(rt: &R, name: &str, bytes: &[u8]) -> Result<(), ShelfFault>
+    ensures { WritesFile R.File.contents bytes.now result }
+{
+    match write_beside(rt, name, bytes) {
+        Ok(()) => Ok(()),
+        Err(Beside::Failed) => Err(ShelfFault::Failed),
+        Err(Beside::Never) => write_in_place(rt, name, bytes),
+    }
+}
+
+/// Whether a file takes all the bytes.
+fn takes<F: Write>(file: &mut F, bytes: &[u8]) -> bool
+    ensures { OnTrue result (Appends (F.contents file.old) (F.contents file.new) bytes.now) }
+{
+    write_front(file, bytes) == bytes.len()
+}
+
+/// Writes the bytes under the name, in place of what it has.
+fn write_in_place<R: Files>(rt: &R, name: &str, bytes: &[u8]) -> Result<(), ShelfFault>
     ensures { WritesFile R.File.contents bytes.now result }
 {
     let Ok(mut file) = File::create(rt, name) else {
         return Err(ShelfFault::Failed);
     };
-    if write_front(&mut file, bytes) < bytes.len() {
-        return Err(ShelfFault::Failed);
+    if takes(&mut file, bytes) {
+        Ok(())
+    } else {
+        Err(ShelfFault::Failed)
+    }
+}
+
+/// Writes the bytes beside the name, and gives them the name once they are whole.
+fn write_beside<R: Files>(rt: &R, name: &str, bytes: &[u8]) -> Result<(), Beside>
+    ensures { IfOk result (λ _. Took R.File.contents bytes.now) }
+{
+    let kept = replaced(rt, name)?;
+    let mut room = [0u8; ROOM];
+    let Some(part) = part_of(name, &mut room) else {
+        return Err(Beside::Never);
+    };
+    write_part(rt, part, kept, bytes)?;
+    if fs::rename(rt, part, name).is_err() {
+        let _ = fs::remove_file(rt, part);
+        return Err(Beside::Never);
     }
     Ok(())
+}
+
+/// The permissions of the plain file that the name has and that may be written, or none where the name is free.
+fn replaced<R: Files>(rt: &R, name: &str) -> Result<Option<Permissions>, Beside> {
+    match fs::symlink_metadata(rt, name) {
+        Ok(metadata) => {
+            if metadata.is_file() && OpenOptions::new().write(true).open(rt, name).is_ok() {
+                return Ok(Some(metadata.permissions()));
+            }
+            Err(Beside::Never)
+        }
+        Err(error) => {
+            if error.kind() == ErrorKind::NotFound {
+                return Ok(None);
+            }
+            Err(Beside::Never)
+        }
+    }
+}
+
+/// The name of the file that is written beside this one.
+fn part_of<'b>(name: &str, room: &'b mut [u8]) -> Option<&'b str> {
+    let front = name.len();
+    let part = room.get_mut(..front.checked_add(PART.len())?)?;
+    part[..front].copy_from_slice(name.as_bytes());
+    part[front..].copy_from_slice(PART);
+    str::from_utf8(part).ok()
+}
+
+/// Writes the bytes to a file that was not there, with these permissions; it is gone again where that fails.
+fn write_part<R: Files>(
+    rt: &R,
+    part: &str,
+    kept: Option<Permissions>,
+    bytes: &[u8],
+) -> Result<(), Beside>
+    ensures { IfOk result (λ _. Took R.File.contents bytes.now) }
+{
+    let Ok(mut file) = File::create_new(rt, part) else {
+        return Err(Beside::Never);
+    };
+    if let Some(permissions) = kept {
+        if file.set_permissions(permissions).is_err() {
+            let _ = fs::remove_file(rt, part);
+            return Err(Beside::Never);
+        }
+    }
+    if takes(&mut file, bytes) {
+        return Ok(());
+    }
+    let _ = fs::remove_file(rt, part);
+    Err(Beside::Failed)
 }
 
 impl<'a, R: Files> Shelf for FileShelf<'a, R> {
