@@ -4,70 +4,69 @@
 usage: tools/fuzz.py [PROGRAM] [COUNT] [SEED]
 
 PROGRAM is crates/rtl_repair/out/rtl_repair where it is not given, COUNT 1,000 inputs, SEED 1. An input is a design and a table, or a circuit
-and a proof: those of examples/ with bytes or tokens changed, left out, doubled or exchanged, or a random design of the profile
-with a table of its own run in which some cells are changed. Looked for are: an end by a signal, more than LONGEST seconds, a status
+and a proof: those of examples/ and of their repairs with bytes or tokens changed, left out, doubled or exchanged, or a random design of the profile
+with a table of its own run in which some cells are changed. Looked for are: an end by a signal, more than LONGEST seconds of processor time, a status
 outside of 0 to 6, a text on standard error that is none of the documented forms, something on standard output where the status
-is 2, 3, 5 or 6, a repair of status 0 whose source `run` does not confirm on the table, and a certificate that `check` does not
-accept. Each finding is printed and kept in a folder; the last line counts, and the status is 0 where there is none.
+is 2, 3, 5 or 6, a repair of status 0 whose source `run` does not confirm on the table, a certificate of status 0 or 1 that `check` and tools/verdicts.py do not
+accept or of status 2 that they refuse, a verdict of `check` that is another than that of tools/verdicts.py, and one of `accepted` on a circuit whose outputs some input makes true.
+Each finding is printed and kept in a folder; the last lines count, and the status is 0 where there is none.
 """
-import os, random, re, subprocess, sys, tempfile
+import os, random, re, resource, subprocess, sys, tempfile
 
 top = os.path.dirname(os.path.dirname(os.path.abspath(__file__)))
 sys.path.insert(0, f"{top}/tools")
 from cells import misses  # noqa: E402
+from endings import fault_of  # noqa: E402
+from verdicts import is_refuted, read_circuit, verdict  # noqa: E402
 
 LONGEST = 20
 program = os.path.abspath(sys.argv[1]) if len(sys.argv) > 1 else f"{top}/crates/rtl_repair/out/rtl_repair"
 count = int(sys.argv[2]) if len(sys.argv) > 2 else 1000
 draw = random.Random(int(sys.argv[3]) if len(sys.argv) > 3 else 1)
 
-NUMBER = r"(\d+)"
-REFUSALS = r"refused \d+ [A-Z]\w+( (at \d+|(bytes|rows|sites|instances|depth|flatbits|work) \d+|row \d+( column \d+)?|input \S+|line \d+))?\n"
-CHANGE = r"site \d+ (literal|guard|overwrite) \d+ [^\n]+\n"
-FORMS = {
-    0: rf"|unchanged\n|repaired \d+\n({CHANGE})+proposals \d+\n",
-    1: r"|no repair\nsites \d+\n",
-    2: r"budget spent \d+ bound \d+\n",
-    3: REFUSALS,
-    4: r"(absent [^\n]+|fault (read|write) [^\n]+|fault out)\n",
-    5: r"out of memory\n",
-    6: r"usage: [^\n]+\n",
-}
-
-
 def run(folder, *words):
+    """The status (-24 after so many seconds of processor time), the standard output and the standard error of the program."""
+    limit = lambda: resource.setrlimit(resource.RLIMIT_CPU, (LONGEST, LONGEST + 1))
     try:
-        done = subprocess.run([program, *words], cwd=folder, capture_output=True, timeout=LONGEST)
+        done = subprocess.run([program, *words], cwd=folder, capture_output=True, timeout=60 * LONGEST, preexec_fn=limit)
     except subprocess.TimeoutExpired:
         return None, b"", b""
     return done.returncode, done.stdout, done.stderr
 
 
-def fault_of(status, out, notes):
-    """What may not come of an ending, or None."""
-    if status is None:
-        return f"more than {LONGEST} s"
-    if status not in FORMS:
-        return f"status {status}"
-    if not re.fullmatch(FORMS[status], notes.decode("utf-8", "replace")):
-        return f"notes of status {status}: {notes[:200]!r}"
-    if status in (2, 3, 5, 6) and out:
-        return f"output at status {status}"
-    return None
-
-
 TOKEN = re.compile(rb"[A-Za-z_]\w*|\d+|\s+|.", re.S)
-WORDS = [b"begin", b"end", b"if", b"else", b"case", b"endcase", b"<=", b"=", b"(", b")", b"[", b"]", b"{", b"}", b"4'd2", b"1'bx", b"@", b"*", b";", b"#", b"~", b"q", b"clk", b"128'h0"]
+WORDS = [b"begin", b"end", b"if", b"else", b"case", b"endcase", b"<=", b"=", b"(", b")", b"[", b"]", b"{", b"}", b"4'd2", b"1'bx", b"@", b"*", b";", b"#", b"~", b"q", b"clk", b"128'h0",
+         b"default", b":", b"?", b"signed", b"reg", b"wire", b"assign", b"always", b"posedge", b"module", b"endmodule", b"parameter", b"+:", b"**", b"/", b"\\x ", b"\n", b","]
+NUMBERS = [b"0", b"1", b"2", b"3", b"7", b"-1", b"-", b"d", b"\n", b" ", b"4611686018427387904", b"9" * 30, b"00", b"x", b"\r\n", b"aag", b"c"]
+CELLS = [b"x", b"", b"0b1x", b"0x", b"0xf", b"9" * 40, b"-1", b",", b"\n", b"\"", b"0b", b"16", b" ", b"\r", b"1_0", b"time", b"q"]
 
 
-def mutated(data):
-    """Bytes or tokens changed, left out, doubled or exchanged."""
+KINDS = [re.compile(it) for it in (rb"[A-Za-z_]\w*", rb"\d+", rb"[-+*&|^<>]", rb"[~!]")]
+
+
+def alike(data):
+    """One token in the place of another of its kind, so that the text may still be a good one."""
+    parts = TOKEN.findall(data)
+    for _ in range(draw.choice((1, 1, 2, 3))):
+        kind = draw.choice(KINDS)
+        places = [at for at, it in enumerate(parts) if kind.fullmatch(it)]
+        if places:
+            parts[draw.choice(places)] = parts[draw.choice(places)] if draw.random() < 0.7 else {1: b"1", 2: b"+", 3: b"~"}.get(KINDS.index(kind), b"q")
+    return b"".join(parts)
+
+
+def mutated(data, words):
+    """Bytes or tokens changed, left out, doubled or exchanged, or the text cut."""
+    if draw.random() < 0.05:
+        return data[: draw.randrange(len(data) + 1)]
+    if draw.random() < 0.5:
+        return alike(data)
     if draw.random() < 0.4:
         parts = [bytes([it]) for it in data]
         new = lambda: bytes([draw.randrange(256)])
     else:
         parts = TOKEN.findall(data)
-        new = lambda: draw.choice(WORDS)
+        new = lambda: draw.choice(words)
     for _ in range(draw.choice((1, 1, 1, 2, 5))):
         if not parts:
             break
@@ -86,36 +85,63 @@ def mutated(data):
     return b"".join(parts)
 
 
-def expression(depth):
-    if depth == 0 or draw.random() < 0.3:
-        return draw.choice(("a", "b", "q", "r", f"4'd{draw.randrange(16)}", "a[1]", "q[2:1]"))
-    form = draw.randrange(5)
-    if form == 0:
-        return f"({expression(depth - 1)} {draw.choice('+ - & | ^ == < <= >> <<'.split())} {expression(depth - 1)})"
-    if form == 1:
-        return f"{draw.choice('~ - ! & |'.split())}({expression(depth - 1)})"
+def expression(depth, names=("a", "b", "q", "r")):
+    if depth == 0 or draw.random() < 0.25:
+        return draw.choice((*names, *names, f"4'd{draw.randrange(16)}", f"{draw.randrange(20)}", f"4'sb{draw.randrange(16):b}", "a[1]", "b[2:1]", "a[b +: 2]", "a[3 -: 2]", "b[a]", "K"))
+    inner = lambda: expression(depth - 1, names)
+    form = draw.randrange(9)
+    if form <= 1:
+        return f"({inner()} {draw.choice('+ - * & | ^ ~^ == != === < <= > >= << >> <<< >>> && ||'.split())} {inner()})"
     if form == 2:
-        return f"({expression(depth - 1)} ? {expression(depth - 1)} : {expression(depth - 1)})"
+        return f"{draw.choice('~ - + ! & | ^ ~& ~| ~^'.split())}({inner()})"
     if form == 3:
-        return "{" + f"{expression(depth - 1)}, {expression(depth - 1)}" + "}"
-    return expression(depth - 1)
+        return f"({inner()} ? {inner()} : {inner()})"
+    if form == 4:
+        return "{" + f"{draw.choice((*names, '2' + chr(39) + 'd1'))}, {draw.choice((*names, 'a[0]'))}" + "}"
+    if form == 5:
+        return f"{{{draw.randrange(1, 4)}{{{draw.choice(names)}}}}}"
+    if form == 6:
+        return f"${draw.choice(('signed', 'unsigned'))}({inner()})"
+    if form == 7:
+        return f"({inner()} {draw.choice('+ -'.split())} (K {draw.choice('/ % **'.split())} 2))"
+    return inner()
 
 
-def statement(depth):
-    if depth == 0 or draw.random() < 0.4:
-        return f"{draw.choice('qr')} <= {expression(2)};"
-    if draw.random() < 0.5:
-        return f"if ({expression(1)}) {statement(depth - 1)} else {statement(depth - 1)}"
-    return f"begin {statement(depth - 1)} {statement(depth - 1)} end"
+def statement(depth, target="<="):
+    if depth == 0 or draw.random() < 0.35:
+        left = draw.choice(("q", "r", "q", "r", "q[1:0]", "r[a]", "{q[0], r[0]}", "q[a +: 2]"))
+        return f"{left} {target} {expression(2)};"
+    inner = lambda: statement(depth - 1, target)
+    form = draw.randrange(6)
+    if form <= 1:
+        return f"if ({expression(1)}) {inner()} else {inner()}"
+    if form == 2:
+        return f"if ({expression(1)}) {inner()}"
+    if form == 3:
+        return f"begin {inner()} {inner()} end"
+    word = draw.choice(("case", "casez", "casex"))
+    labels = [f"4'b{''.join(draw.choice('01' if word == 'case' else '01?') for _ in range(4))}" for _ in range(2)]
+    return f"{word} ({expression(1)}) {labels[0]}: {inner()} {labels[1]}, 4'd{draw.randrange(16)}: {inner()} default: {inner()} endcase"
+
+
+def random_design():
+    """A design of one clock with a combinational block, a driver, an instance and a clocked block."""
+    inner = ("module n #(parameter W = 4)(input [W-1:0] i, output [W-1:0] o);\n"
+             f"  assign o = i {draw.choice('+ - ^ &'.split())} 4'd{draw.randrange(16)};\nendmodule\n")
+    comb = draw.choice((f"  always @* t = {expression(2)};\n", f"  always @* begin t = 4'd{draw.randrange(16)}; if ({expression(1)}) t = {expression(1)}; end\n",
+                        f"  always @(a or b or q) case ({draw.choice('abq')}) 4'd1: t = {expression(1)}; default: t = {expression(1)}; endcase\n"))
+    clocked = draw.choice(("posedge clk", "posedge clk or negedge rst", "negedge clk"))
+    return (inner + "module m(input clk, input rst, input [3:0] a, input signed [3:0] b, output reg [3:0] q, output [3:0] y, output [3:0] z);\n  localparam K = 5;\n  reg [3:0] r;\n  reg [3:0] t;\n"
+            f"  wire [3:0] w;\n  n {draw.choice(('', '#(.W(4)) ', '#(3) '))}u0(.i({draw.choice(('a', 'q', 'r', '{a[1:0], q[1:0]}'))}), .o(w));\n"
+            f"  assign y = {expression(3, ('a', 'b', 'q', 'r', 'w', 't'))};\n  assign z = {expression(2, ('t', 'w', 'q'))};\n" + comb
+            + f"  always @({clocked})\n    if ({draw.choice(('rst', '!rst'))}) begin q <= 4'd{draw.randrange(16)}; r <= 4'd{draw.randrange(16)}; end\n    else {statement(3)}\nendmodule\n")
 
 
 def random_input(folder):
     """A random design, and a table of its run in which up to two cells are changed; or none where the run is refused."""
-    design = ("module m(input clk, input rst, input [3:0] a, input [3:0] b, output reg [3:0] q, output [3:0] y);\n  reg [3:0] r;\n"
-              f"  assign y = {expression(2)};\n  always @(posedge clk)\n    if (rst) begin q <= 4'd0; r <= 4'd{draw.randrange(16)}; end\n    else {statement(2)}\nendmodule\n")
-    rows = ["rst,a,b"] + [f"{int(i == 0)},{draw.randrange(16)},{draw.randrange(16)}" for i in range(6)]
+    rows = ["rst,a,b"] + [f"{int(i == 0)},{draw.randrange(16)},{draw.randrange(16)}" for i in range(draw.randrange(1, 9))]
     with open(f"{folder}/d.v", "w") as file:
-        file.write(design)
+        file.write(random_design())
     with open(f"{folder}/t.csv", "w") as file:
         file.write("\n".join(rows) + "\n")
     status, out, notes = run(folder, "run", "d.v", "t.csv")
@@ -124,73 +150,116 @@ def random_input(folder):
     lines = [line.split(",") for line in out.decode().splitlines()]
     for _ in range(draw.randrange(3)):
         row, column = draw.randrange(1, len(lines)), draw.randrange(3, len(lines[0]))
-        lines[row][column] = draw.choice(("x", str(draw.randrange(16))))
+        lines[row][column] = draw.choice(("x", str(draw.randrange(16)), f"0b{draw.choice('01x')}{draw.choice('01x')}"))
     with open(f"{folder}/t.csv", "w") as file:
         file.write("".join(",".join(line) + "\n" for line in lines))
     return status, out, notes
 
 
+def read(folder, name):
+    with open(f"{folder}/{name}", "rb") as file:
+        return file.read()
+
+
+def judge_check(folder):
+    """What is wrong with the check of c.aag and c.lrat, and what it ended with."""
+    ended = run(folder, "check", "c.aag", "c.lrat")
+    circuit, proof = read(folder, "c.aag"), read(folder, "c.lrat")
+    if fault_of(*ended):
+        return fault_of(*ended), ended
+    if len(circuit) + len(proof) < 300_000 and verdict(circuit, proof) != ended:
+        return f"check {ended} in place of {verdict(circuit, proof)}", ended
+    if ended[0] == 0 and len(circuit) < 20_000 and read_circuit(circuit)[0] <= 8 and not is_refuted(circuit):
+        return "accepted, and some input makes every output true", ended
+    return None, ended
+
+
 def judge_repair(folder):
     """What is wrong with the repair of d.v by t.csv, and its status."""
-    words = ("repair", "d.v", "t.csv", "c", "--budget", "500", "--members", str(draw.randrange(1, 5)))
+    words = ("repair", "d.v", "t.csv", "c", "--budget", str(draw.choice((1, 20, 500))), "--members", str(draw.randrange(1, 5)))
     status, out, notes = run(folder, *words)
     fault = fault_of(status, out, notes)
-    if fault or status not in (0, 1):
+    if fault or status > 2:
         return fault, status
-    if os.path.exists(f"{folder}/c.aag"):
-        verdict = run(folder, "check", "c.aag", "c.lrat")
-        if verdict != (0, b"accepted\n", b""):
-            return f"check: {verdict}", status
+    names = [it for it in ("c.aag", "c.cnf", "c.lrat") if os.path.exists(f"{folder}/{it}")]
+    if len(names) != (0 if notes == b"unchanged\n" else 3):
+        return f"the files {names} at status {status}", status
+    if names:
+        fault, ended = judge_check(folder)
+        due = (1, b"no empty clause\n", b"") if status == 2 else (0, b"accepted\n", b"")
+        if fault or ended != due:
+            return fault or f"check: {ended} at status {status}", status
     if status == 0:
+        if not names and out != read(folder, "d.v"):
+            return "another source, unchanged", status
         with open(f"{folder}/r.v", "wb") as file:
             file.write(out)
         again = run(folder, "run", "r.v", "t.csv")
-        table = open(f"{folder}/t.csv", encoding="utf-8", errors="replace", newline="").read()
+        table = read(folder, "t.csv").decode("utf-8", "replace")
         if again[0] != 0 or misses(table, again[1].decode()):
             return f"run of what was printed: {again[0]} {again[2][:100]!r}", status
     return None, status
 
 
-def one(folder, examples):
-    """What is wrong with one input, and its status."""
+def files(folder, *texts):
+    for name, data in texts:
+        with open(f"{folder}/{name}", "wb") as out:
+            out.write(data)
+
+
+def one(folder, examples, certificates):
+    """What is wrong with one input, its status, and of which kind it is."""
     kind = draw.random()
     if kind < 0.35:
-        fault = fault_of(*random_input(folder))
-        return (fault, None) if fault else judge_repair(folder)
-    name = draw.choice(examples)
-    read = lambda file: open(f"{top}/examples/{name}/{file}", "rb").read()
-    if kind < 0.9:
-        design, table = read("design.v"), read("table.csv")
-        which = draw.randrange(3)
-        for file, data in (("d.v", mutated(design) if which != 1 else design), ("t.csv", mutated(table) if which != 0 else table)):
-            with open(f"{folder}/{file}", "wb") as out:
-                out.write(data)
-        command = draw.choice((("run", "d.v", "t.csv"), ("sites", "d.v"), None))
-        if command is None:
-            return judge_repair(folder)
-        ended = run(folder, *command)
-        return fault_of(*ended), ended[0]
-    never = f"{top}/examples/certificate/never"
-    for file, data in (("c.aag", open(f"{never}.aag", "rb").read()), ("c.lrat", open(f"{never}.lrat", "rb").read())):
-        with open(f"{folder}/{file}", "wb") as out:
-            out.write(mutated(data))
-    ended = run(folder, "check", "c.aag", "c.lrat")
-    return fault_of(*ended), ended[0]
+        ended = random_input(folder)
+        if fault_of(*ended) or ended[0] != 0:
+            return fault_of(*ended), ended[0], "run of a random design"
+        return *judge_repair(folder), "repair of a random design"
+    which = draw.randrange(3)
+    if kind < 0.75:
+        design, table = draw.choice(examples)
+        files(folder, ("d.v", mutated(design, WORDS) if which != 1 else design), ("t.csv", mutated(table, CELLS) if which != 0 else table))
+        command = draw.choice(("run", "sites", "repair", "repair"))
+        if command == "repair":
+            return *judge_repair(folder), command
+        ended = run(folder, command, "d.v", *(["t.csv"] if command == "run" else []))
+        return fault_of(*ended), ended[0], command
+    circuit, proof = draw.choice(certificates)
+    files(folder, ("c.aag", mutated(circuit, NUMBERS) if which != 1 else circuit), ("c.lrat", mutated(proof, NUMBERS) if which != 0 else proof))
+    fault, ended = judge_check(folder)
+    return fault, ended[0], "check"
+
+
+def bases(room):
+    """The designs and tables of examples/, and small certificates: that of examples/, and those of repairs."""
+    examples, certificates = [], [tuple(read(f"{top}/examples/certificate", f"never.{it}") for it in ("aag", "lrat"))]
+    for name in sorted(os.listdir(f"{top}/examples")):
+        folder = f"{top}/examples/{name}"
+        if not os.path.exists(f"{folder}/table.csv"):
+            continue
+        examples.append((read(folder, "design.v"), read(folder, "table.csv")))
+        run(folder, "repair", "design.v", "table.csv", f"{room}/{name}")
+        certificates.append(tuple(read(room, f"{name}.{it}") for it in ("aag", "lrat")))
+    certificates.append((b"aag 1 1 0 2 0\n2\n2\n3\n", b"3 1 0 1 0\n4 d 1 0\n5 0 1 2 0\n"))
+    return examples, [it for it in certificates if len(it[0]) < 100_000]
 
 
 def main():
-    examples = sorted(it for it in os.listdir(f"{top}/examples") if os.path.exists(f"{top}/examples/{it}/table.csv"))
-    statuses, findings = {}, 0
+    counts, findings = {}, 0
+    with tempfile.TemporaryDirectory() as room:
+        examples, certificates = bases(room)
     for number in range(count):
         with tempfile.TemporaryDirectory() as folder:
-            fault, status = one(folder, examples)
-            statuses[status] = statuses.get(status, 0) + 1
+            fault, status, kind = one(folder, examples, certificates)
+            counts.setdefault(kind, {}).setdefault(status, 0)
+            counts[kind][status] += 1
             if fault:
                 findings += 1
                 kept = tempfile.mkdtemp(prefix="fuzz-")
                 subprocess.run(["cp", "-r", f"{folder}/.", kept])
                 print(f"input {number}: {fault} (kept in {kept})", flush=True)
-    print("statuses:", ", ".join(f"{status}: {many}" for status, many in sorted(statuses.items(), key=str)))
+    for kind, statuses in sorted(counts.items()):
+        print(f"{kind}: {sum(statuses.values())}, by status", ", ".join(f"{status}: {many}" for status, many in sorted(statuses.items(), key=str)))
     print(f"{count - findings} passed, {findings} failed")
     return 1 if findings else 0
 
