@@ -1,3 +1,4 @@
+pub mod Alone
 pub mod Equations
 pub mod Names
 pub mod Widths

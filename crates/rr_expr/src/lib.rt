@@ -41,7 +41,8 @@ pub fn shape(expr: &Expr, scope: &Scope) -> Result<Shape, ExprFault>
     ensures value { IfOk result (λ a. a ≡ form scope.now (plain expr.now)) }
     ensures fault { IfErr result (λ f. fault scope.now (plain expr.now) false ≡ Some f) }
 {
-    shape_in(expr, scope, false)
+    let mut notes = Notes::new();
+    shape_in(expr, scope, false, &mut notes)
 }
 
 /// Width and sign of an expression that has a shape. It looks for no fault, so it evaluates only the
@@ -78,7 +79,7 @@ pub fn constant(expr: &Expr, scope: &Scope) -> Result<(Bits, bool), ExprFault>
     ensures signed { IfOk result (λ r. r.1 ≡ (form scope.now (plain expr.now)).signed) }
     ensures fault { IfErr result (λ f. fault scope.now (plain expr.now) true ≡ Some f) }
 {
-    let shape = shape_in(expr, scope, true)?;
     let mut notes = Notes::new();
+    let shape = shape_in(expr, scope, true, &mut notes)?;
     Ok((value_in(expr, scope, &[], shape, &mut notes), shape.signed))
 }

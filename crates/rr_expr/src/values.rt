@@ -164,7 +164,26 @@ pub(crate) fn constant_index<'e>(expr: &'e Expr<'e>, scope: &Scope, notes: &mut 
     }
 }
 
-/// The value of an operand that stands by itself.
+/// The value of a constant operand of that shape, as a number that is signed where the operand is.
+pub(crate) fn constant_in<'e>(
+    expr: &'e Expr<'e>,
+    scope: &Scope,
+    shape: Shape,
+    notes: &mut Notes<'e>,
+) -> Index
+    requires fits { IsTrue (fits scope.now (plain expr.now)) }
+    requires shape { shape ≡ form scope.now (plain expr.now) }
+    requires low { 1 ≤ shape.width }
+    requires high { shape.width ≤ 128 }
+    requires noted { Noted scope.now notes.old }
+    ensures value { integer_of result ≡ integer_in scope.now (plain expr.now) }
+    ensures noted { Noted scope.now notes.new }
+{
+    index_of(value_in(expr, scope, &[], shape, notes), shape.signed)
+}
+
+/// The value of an operand that stands by itself. The width of a concatenation, of a replication and
+/// of a cast is that of the word, so nothing is asked for its shape first.
 #[cycle(values)]
 #[tactic(auto, using(crate::proofs::Equations::values_of))]
 pub(crate) fn own_value<'e>(
@@ -179,8 +198,20 @@ pub(crate) fn own_value<'e>(
     ensures width { length result ≡ (form scope.now (plain expr.now)).width }
     ensures noted { Noted scope.now notes.new }
 {
-    let shape = own_shape(expr, scope, notes);
-    value_in(expr, scope, env, shape, notes)
+    match expr {
+        Expr::Concat { parts } => parts_value(parts, scope, env, notes),
+        Expr::Repeat { count, parts } => {
+            let copies = count_of(constant_index(count, scope, notes));
+            let word = parts_value(parts, scope, env, notes);
+            repeated(word, copies)
+        }
+        Expr::Cast { of, .. } => own_value(of, scope, env, notes),
+        Expr::Paren { of } => own_value(of, scope, env, notes),
+        _ => {
+            let shape = own_shape(expr, scope, notes);
+            value_in(expr, scope, env, shape, notes)
+        }
+    }
 }
 
 /// The same as a number, signed where the operand is.

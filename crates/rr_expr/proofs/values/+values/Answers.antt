@@ -1,10 +1,13 @@
-use Rattle.std.proofs.Common.{◌≡◌, ◌++◌, [], length, take, sym, ◌∙◌, ap, arith, rules, length-append}
+use Rattle.std.proofs.Common.{◌≡◌, ◌++◌, [], length, take, sym, ◌∙◌, ap, ap₂, arith, rules, length-append, ℕ, ◌*◌, List, Bool}
 use Rattle.std.proofs.lemmas.List.{append-nil}
 use Rattle.rr_syntax.specs.declared.tree.Expr.{the_lemmas}
 use Rattle.rr_syntax.specs.View.{plain, plain_list}
 use Rattle.rr_expr.specs.Scopes.{env_of}
+use Rattle.rr_expr.specs.Faults.{constant_count}
+use Rattle.rr_expr.specs.Selects.{count, repeated}
 use Rattle.rr_expr.specs.Values.{own, form, widths, values}
 use Rattle.rr_expr.proofs.Parts.{fit_at, widths_next, values_next, widths_none, values_none}
+use Rattle.rr_expr.proofs.Alone.{own_concat, own_repeat, own_cast}
 use Rattle.rr_expr.proofs.values.+values.Goals as goal
 use Rattle.rr_expr.proofs.values.+values.Goals.{parts_value-in-None, parts_value-in-Some}
 
@@ -52,3 +55,14 @@ parts_value-loop-part-preserved t c =
           let k : length w.in-Some.high ≡ widths c.args.scope.now (plain_list (take c.loop-part.part-index c.args.parts.now)) = rw w.in-Some.is at c.loop-part.invariant.1 in
           rw w.whole-is (w.append.ensures ∙ ap (λ ys. ys ++ w.in-Some.high) c.own_value-low.ensures.value ∙ ap (λ ys. own c.args.scope.now (plain c.part-item.result) (env_of c.args.env.now) ++ ys) h ∙ sym next, ap length w.append.ensures ∙ length-append c.own_value-low.result w.in-Some.high ∙ omega (arith, wide, k, c.own_value-low.ensures.width), c.own_value-low.ensures.noted)
     ]
+
+pub own_value-returns-in-Concat-clause-value : goal.own_value-returns-in-Concat-clause-value
+own_value-returns-in-Concat-clause-value t c = own_concat c.args.scope.now c.args.expr.now _ (env_of c.args.env.now) _ c.in-Concat.is c.parts_value.ensures.value c.parts_value.ensures.width
+
+pub own_value-returns-in-Repeat-clause-value : goal.own_value-returns-in-Repeat-clause-value
+own_value-returns-in-Repeat-clause-value t c =
+    let n : c.count_of-copies.result ≡ constant_count c.args.scope.now (plain _) = c.count_of-copies.ensures ∙ ap count c.constant_index.ensures.value in
+    own_repeat c.args.scope.now c.args.expr.now _ _ (env_of c.args.env.now) _ c.in-Repeat.is (c.repeated.ensures.value ∙ ap₂ (λ (k : ℕ) (xs : List Bool). repeated k xs) n c.parts_value-word.ensures.value) (c.repeated.ensures.width ∙ ap₂ (λ (x y : ℕ). x * y) n c.parts_value-word.ensures.width)
+
+pub own_value-returns-in-Cast-clause-value : goal.own_value-returns-in-Cast-clause-value
+own_value-returns-in-Cast-clause-value t c = own_cast c.args.scope.now c.args.expr.now _ _ (env_of c.args.env.now) _ c.in-Cast.is c.own_value.ensures.value c.own_value.ensures.width
