@@ -1,8 +1,8 @@
 -- single bits of targets
-use Rattle.std.proofs.Common.{◌≡◌, ◌∙◌, sym, ap, ℕ, zero, suc, ◌+◌, ◌-◌, ◌<◌, ◌≤◌, Bool, List, [], ◌∷◌, ◌++◌, length, map, drop, get_or, Option, None, Some, refl, arith, pos, ◌+ℤ◌}
+use Rattle.std.proofs.Common.{◌≡◌, ◌∙◌, sym, ℕ, ◌+◌, ◌<◌, ◌≤◌, List, length, map, get_or, Option, None, Some, refl, arith, pos}
 use Rattle.std.specs.Prelude.{IfSome}
 use Rattle.std.proofs.lemmas.Bool.{lt-ltb, le-ltb}
-use Rattle.std.proofs.lemmas.List.{get_or_append_left, get_or-append_right, get_or_past, length-map}
+use Rattle.std.proofs.lemmas.List.{get_or_past, length-map}
 use Rattle.rr_syntax.specs.Tree.{Tree}
 use Rattle.rr_expr.specs.declared.types.Bit.{Bit}
 use Rattle.rr_expr.specs.declared.types.Entity.TheVariants as entity
@@ -14,12 +14,9 @@ use Rattle.rr_flat.specs.Targets.{target_bits}
 use Rattle.rr_flat.specs.View.{Design, plain_flat}
 use Rattle.rr_flat.specs.Writers.{signal_bits}
 use Rattle.rr_flat.proofs.Bits.{place_has}
-use Rattle.rr_target.specs.declared.piece.Piece.{Piece}
-use Rattle.rr_target.specs.Pieces.{all_bits, bit_in, bits_of}
-use Rattle.rr_cycle.specs.Exec.{Environment, put, write}
+use Rattle.rr_cycle.specs.Exec.{Environment}
 use Rattle.rr_cycle.proofs.Wiring.{length_there, there_at}
 use Rattle.rr_exec.proofs.Fitting.{target_named}
-use Rattle.rr_exec.proofs.Pieces.{all_bits_at, at_run, bits_left, count_more}
 use Rattle.rr_blast_steps.specs.Designs.{signal_widths}
 use Rattle.rr_machine.specs.Words.{Holds, IsThere}
 use Rattle.rr_meaning.proofs.Scoping.{IsSound, wide}

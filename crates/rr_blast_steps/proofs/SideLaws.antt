@@ -1,5 +1,5 @@
 -- sides of drivers on wires
-use Rattle.std.proofs.Common.{◌≡◌, ◌∙◌, sym, ap, ap₂, refl, ℕ, zero, suc, ◌+◌, ◌<◌, ◌≤◌, Bool, false, ◌&&◌, List, ◌∷◌, length, map, get_or, Option, max, pos, arith}
+use Rattle.std.proofs.Common.{◌≡◌, ◌∙◌, sym, ap, ap₂, refl, ℕ, zero, suc, ◌+◌, ◌<◌, ◌≤◌, Bool, List, ◌∷◌, length, map, get_or, Option, max, pos, arith}
 use Rattle.std.specs.Prelude.{Vec}
 use Rattle.std.specs.Global.{Global}
 use Rattle.std.specs.List.{range_with_len}
@@ -8,14 +8,12 @@ use Rattle.std.proofs.lemmas.List.{get_or-map, length-map, same_lists}
 use Rattle.std.proofs.lemmas.List.FromFn.{get_or-map-range_with_len, length-map-range_with_len}
 use Rattle.rr_circuit.specs.declared.Wire.{Wire}
 use Rattle.rr_circuit.specs.Values.{Netlist, wire_value, wire_values}
-use Rattle.rr_bits.specs.Words.{extend, top}
-use Rattle.rr_bits.proofs.Places.{get_tabulate}
 use Rattle.rr_expr.specs.declared.types.Bit.{Bit}
 use Rattle.rr_expr.specs.declared.types.Entity.TheVariants as entity
 use Rattle.rr_expr.specs.declared.types.Shape.{Shape}
 use Rattle.rr_expr.specs.Scopes.{range_width}
 use Rattle.rr_flat.specs.declared.signal.Signal.{Signal}
-use Rattle.rr_flat.specs.Signals.{no_signal, signal_at}
+use Rattle.rr_flat.specs.Signals.{signal_at}
 use Rattle.rr_flat.specs.View.{plain_signal}
 use Rattle.rr_flat.specs.Plain.{Side, Written, Whole}
 use Rattle.rr_flat.specs.Plain as plain
@@ -27,7 +25,6 @@ use Rattle.rr_choice.specs.Sites.{Site}
 use Rattle.rr_target.specs.Pieces.{bits_of}
 use Rattle.rr_cycle.specs.Cycles.{bit_value, side_shape, side_value, signal_value}
 use Rattle.rr_cycle.specs.Exec.{Environment}
-use Rattle.rr_exec.proofs.Widths.{length_extend}
 use Rattle.rr_blast_steps.specs.Designs.{signal_widths}
 use Rattle.rr_flat_instance.specs.Flats.{instance_side}
 use Rattle.rr_machine.specs.Words.{IsThere, carried, widths_of}

@@ -1,12 +1,11 @@
 -- steps of instances
-use Rattle.std.proofs.Common.{◌≡◌, ◌∙◌, sym, ap, ap₂, refl, ℕ, ◌<◌, Bool, List, length, map, get_or, max, arith, Option, [], ◌∷◌, None, false, suc, ◌+◌, ◌≤◌, drop, drop-cons}
-use Rattle.std.proofs.lemmas.List.{drop_all, get_or-map, length-map}
+use Rattle.std.proofs.Common.{◌≡◌, ◌∙◌, sym, ap, ap₂, refl, ℕ, ◌<◌, Bool, List, length, map, get_or, max, arith, Option, [], ◌∷◌, None, false, suc, ◌+◌, drop, drop-cons}
+use Rattle.std.proofs.lemmas.List.{get_or-map, length-map}
 use Rattle.rr_expr.specs.declared.types.Bit.{Bit}
 use Rattle.rr_expr.specs.declared.types.Shape.{Shape}
 use Rattle.rr_flat.specs.declared.design.Driver.{Driver}
 use Rattle.rr_flat.specs.declared.design.Step.{Step}
 use Rattle.rr_flat.specs.declared.design.Step.TheVariants as step
-use Rattle.rr_flat.specs.Ordered.{IsStep}
 use Rattle.rr_flat.specs.Plain.{Side, Written, Whole}
 use Rattle.rr_flat.specs.Plain as plain
 use Rattle.rr_flat.specs.View.{Design, plain_driver, plain_flat}

@@ -172,3 +172,17 @@ fn indexed_writes(rt: HostRuntime) -> Result<(), Fail> {
     );
     Ok(())
 }
+
+const WIRES: &str =
+    "module m(input clk, input d, output [3:0] y); reg q; assign y = {{q, 1'b1}, d}; always @(posedge clk) q <= d; endmodule";
+
+// A concatenation bit by bit, and 0 above it.
+#[test]
+fn wired_concatenations(rt: HostRuntime) -> Result<(), Fail> {
+    let alloc = rt.alloc();
+    let stays = [true, false];
+    assert!(rt; gives(alloc, WIRES, &stays, &[false, false, true, true, false])?);
+    let comes = [false, true];
+    assert!(rt; gives(alloc, WIRES, &comes, &[true, true, true, false, false])?);
+    Ok(())
+}

@@ -357,6 +357,19 @@ const DRIVERS_IN_ANY_ORDER: [Case; 4] = [
     ),
 ];
 
+const WIRES_OF_CONCATENATIONS: [Case; 2] = [
+    (
+        "module m(input [3:0] a, input b, output [11:0] y); assign y = {b, {a[2:1], 2'b10}, a[3], a}; endmodule",
+        "a,b\n10,1\n5,0\n",
+        "a,b,y\n10,1,730\n5,0,325\n",
+    ),
+    (
+        "module m(input b, input [1:0] d, output [5:0] c); assign c = {c[1], {d, c[0], 1'b0}, b}; endmodule",
+        "b,d\n1,2\n0,3\n",
+        "b,d,c\n1,2,21\n0,3,24\n",
+    ),
+];
+
 const WORKED: [Case; 4] = [
     (
         "module m(input [3:0] a, input [3:0] b, output [3:0] y4, output [4:0] y5); assign y4 = (a + b) >> 1; assign y5 = (a + b) >> 1; endmodule",
@@ -400,6 +413,7 @@ fn designs_with_rows(rt: HostRuntime) -> Result<(), Fail> {
     assert_eq!(rt; first_wrong(alloc, &OPEN_NETS_AND_PORTS)?, None);
     assert_eq!(rt; first_wrong(alloc, &INSTANCES_OF_MODULES)?, None);
     assert_eq!(rt; first_wrong(alloc, &DRIVERS_IN_ANY_ORDER)?, None);
+    assert_eq!(rt; first_wrong(alloc, &WIRES_OF_CONCATENATIONS)?, None);
     assert_eq!(rt; first_wrong(alloc, &WORKED)?, None);
     Ok(())
 }

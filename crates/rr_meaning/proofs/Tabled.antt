@@ -1,5 +1,5 @@
 -- the rows of a table for the ports of a design
-use Rattle.std.proofs.Common.{◌≡◌, ◌∙◌, sym, ap, subst, ℕ, suc, ◌+◌, Bool, true, false, cond, not, List, [], ◌∷◌, length, map, nat_eq, nat_lt, Option, None, Some, Result, Ok, Err, Vec, Global, refl}
+use Rattle.std.proofs.Common.{◌≡◌, ◌∙◌, sym, ap, subst, ℕ, suc, ◌+◌, Bool, true, false, cond, not, List, [], ◌∷◌, length, map, nat_eq, nat_lt, Option, Result, Ok, Err, Vec, Global, refl}
 use Rattle.std.specs.List.{All, AllByRecursion}
 use Rattle.std.specs.Str.{is_utf8}
 use Rattle.std.proofs.lemmas.List.Elements.{All-from_recursion, All-map}

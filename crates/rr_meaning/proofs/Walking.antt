@@ -1,8 +1,6 @@
 -- loops over steps, blocks, ports and rows
-use Rattle.std.proofs.Common.{◌≡◌, ◌∙◌, sym, ap, subst, ℕ, ◌+◌, ◌<◌, ◌≤◌, Bool, true, false, cond, List, [], ◌∷◌, ◌++◌, length, map, drop, get_or, Option, None, refl, append_assoc, append-nil}
+use Rattle.std.proofs.Common.{◌≡◌, ◌∙◌, sym, ap, ℕ, ◌+◌, ◌<◌, ◌≤◌, false, List, [], ◌∷◌, ◌++◌, length, map, drop, get_or, Option, None}
 use Rattle.std.proofs.lemmas.List.{drop_all, drop_more, get_or-map}
-use Rattle.std.specs.List.{All}
-use Rattle.std.proofs.lemmas.List.Elements.{All-push}
 use Rattle.rr_syntax.specs.View.{plain_statement}
 use Rattle.rr_expr.specs.Scopes.{Names}
 use Rattle.rr_flat.specs.declared.design.Block.{Block}

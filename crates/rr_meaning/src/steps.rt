@@ -17,6 +17,7 @@ use rr_exec::{Machine, execute, merged, own_shape, write_pieces};
 use rr_expr::{Bit, Env, Shape, value};
 use rr_flat::{Driver, Flat, Side, Step};
 use rr_target::{Piece, add_pieces, push_piece};
+use rr_wiring::{is_concatenation, own_bit};
 use std::alloc::AllocError;
 
 fn side_shape(flat: &Flat, side: &Side) -> Shape
@@ -69,6 +70,19 @@ fn driver_value(flat: &Flat, driver: &Driver, env: &Env) -> Bits
     let width = side_shape(flat, &driver.target).width;
     let own = side_shape(flat, &driver.value);
     side_value(flat, &driver.value, env, width.max(own.width), own.signed)
+}
+
+/// The bit at a place of the same value, of a concatenation by the one part that has it.
+fn driver_bit(flat: &Flat, driver: &Driver, env: &Env, place: u32) -> bool
+    requires { IsDriver flat.now.signals flat.now.scopes driver.now }
+    ensures { result ≡ get_or (sides_value (plain_flat flat.now) (plain_driver driver.now) (env_of env.now.values.items)) place false }
+{
+    match &driver.value {
+        Side::Text { expr, scope } if is_concatenation(expr) => {
+            own_bit(expr, &flat.scopes[*scope as usize], env, place)
+        }
+        Side::Text { .. } | Side::Whole(_) => driver_value(flat, driver, env).get(place),
+    }
 }
 
 /// The pieces of a driver's target, whose indices are constant.
@@ -149,7 +163,7 @@ fn wire(flat: &Flat, driver: &Driver, place: u32, machine: &mut Machine) -> Resu
     ensures none { machine.new.none ≡ machine.old.none }
 {
     driven_pieces(&mut machine.pieces, flat, &driver.target, &machine.none)?;
-    let on = driver_value(flat, driver, &machine.env).get(place);
+    let on = driver_bit(flat, driver, &machine.env, place);
     match bit_at(machine.pieces.as_slice(), place) {
         Some(bit) => set_bit(&mut machine.env.values, bit, on),
         None => {}

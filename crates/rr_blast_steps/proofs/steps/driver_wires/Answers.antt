@@ -1,5 +1,4 @@
 use Rattle.rr_flat.specs.View.{plain_flat, plain_side}
-use Rattle.rr_flat_instance.specs.Flats.{instance_driver}
 use Rattle.rr_machine.specs.Words.{carried}
 use Rattle.rr_blast_terms.specs.Choosing.{picks_of}
 use Rattle.rr_blast_steps.proofs.SideLaws.{driver_is}

@@ -13,7 +13,6 @@ use Rattle.rr_flat.specs.View.{Design, plain_flat}
 use Rattle.rr_flat.specs.Writers.{scope_at}
 use Rattle.rr_instance.specs.Instances.{instance_tree}
 use Rattle.rr_cycle.specs.Cycles.{side_shape, side_value}
-use Rattle.rr_flat_instance.specs.Flats.{instance_side}
 use Rattle.rr_machine.specs.Words.{carried}
 use Rattle.rr_blast_terms.specs.Choosing.{picks_of}
 use Rattle.rr_meaning.proofs.Scoping.{IsSound, scope_read}

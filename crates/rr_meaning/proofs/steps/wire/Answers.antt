@@ -1,4 +1,4 @@
-use Rattle.std.proofs.Common.{◌≡◌, ◌∙◌, sym, ap, get_or, length, List, Option, Some, None, Bool, false}
+use Rattle.std.proofs.Common.{◌≡◌, ◌∙◌, sym, ap, get_or, length, List, Option, Some, None}
 use Rattle.rr_expr.specs.declared.types.Bit.{Bit}
 use Rattle.rr_target.specs.declared.piece.Piece.{Piece}
 use Rattle.rr_target.specs.Pieces.{all_bits}
@@ -25,8 +25,8 @@ returns-in-Some-clause-env c =
     let h : get_or (all_bits c.driven_pieces.new.pieces.items) c.args.place None ≡ Some c.in-Some.bit =
     ap (λ (ps : List Piece). get_or (all_bits ps) c.args.place None) (sym c.as_slice.ensures.value) ∙ (sym c.bit_at.ensures ∙ c.in-Some.is) in
     c.set_bit.ensures.env
-    ∙ wire_some _ c.in-Some.bit c.get-on.result _ _ (ap (λ (bs : List (Option Bit)). get_or bs c.args.place None) (sym c.in_ok-driven_pieces.ensures.bits) ∙ h)
-    (c.get-on.ensures ∙ ap (λ (xs : List Bool). get_or xs c.args.place false) c.driver_value.ensures.value)
+    ∙ wire_some _ c.in-Some.bit c.driver_bit-on.result _ _ (ap (λ (bs : List (Option Bit)). get_or bs c.args.place None) (sym c.in_ok-driven_pieces.ensures.bits) ∙ h)
+    c.driver_bit-on.ensures
 
 pub returns-in-None-clause-env : goal.returns-in-None-clause-env
 returns-in-None-clause-env c =

@@ -1,0 +1,4 @@
+pub mod Widths
+pub mod Bits
+pub mod Walking
+pub mod Nodes
