@@ -1,7 +1,10 @@
 //! Counts of wires against counts of their values.
+ghost use Rattle.std.specs.Prelude.{◌≡◌, ◌≤◌, length, IfOk};
+
 use crate::arith::inputs;
-use rr_circuit::Builder;
+use rr_circuit::{Builder, Circuit};
 use rr_count::at_most;
+use std::alloc::{AllocError, Global};
 use std::test::Fail;
 
 #[test]
@@ -73,5 +76,68 @@ fn all_but_one_of_256_wires_are_255_gates(rt: HostRuntime) -> Result<(), Fail> {
     let wire = at_most(alloc, &mut b, wires.as_slice(), 255)?;
     let circuit = b.finish(vec![in alloc; wire]?);
     assert_eq!(rt; circuit.gates.len(), 255);
+    Ok(())
+}
+
+// The circuit that counts so many inputs.
+fn counter(alloc: Global, count: u32, bound: u32) -> Result<Circuit, AllocError>
+    requires { count ≤ 256 }
+    ensures { IfOk result (λ c. c.netlist.inputs ≡ count) }
+{
+    let mut b = Builder::new(alloc, count)?;
+    let wires = inputs(alloc, &b, 0, count)?;
+    let wire = at_most(alloc, &mut b, wires.as_slice(), bound)?;
+    Ok(b.finish(vec![in alloc; wire]?))
+}
+
+// Seventy inputs of which exactly `number` are true: steps of 37 come to each place once.
+fn spread(alloc: Global, number: u32) -> Result<Vec<bool>, AllocError>
+    ensures { IfOk result (λ r. length r.items ≡ 70) }
+{
+    let mut inputs = Vec::with_capacity(alloc, 70)?;
+    for i in 0..70u32 {
+        inputs.push((37 * i) % 70 < number)?;
+    }
+    Ok(inputs)
+}
+
+const BOUNDS: [u32; 4] = [25, 31, 32, 45];
+
+#[test]
+fn counts_of_seventy_wires_in_binary_are_those_of_their_values(
+    rt: HostRuntime,
+) -> Result<(), Fail> {
+    let alloc = rt.alloc();
+    for bound in BOUNDS.iter() {
+        let circuit = counter(alloc, 70, *bound)?;
+        for number in 0..71u32 {
+            let inputs = spread(alloc, number)?;
+            let values = circuit.eval(alloc, inputs.as_slice())?;
+            assert_eq!(rt; values.as_slice(), &[number <= *bound][..]);
+        }
+    }
+    Ok(())
+}
+
+#[test]
+fn counts_in_binary_have_at_most_eight_gates_a_wire(rt: HostRuntime) -> Result<(), Fail> {
+    let alloc = rt.alloc();
+    let few = counter(alloc, 65, 32)?;
+    assert!(rt; few.gates.len() <= 8 * 65);
+    let low = counter(alloc, 256, 18)?;
+    assert!(rt; low.gates.len() <= 8 * 256);
+    let half = counter(alloc, 256, 128)?;
+    assert!(rt; half.gates.len() <= 8 * 256);
+    Ok(())
+}
+
+// The gates are 2 * (bound + 1) * (count - bound) - count - 1.
+#[test]
+fn counts_of_few_wires_or_with_low_bounds_are_in_unary(rt: HostRuntime) -> Result<(), Fail> {
+    let alloc = rt.alloc();
+    let few = counter(alloc, 64, 32)?;
+    assert_eq!(rt; few.gates.len(), 2047);
+    let low = counter(alloc, 256, 17)?;
+    assert_eq!(rt; low.gates.len(), 8347);
     Ok(())
 }

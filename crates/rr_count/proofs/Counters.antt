@@ -59,7 +59,7 @@ built_bit start now env counts old x i count before e hc hx c b = rw (c, b, wire
 
 -- ---- the counts
 
-count-push : (vs : List Bool) (b : Bool) → true_count (vs ++ b ∷ []) ≡ true_count vs + cond b 1 0
+pub count-push : (vs : List Bool) (b : Bool) → true_count (vs ++ b ∷ []) ≡ true_count vs + cond b 1 0
 count-push [] b = omega arith
 count-push (v ∷ vs) b = let h = count-push vs b in rw h (omega arith)
 

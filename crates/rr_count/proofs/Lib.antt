@@ -1,1 +1,2 @@
+pub mod Adders
 pub mod Counters

@@ -1,107 +1,30 @@
 //! Counting of true wires. It is right where the answered wire is true exactly where at most so many
-//! of the wires are, for every input. It stands on `rr_circuit`'s builder.
+//! of the wires are, for every input. It stands on `rr_circuit`'s builder and on `rr_arith`'s gates of
+//! words.
 #![tactic(auto)]
 
-ghost use Rattle.std.specs.Prelude.{◌≡◌, ℕ, ◌^◌, ◌<◌, ◌≤◌, min, ◌+◌, ◌-◌, Bool, true, false, not, ◌&&◌, ◌||◌, length, IfOk, slice_index_or};
+ghost use Rattle.std.specs.Prelude.{◌≡◌, ℕ, ◌^◌, ◌*◌, ◌<◌, ◌≤◌, ◌-◌, Bool, not, ◌↔◌, IsTrue, length, IfOk};
 ghost use Rattle.rr_circuit.specs.Values.{IsWire, AreWires, wire_value, wire_values, Extends};
-ghost use Rattle.rr_count.specs.Counts.{is_at_most, count_value, value_before, next_count};
+ghost use Rattle.rr_count.specs.Counts.{is_at_most};
 
 use rr_circuit::{Builder, Wire};
 use std::alloc::{AllocError, Global};
 
-// A part of the counts of some wires: count `k` says that more than `k` of them are true. Those from
-// `first` on are here, and those past the last one are false.
-#[derive(Drop)]
-struct Counts {
-    first: usize,
-    wires: Vec<Wire>,
-}
+mod binary;
+mod unary;
 
-// The first count from which the bound can be passed, with so many wires left.
-fn first_count(bound: usize, left: usize) -> usize
-    ensures { result ≡ bound - left }
-{
-    bound.saturating_sub(left)
-}
+// How many gates for each wire a counter in unary may have before a sum in binary, of some eight gates
+// a wire, is taken in its place. Once as many wires are true as the bound allows, unit propagation
+// finds in unary that the others are false, and in binary it does not: so the counter may be larger.
+const UNARY_GATES: u128 = 32;
 
-// The count past the last one that is of use, with so many wires before.
-fn end_count(bound: usize, before: usize) -> usize
-    requires { bound < 2 ^ 32 }
-    ensures { result ≡ min before bound + 1 }
+// Whether a counter in unary of so many wires is small enough.
+fn is_unary(count: usize, bound: usize) -> bool
+    requires within { bound ≤ count }
+    requires few { bound < 2 ^ 32 }
+    ensures { IsTrue result ↔ 2 * bound * (count - bound) ≤ 32 * count }
 {
-    before.min(bound) + 1
-}
-
-// A count from the first one on.
-fn count_at(b: &Builder, counts: &Counts, number: usize) -> Wire
-    requires wires { AreWires b.now counts.now.wires.items }
-    requires first { counts.now.first ≤ number }
-    ensures wire { IsWire b.now result }
-    ensures value { (env : ℕ → Bool) → wire_value b.now env result ≡ count_value (wire_values b.now env counts.now.wires.items) counts.now.first number }
-{
-    match counts.wires.get(number - counts.first) {
-        Some(wire) => *wire,
-        None => b.constant(false),
-    }
-}
-
-// The count before this one, and true before count 0.
-fn count_before(b: &Builder, counts: &Counts, number: usize) -> Wire
-    requires wires { AreWires b.now counts.now.wires.items }
-    requires first { 1 ≤ number → counts.now.first + 1 ≤ number }
-    ensures wire { IsWire b.now result }
-    ensures value { (env : ℕ → Bool) → wire_value b.now env result ≡ value_before (wire_values b.now env counts.now.wires.items) counts.now.first number }
-{
-    if number == 0 {
-        b.constant(true)
-    } else {
-        count_at(b, counts, number - 1)
-    }
-}
-
-// Whether a number is reached that was so before, or whose predecessor was.
-fn count_turn(b: &mut Builder, count: Wire, x: Wire, before: Wire) -> Result<Wire, AllocError>
-    requires count { IsWire b.old count }
-    requires x { IsWire b.old x }
-    requires before { IsWire b.old before }
-    ensures extends { Extends b.old b.new }
-    ensures wire { IfOk result (λ w. IsWire b.new w) }
-    ensures value { IfOk result (λ w. (env : ℕ → Bool) →
-        wire_value b.new env w ≡ (wire_value b.old env count || (wire_value b.old env x && wire_value b.old env before))) }
-{
-    let reached = b.and(x, before)?;
-    b.or(count, reached)
-}
-
-// The counts with one wire more, from `first` up to `end`, by at most two gates a count.
-fn counted(
-    alloc: Global,
-    b: &mut Builder,
-    counts: &Counts,
-    x: Wire,
-    first: usize,
-    end: usize,
-) -> Result<Counts, AllocError>
-    requires wires { AreWires b.old counts.now.wires.items }
-    requires x { IsWire b.old x }
-    requires first { counts.now.first ≤ first }
-    requires second { 1 ≤ first → counts.now.first + 1 ≤ first }
-    requires end { first ≤ end }
-    ensures extends { Extends b.old b.new }
-    ensures first { IfOk result (λ r. r.first ≡ first) }
-    ensures width { IfOk result (λ r. length r.wires.items ≡ end - first) }
-    ensures wires { IfOk result (λ r. AreWires b.new r.wires.items) }
-    ensures value { IfOk result (λ r. (env : ℕ → Bool) (k : ℕ) → first + k < end →
-        slice_index_or (wire_values b.new env r.wires.items) k false
-        ≡ next_count (wire_values b.old env counts.now.wires.items) counts.now.first (wire_value b.old env x) (first + k)) }
-{
-    let mut next = Vec::with_capacity(alloc, end - first)?;
-    for number in first..end {
-        let count = count_at(b, counts, number);
-        let before = count_before(b, counts, number);
-        next.push(count_turn(b, count, x, before)?)?;
-    }
-    Ok(Counts { first, wires: next })
+    2 * bound as u128 * (count - bound) as u128 <= UNARY_GATES * count as u128
 }
 
 // Whether more than `bound` of the wires are true, of which there are more.
@@ -114,23 +37,21 @@ fn passes(alloc: Global, b: &mut Builder, wires: &[Wire], bound: usize) -> Resul
     ensures value { IfOk result (λ w. (env : ℕ → Bool) →
         wire_value b.new env w ≡ not (is_at_most bound (wire_values b.old env wires.now))) }
 {
-    let mut counts = Counts {
-        first: 0,
-        wires: Vec::new(alloc),
-    };
-    for i in 0..wires.len() {
-        let first = first_count(bound, wires.len() - i - 1);
-        let end = end_count(bound, i);
-        counts = counted(alloc, b, &counts, wires[i], first, end)?;
+    if is_unary(wires.len(), bound) {
+        unary::passes(alloc, b, wires, bound)
+    } else {
+        binary::passes(alloc, b, wires, bound)
     }
-    Ok(count_at(b, &counts, bound))
 }
 
-/// Whether at most `bound` of the wires are true. A sequential counter in unary (Sinz, "Towards an
-/// Optimal CNF Encoding of Boolean Cardinality Constraints", CP 2005) of the counts that can be
-/// reached and from which the bound can be passed: at most two gates for each wire that may be left
-/// false and each number up to the bound, and none where the bound is no less than the number of
-/// wires.
+/// Whether at most `bound` of the wires are true. For n wires this is a sequential counter in unary
+/// where 2 * bound * (n - bound) is at most 32 * n (Sinz, "Towards an Optimal CNF Encoding of Boolean
+/// Cardinality Constraints", CP 2005), of the counts that can be reached and from which the bound can
+/// be passed: at most two gates for each wire that may be left false and each number up to the bound.
+/// Else it is their number in binary by a network of full adders (Eén and Sörensson, "Translating
+/// Pseudo-Boolean Constraints into SAT", JSAT 2, 2006, section 5.2), compared with the bound: at most
+/// nine gates a wire, eight where the wires are inputs, and one a bit of the number. There is no gate
+/// where the bound is no less than the number of wires.
 pub fn at_most(
     alloc: Global,
     b: &mut Builder,

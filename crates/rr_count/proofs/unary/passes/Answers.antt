@@ -1,6 +1,6 @@
 use Rattle.std.proofs.Common.{◌+◌, ◌∙◌, sym, arith, subst}
 use Rattle.rr_count.proofs.Counters.{Counted, Counted-more, Counted-all}
-use Rattle.rr_count.proofs.passes.Goals as goal
+use Rattle.rr_count.proofs.unary.passes.Goals as goal
 
 pub loop-i-preserved : goal.loop-i-preserved
 loop-i-preserved c =

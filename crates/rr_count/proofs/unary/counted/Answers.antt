@@ -1,6 +1,6 @@
 use Rattle.std.proofs.Common.{◌∙◌}
 use Rattle.rr_count.proofs.Counters.{Built-more, built_bit}
-use Rattle.rr_count.proofs.counted.Goals as goal
+use Rattle.rr_count.proofs.unary.counted.Goals as goal
 
 pub loop-number-preserved : goal.loop-number-preserved
 loop-number-preserved c =
