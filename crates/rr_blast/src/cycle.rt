@@ -2,6 +2,7 @@
 //! next values and the outputs.
 ghost use Rattle.std.specs.Prelude.{◌≡◌, ◌<◌, ◌≤◌, ◌+◌, ◌^◌, ◌++◌, ◌∷◌, [], ℕ, Bool, All, IfOk, OnOk, length, map};
 ghost use Rattle.std.specs.List.{range_with_len, sum};
+ghost use Rattle.rr_circuit.specs.Sweeps.{AreUsed};
 ghost use Rattle.rr_circuit.specs.Values.{Extends, Netlist, AreWires, wire_values};
 ghost use Rattle.rr_flat.specs.Ordered.{IsStep};
 ghost use Rattle.rr_flat.specs.View.{plain_flat};
@@ -162,7 +163,8 @@ fn input_wires(alloc: Global, b: &Builder, from: u32, count: u32) -> Result<Vec<
 
 /// The circuit of a cycle, whose inputs are the bits of a choice, so many as the sites have, the values
 /// of the registers, and the bits of a row; and whose outputs are the registers' next values and the bits
-/// of the outputs.
+/// of the outputs. It has no gate that none of these stands on: signals that no output and no next state
+/// needs are left out.
 pub(crate) fn cycle_circuit(
     alloc: Global,
     flat: &Flat,
@@ -182,6 +184,7 @@ pub(crate) fn cycle_circuit(
     ensures performs { IfOk result (λ c. PerformsCycles (plain_flat flat.now) clock steps.now sites.now registers.now c) }
     ensures inputs { IfOk result (λ c. c.netlist.inputs ≡ total_bits sites.now + length registers.now + length inputs.now) }
     ensures outputs { IfOk result (λ c. length c.outputs ≡ length registers.now + sum (flat_widths (plain_flat flat.now) flat.now.outputs)) }
+    ensures used { IfOk result AreUsed }
 {
     let first = sites.bits();
     let second = registers.len() as u32;
@@ -206,5 +209,7 @@ pub(crate) fn cycle_circuit(
         state.as_slice(),
         given.as_slice(),
     )?;
-    Ok(b.finish(answers))
+    let whole = b.finish(answers);
+    let circuit = whole.swept(alloc)?;
+    Ok(circuit)
 }

@@ -1,5 +1,6 @@
 //! Transitions of flat designs.
 ghost use Rattle.std.specs.Prelude.{◌≡◌, ◌<◌, ◌^◌, ◌++◌, ◌∷◌, [], IfOk, OnOk, All, length};
+ghost use Rattle.rr_circuit.specs.Sweeps.{AreUsed};
 ghost use Rattle.rr_flat.specs.View.{plain_flat};
 ghost use Rattle.rr_choice.specs.Choices.{total_bits};
 ghost use Rattle.rr_transition.specs.Cycles.{Cycle, Design, switch_places, widths_of};
@@ -49,7 +50,8 @@ fn widths(alloc: Global, flat: &Flat, ids: &[u32]) -> Result<Vec<u32>, AllocErro
 /// The circuit of one cycle of a flat design, for every choice among the changes of the sites of a
 /// list. The design is lawful, and its steps stand in that order; the bits of a choice, of a state and
 /// of a row of inputs together are below 2^32. The registers are the bits that clocked blocks write,
-/// signal after signal, each lowest bit first.
+/// signal after signal, each lowest bit first. The circuit has no gate that no bit of the next state and of
+/// the outputs stands on.
 pub fn transition(
     alloc: Global,
     flat: &Flat,
@@ -59,6 +61,7 @@ pub fn transition(
     requires fits { (j : Design) × FitsArguments j (plain_flat flat.now) order.now.clock order.now.rising order.now.steps.items list.now }
     requires few { bit_count (plain_flat flat.now) order.now.clock list.now < 2 ^ 32 }
     ensures stands { IfOk result (λ t. (j : Design) → FitsArguments j (plain_flat flat.now) order.now.clock order.now.rising order.now.steps.items list.now → Cycle j list.now t) }
+    ensures used { IfOk result (λ t. AreUsed t.circuit) }
 {
     let registers = register_bits(alloc, flat)?;
     let ids = flat.row_inputs(alloc, order.clock)?;

@@ -16,7 +16,8 @@ returns-clause-performs c = λ choice state row lc ls lr.
     let k1 : c.bits-first.result ≡ length choice = c.bits-first.ensures ∙ sym lc in
     let k2 : length c.args.registers.now ≡ length state = sym ls in
     let k3 : length c.args.inputs.now ≡ length row = ap length c.requires.inputs ∙ sym lr in
-    ap (λ (o : OutputNetlist). output_values o env) c.finish.ensures.result
+    c.in_ok-circuit.ensures.values env
+    ∙ ap (λ (o : OutputNetlist). output_values o env) c.finish-whole.ensures.result
     ∙ c.in_ok-answers.ensures.value env
     ∙ same_answers (plain_flat c.args.flat.now) c.args.clock c.args.sites.now c.args.steps.now c.args.registers.now _ choice _ state _ row
     (ap (wire_values n env) c.as_slice.ensures.value ∙ c.in_ok-picks.ensures.value env ∙ given_middle [] choice (state ++ row) 0 c.bits-first.result refl k1)
@@ -26,7 +27,8 @@ returns-clause-performs c = λ choice state row lc ls lr.
 pub returns-clause-outputs : goal.returns-clause-outputs
 returns-clause-outputs c =
     let n : Netlist = c.cycle_answers.new.b in
-    ap (λ (o : OutputNetlist). length o.outputs) c.finish.ensures.result
+    c.in_ok-circuit.ensures.outputs
+    ∙ ap (λ (o : OutputNetlist). length o.outputs) c.finish-whole.ensures.result
     ∙ sym (length-map c.in_ok-answers.answers.items (wire_value n (λ k. false)))
     ∙ ap length (c.in_ok-answers.ensures.value (λ k. false))
     ∙ answers_length (plain_flat c.args.flat.now) c.args.sites.now _ c.args.registers.now _

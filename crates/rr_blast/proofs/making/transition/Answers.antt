@@ -58,4 +58,5 @@ returns c =
             performs = performs;
           })
           j fits;
+      used = c.in_ok-circuit.ensures.used;
     }
