@@ -1,12 +1,12 @@
 -- the choice of a literal to watch
 use Rattle.std.proofs.Common.{◌≡◌, ◌⊎◌, inl, inr, ℕ, Bool, true, false, not, ◌+◌, ◌<◌, ◌≤◌, List, [], ◌∷◌, ◌++◌, length, get_or, take, refl, sym, ◌∙◌, ap, subst, arith}
-use Rattle.std.specs.Prelude.{All, Contains, Option, Some, None, is_some}
+use Rattle.std.specs.Prelude.{Contains, Option, Some, None, is_some}
 use Rattle.std.proofs.lemmas.List.{take_more, take_all, get_or_default}
-use Rattle.std.proofs.lemmas.List.Elements.{All-push, Contains-push_cases}
-use Rattle.std.proofs.lemmas.Bool.{true≢false, false≢true}
-use Rattle.rr_cnf.specs.Clauses.{Literal}
-use Rattle.rr_watch.specs.Trails.{Entry}
-use Rattle.rr_watch.specs.Lists.{literal_at, RankIs, IsApart, BestIs}
+use Rattle.std.proofs.lemmas.List.Elements.{Contains-push_cases}
+use Rattle.std.proofs.lemmas.Bool.{cases_lt, true≢false, false≢true}
+use Rattle.rr_cnf.specs.Clauses.{Literal, negated}
+use Rattle.rr_watch.specs.Trails.{Entry, lits}
+use Rattle.rr_watch.specs.Lists.{literal_at, RankIs, IsApart, BestIs, IsReplacement, IsReplacementIn}
 
 -- the best of the first literals
 pub record Best (t : List Entry) (c : List Literal) (o : Option Literal) (i p rank : ℕ) : Type 0 where
@@ -82,12 +82,10 @@ found_is None true e t = absurd (true≢false t)
 found_is None false e t = absurd (false≢true e)
 found_is (Some x) b e t = (x, refl)
 
--- a list that is read to its end
-pub All-read : (P : Literal → Type 0) (xs : List Literal) (i : ℕ) (l : Literal) → i < length xs → l ≡ get_or xs i l → All P (take i xs) → P l → All P (take (i + 1) xs)
-All-read P xs i l b e a h = subst (All P) (sym (take_more xs i l b ∙ ap (λ x. take i xs ++ x ∷ []) (sym e))) (All-push P (take i xs) l a h)
-
-pub All-whole : (P : Literal → Type 0) (xs : List Literal) (i : ℕ) → length xs ≤ i → All P (take i xs) → All P xs
-All-whole P xs i h a = subst (All P) (take_all i xs h) a
+-- a clause that is gone over from a place on, and then up to it
+pub gone_round : (t : List Entry) (c : List Literal) (o : Literal) (from : ℕ) (r : Option ℕ) → IsReplacementIn t c o from (length c) None → IsReplacementIn t c o 0 from r → IsReplacement t c o r
+gone_round t c o from None f g = λ k d b. subst (λ m. (m ≡ o) ⊎ Contains (lits t) (negated m)) (get_or_default c k (record { var = 0; negative = false }) d b) (elim (cases_lt k from) [ inl x ↦ g k (omega arith) x | inr x ↦ f k x b ])
+gone_round t c o from (Some p) f g = g
 
 pub not_false : (b : Bool) → not b ≡ false → b ≡ true
 not_false true e = refl

@@ -8,3 +8,4 @@ pub mod AdvanceLaws
 pub mod PlaceLaws
 pub mod HandLaws
 pub mod NumberLaws
+pub mod AheadLaws

@@ -304,6 +304,34 @@ module _ (tr : Standing) (hs : List Held) (ls : List WatchList) (short : List �
     brief = λ b. subst (λ y. All (λ (m : Literal). (code_of m ≡ c) ⊎ (m ≡ blocker_of v)) y.clause) (sym (new_at v.place e)) (f b);
   }
 
+  -- what the earlier clauses have seen, where a clause comes that watches two literals
+  pub seen_held : (middle new : List WatchList) (v w : Watcher) (m n : ℕ) → Listed ls middle m v → Listed middle new n w → (late head k : ℕ) → k < length hs
+      → IsLong tr.entries ls head late k (held_at hs k) ⊎ IsShort short k (held_at hs k).clause
+      → IsLong tr.entries new head late k (held_at (hs ++ h ∷ []) k) ⊎ IsShort short k (held_at (hs ++ h ∷ []) k).clause
+  seen_held middle new v w m n a b late head k y x = subst (λ z. IsLong tr.entries new head late k z ⊎ IsShort short k z.clause) (sym (held_old hs h k y)) (elim x [
+    | inl z ↦ inl (record {
+      placed = z.placed;
+      differ = z.differ;
+      first_listed = stays (code_of (first_of (held_at hs k))) z.first_listed;
+      second_listed = stays (code_of (second_of (held_at hs k))) z.second_listed;
+      first_serves = z.first_serves;
+      second_serves = z.second_serves;
+    })
+    | inr z ↦ inr z
+  ])
+    where
+      stays : (c : ℕ) → IsListed (list_at ls c).entries k → IsListed (list_at new c).entries k
+      stays c i = listed_more middle new n w b c k (listed_more ls middle m v a c k i)
+
+  -- and one that watches nothing
+  pub seen_short : (late head k : ℕ) → k < length hs
+      → IsLong tr.entries ls head late k (held_at hs k) ⊎ IsShort short k (held_at hs k).clause
+      → IsLong tr.entries ls head late k (held_at (hs ++ h ∷ []) k) ⊎ IsShort (short ++ length hs ∷ []) k (held_at (hs ++ h ∷ []) k).clause
+  seen_short late head k y x = subst (λ z. IsLong tr.entries ls head late k z ⊎ IsShort (short ++ length hs ∷ []) k z.clause) (sym (held_old hs h k y)) (elim x [
+    | inl z ↦ inl z
+    | inr z ↦ inr (record { alike = z.alike; listed = Contains-append_left short (length hs ∷ []) k z.listed })
+  ])
+
   -- a clause that watches two literals
   pub State-hold : (middle new : List WatchList) (v w : Watcher) → IsPlaced h → (first_of h ≡ second_of h → ⊥) → Serves tr.entries head late (first_of h) h.clause → Serves tr.entries head late (second_of h) h.clause
       → ((c : ℕ) → length (list_at ls c).entries + (wanted hs c + bit (has h.clause c)) ≤ (list_at ls c).uses)
@@ -322,17 +350,7 @@ module _ (tr : Standing) (hs : List Held) (ls : List WatchList) (short : List �
     rising = rising_now;
     within = within_now;
     keeps = λ k x. elim (was_or_new k x) [
-      | inl y ↦ subst (λ z. IsLong tr.entries new head late k z ⊎ IsShort short k z.clause) (sym (held_old hs h k y)) (elim (p.keeps k y) [
-        | inl z ↦ inl (record {
-          placed = z.placed;
-          differ = z.differ;
-          first_listed = stays (code_of (first_of (held_at hs k))) k z.first_listed;
-          second_listed = stays (code_of (second_of (held_at hs k))) k z.second_listed;
-          first_serves = z.first_serves;
-          second_serves = z.second_serves;
-        })
-        | inr z ↦ inr z
-      ])
+      | inl y ↦ seen_held middle new v w (code_of (first_of h)) (code_of (second_of h)) a b late head k y (p.keeps k y)
       | inr y ↦ inl (subst (IsLong tr.entries new head late k) (sym (new_at k y)) (record {
         placed = placed;
         differ = differ;
@@ -357,9 +375,6 @@ module _ (tr : Standing) (hs : List Held) (ls : List WatchList) (short : List �
     pending = p.pending;
   }
     where
-      stays : (c k : ℕ) → IsListed (list_at ls c).entries k → IsListed (list_at new c).entries k
-      stays c k m = listed_more middle new (code_of (second_of h)) w b c k (listed_more ls middle (code_of (first_of h)) v a c k m)
-
       apart : h.first ≡ h.second → ⊥
       apart e = differ (ap (literal_at h.clause) e)
 
@@ -417,10 +432,7 @@ module _ (tr : Standing) (hs : List Held) (ls : List WatchList) (short : List �
     rising = rising_now;
     within = within_now;
     keeps = λ k x. elim (was_or_new k x) [
-      | inl y ↦ subst (λ z. IsLong tr.entries ls head late k z ⊎ IsShort (short ++ length hs ∷ []) k z.clause) (sym (held_old hs h k y)) (elim (p.keeps k y) [
-        | inl z ↦ inl z
-        | inr z ↦ inr (record { alike = z.alike; listed = Contains-append_left short (length hs ∷ []) k z.listed })
-      ])
+      | inl y ↦ seen_short late head k y (p.keeps k y)
       | inr y ↦ inr (subst (λ z. IsShort (short ++ length hs ∷ []) k z.clause) (sym (new_at k y)) (record { alike = alike; listed = subst (Contains (short ++ length hs ∷ [])) (sym y) (Contains-push short (length hs)) }))
     ];
     listed = λ c v m. watcher_more c v (p.listed c v m);

@@ -1,10 +1,10 @@
 -- clauses with their watched literals, and the lists of the clauses that watch each literal
-use Rattle.std.specs.Prelude.{◌≡◌, ℕ, ◌+◌, ◌*◌, ◌<◌, ◌≤◌, ◌⊎◌, ◌==◌, ◌||◌, Bool, true, false, cond, List, [], ◌∷◌, ◌++◌, length, get_or, All, Contains, Option, Some, None}
+use Rattle.std.specs.Prelude.{◌≡◌, ℕ, ◌+◌, ◌-◌, ◌*◌, ◌<◌, ◌≤◌, ◌⊎◌, ◌==◌, ◌||◌, Bool, true, false, cond, List, [], ◌∷◌, ◌++◌, length, get_or, All, Contains, IfSome, Option, Some, None}
 use Rattle.std.specs.List.{list_any, sum_by, swap_remove}
 use Rattle.rr_cnf.specs.Clauses.{Literal, negated, IsWithin}
 use Rattle.rr_cnf.specs.Codes.{code_of}
 use Rattle.rr_cnf.specs.Partial.{IsFalse}
-use Rattle.rr_watch.specs.Trails.{Entry, entry, lits, Standing, IsTrail, AreForced, Grown}
+use Rattle.rr_watch.specs.Trails.{Entry, entry, lits, Forces, Standing, IsTrail, AreForced, Grown}
 use Rattle.rr_watch.specs.Watches.{Named}
 use Rattle.rr_watch.specs.WatchLists.{WatchList, IsListed, blocker_of, is_brief, nobody}
 use Rattle.rr_watch.specs.declared.watchers.Watcher.{Watcher}
@@ -127,6 +127,38 @@ pub record Stays (old new : Propagator) : Type 0 where
 abbrev pub IsConflict : Propagator → ℕ → Type 0
 IsConflict p id = (c : List Literal) × (Named (all_numbered p.hand.held) id c × IsFalse (lits p.trail.entries) c)
 
+-- the clause at this place watches nothing, or has seen the trail up to head
+abbrev pub HasSeen : Propagator → ℕ → ℕ → Type 0
+HasSeen p head k = IsLong p.trail.entries p.lists head p.late k (held_at p.hand.held k) ⊎ IsShort p.short.items k (held_at p.hand.held k).clause
+
+-- what the clauses have seen they have seen still
+abbrev pub KeepsSeen : Propagator → Propagator → Type 0
+KeepsSeen old new = (head k : ℕ) → k < length old.hand.held → HasSeen old head k → HasSeen new head k
+
+-- all clauses but the newest have seen the trail up to this place
+pub record IsAhead (p : Propagator) (head : ℕ) : Type 0 where
+  pub further : p.head ≤ head
+  pub inside : head ≤ length p.trail.entries
+  pub earlier : (k : ℕ) → k + 1 < length p.hand.held → HasSeen p head k
+
+-- the newest clause
+abbrev pub newest : Propagator → Held
+newest p = held_at p.hand.held (length p.hand.held - 1)
+
+-- the newest clause watches this literal first, its other literals are false, and the second one that it
+-- watches is so since the last decision
+pub record IsAsserted (p : Propagator) (l : Literal) : Type 0 where
+  pub some : 0 < length p.hand.held
+  pub first : l ≡ first_of (newest p)
+  pub apart : AreAlike (newest p).clause → ⊥
+  pub forces : Forces (lits p.trail.entries) (newest p).clause l
+  pub late : (j : ℕ) → j < length p.trail.entries → (entry p.trail.entries j).lit ≡ negated (second_of (newest p)) → (entry p.trail.entries j).level ≡ p.trail.depth
+
+-- clauses and a trail, with what the earlier clauses have seen of it, if that is told
+pub record IsWatching (p : Propagator) (place : Option ℕ) : Type 0 where
+  pub whole : Whole p
+  pub ahead : IfSome place (IsAhead p)
+
 -- a literal of the clause is true
 abbrev pub IsServed : List Entry → List Literal → Type 0
 IsServed t c = (l : Literal) × (Contains c l × Contains (lits t) l)
@@ -173,6 +205,11 @@ IsOther h q (Some p) = ((first_of h ≡ q) × (p ≡ h.second)) ⊎ ((second_of 
 abbrev pub IsReplacement : List Entry → List Literal → Literal → Option ℕ → Type 0
 IsReplacement t c o None = All (λ m. (m ≡ o) ⊎ Contains (lits t) (negated m)) c
 IsReplacement t c o (Some p) = (p < length c) × (literal_at c p ≡ o → ⊥) × (Contains (lits t) (negated (literal_at c p)) → ⊥)
+
+-- the same of the literals at the places from the first to before the end
+abbrev pub IsReplacementIn : List Entry → List Literal → Literal → ℕ → ℕ → Option ℕ → Type 0
+IsReplacementIn t c o first end None = (k : ℕ) → first ≤ k → k < end → (literal_at c k ≡ o) ⊎ Contains (lits t) (negated (literal_at c k))
+IsReplacementIn t c o first end (Some p) = IsReplacement t c o (Some p)
 
 -- 2 ^ 32 for a literal that is not false, and else its level
 abbrev pub RankIs : List Entry → Literal → ℕ → Type 0

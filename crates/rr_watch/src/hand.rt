@@ -1,5 +1,5 @@
 //! The clauses at hand, and the places in them of the literals that they watch.
-ghost use Rattle.std.specs.Prelude.{◌≡◌, ℕ, ◌+◌, ◌-◌, ◌<◌, ◌≤◌, ◌++◌, ◌∷◌, [], length, set, get_or, IfOk, OnErr, OnOk};
+ghost use Rattle.std.specs.Prelude.{◌≡◌, ◌⊎◌, ℕ, ◌+◌, ◌-◌, ◌<◌, ◌≤◌, ◌++◌, ◌∷◌, [], length, set, get_or, IfOk, OnErr, OnOk};
 ghost use Rattle.rr_watch.specs.Holdings.{Held, IsSource, coming, held_at, known_with};
 
 use rr_cnf::{Clause, Formula, Lit};
@@ -12,6 +12,19 @@ use std::marker::Model;
 pub(crate) struct Watched {
     pub(crate) first: u32,
     pub(crate) second: u32,
+}
+
+impl Watched {
+    /// Of its places the one beside this one.
+    pub(crate) fn beside(self, place: u32) -> u32
+        ensures { result ≡ self.first ⊎ result ≡ self.second }
+    {
+        if place == self.first {
+            self.second
+        } else {
+            self.first
+        }
+    }
 }
 
 /// A clause that was added, with its id.

@@ -4,7 +4,7 @@ ghost use Rattle.rr_cnf.specs.Clauses.{IsWithin, Literal, negated};
 ghost use Rattle.rr_cnf.specs.Codes.{code_of};
 ghost use Rattle.rr_cnf.specs.Partial.{IsQuiet};
 ghost use Rattle.rr_watch.specs.Trails.{Entry, Forces, IsCut, Standing, entry, lits};
-ghost use Rattle.rr_watch.specs.Lists.{Advances, AreAlike, AreServed, IsWatcher, watching_at, BestIs, IsApart, IsConflict, IsNext, IsOther, IsPlaced, IsReplacement, IsSettled, HasSpare, IsForcedShort, AreForcedShort, IsNew, KeepsPlace, RankIs, Serves, watcher_at, Stays, SteppedIs, Whole, first_of, has, list_at, list_len, literal_at, second_of, wanted};
+ghost use Rattle.rr_watch.specs.Lists.{Advances, AreAlike, AreServed, IsWatcher, watching_at, BestIs, IsAhead, IsApart, IsAsserted, IsConflict, IsNext, IsOther, IsPlaced, IsReplacement, IsReplacementIn, IsSettled, HasSpare, KeepsSeen, IsForcedShort, AreForcedShort, IsNew, KeepsPlace, RankIs, Serves, watcher_at, Stays, SteppedIs, Whole, first_of, has, list_at, list_len, literal_at, second_of, wanted};
 ghost use Rattle.rr_watch.specs.WatchLists.{blocker_of};
 ghost use Rattle.rr_watch.specs.Holdings.{Adds, Held, IsSource, all_numbered, coming, held_at, id_of};
 ghost use Rattle.rr_watch.specs.declared.hand.Watched.{Watched};
@@ -38,7 +38,7 @@ pub(crate) struct Propagator<'f> {
     /// As many of these are true for good.
     settled: usize,
     /// As many literals of the trail have been seen by the clauses that watch their negations.
-    head: usize,
+    pub(crate) head: usize,
     /// The place of the trail's first literal that was not seen yet when a decision came after it.
     late: usize,
 }
@@ -94,18 +94,34 @@ fn best(trail: &Trail, clause: &[Lit], other: &Option<Lit>) -> Option<u32>
     found
 }
 
-/// The place of a literal that is not false and differs from the given one.
-fn replacement(trail: &Trail, clause: &[Lit], other: Lit) -> Option<u32>
+/// The place of a literal that is not false and differs from the given one: the first from this place
+/// on, and else the first before it. As a watch goes round its clause, it does not come again and again
+/// upon the literals at the front that stay false (Gent, "Optimal Implementation of Watched Literals and
+/// More General Techniques", JAIR 2013).
+fn replacement(trail: &Trail, clause: &[Lit], other: Lit, from: u32) -> Option<u32>
     requires within { All (IsWithin trail.now.vars) clause.now }
     requires few { length clause.now ≤ 4294967295 }
+    requires from { from ≤ length clause.now }
     ensures { IsReplacement trail.now.entries clause.now other result }
 {
-    let mut place = 0u32;
-    for lit in clause {
-        if *lit != other && !trail.is_false(*lit) {
+    let end = clause.len() as u32;
+    match replacement_in(trail, clause, other, from, end) {
+        Some(place) => Some(place),
+        None => replacement_in(trail, clause, other, 0, from),
+    }
+}
+
+/// The first such place from `first` to before `end`.
+fn replacement_in(trail: &Trail, clause: &[Lit], other: Lit, first: u32, end: u32) -> Option<u32>
+    requires within { All (IsWithin trail.now.vars) clause.now }
+    requires end { end ≤ length clause.now }
+    ensures { IsReplacementIn trail.now.entries clause.now other first end result }
+{
+    for place in first..end {
+        let lit = clause[place as usize];
+        if lit != other && !trail.is_false(lit) {
             return Some(place);
         }
-        place += 1;
     }
     None
 }
@@ -144,6 +160,7 @@ impl<'f> Propagator<'f> {
         ensures whole { Whole self.new }
         ensures trail { self.new.trail ≡ self.old.trail }
         ensures ok { OnOk result (Adds self.old.hand self.new.hand source clause.now) }
+        ensures ahead { OnOk result (IsAhead self.new self.old.head) }
         ensures err { OnErr result (self.new.hand ≡ self.old.hand) }
     {
         if self.hand.len() >= MOST_CLAUSES || clause.len() >= MOST_CLAUSES {
@@ -168,6 +185,7 @@ impl<'f> Propagator<'f> {
         ensures whole { Whole self.new }
         ensures trail { self.new.trail ≡ self.old.trail }
         ensures ok { OnOk result (Adds self.old.hand self.new.hand source clause.now) }
+        ensures ahead { OnOk result (IsAhead self.new self.old.head) }
         ensures err { OnErr result (self.new.hand ≡ self.old.hand) }
     {
         let Some(first) = best(&self.trail, clause, &None) else {
@@ -220,6 +238,8 @@ impl<'f> Propagator<'f> {
         ensures whole { Whole self.new }
         ensures trail { self.new.trail ≡ self.old.trail }
         ensures ok { OnOk result (Adds self.old.hand self.new.hand source clause.now) }
+        ensures head { self.new.head ≡ self.old.head }
+        ensures seen { OnOk result (KeepsSeen self.old self.new) }
         ensures err { OnErr result (self.new.hand ≡ self.old.hand) }
     {
         let index = self.hand.len() as u32;
@@ -248,6 +268,8 @@ impl<'f> Propagator<'f> {
         ensures whole { Whole self.new }
         ensures trail { self.new.trail ≡ self.old.trail }
         ensures ok { OnOk result (Adds self.old.hand self.new.hand source clause.now) }
+        ensures head { self.new.head ≡ self.old.head }
+        ensures seen { OnOk result (KeepsSeen self.old self.new) }
         ensures err { OnErr result (self.new.hand ≡ self.old.hand) }
     {
         let index = self.hand.len() as u32;
@@ -295,14 +317,18 @@ impl<'f> Propagator<'f> {
     }
 
     /// Makes the open literals of unit clauses true, until there is none or a clause is false, whose id
-    /// is answered.
-    pub(crate) fn propagate(&mut self) -> Option<u64>
+    /// is answered. The clauses before the newest may have seen the trail up to `ahead`.
+    pub(crate) fn propagate(&mut self, ahead: Option<usize>) -> Option<u64>
         requires whole { Whole self.old }
+        requires ahead { IfSome ahead (IsAhead self.old) }
         ensures whole { Whole self.new }
         ensures advances { Advances self.old self.new }
         ensures quiet { IfNone result (IsQuiet (bare (all_numbered self.new.hand.held)) (lits self.new.trail.entries)) }
         ensures conflict { IfSome result (IsConflict self.new) }
     {
+        if let Some(id) = self.skip(ahead) {
+            return Some(id);
+        }
         if let Some(id) = self.force_short() {
             return Some(id);
         }
@@ -313,6 +339,52 @@ impl<'f> Propagator<'f> {
             }
         }
         None
+    }
+
+    // Makes the literal true that the newest clause asserts, so that it has seen as much of the trail as
+    // the earlier ones, and nothing is seen again for its sake.
+    fn skip(&mut self, ahead: Option<usize>) -> Option<u64>
+        requires whole { Whole self.old }
+        requires ahead { IfSome ahead (IsAhead self.old) }
+        ensures whole { Whole self.new }
+        ensures advances { Advances self.old self.new }
+        ensures conflict { IfSome result (IsConflict self.new) }
+    {
+        let Some(head) = ahead else {
+            return None;
+        };
+        let Some(lit) = self.asserted() else {
+            return None;
+        };
+        let newest = self.hand.len() - 1;
+        if let Some(id) = self.enforce(newest, lit) {
+            return Some(id);
+        }
+        self.head = head;
+        None
+    }
+
+    // The first watched literal of the newest clause, if its other literals are false, the second watched
+    // one since the last decision.
+    fn asserted(&self) -> Option<Lit>
+        requires { Whole self.now }
+        ensures { IfSome result (IsAsserted self.now) }
+    {
+        let newest = self.hand.len().checked_sub(1)?;
+        let clause = self.hand.clause(newest).lits();
+        let watched = self.hand.watched(newest);
+        let first = *clause.get(watched.first as usize)?;
+        let second = *clause.get(watched.second as usize)?;
+        if first == second {
+            return None;
+        }
+        if replacement(&self.trail, clause, first, 0).is_some() {
+            return None;
+        }
+        if self.trail.level(second) != self.trail.depth() {
+            return None;
+        }
+        Some(first)
     }
 
     // Makes the literals of the clauses true that watch nothing.
@@ -423,7 +495,8 @@ impl<'f> Propagator<'f> {
     {
         let index = self.watcher(falsified, at).place();
         let clause = self.hand.clause(index).lits();
-        let Some(place) = other(clause, self.hand.watched(index), falsified) else {
+        let watched = self.hand.watched(index);
+        let Some(place) = other(clause, watched, falsified) else {
             self.unlist(falsified, at);
             return Step::Moved;
         };
@@ -431,7 +504,7 @@ impl<'f> Propagator<'f> {
         if self.trail.is_true(other) {
             return Step::Kept;
         }
-        match replacement(&self.trail, clause, other) {
+        match replacement(&self.trail, clause, other, watched.beside(place)) {
             Some(found) => {
                 self.rewatch(falsified, at, place, found);
                 Step::Moved

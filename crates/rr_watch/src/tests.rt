@@ -1,4 +1,7 @@
-//! In how many lists a clause stands, of which no clause speaks: as few as propagation needs.
+//! In how many lists a clause stands, and where propagation begins once a clause has come, of which no
+//! clause speaks: as few and as late as may be.
+ghost use Rattle.std.specs.Prelude.{◌≡◌, ◌+◌, ◌<◌, [], All, IfOk};
+
 use crate::{Propagated, Watch};
 use rr_cnf::{Clause, Formula, Lit};
 use std::alloc::Global;
@@ -34,7 +37,9 @@ fn formula(alloc: Global, vars: u64, clauses: &[&[i32]]) -> Result<Formula, Fail
 }
 
 /// Decides the literal, if it is open.
-fn decide(watch: &mut Watch, lit: Lit) -> bool {
+fn decide(watch: &mut Watch, lit: Lit) -> bool
+    ensures { watch.new.clauses ≡ watch.old.clauses }
+{
     if lit.var() <= watch.vars() && watch.value(lit).is_none() {
         watch.decide(lit);
         return true;
@@ -85,5 +90,67 @@ fn watches_two_literals(rt: HostRuntime) -> Result<(), Fail> {
     assert_eq!(rt; watched(alloc, &watch)?.as_slice(), twice.as_slice());
     back(&mut watch, 0);
     assert_eq!(rt; watch.propagate(), Propagated::Quiet);
+    Ok(())
+}
+
+/// A watch with no clauses.
+fn empty(alloc: Global, none: &Formula) -> Result<Watch, Fail>
+    requires { none.now.clauses ≡ [] }
+    ensures { IfOk result (λ w. w.clauses ≡ []) }
+{
+    Ok(Watch::new(alloc, none)?)
+}
+
+/// Adds a clause, if nothing is decided.
+fn add(alloc: Global, watch: &mut Watch, id: u64, numbers: &[i32]) -> Result<(), Fail>
+    requires { All (λ n. n.id < id) watch.old.clauses }
+    ensures { IfOk result (λ _. All (λ n. n.id < id + 1) watch.new.clauses) }
+{
+    let vars = watch.vars();
+    let clause = clause(alloc, numbers)?;
+    if watch.depth() == 0 && clause.lits().iter().all(|lit| lit.var() <= vars) {
+        watch.add(alloc, id, &clause)?;
+    }
+    Ok(())
+}
+
+fn level(watch: &Watch, lit: Lit) -> Option<u32> {
+    if lit.var() <= watch.vars() && watch.value(lit) == Some(true) {
+        return Some(watch.level(lit));
+    }
+    None
+}
+
+/// The newest clause's literal comes first, before the literals of the trail are seen again.
+#[test]
+fn begins_with_the_newest_clause(rt: HostRuntime) -> Result<(), Fail> {
+    let alloc = rt.alloc();
+    let none = Formula::new(alloc, 3);
+    let mut watch = empty(alloc, &none)?;
+    add(alloc, &mut watch, 1, &[1])?;
+    assert_eq!(rt; watch.propagate(), Propagated::Quiet);
+    add(alloc, &mut watch, 2, &[-1, 2])?;
+    add(alloc, &mut watch, 3, &[-1, 3])?;
+    assert_eq!(rt; watch.propagate(), Propagated::Quiet);
+    assert_eq!(rt; watch.trail(), [lit(1), lit(3), lit(2)].as_slice());
+    Ok(())
+}
+
+/// A decision comes between a clause and propagation, and is taken back.
+#[test]
+fn sees_a_clause_after_a_decision(rt: HostRuntime) -> Result<(), Fail> {
+    let alloc = rt.alloc();
+    let none = Formula::new(alloc, 3);
+    let mut watch = empty(alloc, &none)?;
+    add(alloc, &mut watch, 1, &[1])?;
+    assert_eq!(rt; watch.propagate(), Propagated::Quiet);
+    add(alloc, &mut watch, 2, &[-1, 2])?;
+    assert!(rt; decide(&mut watch, lit(3)), "open");
+    assert_eq!(rt; watch.propagate(), Propagated::Quiet);
+    assert_eq!(rt; level(&watch, lit(2)), Some(1));
+    back(&mut watch, 0);
+    assert_eq!(rt; level(&watch, lit(2)), None);
+    assert_eq!(rt; watch.propagate(), Propagated::Quiet);
+    assert_eq!(rt; level(&watch, lit(2)), Some(0));
     Ok(())
 }

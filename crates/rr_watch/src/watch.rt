@@ -26,18 +26,20 @@ pub enum Propagated {
 #[derive(Drop)]
 pub struct Watch<'f> {
     pub(crate) propagator: Propagator<'f>,
+    /// Where a clause came last, as many literals of the trail have been seen by the clauses before it.
+    ahead: Option<usize>,
 }
 
 impl<'f> Model for Watch<'f> {
     ghost use Rattle.rr_watch.specs.Watches.{State};
-    ghost use Rattle.rr_watch.specs.Lists.{Whole};
+    ghost use Rattle.rr_watch.specs.Lists.{IsWatching};
     ghost use Rattle.rr_watch.specs.Holdings.{all_numbered};
 
     ghost Value = { State };
 
     ghost view = { λ w. record { vars = w.propagator.trail.vars; clauses = all_numbered w.propagator.hand.held; trail = w.propagator.trail.entries; depth = w.propagator.trail.depth } };
 
-    ghost invariant = { λ w. Whole w.propagator };
+    ghost invariant = { λ w. IsWatching w.propagator w.ahead };
 }
 
 impl<'f> Watch<'f> {
@@ -56,7 +58,10 @@ impl<'f> Watch<'f> {
                 propagator.add(alloc, Source::OfFormula, clause.lits())?;
             }
         }
-        Ok(Watch { propagator })
+        Ok(Watch {
+            propagator,
+            ahead: None,
+        })
     }
 
     /// Holds one more clause, whose id exceeds all others. While decisions stand, one literal of it is
@@ -69,7 +74,12 @@ impl<'f> Watch<'f> {
         ensures ok { OnOk result (self.new ≡ record self.old { clauses = self.old.clauses ++ record { id = id; clause = clause.now } ∷ [] }) }
         ensures err { OnErr result (self.new ≡ self.old) }
     {
-        self.propagator.add(alloc, Source::Given(id), clause.lits())
+        let head = self.propagator.head;
+        self.ahead = None;
+        self.propagator
+            .add(alloc, Source::Given(id), clause.lits())?;
+        self.ahead = Some(head);
+        Ok(())
     }
 
     /// Begins a new level with an open literal.
@@ -79,6 +89,7 @@ impl<'f> Watch<'f> {
         requires not_false { Contains (lits self.old.trail) (negated lit) → ⊥ }
         ensures { self.new ≡ record self.old { trail = self.old.trail ++ record { lit = lit; level = self.old.depth + 1; reason = None } ∷ []; depth = self.old.depth + 1 } }
     {
+        self.ahead = None;
         self.propagator.decide(lit);
     }
 
@@ -87,6 +98,7 @@ impl<'f> Watch<'f> {
         requires { level ≤ self.old.depth }
         ensures { IsBack self.old self.new level }
     {
+        self.ahead = None;
         self.propagator.back(level);
     }
 
@@ -174,7 +186,8 @@ impl<'f> Watch<'f> {
         ensures depth { self.new.depth ≡ self.old.depth }
         ensures grown { Grown self.old.trail self.new.trail }
     {
-        match self.propagator.propagate() {
+        let ahead = self.ahead.take();
+        match self.propagator.propagate(ahead) {
             None => Propagated::Quiet,
             Some(id) => Propagated::Conflict(id),
         }

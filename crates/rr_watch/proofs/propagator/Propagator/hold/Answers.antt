@@ -3,7 +3,7 @@ use Rattle.std.proofs.lemmas.Bool.{eqb-true}
 use Rattle.rr_cnf.specs.Codes.{code_of}
 use Rattle.rr_watch.specs.Holdings.{Held, coming}
 use Rattle.rr_watch.specs.Lists.{Listed, first_of, second_of}
-use Rattle.rr_watch.proofs.StateSteps.{State-hold, literal_is}
+use Rattle.rr_watch.proofs.StateSteps.{State-hold, literal_is, seen_held}
 use Rattle.rr_watch.proofs.propagator.Propagator.hold.Goals as goal
 
 pub returns-clause-whole : goal.returns-clause-whole
@@ -18,3 +18,10 @@ returns-clause-whole c =
     rw c.in_ok-push.ensures.ok (State-hold o.trail o.hand.held o.lists o.short.items o.settled o.head o.late c.requires.whole h c.requires.new.few c.requires.new.id c.requires.new.within c.push-2.new.self c.push-3.new.self c.new.result c.new-2.result c.requires.placed c.requires.differ c.requires.first c.requires.second c.requires.lists a b
     (c.new.ensures.place ∙ c.len-index.ensures) (c.new-2.ensures.place ∙ c.len-index.ensures) (c.new.ensures.blocker ∙ two) (c.new-2.ensures.blocker ∙ one)
     (λ e. eqb-true (length cl) 2 (sym c.new.ensures.brief ∙ e)) (λ e. eqb-true (length cl) 2 (sym c.new-2.ensures.brief ∙ e)))
+
+pub returns-clause-seen : goal.returns-clause-seen
+returns-clause-seen c =
+    let o = c.args.self.now in
+    let h : Held = coming o.hand c.args.source c.args.clause.now c.args.watched in
+    rw c.in_ok-push.ensures.ok (λ head k b x. seen_held o.trail o.hand.held o.lists o.short.items o.settled o.head o.late c.requires.whole h c.requires.new.few c.requires.new.id c.requires.new.within c.push-2.new.self c.push-3.new.self c.new.result c.new-2.result
+    (code_of c.index-clause-watched.result) (code_of c.index-clause-watched-2.result) c.push-2.ensures c.push-3.ensures o.late head k b x)

@@ -5,6 +5,7 @@ use Rattle.rr_watch.specs.Trails.{entry, lits}
 use Rattle.rr_watch.specs.Lists.{IsBest, Serves, literal_at}
 use Rattle.rr_watch.proofs.PlaceLaws.{alike_none, alike_one, serves_first, serves_second}
 use Rattle.rr_watch.proofs.StateSteps.{literal_is}
+use Rattle.rr_watch.proofs.AheadLaws.{ahead_held}
 use Rattle.rr_watch.proofs.propagator.Propagator.place.Goals as goal
 
 pub hold_short-requires-clause-alike : goal.hold_short-requires-clause-alike
@@ -42,3 +43,6 @@ hold-requires-clause-second c =
     let seen = subst (λ x. Contains (lits o.trail.entries) (negated x) → (k : ℕ) → k < n.head → (entry o.trail.entries k).level < o.trail.depth) two c.rewind.ensures.seen in
     let s = serves_second o.trail p.lawful (omega (arith, p.fits, p.most)) n.head o.late (omega (arith, p.seen, c.rewind.ensures.low)) c.args.clause.now c.requires.may c.in-Some.first c.in-Some-best.second bf bs seen in
     subst (λ x. Serves x.entries n.head n.late (literal_at c.args.clause.now c.in-Some-best.second) c.args.clause.now) (sym t) (subst (λ x. Serves o.trail.entries n.head x (literal_at c.args.clause.now c.in-Some-best.second) c.args.clause.now) (sym late) s)
+
+pub returns-clause-ahead : goal.returns-clause-ahead
+returns-clause-ahead c = ahead_held c.args.self.now c.rewind.new.self c.hold.new.self c.args.source c.args.clause.now c.hold.result c.requires.whole c.rewind.ensures.state c.rewind.ensures.low c.hold.ensures.head c.hold.ensures.trail c.hold.ensures.ok c.hold.ensures.seen

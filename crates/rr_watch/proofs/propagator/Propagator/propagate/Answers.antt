@@ -5,6 +5,12 @@ use Rattle.rr_watch.proofs.AdvanceLaws.{Advances-trans, forced_more}
 use Rattle.rr_watch.proofs.StateLaws.{quiet_at_rest}
 use Rattle.rr_watch.proofs.propagator.Propagator.propagate.Goals as goal
 
+pub returns-in-Some-force_short-clause-advances : goal.returns-in-Some-force_short-clause-advances
+returns-in-Some-force_short-clause-advances c = Advances-trans c.args.self.now c.skip.new.self c.force_short.new.self c.skip.ensures.advances c.force_short.ensures.advances
+
+pub loop-self-init : goal.loop-self-init
+loop-self-init c = record { whole = c.force_short.ensures.whole; advances = Advances-trans c.args.self.now c.skip.new.self c.force_short.new.self c.skip.ensures.advances c.force_short.ensures.advances; short = c.in_default-force_short.ensures.forced }
+
 pub loop-self-preserved : goal.loop-self-preserved
 loop-self-preserved c =
     let i = c.loop-self.invariant in

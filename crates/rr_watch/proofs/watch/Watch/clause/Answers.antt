@@ -11,4 +11,4 @@ pub returns-in-Some-clause-one : goal.returns-in-Some-clause-one
 returns-in-Some-clause-one c =
     let p = c.self.inside.propagator in
     let f = c.in-Some.ensures.found in
-    subst (λ v. (d : List Literal) → Named v.clauses c.args.id d → d ≡ c.clause.result.now) c.self.view_is (λ d m. one_clause p c.self.invariant c.in-Some.place c.args.id d f.0 f.1 m ∙ sym c.clause.ensures)
+    subst (λ v. (d : List Literal) → Named v.clauses c.args.id d → d ≡ c.clause.result.now) c.self.view_is (λ d m. one_clause p c.self.invariant.whole c.in-Some.place c.args.id d f.0 f.1 m ∙ sym c.clause.ensures)
