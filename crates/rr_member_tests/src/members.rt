@@ -7,7 +7,7 @@ ghost use Rattle.rr_members.specs.Groups.{AnswerIs};
 use rr_cnf::{Clause, Formula, Lit};
 use rr_derive::{Journal, Workspace, check_line};
 use rr_members::{Gate, Members, OpenGate, Round, solve};
-use rr_solver::Outcome;
+use rr_solver::{Outcome, Solver, Stepped};
 use std::alloc::Global;
 use std::sync::atomic::{AtomicBool, Ordering};
 use std::test::Fail;
@@ -76,6 +76,40 @@ fn eight_clauses_by_four_members(rt: HostRuntime) -> Result<(), Fail> {
         }
         _ => assert!(rt; false),
     }
+    Ok(())
+}
+
+// The last of its lines is empty.
+#[test]
+fn a_search_gives_its_lines_by_value(rt: HostRuntime) -> Result<(), Fail> {
+    let alloc = rt.alloc();
+    let formula = eight(alloc)?;
+    let inputs = all_inputs(&formula);
+    let mut solver = Solver::new(alloc, &formula, inputs, 1)?;
+    for _turn in 0..10 {
+        solver.conflict_step()?;
+    }
+    let lines = solver.into_journal().into_lines();
+    match lines.as_slice() {
+        [_, .., last] => assert!(rt; last.clause.lits().is_empty()),
+        _ => assert!(rt; false),
+    }
+    Ok(())
+}
+
+#[test]
+fn a_search_gives_its_values_by_value(rt: HostRuntime) -> Result<(), Fail> {
+    let alloc = rt.alloc();
+    let mut formula = Formula::new(alloc, 2);
+    push(alloc, &mut formula, &[1])?;
+    push(alloc, &mut formula, &[-1, 2])?;
+    let inputs = all_inputs(&formula);
+    let mut solver = Solver::new(alloc, &formula, inputs, 1)?;
+    assert_eq!(rt; solver.conflict_step()?, Stepped::Model);
+    assert_eq!(rt;
+        solver.into_assignment().as_slice(),
+        [false, true, true].as_slice()
+    );
     Ok(())
 }
 

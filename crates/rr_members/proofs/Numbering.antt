@@ -15,15 +15,15 @@ use Rattle.rr_solver.specs.declared.engine.Status.TheVariants.{Running, Model, R
 use Rattle.rr_rounds.specs.States.{emptied, solved, Member, State, line_of, member}
 use Rattle.rr_rounds.specs.Joined.{HasIds, IsLine, Name, id_of, in_order, joined, joined_id, joined_step, names, names_of, renumbered}
 use Rattle.rr_rounds.specs.Rounds.{Reached}
-use Rattle.rr_members.specs.Seats.{Seated, ending_by, member_of}
+use Rattle.rr_member.specs.Seats.{Seated, ending_by, member_of}
 use Rattle.rr_rounds.specs.Rounds.{AreApart}
-use Rattle.rr_members.specs.Sharing.{AreLong, nobody, state_of}
-use Rattle.rr_members.specs.Groups.{Group, IsGroup, group_of}
+use Rattle.rr_member.specs.Sharing.{nobody, state_of}
+use Rattle.rr_members.specs.Groups.{AreLong, Group, IsGroup, group_of}
 use Rattle.rr_rounds.proofs.Ordered.{Numbered, no_place, numbered}
 use Rattle.rr_rounds.proofs.Standing.{listed}
 use Rattle.rr_rounds.proofs.Reaching.{lawful}
 use Rattle.rr_rounds.proofs.Joining.{apart_of, name_cases}
-use Rattle.rr_members.proofs.Handing.{seat_at}
+use Rattle.rr_member.proofs.Handing.{seat_at}
 
 -- what is read of the members
 pub member_read : (round : ℕ) (seats : List Seated) (k : ℕ) → k < length (map member_of seats) → (x : Seated) → x ≡ get_or seats k x → member (state_of round seats) k ≡ member_of x

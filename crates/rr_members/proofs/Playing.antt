@@ -7,9 +7,9 @@ use Rattle.std.proofs.lemmas.List.Sums.{sum_by-append, sum_by-cons}
 use Rattle.rr_cnf.specs.Clauses.{Clauses}
 use Rattle.rr_rounds.specs.States.{Member, State, idle, member}
 use Rattle.rr_rounds.specs.Rounds.{AreMoves, Event, HasMade, Move, Reached, by_move, after, moved, moved_all, moves_of}
-use Rattle.rr_members.specs.Seats.{Ran, Seated, member_of}
+use Rattle.rr_member.specs.Seats.{Ran, Seated, member_of}
 use Rattle.rr_rounds.specs.Rounds.{MayAll, after_all}
-use Rattle.rr_members.specs.Sharing.{nobody, seat, state_of}
+use Rattle.rr_member.specs.Sharing.{nobody, seat, state_of}
 use Rattle.rr_members.specs.Groups.{EachRan}
 
 abbrev move_of : ℕ → Event → Move

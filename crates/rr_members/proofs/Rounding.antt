@@ -11,20 +11,19 @@ use Rattle.rr_derive.specs.Lrat.{AreHinted, AreWritable}
 use Rattle.rr_solver.specs.Searches.{IsModel, Search, line}
 use Rattle.rr_solver.specs.declared.engine.Status.TheVariants.{Running, Model, Refuted, Failed}
 use Rattle.rr_rounds.specs.declared.place.Place.{Place}
-use Rattle.rr_members.specs.declared.sharing.Short.{Short}
 use Rattle.rr_rounds.specs.States.{Ending, emptied, solved, Learned, Member, State, line_of, member, nothing, steps}
 use Rattle.rr_rounds.specs.Joined.{in_order, joined, joined_step, joined_with, last_step}
 use Rattle.rr_rounds.specs.Rounds.{HandsOver, HasMade, IsRound, Reached, begun, by_hand, moved_all, start}
-use Rattle.rr_members.specs.Seats.{Seated, ending_by, member_of}
-use Rattle.rr_members.specs.Sharing.{AllTook, all_shorts, nobody, seat, state_of}
-use Rattle.rr_members.specs.Groups.{Asked, EachRan, Group, IsFirst, IsFirstEnded, IsGroup, NoneEnded, formula_of, group_of, inputs_of, new_seat}
+use Rattle.rr_member.specs.Seats.{Seated, ending_by, member_of, new_seat}
+use Rattle.rr_member.specs.Sharing.{AllTook, MayTake, all_shorts, nobody, seat, state_of}
+use Rattle.rr_members.specs.Groups.{Asked, EachRan, Group, IsFirst, IsFirstEnded, IsGroup, NoneEnded, formula_of, group_of, inputs_of}
 use Rattle.rr_rounds.proofs.Joining.{joined_hinted, joined_with_hinted}
 use Rattle.rr_rounds.proofs.Lawful.{no_step}
 use Rattle.rr_rounds.proofs.Ordered.{lists_all}
 use Rattle.rr_rounds.proofs.Reaching.{lawful}
 use Rattle.rr_rounds.proofs.Standing.{standing}
 use Rattle.rr_members.proofs.Playing.{Reached-moves, played, played_are, played_made, played_moved}
-use Rattle.rr_members.proofs.Handing.{hands_over, seat_at, shorts_within}
+use Rattle.rr_member.proofs.Handing.{hands_over, may_take, seat_at}
 
 module _ (steps round count : ℕ) (old mid : List Seated) (w : IsGroup old round count) (ran : EachRan steps round old mid) where
   f : Clauses
@@ -49,9 +48,9 @@ module _ (steps round count : ℕ) (old mid : List Seated) (w : IsGroup old roun
   reached_mid = subst (Reached f i (length old)) (played_moved f i steps round old mid asked ran) reached_played
 
   -- what is handed over has the formula's variables
-  pub within_mid : (k : ℕ) → k < length mid → All (λ x. All (IsWithin (seat mid k).search.formula.vars) x.clause) (all_shorts round mid)
+  pub within_mid : MayTake (all_shorts round mid) mid
   unfolding f
-  within_mid k h = subst (λ (g : Clauses). All (λ (x : Short). All (IsWithin g.vars) x.clause) (all_shorts round mid)) (sym (asked_mid k h)) (shorts_within round mid f (inputs_of old) (length old) reached_mid)
+  within_mid = may_take round mid f (inputs_of old) (length old) asked_mid reached_mid
 
   module _ (new : List Seated) (took : AllTook (all_shorts round mid) mid new) where
     handed : HandsOver f (state_of round mid) (state_of (round + 1) new)

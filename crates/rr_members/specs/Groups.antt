@@ -1,17 +1,18 @@
 -- all members of a search
-use Rattle.std.specs.Prelude.{◌≡◌, ℕ, ◌^◌, ◌<◌, ◌≤◌, Bool, List, [], length, Some, None, IsSome}
+use Rattle.std.specs.Prelude.{◌≡◌, ℕ, ◌^◌, ◌<◌, ◌≤◌, Bool, List, [], length, get_or, Some, None, IsSome, Result, Ok}
+use Rattle.std.specs.declared.alloc.AllocError.{AllocError}
 use Rattle.rr_cnf.specs.Clauses.{Clauses}
 use Rattle.rr_derive.specs.Derive.{Refutes, Step}
 use Rattle.rr_derive.specs.Lrat.{AreWritable}
 use Rattle.rr_solver.specs.Searches.{IsModel}
-use Rattle.rr_solver.specs.declared.engine.Status.TheVariants.{Running, Failed}
+use Rattle.rr_solver.specs.declared.engine.Status.TheVariants.{Failed}
 use Rattle.rr_rounds.specs.States.{Ending, emptied, solved, State, member}
 use Rattle.rr_rounds.specs.Joined.{joined_with}
 use Rattle.rr_members.specs.declared.members.Round.{Round}
 use Rattle.rr_members.specs.declared.members.Round.TheVariants.{Going, Model, Refuted}
 use Rattle.rr_rounds.specs.Rounds.{Reached}
-use Rattle.rr_members.specs.Seats.{Ran, Seated, member_of}
-use Rattle.rr_members.specs.Sharing.{seat, state_of}
+use Rattle.rr_member.specs.Seats.{Ran, Seated, member_of}
+use Rattle.rr_member.specs.Sharing.{seat, state_of}
 
 -- the formula, of which the variables up to `inputs` are decided, the members, and whether memory has
 -- run out
@@ -46,6 +47,10 @@ pub record IsGroup (seats : List Seated) (round count : ℕ) : Type 0 where
   pub asked : (k : ℕ) → k < length seats → Asked (formula_of seats) (inputs_of seats) (seat seats k)
   pub reached : Reached (formula_of seats) (inputs_of seats) (length seats) (state_of round seats)
 
+-- a member for which memory has lasted
+abbrev pub seat_as_ok : Seated → Result Seated AllocError
+seat_as_ok s = Ok s
+
 -- each member has made its events of this round
 pub record EachRan (steps round : ℕ) (old new : List Seated) : Type 0 where
   pub count : length new ≡ length old
@@ -66,16 +71,13 @@ AnswerIs g Going = NoneEnded g.state
 AnswerIs g (Model bits) = (m : ℕ) × (IsFirst g.state m (solved bits.items) × IsModel g.formula bits.items)
 AnswerIs g (Refuted j) = (m : ℕ) × ((e : Step) × (IsFirst g.state m (emptied e) × ((j.lines ≡ joined_with g.formula g.state m e) × (Refutes g.formula.clauses j.lines × AreWritable g.formula j.lines))))
 
--- a member that has done nothing
-abbrev pub new_seat : Clauses → ℕ → Seated
-new_seat f inputs = record {
-  search = record { formula = f; inputs = inputs; lines = []; handed = []; depth = 0; status = Running; bits = [] };
-  rounds = [];
-  origins = [];
-}
-
 -- the member at this place has ended, and none before it
 pub record IsFirstEnded (seats : List Seated) (k : ℕ) : Type 0 where
   pub low : k < length seats
   pub ended : IsSome (member_of (seat seats k)).ending
   pub first : (j : ℕ) → j < k → (member_of (seat seats j)).ending ≡ None
+
+-- as many ids for each member as it has lines
+pub record AreLong (seats : List Seated) (ids : List (List ℕ)) : Type 0 where
+  pub count : length ids ≡ length seats
+  pub each : (k : ℕ) → k < length seats → length (get_or ids k []) ≡ length (member_of (seat seats k)).lines

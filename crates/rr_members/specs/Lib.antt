@@ -1,4 +1,2 @@
-pub mod Seats
-pub mod Sharing
 pub mod Groups
 pub mod Searched

@@ -3,13 +3,14 @@ ghost use Rattle.std.specs.Prelude.{◌≡◌, ℕ, ◌^◌, ◌-◌, ◌<◌, �
 ghost use Rattle.rr_derive.specs.Derive.{Step};
 ghost use Rattle.rr_rounds.specs.States.{emptied, line_of, member};
 ghost use Rattle.rr_rounds.specs.Joined.{HasIds, IsLine, flat, here, in_order, joined, joined_id, joined_step, joined_with, last_step, lines_in, renumbered};
-ghost use Rattle.rr_members.specs.Seats.{member_of};
-ghost use Rattle.rr_members.specs.Sharing.{AreLong, seat, state_of};
+ghost use Rattle.rr_member.specs.Seats.{member_of};
+ghost use Rattle.rr_member.specs.Sharing.{seat, state_of};
+ghost use Rattle.rr_members.specs.Groups.{AreLong};
 
 use crate::members::Members;
-use crate::seat::{MOST_ID, Seat};
 use rr_cnf::Clause;
 use rr_derive::Journal;
+use rr_member::{MOST_ID, Seat};
 use rr_rounds::Place;
 use std::alloc::{AllocError, Global};
 use std::marker::Model;

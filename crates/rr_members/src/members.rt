@@ -1,17 +1,15 @@
 //! The members of a search, and their rounds.
-ghost use Rattle.std.specs.Prelude.{◌≡◌, ℕ, ◌<◌, ◌≤◌, ◌+◌, All, IfOk, IsOk, OnOk, OnErr, MatchOption, None, true, IsErr, length, map, replicate, false};
+ghost use Rattle.std.specs.Prelude.{◌≡◌, ℕ, ◌<◌, ◌≤◌, ◌+◌, IfOk, OnOk, OnErr, MatchOption, None, true, IsErr, length, map, replicate, false};
 ghost use Rattle.rr_cnf.specs.Partial.{Determined};
 ghost use Rattle.rr_solver.specs.declared.engine.Status.TheVariants.{Failed};
 ghost use Rattle.rr_rounds.specs.Rounds.{IsRound, start};
-ghost use Rattle.rr_members.specs.Seats.{Ran, member_of};
-ghost use Rattle.rr_members.specs.Sharing.{seat};
-ghost use Rattle.rr_members.specs.Groups.{AnswerIs, EachRan, IsFirstEnded, NoneEnded, new_seat};
+ghost use Rattle.rr_member.specs.Seats.{Ran, member_of, new_seat};
+ghost use Rattle.rr_member.specs.Sharing.{seat};
+ghost use Rattle.rr_members.specs.Groups.{AnswerIs, EachRan, IsFirstEnded, NoneEnded, seat_as_ok};
 
-use crate::gate::Gate;
-use crate::seat::{Seat, Worked, work};
-use crate::sharing::{hand_over, shorts};
 use rr_cnf::Formula;
 use rr_derive::Journal;
+use rr_member::{Gate, Seat, hand_over, work};
 use std::alloc::{AllocError, Global};
 use std::marker::Model;
 use std::thread;
@@ -31,7 +29,7 @@ fn all_work<'f, R: Threads + Sync, G: Gate + Sync>(
 {
     let run = |seat|
         requires { seat.search.status ≡ Failed → ⊥ }
-        ensures { OnOk result.outcome (Ran steps round seat.entry result.seat) }
+        ensures { IfOk result (Ran steps round seat.entry) }
     { work(seat, steps, round, gate) };
     let all = thread::map_vec(rt, seats, &run)?;
     let seats = seats_of(alloc, all)?;
@@ -39,14 +37,15 @@ fn all_work<'f, R: Threads + Sync, G: Gate + Sync>(
 }
 
 /// The members after their work, where memory lasted for each.
-fn seats_of<'f>(alloc: Global, all: Vec<Worked<'f>>) -> Result<Vec<Seat<'f>>, AllocError>
-    ensures seats { IfOk result (λ v. v.items ≡ map (λ one. one.seat) all.entry.items) }
-    ensures lasted { OnOk result (All (λ one. IsOk one.outcome) all.entry.items) }
+fn seats_of<'f>(
+    alloc: Global,
+    all: Vec<Result<Seat<'f>, AllocError>>,
+) -> Result<Vec<Seat<'f>>, AllocError>
+    ensures { IfOk result (λ v. map seat_as_ok v.items ≡ all.entry.items) }
 {
     let mut seats = Vec::new(alloc);
     for one in all {
-        one.outcome?;
-        seats.push(one.seat)?;
+        seats.push(one?)?;
     }
     Ok(seats)
 }
@@ -171,8 +170,7 @@ impl<'f> Members<'f> {
         }
         let seats = std::mem::replace(&mut self.seats, Vec::new(self.alloc));
         let mut seats = all_work(rt, self.alloc, seats, steps, self.round, gate)?;
-        let shorts = shorts(self.alloc, seats.as_slice(), self.round)?;
-        hand_over(&mut seats, shorts.as_slice())?;
+        hand_over(self.alloc, &mut seats, self.round)?;
         self.seats = seats;
         self.round += 1;
         self.failed = false;

@@ -1,9 +1,9 @@
 use Rattle.std.proofs.Common.{◌≡◌, ◌+◌, ◌∙◌, ◌++◌, length, ap, sym, arith}
 use Rattle.rr_rounds.specs.Joined.{flat, lines_in, of_round}
-use Rattle.rr_members.specs.Seats.{member_of}
-use Rattle.rr_members.specs.Sharing.{seat, state_of}
+use Rattle.rr_member.specs.Seats.{member_of}
+use Rattle.rr_member.specs.Sharing.{seat, state_of}
 use Rattle.rr_rounds.proofs.Flat.{flat_more}
-use Rattle.rr_members.proofs.Handing.{round_is}
+use Rattle.rr_member.proofs.Handing.{round_is}
 use Rattle.rr_members.proofs.join.order_of.Goals as goal
 
 pub loop-round-preserved : goal.loop-round-preserved

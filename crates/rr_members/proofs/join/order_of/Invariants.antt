@@ -1,6 +1,6 @@
 use Rattle.std.proofs.Common.{◌≡◌}
 use Rattle.rr_rounds.specs.Joined.{flat, of_round}
-use Rattle.rr_members.specs.Sharing.{state_of}
+use Rattle.rr_member.specs.Sharing.{state_of}
 use Rattle.rr_members.proofs.join.order_of.Given as goal
 
 abbrev pub invariant-loop-round : goal.invariant-loop-round

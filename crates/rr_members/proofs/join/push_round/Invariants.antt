@@ -1,7 +1,7 @@
 use Rattle.std.proofs.Common.{◌≡◌, ◌++◌}
 use Rattle.rr_rounds.specs.Joined.{flat, lines_in}
-use Rattle.rr_members.specs.Seats.{member_of}
-use Rattle.rr_members.specs.Sharing.{seat}
+use Rattle.rr_member.specs.Seats.{member_of}
+use Rattle.rr_member.specs.Sharing.{seat}
 use Rattle.rr_members.proofs.join.push_round.Given as goal
 
 abbrev pub invariant-loop-place : goal.invariant-loop-place

@@ -1,7 +1,6 @@
 use Rattle.std.proofs.Common.{◌≡◌, ◌+◌, ◌<◌, ◌∙◌, length, ap, get_or, subst, arith}
 use Rattle.std.proofs.lemmas.List.{get_or_default}
-use Rattle.rr_members.specs.Groups.{formula_of}
-use Rattle.rr_members.specs.Sharing.{AreLong}
+use Rattle.rr_members.specs.Groups.{AreLong, formula_of}
 use Rattle.rr_members.proofs.Numbering.{Put, Put-all, Put-more, Put-none, put_inside, put_low}
 use Rattle.rr_rounds.proofs.Ordered.{no_place}
 use Rattle.rr_members.proofs.members.Members.all_ids.Goals as goal

@@ -5,8 +5,8 @@ use Rattle.rr_derive.specs.Derive.{Refutes}
 use Rattle.rr_derive.specs.Lrat.{AreWritable}
 use Rattle.rr_solver.specs.Searches.{IsModel, line}
 use Rattle.rr_rounds.specs.States.{emptied, solved}
-use Rattle.rr_members.specs.Seats.{Seated, member_of}
-use Rattle.rr_members.specs.Sharing.{nobody, seat}
+use Rattle.rr_member.specs.Seats.{Seated, member_of}
+use Rattle.rr_member.specs.Sharing.{nobody, seat}
 use Rattle.rr_members.specs.Groups.{IsFirstEnded}
 use Rattle.rr_rounds.proofs.Joining.{joined_refutes}
 use Rattle.rr_members.proofs.Numbering.{reached_of}

@@ -2,7 +2,7 @@ use Rattle.std.proofs.Common.{rules, ◌≡◌, ◌+◌, ◌<◌, ◌∙◌, ◌
 use Rattle.std.specs.Prelude.{All}
 use Rattle.rr_derive.specs.Derive.{Step}
 use Rattle.rr_rounds.specs.Joined.{in_order, joined, renumbered}
-use Rattle.rr_members.specs.Sharing.{state_of}
+use Rattle.rr_member.specs.Sharing.{state_of}
 use Rattle.rr_members.proofs.Numbering.{all_below, counted_of, emptied_by, same_member, same_step}
 use Rattle.rr_members.proofs.members.Members.joined_with.Goals as goal
 

@@ -1,9 +1,6 @@
-use Rattle.std.proofs.Common.{rules, ◌≡◌, ◌∙◌, ◌+◌, false, ap, subst, sym, arith}
-use Rattle.std.specs.Prelude.{All}
-use Rattle.rr_cnf.specs.Clauses.{IsWithin}
-use Rattle.rr_members.specs.declared.sharing.Short.{Short}
+use Rattle.std.proofs.Common.{rules, ◌≡◌, ◌∙◌, ◌+◌, false, ap, subst, arith}
 use Rattle.rr_rounds.specs.Rounds.{IsRound}
-use Rattle.rr_members.specs.Sharing.{AllTook, all_shorts, seat, state_of}
+use Rattle.rr_member.specs.Sharing.{state_of}
 use Rattle.rr_members.specs.Groups.{EachRan}
 use Rattle.rr_members.proofs.Rounding.{is_group, is_round, within_mid}
 use Rattle.rr_members.proofs.members.Members.play.Goals as goal
@@ -16,8 +13,7 @@ hand_over-requires g c =
     let mid = c.in_ok-seats.seats.items in
     let old_is : c.replace-seats.result.items ≡ i.seats.items = search rules in
     let ran = subst (λ xs. EachRan c.args.steps i.round xs mid) old_is c.in_ok-seats.ensures in
-    let shorts : c.as_slice-2.result.now ≡ all_shorts i.round mid = c.as_slice-2.ensures.value ∙ c.in_ok-shorts.ensures ∙ ap (all_shorts i.round) c.as_slice.ensures.value in
-    λ k h. subst (λ xs. All (λ (x : Short). All (IsWithin (seat mid k).search.formula.vars) x.clause) xs) (sym shorts) (within_mid c.args.steps i.round i.count i.seats.items mid w ran k h)
+    within_mid c.args.steps i.round i.count i.seats.items mid w ran
 
 pub invariant_of-self-2 : goal.invariant_of-self-2
 invariant_of-self-2 g c = λ q.
@@ -27,10 +23,8 @@ invariant_of-self-2 g c = λ q.
     let mid = c.in_ok-seats.seats.items in
     let old_is : c.replace-seats.result.items ≡ i.seats.items = search rules in
     let ran = subst (λ xs. EachRan c.args.steps i.round xs mid) old_is c.in_ok-seats.ensures in
-    let shorts : c.as_slice-2.result.now ≡ all_shorts i.round mid = c.as_slice-2.ensures.value ∙ c.in_ok-shorts.ensures ∙ ap (all_shorts i.round) c.as_slice.ensures.value in
     let new = c.hand_over.new.seats.items in
-    let took = subst (λ xs. AllTook xs mid new) shorts c.in_ok-hand_over.ensures in
-    is_group c.args.steps i.round i.count i.seats.items mid w ran new took (omega (arith, c.if-self-ge-MOST_ROUND.false))
+    is_group c.args.steps i.round i.count i.seats.items mid w ran new c.in_ok-hand_over.ensures (omega (arith, c.if-self-ge-MOST_ROUND.false))
 
 pub returns-clause-ran : goal.returns-clause-ran
 returns-clause-ran g c =
@@ -40,8 +34,6 @@ returns-clause-ran g c =
     let mid = c.in_ok-seats.seats.items in
     let old_is : c.replace-seats.result.items ≡ i.seats.items = search rules in
     let ran = subst (λ xs. EachRan c.args.steps i.round xs mid) old_is c.in_ok-seats.ensures in
-    let shorts : c.as_slice-2.result.now ≡ all_shorts i.round mid = c.as_slice-2.ensures.value ∙ c.in_ok-shorts.ensures ∙ ap (all_shorts i.round) c.as_slice.ensures.value in
     let new = c.hand_over.new.seats.items in
-    let took = subst (λ xs. AllTook xs mid new) shorts c.in_ok-hand_over.ensures in
     subst (λ v. IsRound v.formula v.inputs c.args.steps v.state (state_of (i.round + 1) new)) c.self.view_is
-    (is_round c.args.steps i.round i.count i.seats.items mid w ran new took)
+    (is_round c.args.steps i.round i.count i.seats.items mid w ran new c.in_ok-hand_over.ensures)
