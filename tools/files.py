@@ -211,10 +211,12 @@ def full_disk():
                         for name, text in old.items():
                             with open(f"{where}/{name}", "w") as file:
                                 file.write(text if pages > 2 else "")
+                        room.run("repair d.v t.csv whole")
+                        whole = os.path.getsize(f"{room.path}/whole.aag")
                         found = room.run(f"repair d.v t.csv {where}/c")
                         held = {it: os.path.getsize(f"{where}/{it}") for it in sorted(os.listdir(where)) if it != "filler"}
                         if pages == 2:
-                            due = {"c.aag": 3339} if not old else {"c.aag": 3339, "c.cnf": 0, "c.lrat": 0}
+                            due = {"c.aag": whole} if not old else {"c.aag": whole, "c.cnf": 0, "c.lrat": 0}
                             told("a disk that is full, status and text", found, (4, "", f"fault write {where}/c.cnf\n"))
                             told("a disk that is full, files", held, due)
                         else:

@@ -66,6 +66,7 @@ def main(name):
     return "accepted" if is_refuted else "no empty clause"
 
 
-verdict = main(sys.argv[1])
-print(verdict)
-sys.exit(verdict != "accepted")
+if __name__ == "__main__":
+    verdict = main(sys.argv[1])
+    print(verdict)
+    sys.exit(verdict != "accepted")

@@ -1,6 +1,8 @@
 """What `check` has to say of a circuit and a proof, by the rules of docs/CERTIFICATE.md. It shares nothing with the crates."""
 import itertools, re
 
+from lrat_check import passes
+
 NUMBER = re.compile(rb"0|[1-9][0-9]*")
 MOST = 1 << 62
 
@@ -105,24 +107,6 @@ def read_proof(text, variables, count):
     if rest:
         raise Bad(35, len(lines) + 1)
     return additions
-
-
-def passes(clause, hints, known):
-    """The hint check."""
-    false = set(clause)
-    for hint in hints:
-        if hint not in known:
-            return False
-        left = {it for it in known[hint] if it not in false}
-        if not left:
-            return True
-        if len(left) > 1:
-            return False
-        (it,) = left
-        if -it in false:
-            return False
-        false.add(-it)
-    return False
 
 
 def verdict(circuit, proof):
