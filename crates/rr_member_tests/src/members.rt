@@ -174,10 +174,12 @@ fn all_pass(alloc: Global, formula: &Formula, journal: &Journal) -> Result<bool,
 
 #[test]
 fn pigeons_by_three_members(rt: HostRuntime) -> Result<(), Fail> {
-    let formula = pigeons(rt.alloc(), 5)?;
+    let formula = pigeons(rt.alloc(), 6)?;
     let inputs = all_inputs(&formula);
     match solve(&rt, rt.alloc(), &formula, inputs, 3, 10_000, &OpenGate)? {
         Outcome::Refuted(journal) => {
+            // More than the first member learns alone.
+            assert!(rt; journal.lines().len() > 256);
             assert!(rt; all_pass(rt.alloc(), &formula, &journal)?);
         }
         _ => assert!(rt; false),

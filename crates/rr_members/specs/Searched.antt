@@ -32,6 +32,12 @@ pub record IsSpent (f : Clauses) (inputs count budget : ℕ) (lines : List Step)
   pub few : budget ≤ inputs * 3 ^ inputs
   pub lawful : AreWritable f lines
 
+-- a satisfying assignment, or a refutation
+abbrev pub IsEnd : Clauses → Outcome → Type 0
+IsEnd f (Solved bits) = IsModel f bits.items
+IsEnd f (Unsolvable j) = Refutes f.clauses j.lines × AreWritable f j.lines
+IsEnd f (Spent j) = ⊥
+
 -- a satisfying assignment, a refutation, or the budget spent
 abbrev pub SearchedIs : Clauses → ℕ → ℕ → ℕ → Outcome → Type 0
 SearchedIs f inputs count budget (Solved bits) = IsModel f bits.items
