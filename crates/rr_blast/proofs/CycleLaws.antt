@@ -18,11 +18,11 @@ use Rattle.rr_choice.specs.Sites.{Site}
 use Rattle.rr_cycle.specs.Cycles.{signal_value, zeros}
 use Rattle.rr_flat.specs.Inputs.{row_inputs}
 use Rattle.rr_cycle.specs.Exec.{Environment}
-use Rattle.rr_cycle.specs.Performing.{base, performed}
+use Rattle.rr_cycle.specs.Performing.{base, next_after, performed}
 use Rattle.rr_flat_instance.specs.Flats.{instance_flat}
 use Rattle.rr_blast.specs.Rows.{AreNarrow, AreRegisters, BasesStay, bits_of_row}
 use Rattle.rr_transition.specs.Placed.{placed, row_of}
-use Rattle.rr_transition.specs.Placed.{next_by, settled_of}
+use Rattle.rr_transition.specs.Placed.{settled_of}
 use Rattle.rr_transition.specs.Cycles.{output_bits}
 use Rattle.rr_blast.specs.Circuits.{answers_of}
 use Rattle.rr_blast.proofs.BaseLaws.{base_is}
@@ -100,7 +100,7 @@ outputs_more F n env e ids i list new word l h k v =
 answers_cong : (F : Flat) (registers : List Bit) (e f : Environment) → e ≡ f → answers_of F registers e ≡ answers_of F registers f
 answers_cong F registers e f q = ap (answers_of F registers) q
 
-answers_parts : (F : Flat) (ss : List Site) (ps : List Pick) (registers : List Bit) (e : Environment) → map (next_by (instance_flat ss ps F) e) registers ++ output_bits F e ≡ answers_of (instance_flat ss ps F) registers e
+answers_parts : (F : Flat) (ss : List Site) (ps : List Pick) (registers : List Bit) (e : Environment) → map (next_after (instance_flat ss ps F) e) registers ++ output_bits F e ≡ answers_of (instance_flat ss ps F) registers e
 unfolding instance_flat
 answers_parts F ss ps registers e = refl
 
@@ -111,7 +111,7 @@ settled_parts F ss ps clock steps registers s r = refl
 
 pub answers_are : (F : Flat) (clock : Option ℕ) (ss : List Site) (ps qs : List Pick) (steps : List Step) (registers inputs : List Bit) (s r : List Bool) (e0 e1 e2 en : Environment) (xs ys zs : List Bool) →
     AreNarrow F.signals → AreRegisters F registers → BasesStay F clock ss → inputs ≡ bits_of_row F.signals (row_inputs clock F.inputs) →
-    e0 ≡ placed registers s (placed inputs r zeros) → e1 ≡ performed (instance_flat ss ps F) steps e0 → qs ≡ ps → en ≡ next_by (instance_flat ss qs F) e1 → e2 ≡ e1 →
+    e0 ≡ placed registers s (placed inputs r zeros) → e1 ≡ performed (instance_flat ss ps F) steps e0 → qs ≡ ps → en ≡ next_after (instance_flat ss qs F) e1 → e2 ≡ e1 →
     xs ≡ map en registers → ys ≡ output_bits F e2 → zs ≡ xs ++ ys →
     zs ≡ answers_of (instance_flat ss ps F) registers (settled_of (instance_flat ss ps F) clock steps registers s r)
 answers_are F clock ss ps qs steps registers inputs s r e0 e1 e2 en xs ys zs narrow are bases row h0 h1 p hn h2 hx hy hz =
@@ -120,7 +120,7 @@ answers_are F clock ss ps qs steps registers inputs s r e0 e1 e2 en xs ys zs nar
     ∙ sym (bases ps (placed registers s zeros) (row_of F.signals (row_inputs clock F.inputs) r)) in
     let e : e1 ≡ settled_of (instance_flat ss ps F) clock steps registers s r = h1 ∙ ap (performed (instance_flat ss ps F) steps) b ∙ settled_parts F ss ps clock steps registers s r in
     hz ∙ ap₂ (λ (us vs : List Bool). us ++ vs)
-    (hx ∙ ap (λ (f : Environment). map f registers) (hn ∙ ap (λ (z : List Pick). next_by (instance_flat ss z F) e1) p))
+    (hx ∙ ap (λ (f : Environment). map f registers) (hn ∙ ap (λ (z : List Pick). next_after (instance_flat ss z F) e1) p))
     (hy ∙ ap (output_bits F) h2)
     ∙ answers_parts F ss ps registers e1
     ∙ answers_cong (instance_flat ss ps F) registers e1 (settled_of (instance_flat ss ps F) clock steps registers s r) e

@@ -15,13 +15,14 @@ use Rattle.rr_choice.specs.Choices.{decode, total_bits}
 use Rattle.rr_choice.specs.Sites.{Site}
 use Rattle.rr_cycle.specs.Exec.{Environment}
 use Rattle.rr_transition.specs.Cycles.{Design, output_bits}
-use Rattle.rr_transition.specs.Placed.{next_by, settled_of}
+use Rattle.rr_cycle.specs.Performing.{next_after}
+use Rattle.rr_transition.specs.Placed.{settled_of}
 use Rattle.rr_registers.specs.Registers.{registers_of}
 use Rattle.rr_blast.specs.Rows.{bits_of_row}
 
 -- what a cycle answers: the registers' next values and then the outputs' bits
 abbrev pub answers_of : Flat → List Bit → Environment → List Bool
-answers_of flat registers env = map (next_by flat env) registers ++ output_bits flat env
+answers_of flat registers env = map (next_after flat env) registers ++ output_bits flat env
 
 -- the outputs of a circuit are, for every choice, state and row, those of the choice's instance; the registers and the row's
 -- inputs are those of the source's design, and each of its instances has the same

@@ -1,4 +1,3 @@
 pub mod Bounds
 pub mod Faultless
-pub mod Widths
 pub mod Worths

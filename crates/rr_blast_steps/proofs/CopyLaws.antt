@@ -13,7 +13,7 @@ use Rattle.rr_flat_instance.specs.Flats.{instance_flat}
 use Rattle.rr_choice.specs.declared.pick.Pick.{Pick}
 use Rattle.rr_choice.specs.Sites.{Site}
 use Rattle.rr_machine.specs.Words.{AreWords, carried, widths_of, word_values}
-use Rattle.rr_transition.specs.Placed.{next_by}
+use Rattle.rr_cycle.specs.Performing.{next_after}
 use Rattle.rr_blast_stmt.specs.Running.{Values}
 use Rattle.rr_blast_steps.specs.Designs.{ran_blocks}
 
@@ -61,7 +61,7 @@ whole ls words i l h = h ∙ ap lists_of (take_all i words l)
 abbrev run_onto : Flat → List Site → List Pick → Environment → Environment → Values
 run_onto F ss ps e l = ran_blocks (instance_flat ss ps F) (instance_flat ss ps F).clocked (record { now = e; later = l })
 
-pub next_of_two : (F : Flat) (ss : List Site) (ps qs : List Pick) (e f l : Environment) (v w : Values) → qs ≡ ps → f ≡ e → v ≡ run_onto F ss ps e l → w ≡ run_onto F ss qs f v.now → w.later ≡ next_by (instance_flat ss ps F) e
+pub next_of_two : (F : Flat) (ss : List Site) (ps qs : List Pick) (e f l : Environment) (v w : Values) → qs ≡ ps → f ≡ e → v ≡ run_onto F ss ps e l → w ≡ run_onto F ss qs f v.now → w.later ≡ next_after (instance_flat ss ps F) e
 unfolding ran_blocks
 next_of_two F ss ps qs e f l v w p q h k =
     ap (λ (x : Values). x.later) k ∙ ap₂ (λ (z : List Pick) (g : Environment). (run_onto F ss z g v.now).later) p q ∙ ap (λ (x : Values). (run_onto F ss ps e x.now).later) h

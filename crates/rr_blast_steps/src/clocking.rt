@@ -5,7 +5,7 @@ ghost use Rattle.rr_flat.specs.View.{plain_flat};
 ghost use Rattle.rr_blast_steps.specs.Designs.{ran_blocks, signal_widths};
 ghost use Rattle.rr_flat_instance.specs.Flats.{instance_flat};
 ghost use Rattle.rr_blast_stmt.specs.Running.{IsMachine, held};
-ghost use Rattle.rr_transition.specs.Placed.{next_by};
+ghost use Rattle.rr_cycle.specs.Performing.{next_after};
 ghost use Rattle.rr_machine.specs.Words.{AreWords, carried, widths_of};
 ghost use Rattle.rr_blast_terms.specs.Choosing.{IsReady, picks_of};
 
@@ -89,7 +89,7 @@ pub fn edge(
     ensures words { IfOk result (λ r. AreWords b.new r.items) }
     ensures widths { IfOk result (λ r. widths_of r.items ≡ signal_widths flat.now.signals) }
     ensures value { IfOk result (λ r. (env : ℕ → Bool) → carried b.new env r.items
-        ≡ next_by (instance_flat choice.now.sites.now (picks_of b.old env choice.now) (plain_flat flat.now)) (carried b.old env words.now)) }
+        ≡ next_after (instance_flat choice.now.sites.now (picks_of b.old env choice.now) (plain_flat flat.now)) (carried b.old env words.now)) }
 {
     let start = copied(alloc, words)?;
     let first = run_onto(alloc, b, flat, choice, words, start)?;

@@ -1,3 +1,4 @@
 pub mod BitsRead
 pub mod Finds
 pub mod Listed
+pub mod CodeLaws

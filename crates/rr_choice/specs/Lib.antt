@@ -2,3 +2,4 @@ pub mod Sites
 pub mod Choices
 pub mod Places
 pub mod View
+pub mod Codes

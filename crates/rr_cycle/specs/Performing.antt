@@ -7,7 +7,7 @@ use Rattle.rr_flat.specs.declared.design.Step.{Step}
 use Rattle.rr_flat.specs.declared.design.Step.TheVariants as step
 use Rattle.rr_flat.specs.Plain.{Block, Flat}
 use Rattle.rr_flat.specs.Writers.{block_at, driven, writes_at_all}
-use Rattle.rr_cycle.specs.Exec.{Environment, write, Update}
+use Rattle.rr_cycle.specs.Exec.{Environment, applied, write, Update}
 use Rattle.rr_cycle.specs.Cycles.{driver_value, given, after_block, updates_of_block}
 use Rattle.rr_flat.specs.Inputs.{row_inputs}
 
@@ -44,3 +44,11 @@ run_blocks flat (block ∷ blocks) env = run_blocks flat blocks (after_block fla
 unfoldable pub updates_of_blocks : Flat → List Block → Environment → List Update
 updates_of_blocks flat [] env = []
 updates_of_blocks flat (block ∷ blocks) env = updates_of_block flat env block ++ updates_of_blocks flat blocks (after_block flat block env)
+
+-- the settled environment
+abbrev pub settled_by : Flat → Option ℕ → List Step → Environment → List ℕ → Environment
+settled_by flat clock steps state row = performed flat steps (base flat clock state row)
+
+-- the state after the clock edge
+abbrev pub next_after : Flat → Environment → Environment
+next_after flat env = applied (updates_of_blocks flat flat.clocked env) (run_blocks flat flat.clocked env)

@@ -5,7 +5,7 @@ ghost use Rattle.rr_bits.specs.Words.{word};
 ghost use Rattle.rr_choice.specs.Choices.{IsChoice, cost, decode, total_bits};
 ghost use Rattle.rr_choice.specs.Sites.{IsSite, Site as PlainSite, form_width as form_width_of};
 ghost use Rattle.rr_choice.specs.View.{plain_kind, plain_site};
-ghost use Rattle.rr_encode.specs.Codes.{code_of, guard_code};
+ghost use Rattle.rr_choice.specs.Codes.{code_of, guard_code};
 
 use rr_bits::Bits;
 use rr_choice::{Choice, Pick, SiteList, guard_names, site_bits, value_width};

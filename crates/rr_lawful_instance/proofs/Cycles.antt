@@ -15,7 +15,7 @@ use Rattle.rr_walk.proofs.WalkOf.{sound}
 use Rattle.rr_cycle.specs.Cycles.{IsInputBit, Settled, IsNext, Runs, ended, cycle, zeros, given}
 use Rattle.rr_flat.specs.Inputs.{row_inputs}
 use Rattle.rr_cycle.specs.Exec.{Environment}
-use Rattle.rr_cycle.specs.Performing.{base, any_writes, any_is}
+use Rattle.rr_cycle.specs.Performing.{base, any_writes, any_is, next_after, settled_by}
 use Rattle.rr_cycle.proofs.Free.{free_inputs}
 use Rattle.rr_cycle.proofs.Ranked.{one_settled, run_once}
 use Rattle.rr_cycle.proofs.Sequence.{next_in_order, only_next}
@@ -23,7 +23,7 @@ use Rattle.rr_cycle.proofs.Settling.{settled_by_steps}
 use Rattle.rr_choice.specs.declared.pick.Pick.{Pick}
 use Rattle.rr_choice.specs.Sites.{Site}
 use Rattle.rr_lawful_instance.specs.AreSites.{MayGuard, BlockFits, AreSitesOf}
-use Rattle.rr_lawful_instance.specs.Cycling.{settled_by, next_after, outputs_by}
+use Rattle.rr_lawful_instance.specs.Cycling.{outputs_by}
 use Rattle.rr_lawful_instance.specs.Laws.{IsRepairable, ListedAreSites, InstancesStayLawful, BasesStay, InstancesSettle, InstancesGoOn, InstancesRun}
 use Rattle.rr_lawful_instance.proofs.Designs.{block_writes, writer_before}
 use Rattle.rr_lawful_instance.proofs.Listing.{listed, listed_fit}

@@ -13,7 +13,7 @@ use Rattle.rr_walk.specs.Walk.{flat_of}
 use Rattle.rr_flat.specs.Writers.{driver_at, driven, wires, Writer, Writes}
 use Rattle.rr_cycle.specs.Cycles.{side_shape, side_value, driver_value, outputs_of, Settled, IsNext, Run}
 use Rattle.rr_cycle.specs.Exec.{Environment}
-use Rattle.rr_cycle.specs.Performing.{base}
+use Rattle.rr_cycle.specs.Performing.{base, next_after, settled_by}
 use Rattle.rr_flat_instance.specs.Flats.{instance_side, instance_flat}
 use Rattle.rr_flat_instance.specs.Places.{SitesFit}
 use Rattle.rr_choice.specs.declared.pick.Pick.{Pick}
@@ -23,7 +23,7 @@ use Rattle.rr_instance.specs.Instances.{instance_source}
 use Rattle.rr_choice.specs.Sites.{Site}
 use Rattle.rr_lawful_instance.specs.AreSites.{AreSitesOf}
 use Rattle.rr_lawful_instance.specs.Listed.{AreRight}
-use Rattle.rr_lawful_instance.specs.Cycling.{settled_by, next_after, run_by}
+use Rattle.rr_lawful_instance.specs.Cycling.{run_by}
 
 -- what holds of a design, where its sites are such, holds of its instances
 abbrev pub Stays : (Flat → Option Text → Type 0) → Type 0

@@ -15,12 +15,13 @@ use Rattle.rr_flat.proofs.Bits.{same_is}
 use Rattle.rr_flat.specs.Inputs.{row_inputs}
 use Rattle.rr_cycle.specs.Cycles.{given, head, tail, zeros}
 use Rattle.rr_cycle.specs.Exec.{Environment, put}
+use Rattle.rr_cycle.specs.Performing.{next_after}
 use Rattle.rr_flat.specs.declared.design.Step.{Step}
 use Rattle.rr_cycle.proofs.Settled.{settles, next_is}
 use Rattle.rr_cycle.proofs.Writes.{put_hit, put_miss}
 use Rattle.rr_walk.proofs.WalkOf.{sound}
 use Rattle.rr_transition.specs.Cycles.{Design, HasCycles, IsCycle, widths_of}
-use Rattle.rr_transition.specs.Placed.{placed, any_bit, next_by, row_of, settled_of, HasCyclesOfBits, PerformsSteps}
+use Rattle.rr_transition.specs.Placed.{placed, any_bit, row_of, settled_of, HasCyclesOfBits, PerformsSteps}
 use Rattle.rr_transition.specs.Transitions.{Transition, words}
 use Rattle.rr_transition.proofs.WordLaws.{length_words}
 
@@ -109,7 +110,7 @@ cycles_from_steps j clock rising steps t registers choice h = record {
         let env : Environment = settled_of h.flat clock steps registers state row in
         record {
           env = env;
-          next = next_by h.flat env;
+          next = next_after h.flat env;
           settled = settles h.flat clock rising steps (sound j.source j.top h.flat h.design) (j.word, (h.lawful, h.ordered)) (placed registers state zeros) (row_of h.flat.signals (row_inputs clock h.flat.inputs) row);
           edge = next_is h.flat (j.word, h.lawful) env;
           bits = h.bits state row l m;

@@ -15,8 +15,8 @@ use Rattle.rr_walk.specs.Walk.{flat_of}
 use Rattle.rr_flat.specs.Writers.{Clocked, Writes}
 use Rattle.rr_flat.specs.Inputs.{row_inputs}
 use Rattle.rr_cycle.specs.Cycles.{IsNext, Settled, zeros}
-use Rattle.rr_cycle.specs.Exec.{Environment, applied, first, put, rest}
-use Rattle.rr_cycle.specs.Performing.{base, performed, run_blocks, updates_of_blocks}
+use Rattle.rr_cycle.specs.Exec.{Environment, first, put, rest}
+use Rattle.rr_cycle.specs.Performing.{next_after, settled_by}
 use Rattle.rr_transition.specs.Cycles.{Design, output_bits, widths_of}
 use Rattle.rr_transition.specs.Transitions.{Transition}
 
@@ -49,14 +49,7 @@ pub record HasCyclesOfBits (flat : Flat) (clock : Option ℕ) (t : Transition) (
   pub written : (k : ℕ) (b : Bit) → Writes flat (Clocked k) b → any_bit registers b ≡ true
   pub cycles : (state row : List Bool) → length state ≡ length registers → length row ≡ sum t.input_widths → IsCycleOfBits flat clock t registers choice state row
 
--- the environment that the steps of an order make of a state and a row, and what the clocked blocks make of it
-abbrev pub settled_by : Flat → Option ℕ → List Step → Environment → List ℕ → Environment
-settled_by flat clock steps state row = performed flat steps (base flat clock state row)
-
-abbrev pub next_by : Flat → Environment → Environment
-next_by flat env = applied (updates_of_blocks flat flat.clocked env) (run_blocks flat flat.clocked env)
-
--- that of bits of a state and of a row
+-- the environment that the steps of an order make of the bits of a state and of a row
 abbrev pub settled_of : Flat → Option ℕ → List Step → List Bit → List Bool → List Bool → Environment
 settled_of flat clock steps registers state row = settled_by flat clock steps (placed registers state zeros) (row_of flat.signals (row_inputs clock flat.inputs) row)
 
@@ -73,4 +66,4 @@ pub record PerformsSteps (j : Design) (clock : Option ℕ) (rising : Bool) (step
   pub written : (k : ℕ) (b : Bit) → Writes flat (Clocked k) b → any_bit registers b ≡ true
   pub bits : (state row : List Bool) → length state ≡ length registers → length row ≡ sum t.input_widths →
       output_values t.circuit (given_bits (choice ++ (state ++ row)))
-      ≡ map (next_by flat (settled_of flat clock steps registers state row)) registers ++ output_bits flat (settled_of flat clock steps registers state row)
+      ≡ map (next_after flat (settled_of flat clock steps registers state row)) registers ++ output_bits flat (settled_of flat clock steps registers state row)

@@ -7,7 +7,7 @@ use Rattle.rr_circuit.specs.declared.Wire.{Wire}
 use Rattle.rr_circuit.specs.Values.{AreWires, IsWire, wire_value, wire_values}
 use Rattle.rr_flat.specs.View.{Design, plain_flat}
 use Rattle.rr_flat_instance.specs.Flats.{instance_flat}
-use Rattle.rr_transition.specs.Placed.{next_by}
+use Rattle.rr_cycle.specs.Performing.{next_after}
 use Rattle.rr_transition.specs.Cycles.{output_bits}
 use Rattle.rr_machine.specs.Words.{carried}
 use Rattle.rr_blast_terms.specs.Choosing.{picks_of}
@@ -37,7 +37,7 @@ returns-clause-value c = λ env.
     (wire_values n2 env c.in_ok-answers.answers.items) (wire_values n2 env c.in_ok-outputs.outputs.items) _
     c.in_ok-later.ensures.narrow c.requires.registers c.requires.bases c.requires.inputs
     (c.in_ok-now.ensures.value env) (x.env env) (picks-extends c.args.b.now n1 env c.args.choice.now x.extends c.requires.choice)
-    (y.value env ∙ ap (λ (vs : List (Vec Wire Global)). next_by (instance_flat ss (picks_of n1 env c.args.choice.now) (plain_flat d)) (carried n1 env vs)) c.as_slice.ensures.value)
+    (y.value env ∙ ap (λ (vs : List (Vec Wire Global)). next_after (instance_flat ss (picks_of n1 env c.args.choice.now) (plain_flat d)) (carried n1 env vs)) c.as_slice.ensures.value)
     (carried-extends n1 n2 env ws y.extends x.machine.now)
     (c.in_ok-answers.ensures.value n2 env ∙ ap (λ (vs : List (Vec Wire Global)). map (carried n2 env vs) c.args.registers.now) c.as_slice-2.ensures.value)
     (c.in_ok-outputs.ensures.value env ∙ ap (λ (vs : List (Vec Wire Global)). output_bits (plain_flat d) (carried n2 env vs)) c.as_slice-3.ensures.value)

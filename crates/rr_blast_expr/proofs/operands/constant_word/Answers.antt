@@ -1,5 +1,5 @@
 use Rattle.std.proofs.Common.{◌∙◌, ap, length}
-use Rattle.rr_blast_expr.proofs.Widths.{length_value}
+use Rattle.rr_wiring.proofs.Widths.{length_value}
 use Rattle.rr_blast_expr.proofs.operands.constant_word.Goals as goal
 
 pub returns-clause-width : goal.returns-clause-width

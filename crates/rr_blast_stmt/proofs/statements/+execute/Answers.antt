@@ -15,7 +15,7 @@ use Rattle.rr_choice.specs.declared.pick.Pick.{Pick}
 use Rattle.rr_instance.specs.Instances.{instance_arms, instance_parts, instance_statement, instance_test, instance_tree}
 use Rattle.rr_cycle.specs.Exec.{is_matched, is_true}
 use Rattle.rr_exec.proofs.Loops.{arm_body_shaped, arm_labels_shaped, narrow_labels_at, shaped_at}
-use Rattle.rr_exec.proofs.Widths.{length_value}
+use Rattle.rr_wiring.proofs.Widths.{length_value}
 use Rattle.rr_exec.proofs.Nodes.{shaped-Block, shaped-IfElse-no, shaped-Case-on, shaped-Case-arms, shaped-Assign-target, shaped-Assign-value}
 use Rattle.rr_blast_stmt.specs.Running.{Values, held, ran, ran_arms, ran_default}
 use Rattle.rr_machine.specs.Words.{carried, widths_of}

@@ -9,7 +9,7 @@ use Rattle.rr_instance.specs.Instances.{instance_tree}
 use Rattle.rr_cycle.specs.Exec.{Environment, is_equal, wild}
 use Rattle.rr_target.proofs.Nodes.{shaped_positive}
 use Rattle.rr_exec.proofs.Labels.{length_wild}
-use Rattle.rr_exec.proofs.Widths.{length_value}
+use Rattle.rr_wiring.proofs.Widths.{length_value}
 use Rattle.rr_machine.specs.Words.{carried}
 use Rattle.rr_blast_terms.specs.Choosing.{picks_of}
 use Rattle.rr_machine.proofs.WordLaws.{carried-extends}

@@ -7,8 +7,9 @@ use Rattle.rr_choice.specs.Choices.{decode, IsChoice}
 use Rattle.rr_choice.specs.Sites.{Site}
 use Rattle.rr_choice.specs.View.{plain_site, plain_sites}
 use Rattle.rr_choice.proofs.BitsRead.{site_fits}
-use Rattle.rr_encode.specs.Codes.{code}
-use Rattle.rr_encode.proofs.CodeLaws.{code_more, code_all, decode_code, few_names, length_choice, length_code}
+use Rattle.rr_choice.specs.Codes.{code}
+use Rattle.rr_choice.proofs.CodeLaws.{decode_code, length_code}
+use Rattle.rr_encode.proofs.CodeLaws.{code_more, code_all, few_names, length_choice}
 use Rattle.rr_encode.proofs.writing.encode.Goals as goal
 
 pub loop-k-init : goal.loop-k-init

@@ -1,6 +1,6 @@
 use Rattle.std.proofs.Common.{◌≡◌, ◌++◌, drop}
 use Rattle.rr_choice.specs.View.{plain_sites}
-use Rattle.rr_encode.specs.Codes.{code}
+use Rattle.rr_choice.specs.Codes.{code}
 use Rattle.rr_encode.proofs.writing.encode.Given as goal
 
 abbrev pub invariant-loop-k : goal.invariant-loop-k

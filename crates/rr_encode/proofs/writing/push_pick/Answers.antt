@@ -1,7 +1,7 @@
 use Rattle.std.proofs.Common.{◌∙◌, ◌∷◌, [], ◌++◌, ap, append_assoc}
 use Rattle.rr_bits.specs.Words.{word}
 use Rattle.rr_choice.specs.View.{plain_kind}
-use Rattle.rr_encode.specs.Codes.{code_of, guard_code}
+use Rattle.rr_choice.specs.Codes.{code_of, guard_code}
 use Rattle.rr_encode.proofs.writing.push_pick.Goals as goal
 
 pub returns : goal.returns

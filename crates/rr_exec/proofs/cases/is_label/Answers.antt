@@ -4,7 +4,7 @@ use Rattle.rr_expr.specs.Scopes.{env_of}
 use Rattle.rr_flat.proofs.Shaping.{clear}
 use Rattle.rr_target.proofs.Nodes.{shaped_positive}
 use Rattle.rr_exec.proofs.Labels.{length_wild}
-use Rattle.rr_exec.proofs.Widths.{length_value}
+use Rattle.rr_wiring.proofs.Widths.{length_value}
 use Rattle.rr_exec.proofs.cases.is_label.Goals as goal
 
 pub value-word-requires-clause-none : goal.value-word-requires-clause-none

@@ -2,7 +2,7 @@ use Rattle.std.proofs.Common.{◌∙◌, ap, length}
 use Rattle.rr_syntax.specs.View.{plain}
 use Rattle.rr_expr.specs.Scopes.{env_of}
 use Rattle.rr_flat.proofs.Shaping.{clear}
-use Rattle.rr_exec.proofs.Widths.{length_value}
+use Rattle.rr_wiring.proofs.Widths.{length_value}
 use Rattle.rr_exec.proofs.cases.selector_of.Goals as goal
 
 pub value-value-requires-clause-none : goal.value-value-requires-clause-none
