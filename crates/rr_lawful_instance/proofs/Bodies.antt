@@ -1,6 +1,6 @@
 -- What instances of the bodies of blocks keep: the statement inside is an instance, and last assignments to variables that
 -- stand there as targets follow.
-use Rattle.std.proofs.Common.{◌≡◌, inl, inr, ℕ, ◌==◌, Bool, true, false, ◌&&◌, ◌||◌, not, cond, if◌then◌else◌, List, [], ◌∷◌, ◌++◌, refl, sym, subst, ap, ◌∙◌}
+use Rattle.std.proofs.Common.{◌≡◌, inl, inr, ℕ, ◌==◌, Bool, true, false, ◌&&◌, ◌||◌, not, if◌then◌else◌, List, [], ◌∷◌, ◌++◌, refl, sym, subst, ap, ◌∙◌}
 use mathlib.Core.Path.{fun_ext}
 use Rattle.std.specs.List.{AllByRecursion, Contains}
 use Rattle.std.proofs.Math.Logic.{⊎_elim}
@@ -10,13 +10,11 @@ use Rattle.rr_syntax.specs.Tree.{Tree, Trees, Name, Literal, Bit as BitSelect, P
 use Rattle.rr_expr.specs.declared.types.Bit.{Bit}
 use Rattle.rr_expr.specs.Reading.{IsBitOf, NamesBit}
 use Rattle.rr_expr.specs.Scopes.{Names, meant}
-use Rattle.rr_expr.specs.Values.{nowhere}
 use Rattle.rr_flat.specs.Signals.{Text}
 use Rattle.rr_flat.specs.Latches.{known, ReadsKnown, kept, NoLatch}
 use Rattle.rr_flat.specs.Lawful.{labels_fit}
-use Rattle.rr_flat.specs.Reads.{Assigned, StatementReads, TargetReads, names_in, names_in_parts, index_names, names_of, names_of_all, names_of_arm, names_of_arms, names_read, assigned_parts, assigned_by, assigned_by_all, assigned_by_arm, assigned_by_arms, writes, write_any, arm_writes, arms_write}
-use Rattle.rr_flat.specs.Targets.{target_bits, target_parts, targets_parts, part_name, is_fixed, has_bit, is_bit_of, may_write}
-use Rattle.rr_flat.proofs.Bits.{or_left, or_right}
+use Rattle.rr_flat.specs.Reads.{Assigned, StatementReads, TargetReads, names_in, names_in_parts, index_names, names_of, names_of_all, names_of_arm, names_of_arms, names_read, assigned_parts, assigned_by, assigned_by_all, assigned_by_arm, assigned_by_arms, writes}
+use Rattle.rr_flat.specs.Targets.{target_bits, target_parts, targets_parts, part_name, may_write}
 use Rattle.rr_choice.specs.declared.pick.Pick.{Pick}
 use Rattle.rr_choice.specs.Choices.{picked_form, picked_name}
 use Rattle.rr_choice.specs.Places.{is_overwrite_at}
@@ -29,6 +27,7 @@ use Rattle.rr_lawful_instance.specs.AreSites.{IsTargetOf, TargetStands}
 use Rattle.rr_lawful_instance.proofs.Lists.{both, parts, holds_of}
 use Rattle.rr_lawful_instance.proofs.Statements.{assigned_same, writes_same, fits_stays, names_of_instance, names_read_instance, reads_of_instance, known_same, known_grows, reads_stay_known}
 use Rattle.rr_lawful_instance.proofs.Trees.{OfText}
+use Rattle.rr_lawful_instance.proofs.Written.{targets_write}
 
 -- The condition of a last assignment
 
@@ -70,49 +69,6 @@ module _ (body : Statement) (P : Text → Type 0) (Q : Statement → Type 0)
       (new_body_has token s p t (λ e name c. n name (inl (e, c))) d.0 h)
 
 -- A variable that stands in a statement as a whole target is written by it
-
-wider : (x y : Bool) → (x || false) ≡ true → (x || y) ≡ true
-wider true y h = refl
-wider false y h = absurd (both_ways false refl h)
-
-parts_write : (now : Bool) (s : Names) (b : Bit) (W : Type 0) (k : Bool) (ts : List Tree) → (k ≡ now → may_write s ts b ≡ true → W) →
-    AllByRecursion (λ a. a.now ≡ now → may_write s (a.part ∷ []) b ≡ true → W) (assigned_parts k ts)
-unfolding assigned_parts may_write
-parts_write now s b W k [] h = tt
-parts_write now s b W k (t ∷ ts) h =
-    let here = cond (is_fixed s t) (has_bit (target_bits s nowhere t) b) (is_bit_of (meant s (part_name t)) b) in
-    (λ e w. h e (wider here (may_write s ts b) w), parts_write now s b W k ts (λ e w. h e (or_right here (may_write s ts b) w)))
-
-mutual
-  unfolding assigned_by writes
-
-  targets_write : (now : Bool) (s : Names) (b : Bit) (W : Type 0) (t : Statement) → (writes now s t b ≡ true → W) → AllByRecursion (λ a. a.now ≡ now → may_write s (a.part ∷ []) b ≡ true → W) (assigned_by t)
-  targets_write now s b W Null h = tt
-  targets_write now s b W (Sequence label ts) h = targets_write_all now s b W ts h
-  targets_write now s b W (If c t) h = targets_write now s b W t h
-  targets_write now s b W (IfElse c t u) h =
-      both (λ a. a.now ≡ now → may_write s (a.part ∷ []) b ≡ true → W) (assigned_by t) (assigned_by u)
-      (targets_write now s b W t (λ w. h (or_left (writes now s t b) (writes now s u b) w))) (targets_write now s b W u (λ w. h (or_right (writes now s t b) (writes now s u b) w)))
-  targets_write now s b W (Case kind on arms) h = targets_write_arms now s b W arms h
-  targets_write true s b W (Assign t true e) h = parts_write true s b W true (target_parts t) (λ q w. h w)
-  targets_write true s b W (Assign t false e) h = parts_write true s b W false (target_parts t) (λ q w. absurd (both_ways true (sym q) refl))
-  targets_write false s b W (Assign t true e) h = parts_write false s b W true (target_parts t) (λ q w. absurd (both_ways true q refl))
-  targets_write false s b W (Assign t false e) h = parts_write false s b W false (target_parts t) (λ q w. h w)
-
-  targets_write_all : (now : Bool) (s : Names) (b : Bit) (W : Type 0) (ts : Statements) → (write_any now s ts b ≡ true → W) → AllByRecursion (λ a. a.now ≡ now → may_write s (a.part ∷ []) b ≡ true → W) (assigned_by_all ts)
-  targets_write_all now s b W Done h = tt
-  targets_write_all now s b W (Then t ts) h =
-      both (λ a. a.now ≡ now → may_write s (a.part ∷ []) b ≡ true → W) (assigned_by t) (assigned_by_all ts)
-      (targets_write now s b W t (λ w. h (or_left (writes now s t b) (write_any now s ts b) w))) (targets_write_all now s b W ts (λ w. h (or_right (writes now s t b) (write_any now s ts b) w)))
-
-  targets_write_arm : (now : Bool) (s : Names) (b : Bit) (W : Type 0) (a : Arm) → (arm_writes now s a b ≡ true → W) → AllByRecursion (λ a. a.now ≡ now → may_write s (a.part ∷ []) b ≡ true → W) (assigned_by_arm a)
-  targets_write_arm now s b W (CaseItem labels colon t) h = targets_write now s b W t h
-
-  targets_write_arms : (now : Bool) (s : Names) (b : Bit) (W : Type 0) (arms : Arms) → (arms_write now s arms b ≡ true → W) → AllByRecursion (λ a. a.now ≡ now → may_write s (a.part ∷ []) b ≡ true → W) (assigned_by_arms arms)
-  targets_write_arms now s b W NoArms h = tt
-  targets_write_arms now s b W (MoreArms a rest) h =
-      both (λ a. a.now ≡ now → may_write s (a.part ∷ []) b ≡ true → W) (assigned_by_arm a) (assigned_by_arms rest)
-      (targets_write_arm now s b W a (λ w. h (or_left (arm_writes now s a b) (arms_write now s rest b) w))) (targets_write_arms now s b W rest (λ w. h (or_right (arm_writes now s a b) (arms_write now s rest b) w)))
 
 target_writes : (now : Bool) (s : Names) (b : Bit) (t : Statement) (name : Text) (k : Bool) (e : Tree) → IsTargetOf t name k → writes now s (Assign (named name) k e) b ≡ true → writes now s t b ≡ true
 unfolding writes target_parts may_write target_bits

@@ -3,9 +3,8 @@ use Rattle.std.proofs.Common.{◌≡◌, ◌⊎◌, inl, inr, ℕ, zero, suc, �
 use Rattle.std.specs.Prelude.{slice_index_or}
 use Rattle.std.specs.List.{All, AllByRecursion, Contains}
 use Rattle.std.proofs.lemmas.Bool.{and_parts, cases_order, eqb-true}
-use Rattle.std.proofs.lemmas.List.{get_or_default}
 use Rattle.std.proofs.lemmas.List.Elements.{All-from_recursion}
-use Rattle.rr_syntax.specs.Items.{spell_all, spell_events, spell_item, spell_parameters, spell_ports, spell_module, WellFormedItem, WellFormedModule, WellFormedSource, NumberedAll, NumberedItem, NumberedModule, NumberedSource}
+use Rattle.rr_syntax.specs.Items.{spell_all, spell_events, spell_item, spell_module, WellFormedItem, NumberedItem}
 use Rattle.rr_syntax.specs.Statements.{spell_statement}
 use Rattle.rr_syntax.specs.Tree.{Statement, EventControl, ModuleItem, Always, ModuleDeclaration, SourceText}
 use Rattle.rr_flat.specs.Signals.{Text}
@@ -26,38 +25,10 @@ use Rattle.rr_choice.specs.Sites.{SiteKind, Site, guard_names}
 use Rattle.rr_instance_laws.specs.Truth.{IsScalar}
 use Rattle.rr_lawful_instance.specs.AreSites.{TargetStands, BlockFits, SideFits, AreSitesOf}
 use Rattle.rr_lawful_instance.specs.Listed.{has_edges, is_clocked, MayGuardIf, MayGuardIn, items_of, no_item, item_at, items_before, item_start, StandsIn, TargetFits, IsRight, KindIsRight, AreRight}
+use Rattle.rr_lawful_instance.proofs.Placed.{item_right, module_there, item_is}
 use Rattle.rr_lawful_instance.proofs.Origins.{SideFrom, BlockFrom, From, origins}
 
 -- Where items stand
-
-numbered_item : (xs : List ModuleItem) (at n : ℕ) → AllByRecursion WellFormedItem xs → NumberedAll spell_item NumberedItem xs at → n < length xs →
-    WellFormedItem (slice_index_or xs n no_item) × NumberedItem (slice_index_or xs n no_item) (at + items_before xs n)
-unfolding NumberedAll items_before
-numbered_item [] at n w h l = absurd (omega (arith, l))
-numbered_item (x ∷ xs) at zero w h l = let e : at + 0 ≡ at = omega arith in (w.0, subst (NumberedItem x) (sym e) h.0)
-numbered_item (x ∷ xs) at (suc n) w h l =
-    let r = numbered_item xs (at + length (spell_item x)) n w.1 h.1 (omega (arith, l)) in
-    let e : at + length (spell_item x) + items_before xs n ≡ at + (length (spell_item x) + items_before xs n) = omega arith in
-    (r.0, subst (NumberedItem (slice_index_or xs n no_item)) e r.1)
-
-numbered_module : (ms : List ModuleDeclaration) (at k : ℕ) → AllByRecursion WellFormedModule ms → NumberedAll spell_module NumberedModule ms at → k < length ms →
-    WellFormedModule (module_at ms k) × NumberedModule (module_at ms k) (at + start_of ms k)
-unfolding NumberedAll start_of
-numbered_module [] at k w h l = absurd (omega (arith, l))
-numbered_module (m ∷ ms) at zero w h l = let e : at + 0 ≡ at = omega arith in (w.0, subst (NumberedModule m) (sym e) h.0)
-numbered_module (m ∷ ms) at (suc k) w h l =
-    let r = numbered_module ms (at + length (spell_module m)) k w.1 h.1 (omega (arith, l)) in
-    let e : at + length (spell_module m) + start_of ms k ≡ at + (length (spell_module m) + start_of ms k) = omega arith in
-    (r.0, subst (NumberedModule (module_at ms k)) e r.1)
-
-item_right : (source : SourceText) (k n : ℕ) → WellFormedSource source → NumberedSource source → k < length source.modules → n < length (items_of source.modules k) →
-    WellFormedItem (item_at source.modules k n) × NumberedItem (item_at source.modules k n) (item_start source.modules k n)
-unfolding WellFormedSource NumberedSource WellFormedModule NumberedModule
-item_right source k n w h l m =
-    let r = numbered_module source.modules 0 k w h l in
-    let i = numbered_item (items_of source.modules k) (0 + start_of source.modules k + 2 + length (spell_parameters (module_at source.modules k).params) + length (spell_ports (module_at source.modules k).header (module_at source.modules k).groups) + 1) n r.0.3 r.1.3 m in
-    let e : 0 + start_of source.modules k + 2 + length (spell_parameters (module_at source.modules k).params) + length (spell_ports (module_at source.modules k).header (module_at source.modules k).groups) + 1 + items_before (items_of source.modules k) n ≡ item_start source.modules k n = omega arith in
-    (i.0, subst (NumberedItem (item_at source.modules k n)) e i.1)
 
 items_inside : (xs : List ModuleItem) (n : ℕ) → n < length xs → items_before xs n + length (spell_item (slice_index_or xs n no_item)) ≤ length (spell_all spell_item xs)
 unfolding items_before
@@ -67,16 +38,6 @@ items_inside (x ∷ xs) (suc n) l = let e = span.long-all spell_item x xs in let
 
 item_inside : (ms : List ModuleDeclaration) (k n : ℕ) → n < length (items_of ms k) → item_start ms k n + length (spell_item (item_at ms k n)) ≤ start_of ms k + length (spell_module (module_at ms k))
 item_inside ms k n l = let e = span.long-module (module_at ms k) in let r = items_inside (items_of ms k) n l in omega (arith, e, r)
-
--- a module that is not there has no items
-module_there : (ms : List ModuleDeclaration) (k n : ℕ) → n < length (items_of ms k) → k < length ms
-module_there [] k n l = absurd (omega (arith, l))
-module_there (m ∷ ms) zero n l = omega arith
-module_there (m ∷ ms) (suc k) n l = let r = module_there ms k n l in omega (arith, r)
-
--- an item among those of a module has a number
-item_is : (ms : List ModuleDeclaration) (k : ℕ) (x : ModuleItem) (c : Contains (items_of ms k) x) → item_at ms k c.0 ≡ x
-item_is ms k x (n, l, e) = get_or_default (items_of ms k) n no_item x l ∙ e
 
 -- items have tokens of their own
 items_follow : (xs : List ModuleItem) (n m : ℕ) → n < m → n < length xs → items_before xs n + length (spell_item (slice_index_or xs n no_item)) ≤ items_before xs m

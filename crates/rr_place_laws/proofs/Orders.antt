@@ -18,7 +18,8 @@ use Rattle.rr_clock.specs.Places.{Place}
 use Rattle.rr_listing.specs.Listing.{AreRising, module_at, scope_of, sites_at, item_sites, module_sites, place_sites, sites_of}
 use Rattle.rr_site_list.specs.Order.{ComesFirst, Precedes, InOrder}
 use Rattle.rr_site_list.proofs.Ordered.{items_in}
-use Rattle.rr_site_list.proofs.Modules.{numbered_module, in_order}
+use Rattle.rr_flat_instance.proofs.Modules.{numbered_module}
+use Rattle.rr_site_list.proofs.Modules.{in_order}
 use Rattle.rr_place_laws.specs.Laws.{SitesRise, SitesStandOnce}
 use Rattle.rr_place_laws.specs.Order.{TargetsRise, KindPrecedes, ComesBefore, Ordered}
 use Rattle.rr_place_laws.proofs.Items.{IsSpotAt, item_there}

@@ -1,19 +1,18 @@
 -- The names that are listed may be guards.
-use Rattle.std.proofs.Common.{◌≡◌, ℕ, ◌<◌, Bool, true, false, not, ◌&&◌, ◌||◌, if◌then◌else◌, List, [], ◌∷◌, length, map, filter, flat_map, cond, Option, None, refl, sym, subst, ap, ◌∙◌, arith, nat_eq, pos}
+use Rattle.std.proofs.Common.{◌≡◌, ℕ, ◌<◌, Bool, true, false, not, ◌&&◌, ◌||◌, if◌then◌else◌, List, [], ◌∷◌, length, map, filter, flat_map, Option, None, refl, sym, subst, ap, ◌∙◌, arith, nat_eq, pos}
 use Rattle.std.specs.List.{AllByRecursion, Contains, list_any}
 use Rattle.std.specs.Str.{bytes_eq}
-use Rattle.std.proofs.lemmas.Bool.{and_parts, both_ways, not-true, or_left, or_right, and_from, eq-eqb, true≢false}
+use Rattle.std.proofs.lemmas.Bool.{and_parts, both_ways, not-true, and_from, eq-eqb, true≢false}
 use Rattle.std.proofs.lemmas.Slice.Eq.{bytes_eq-Decides}
-use Rattle.rr_syntax.specs.Tree.{Tree, Name, Literal, Bit as BitSelect, Part, Indexed, Unary, Binary, Cond, Concat, Repeat, Cast, Paren, Identifier, Statement, Statements, Arm, Arms, Null, Block as Sequence, If, IfElse, Case, Assign, Done, Then, CaseItem, NoArms, MoreArms, EventControl, ModuleItem, Ports, Nets, Variables, Integers, Parameters, Assigns, Always, Instances, ModuleDeclaration}
+use Rattle.rr_syntax.specs.Tree.{Tree, Name, Literal, Bit as BitSelect, Part, Indexed, Unary, Binary, Cond, Concat, Repeat, Cast, Paren, Identifier, Statement, EventControl, ModuleItem, Ports, Nets, Variables, Integers, Parameters, Assigns, Always, Instances, ModuleDeclaration}
 use Rattle.rr_expr.specs.declared.types.Bit.{Bit}
 use Rattle.rr_expr.specs.declared.types.Entity.TheVariants.{Signal as SignalEntity}
 use Rattle.rr_expr.specs.Scopes.{Names, meant, entity_shape}
-use Rattle.rr_expr.specs.Values.{nowhere}
 use Rattle.rr_flat.specs.Signals.{Text}
 use Rattle.rr_flat.specs.Lawful.{AssignedIn}
 use Rattle.rr_flat.specs.Plain.{Flat}
-use Rattle.rr_flat.specs.Reads.{Assigned, assigned_parts, assigned_by, assigned_by_all, assigned_by_arm, assigned_by_arms, writes, write_any, arm_writes, arms_write}
-use Rattle.rr_flat.specs.Targets.{target_bits, bits_there, has_bit, is_bit_of, is_fixed, may_write, part_name, target_parts}
+use Rattle.rr_flat.specs.Reads.{Assigned, assigned_by, writes}
+use Rattle.rr_flat.specs.Targets.{target_bits, bits_there, has_bit, may_write, part_name}
 use Rattle.rr_walk.specs.Walk.{module_at}
 use Rattle.rr_flat.specs.Writers.{scope_at, block_at, no_block}
 use Rattle.rr_flat.proofs.Lists.{all_index}
@@ -21,7 +20,7 @@ use Rattle.rr_flat_instance.specs.Places.{owner_at}
 use Rattle.rr_instance_laws.specs.Truth.{IsScalar}
 use Rattle.rr_lawful_instance.specs.AreSites.{IsRegister, MayGuard}
 use Rattle.rr_lawful_instance.specs.Listed.{items_of, MayGuardIf}
-use Rattle.rr_lawful_instance.proofs.Lists.{both, by_element, holds_of}
+use Rattle.rr_lawful_instance.proofs.Lists.{by_element, holds_of}
 use Rattle.rr_lawful_instance.proofs.Origins.{BlockFrom, From}
 use Rattle.rr_site_laws.specs.Laws.{HasClocks}
 use Rattle.rr_clock.specs.Places.{Place}
@@ -31,51 +30,7 @@ use Rattle.rr_site_laws.proofs.Known.{Known}
 use Rattle.rr_site_laws.proofs.Clocked.{same_edges}
 use Rattle.rr_site_list.proofs.Members.{all_filter, all_weaken, all_take, all_map, all_flat, all_firsts}
 use Rattle.rr_site_laws.proofs.Tests.{none_in, some_in, parts_of_flat}
-
--- What stands as a target is written
-
-wider : (x y : Bool) → (x || false) ≡ true → (x || y) ≡ true
-wider true y h = refl
-wider false y h = absurd (both_ways false refl h)
-
-parts_write : (now : Bool) (s : Names) (b : Bit) (W : Type 0) (k : Bool) (ts : List Tree) → (k ≡ now → may_write s ts b ≡ true → W) →
-    AllByRecursion (λ a. a.now ≡ now → may_write s (a.part ∷ []) b ≡ true → W) (assigned_parts k ts)
-unfolding assigned_parts may_write
-parts_write now s b W k [] h = tt
-parts_write now s b W k (t ∷ ts) h =
-    let here = cond (is_fixed s t) (has_bit (target_bits s nowhere t) b) (is_bit_of (meant s (part_name t)) b) in
-    (λ e w. h e (wider here (may_write s ts b) w), parts_write now s b W k ts (λ e w. h e (or_right here (may_write s ts b) w)))
-
-mutual
-  unfolding assigned_by writes
-
-  targets_write : (now : Bool) (s : Names) (b : Bit) (W : Type 0) (t : Statement) → (writes now s t b ≡ true → W) → AllByRecursion (λ a. a.now ≡ now → may_write s (a.part ∷ []) b ≡ true → W) (assigned_by t)
-  targets_write now s b W Null h = tt
-  targets_write now s b W (Sequence label ts) h = targets_write_all now s b W ts h
-  targets_write now s b W (If c t) h = targets_write now s b W t h
-  targets_write now s b W (IfElse c t u) h =
-      both (λ a. a.now ≡ now → may_write s (a.part ∷ []) b ≡ true → W) (assigned_by t) (assigned_by u)
-      (targets_write now s b W t (λ w. h (or_left (writes now s t b) (writes now s u b) w))) (targets_write now s b W u (λ w. h (or_right (writes now s t b) (writes now s u b) w)))
-  targets_write now s b W (Case kind on arms) h = targets_write_arms now s b W arms h
-  targets_write true s b W (Assign t true e) h = parts_write true s b W true (target_parts t) (λ q w. h w)
-  targets_write true s b W (Assign t false e) h = parts_write true s b W false (target_parts t) (λ q w. absurd (both_ways true (sym q) refl))
-  targets_write false s b W (Assign t true e) h = parts_write false s b W true (target_parts t) (λ q w. absurd (both_ways true q refl))
-  targets_write false s b W (Assign t false e) h = parts_write false s b W false (target_parts t) (λ q w. h w)
-
-  targets_write_all : (now : Bool) (s : Names) (b : Bit) (W : Type 0) (ts : Statements) → (write_any now s ts b ≡ true → W) → AllByRecursion (λ a. a.now ≡ now → may_write s (a.part ∷ []) b ≡ true → W) (assigned_by_all ts)
-  targets_write_all now s b W Done h = tt
-  targets_write_all now s b W (Then t ts) h =
-      both (λ a. a.now ≡ now → may_write s (a.part ∷ []) b ≡ true → W) (assigned_by t) (assigned_by_all ts)
-      (targets_write now s b W t (λ w. h (or_left (writes now s t b) (write_any now s ts b) w))) (targets_write_all now s b W ts (λ w. h (or_right (writes now s t b) (write_any now s ts b) w)))
-
-  targets_write_arm : (now : Bool) (s : Names) (b : Bit) (W : Type 0) (a : Arm) → (arm_writes now s a b ≡ true → W) → AllByRecursion (λ a. a.now ≡ now → may_write s (a.part ∷ []) b ≡ true → W) (assigned_by_arm a)
-  targets_write_arm now s b W (CaseItem labels colon t) h = targets_write now s b W t h
-
-  targets_write_arms : (now : Bool) (s : Names) (b : Bit) (W : Type 0) (arms : Arms) → (arms_write now s arms b ≡ true → W) → AllByRecursion (λ a. a.now ≡ now → may_write s (a.part ∷ []) b ≡ true → W) (assigned_by_arms arms)
-  targets_write_arms now s b W NoArms h = tt
-  targets_write_arms now s b W (MoreArms a rest) h =
-      both (λ a. a.now ≡ now → may_write s (a.part ∷ []) b ≡ true → W) (assigned_by_arm a) (assigned_by_arms rest)
-      (targets_write_arm now s b W a (λ w. h (or_left (arm_writes now s a b) (arms_write now s rest b) w))) (targets_write_arms now s b W rest (λ w. h (or_right (arm_writes now s a b) (arms_write now s rest b) w)))
+use Rattle.rr_lawful_instance.proofs.Written.{targets_write}
 
 -- a scalar as a whole is written
 whole_writes : (s : Names) (t : Tree) (name : Text) (id : ℕ) (signed : Bool) → is_text name (whole_name t) ≡ true → meant s name ≡ SignalEntity id None signed → may_write s (t ∷ []) (record { signal = id; place = 0 }) ≡ true

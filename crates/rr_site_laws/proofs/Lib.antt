@@ -7,7 +7,6 @@ pub mod Widths
 pub mod Fit
 pub mod Stands
 pub mod ItemStands
-pub mod Placed
 pub mod Guards
 pub mod Clocks
 pub mod Right

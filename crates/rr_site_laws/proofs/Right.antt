@@ -35,7 +35,7 @@ use Rattle.rr_site_laws.proofs.Guards.{names_may}
 use Rattle.rr_site_laws.proofs.ItemStands.{StandsOf, item_stands}
 use Rattle.rr_site_list.proofs.Members.{all_filter, all_weaken, all_map, all_flat}
 use Rattle.rr_site_list.proofs.Targets.{IsTarget, targets_are, assigns_some}
-use Rattle.rr_site_laws.proofs.Placed.{item_right, module_there, item_is}
+use Rattle.rr_lawful_instance.proofs.Placed.{item_right, module_there, item_is}
 
 -- only an overwrite asks for a target
 guard_fits : (x : ModuleItem) (owner extent : ℕ) (names : List (List ℕ)) → TargetFits x (sites.Guard owner extent names)

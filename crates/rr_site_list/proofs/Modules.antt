@@ -1,13 +1,14 @@
 -- The sites of modules are in order, and literals are among them.
-use Rattle.std.proofs.Common.{◌≡◌, ℕ, zero, suc, ◌+◌, ◌<◌, ◌≤◌, Bool, true, false, if◌then◌else◌, List, [], ◌∷◌, ◌++◌, length, map, filter, flat_map, refl, sym, subst, ap, ap₂, ◌∙◌, arith, append-nil}
+use Rattle.std.proofs.Common.{◌≡◌, ℕ, zero, suc, ◌+◌, ◌<◌, ◌≤◌, Bool, true, false, if◌then◌else◌, List, [], ◌∷◌, ◌++◌, length, map, filter, flat_map, refl, ap, ap₂, ◌∙◌, arith, append-nil}
 use Rattle.std.specs.List.{AllByRecursion}
-use Rattle.rr_syntax.specs.Items.{spell_item, spell_parameters, spell_ports, spell_all, spell_module, WellFormedModule, WellFormedSource, NumberedAll, NumberedModule, NumberedSource}
+use Rattle.rr_syntax.specs.Items.{spell_item, spell_parameters, spell_ports, spell_all, spell_module, WellFormedModule, WellFormedSource, NumberedModule, NumberedSource}
 use Rattle.rr_syntax.specs.Tree.{Statement, ModuleDeclaration, SourceText}
 use Rattle.rr_expr.specs.Scopes.{Names}
 use Rattle.rr_flat.specs.Signals.{Text}
 use Rattle.rr_walk.specs.Walk.{module_at}
 use Rattle.rr_flat_instance.specs.Owned.{start_of}
 use Rattle.rr_flat_instance.proofs.Spans as span
+use Rattle.rr_flat_instance.proofs.Modules.{numbered_module}
 use Rattle.rr_choice.specs.Places.{is_literal, is_overwrite}
 use Rattle.rr_choice.specs.Sites as sites
 use Rattle.rr_choice.specs.Sites.{Site}
@@ -25,16 +26,6 @@ use Rattle.rr_site_list.proofs.Members.{all_weaken}
 use Rattle.rr_site_list.proofs.Ordered.{Stays, stays_wider, order_join, items_in}
 
 -- Order
-
-pub numbered_module : (ms : List ModuleDeclaration) (at k : ℕ) → AllByRecursion WellFormedModule ms → NumberedAll spell_module NumberedModule ms at → k < length ms →
-    WellFormedModule (module_at ms k) × NumberedModule (module_at ms k) (at + start_of ms k)
-unfolding NumberedAll start_of
-numbered_module [] at k w h l = absurd (omega (arith, l))
-numbered_module (m ∷ ms) at zero w h l = let e : at + 0 ≡ at = omega arith in (w.0, subst (NumberedModule m) (sym e) h.0)
-numbered_module (m ∷ ms) at (suc k) w h l =
-    let r = numbered_module ms (at + length (spell_module m)) k w.1 h.1 (omega (arith, l)) in
-    let e : at + length (spell_module m) + start_of ms k ≡ at + (length (spell_module m) + start_of ms k) = omega arith in
-    (r.0, subst (NumberedModule (module_at ms k)) e r.1)
 
 module_in : (source : SourceText) (k : ℕ) (scope : Names) (clocks : List Text) → WellFormedSource source → NumberedSource source → k < length source.modules →
     Stays (start_of source.modules k) (start_of source.modules k + length (spell_module (module_at source.modules k))) (module_sites (module_at source.modules k) k scope clocks)

@@ -7,7 +7,7 @@ use Rattle.rr_syntax.specs.Items.{spell_item, spell_parameters, spell_ports, Wel
 use Rattle.rr_syntax.specs.Tree.{ModuleItem, ModuleDeclaration, SourceText}
 use Rattle.rr_walk.specs.Walk.{module_at}
 use Rattle.rr_flat_instance.specs.Owned.{start_of}
-use Rattle.rr_site_list.proofs.Modules.{numbered_module}
+use Rattle.rr_flat_instance.proofs.Modules.{numbered_module}
 use Rattle.rr_lawful_instance.specs.Listed.{items_of, no_item, item_at, items_before, item_start}
 
 numbered_item : (xs : List ModuleItem) (at n : ℕ) → AllByRecursion WellFormedItem xs → NumberedAll spell_item NumberedItem xs at → n < length xs →
