@@ -1,7 +1,7 @@
 use Rattle.std.proofs.Common.{◌≤◌, length, subst}
 use Rattle.std.specs.Prelude.{vec_capacity}
-use Rattle.rr_watch.proofs.TrailLaws.{room_at}
-use Rattle.rr_watch.proofs.trail.Trail.back.Goals as goal
+use Rattle.rr_trail.proofs.TrailLaws.{room_at}
+use Rattle.rr_trail.proofs.trail.Trail.back.Goals as goal
 
 pub returns-clause-room : goal.returns-clause-room
 returns-clause-room c =

@@ -2,9 +2,9 @@ use Rattle.std.proofs.Common.{◌≡◌, ◌-◌, ℕ, List, refl, sym, subst, a
 use Rattle.std.specs.Prelude.{Contains, Option, vec_capacity}
 use Rattle.std.proofs.lemmas.List.{length-set}
 use Rattle.rr_cnf.specs.Clauses.{IsWithin, negated, Literal}
-use Rattle.rr_watch.specs.Trails.{Standing, entries, lits, MayStand}
-use Rattle.rr_watch.proofs.TrailLaws.{lits_entries, fits, assigned, assigned_room, assigned_lawful, IsTables-assign}
-use Rattle.rr_watch.proofs.trail.Trail.assign.Goals as goal
+use Rattle.rr_trail.specs.Trails.{Standing, entries, lits, MayStand}
+use Rattle.rr_trail.proofs.TrailLaws.{lits_entries, fits, assigned, assigned_room, assigned_lawful, IsTables-assign}
+use Rattle.rr_trail.proofs.trail.Trail.assign.Goals as goal
 
 -- the conditions, of the parts
 module _ (lv : List ℕ) (rs : List (Option ℕ)) (ls : List Literal) (n d : ℕ) (v : Standing) (e : record { vars = n; entries = entries lv rs ls; depth = d } ≡ v) where

@@ -1,8 +1,8 @@
 use Rattle.std.proofs.Common.{◌∙◌, ◌-◌, ◌≤◌, length, sym, ap, subst, arith}
 use Rattle.std.proofs.lemmas.List.{length-map}
-use Rattle.rr_watch.specs.Trails.{lits, entry_of}
-use Rattle.rr_watch.proofs.TrailLaws.{trail_room, lits_entries}
-use Rattle.rr_watch.proofs.trail.Trail.lits.Goals as goal
+use Rattle.rr_trail.specs.Trails.{lits, entry_of}
+use Rattle.rr_trail.proofs.TrailLaws.{trail_room, lits_entries}
+use Rattle.rr_trail.proofs.trail.Trail.lits.Goals as goal
 
 pub returns-clause-lits : goal.returns-clause-lits
 returns-clause-lits c = c.as_slice.ensures.value ∙ sym (lits_entries c.self.inside.levels.items c.self.inside.reasons.items c.self.inside.lits.items) ∙ ap (λ v. lits v.entries) c.self.view_is

@@ -1,11 +1,11 @@
-use Rattle.std.proofs.Common.{◌≡◌, ◌-◌, ◌<◌, not, sym, ap, ◌∙◌, subst, arith, length, get_or}
-use Rattle.std.specs.Prelude.{Contains, MatchBool, None, Some}
+use Rattle.std.proofs.Common.{◌≡◌, ◌-◌, ◌<◌, not, false, sym, ap, ◌∙◌, subst, arith, length, get_or}
+use Rattle.std.specs.Prelude.{Contains, IsTrue, ◌↔◌, None, Some}
 use mathlib.Core.Bool.{beq}
 use Rattle.std.proofs.lemmas.List.{get_or_default}
-use Rattle.rr_cnf.specs.Clauses.{IsWithin, negated}
-use Rattle.rr_watch.specs.Trails.{lits}
-use Rattle.rr_watch.proofs.TrailLaws.{lits_entries, value-none, value-some}
-use Rattle.rr_watch.proofs.trail.Trail.value.Goals as goal
+use Rattle.rr_cnf.specs.Clauses.{IsWithin}
+use Rattle.rr_trail.specs.Trails.{lits}
+use Rattle.rr_trail.proofs.TrailLaws.{lits_entries, true-none, true-some}
+use Rattle.rr_trail.proofs.trail.Trail.is_true.Goals as goal
 
 pub returns-in-None : goal.returns-in-None
 returns-in-None c =
@@ -15,7 +15,7 @@ returns-in-None c =
     let inside : l.var < length o.values.items = omega (arith, within.0, within.1, c.self.invariant.some) in
     let e = sym (lits_entries o.levels.items o.reasons.items o.lits.items) ∙ ap (λ v. lits v.entries) c.self.view_is in
     let read : get_or o.values.items l.var None ≡ None = sym (get_or_default o.values.items l.var c.index.result.now None inside) ∙ sym (rw (← c.var.ensures.value) c.index.ensures) ∙ c.in-None.is in
-    subst (λ t. (Contains t l → ⊥) × (Contains t (negated l) → ⊥)) e (value-none o.values.items o.lits.items c.self.invariant.marked l inside read)
+    subst (λ t. IsTrue false ↔ Contains t l) e (true-none o.values.items o.lits.items c.self.invariant.marked l inside read)
 
 pub returns-in-Some : goal.returns-in-Some
 returns-in-Some c =
@@ -25,4 +25,4 @@ returns-in-Some c =
     let inside : l.var < length o.values.items = omega (arith, within.0, within.1, c.self.invariant.some) in
     let e = sym (lits_entries o.levels.items o.reasons.items o.lits.items) ∙ ap (λ v. lits v.entries) c.self.view_is in
     let read : get_or o.values.items l.var None ≡ Some c.in-Some.value = sym (get_or_default o.values.items l.var c.index.result.now None inside) ∙ sym (rw (← c.var.ensures.value) c.index.ensures) ∙ c.in-Some.is in
-    subst (λ t. MatchBool (not (beq c.in-Some.value c.is_negative.result)) (Contains t l) (Contains t (negated l))) e (value-some o.values.items o.lits.items c.self.invariant.marked l inside c.in-Some.value c.is_negative.result c.is_negative.ensures read)
+    subst (λ t. IsTrue (not (beq c.in-Some.value c.is_negative.result)) ↔ Contains t l) e (true-some o.values.items o.lits.items c.self.invariant.marked l inside c.in-Some.value c.is_negative.result c.is_negative.ensures read)

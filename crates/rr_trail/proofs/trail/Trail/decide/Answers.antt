@@ -1,7 +1,7 @@
 use Rattle.std.proofs.Common.{arith}
 use Rattle.std.specs.Prelude.{vec_capacity}
-use Rattle.rr_watch.proofs.TrailLaws.{depth_small}
-use Rattle.rr_watch.proofs.trail.Trail.decide.Goals as goal
+use Rattle.rr_trail.proofs.TrailLaws.{depth_small}
+use Rattle.rr_trail.proofs.trail.Trail.decide.Goals as goal
 
 pub overflow_add-level : goal.overflow_add-level
 overflow_add-level c =

@@ -1,8 +1,8 @@
 use Rattle.std.proofs.Common.{◌≡◌, ◌∙◌, ◌+◌, ◌≤◌, length, ap, arith}
 use Rattle.std.specs.Prelude.{vec_capacity}
 use Rattle.std.proofs.lemmas.List.{length-replicate}
-use Rattle.rr_watch.proofs.TrailLaws.{IsTables-new, none_clone}
-use Rattle.rr_watch.proofs.trail.Trail.new.Goals as goal
+use Rattle.rr_trail.proofs.TrailLaws.{IsTables-new, none_clone}
+use Rattle.rr_trail.proofs.trail.Trail.new.Goals as goal
 
 pub invariant_of-result : goal.invariant_of-result
 invariant_of-result c =

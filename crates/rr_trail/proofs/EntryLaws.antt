@@ -7,7 +7,7 @@ use Rattle.std.proofs.lemmas.List.Elements.{All-contains, Contains-get_or}
 use Rattle.std.proofs.lemmas.List.Sums.{sum_by_push, sum_by-cons}
 use Rattle.std.proofs.lemmas.Bool.{cases_lt}
 use Rattle.rr_cnf.specs.Clauses.{Literal}
-use Rattle.rr_watch.specs.Trails.{Entry, lits, entry, decisions, Forces, Decision, IsTrail, AreForced, MayStand}
+use Rattle.rr_trail.specs.Trails.{Entry, lits, entry, decisions, Forces, Decision, IsTrail, AreForced, MayStand}
 
 pub All-from_contains : {X : Type 0} (P : X → Type 0) (xs : List X) → ((x : X) → Contains xs x → P x) → All P xs
 All-from_contains P xs f = λ k d h. f (get_or xs k d) (Contains-get_or xs k d h)

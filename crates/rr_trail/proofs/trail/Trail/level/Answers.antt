@@ -1,8 +1,8 @@
 use Rattle.std.proofs.Common.{◌≡◌, ◌-◌, ◌<◌, ℕ, sym, subst, arith, length}
 use Rattle.rr_cnf.specs.Clauses.{IsWithin}
-use Rattle.rr_watch.specs.Trails.{entry}
-use Rattle.rr_watch.proofs.TrailLaws.{level_at}
-use Rattle.rr_watch.proofs.trail.Trail.level.Goals as goal
+use Rattle.rr_trail.specs.Trails.{entry}
+use Rattle.rr_trail.proofs.TrailLaws.{level_at}
+use Rattle.rr_trail.proofs.trail.Trail.level.Goals as goal
 
 pub returns : goal.returns
 returns c =

@@ -1,19 +1,16 @@
 //! The true literals, with their levels and reasons.
 ghost use Rattle.std.specs.Prelude.{◌≡◌, ℕ, ◌+◌, ◌-◌, ◌*◌, ◌^◌, ◌<◌, ◌≤◌, ◌++◌, ◌∷◌, [], All, Contains, length, take, IfOk, IsTrue, ◌↔◌, MatchOption, MatchBool, Option, Some, None};
 ghost use Rattle.rr_cnf.specs.Clauses.{IsWithin, negated};
-ghost use Rattle.rr_watch.specs.Trails.{Entry, IsCutBack, IsTrail, MayStand, entry, lits};
+ghost use Rattle.rr_trail.specs.Trails.{Entry, IsCutBack, IsTrail, MayStand, entry, lits};
 
 use rr_cnf::Lit;
 use std::alloc::{AllocError, Global};
 use std::marker::Model;
 
-/// The most variables that a trail takes, so that a literal and a mark beside it fit 32 bits.
-pub(crate) const MOST_VARS: u64 = 1_073_741_823;
-
 /// The true literals, in the order in which they became so, and for each variable its value, and the
 /// level and the reason that it got last.
 #[derive(Drop)]
-pub(crate) struct Trail {
+pub struct Trail {
     values: Vec<Option<bool>>,
     levels: Vec<u32>,
     reasons: Vec<Option<u64>>,
@@ -23,7 +20,7 @@ pub(crate) struct Trail {
 
 impl Model for Trail {
     ghost use Rattle.std.specs.Prelude.{◌-◌, length, vec_capacity};
-    ghost use Rattle.rr_watch.specs.Trails.{Standing, IsTables, entries};
+    ghost use Rattle.rr_trail.specs.Trails.{Standing, IsTables, entries};
 
     ghost Value = { Standing };
 
@@ -34,7 +31,7 @@ impl Model for Trail {
 
 impl Trail {
     /// Nothing is true. Takes the room for every assignment of the variables 1 to `vars`.
-    pub(crate) fn new(alloc: Global, vars: u64) -> Result<Trail, AllocError>
+    pub fn new(alloc: Global, vars: u64) -> Result<Trail, AllocError>
         requires { vars ≤ 4294967294 }
         ensures { IfOk result (λ t. t ≡ record { vars = vars; entries = []; depth = 0 }) }
     {
@@ -67,7 +64,7 @@ impl Trail {
     }
 
     /// Begins a new level with an open literal.
-    pub(crate) fn decide(&mut self, lit: Lit)
+    pub fn decide(&mut self, lit: Lit)
         requires within { IsWithin self.old.vars lit }
         requires not_true { Contains (lits self.old.entries) lit → ⊥ }
         requires not_false { Contains (lits self.old.entries) (negated lit) → ⊥ }
@@ -80,7 +77,7 @@ impl Trail {
     }
 
     /// Makes an open literal true by the clause with this id.
-    pub(crate) fn force(&mut self, lit: Lit, id: u64)
+    pub fn force(&mut self, lit: Lit, id: u64)
         requires within { IsWithin self.old.vars lit }
         requires not_true { Contains (lits self.old.entries) lit → ⊥ }
         requires not_false { Contains (lits self.old.entries) (negated lit) → ⊥ }
@@ -111,7 +108,7 @@ impl Trail {
     }
 
     /// Undoes the later levels.
-    pub(crate) fn back(&mut self, level: u32)
+    pub fn back(&mut self, level: u32)
         requires { level ≤ self.old.depth }
         ensures back { IsCutBack self.old self.new level }
         ensures lawful { IsTrail self.new.entries self.new.depth }
@@ -123,7 +120,7 @@ impl Trail {
     }
 
     /// The true literals, oldest first.
-    pub(crate) fn lits(&self) -> &[Lit]
+    pub fn lits(&self) -> &[Lit]
         ensures lits { result.now ≡ lits self.now.entries }
         ensures within { All (IsWithin self.now.vars) result.now }
         ensures lawful { IsTrail self.now.entries self.now.depth }
@@ -133,14 +130,14 @@ impl Trail {
     }
 
     /// The number of decisions that stand.
-    pub(crate) fn depth(&self) -> u32
+    pub fn depth(&self) -> u32
         ensures { result ≡ self.now.depth }
     {
         self.depth
     }
 
     /// The number of variables.
-    pub(crate) fn vars(&self) -> u64
+    pub fn vars(&self) -> u64
         ensures value { result ≡ self.now.vars }
         ensures most { result ≤ 4294967294 }
     {
@@ -148,7 +145,7 @@ impl Trail {
     }
 
     /// The value of a literal, if it has one.
-    pub(crate) fn value(&self, lit: Lit) -> Option<bool>
+    pub fn value(&self, lit: Lit) -> Option<bool>
         requires { IsWithin self.now.vars lit }
         ensures { MatchOption result ((Contains (lits self.now.entries) lit → ⊥) × (Contains (lits self.now.entries) (negated lit) → ⊥))
             (λ v. MatchBool v (Contains (lits self.now.entries) lit) (Contains (lits self.now.entries) (negated lit))) }
@@ -160,7 +157,7 @@ impl Trail {
     }
 
     /// Whether the literal is true.
-    pub(crate) fn is_true(&self, lit: Lit) -> bool
+    pub fn is_true(&self, lit: Lit) -> bool
         requires { IsWithin self.now.vars lit }
         ensures { IsTrue result ↔ Contains (lits self.now.entries) lit }
     {
@@ -171,7 +168,7 @@ impl Trail {
     }
 
     /// Whether the literal is false.
-    pub(crate) fn is_false(&self, lit: Lit) -> bool
+    pub fn is_false(&self, lit: Lit) -> bool
         requires { IsWithin self.now.vars lit }
         ensures { IsTrue result ↔ Contains (lits self.now.entries) (negated lit) }
     {
@@ -179,7 +176,7 @@ impl Trail {
     }
 
     /// The level of an assigned literal.
-    pub(crate) fn level(&self, lit: Lit) -> u32
+    pub fn level(&self, lit: Lit) -> u32
         requires { IsWithin self.now.vars lit }
         ensures { (k : ℕ) → k < length self.now.entries → (entry self.now.entries k).lit.var ≡ lit.var → (entry self.now.entries k).level ≡ result }
     {
@@ -187,7 +184,7 @@ impl Trail {
     }
 
     /// The id of the clause that forces a true literal, if it was not decided.
-    pub(crate) fn reason(&self, lit: Lit) -> Option<u64>
+    pub fn reason(&self, lit: Lit) -> Option<u64>
         requires { IsWithin self.now.vars lit }
         ensures { (k : ℕ) → k < length self.now.entries → (entry self.now.entries k).lit.var ≡ lit.var → (entry self.now.entries k).reason ≡ result }
     {

@@ -10,8 +10,8 @@ use Rattle.std.proofs.lemmas.Map.Steps.{length-le_from_distinct_below}
 use Rattle.std.proofs.lemmas.Bool.{ne_eqb, eqb-true, or_cases, cases_lt, cases_eq, false≢true, true≢false}
 use Rattle.std.proofs.lemmas.List.{length-map, length-set, length_push, get_or_default, get_or-map, map_push, take_all, length-take-le, get_or-take, length-replicate, get_or-set_same, get_or-set_other}
 use Rattle.std.proofs.Math.Seq.{get_or-append_seam, take-append_seam}
-use Rattle.rr_watch.specs.Trails.{AreApart, IsTables, Standing, Entry, entry, entry_of, entries, lits, IsTrail, MayStand, ReadsTrue, Represents, IsCut, IsCutBack}
-use Rattle.rr_watch.proofs.EntryLaws.{All-from_contains, length_lits, apart_at, decisions-le, IsTrail-push, pop-decided, pop-forced, last_level, take_take}
+use Rattle.rr_trail.specs.Trails.{AreApart, IsTables, Standing, Entry, entry, entry_of, entries, lits, IsTrail, MayStand, ReadsTrue, Represents, IsCut, IsCutBack}
+use Rattle.rr_trail.proofs.EntryLaws.{All-from_contains, length_lits, apart_at, decisions-le, IsTrail-push, pop-decided, pop-forced, last_level, take_take}
 
 pub sign-cases : (a b : Bool) → (a ≡ b) ⊎ (a ≡ not b)
 sign-cases true true = inl refl

@@ -1,6 +1,6 @@
 use Rattle.std.proofs.Common.{length}
-use Rattle.rr_watch.proofs.TrailLaws.{Backing}
-use Rattle.rr_watch.proofs.trail.Trail.back.Given as goal
+use Rattle.rr_trail.proofs.TrailLaws.{Backing}
+use Rattle.rr_trail.proofs.trail.Trail.back.Given as goal
 
 abbrev pub invariant-loop-self : goal.invariant-loop-self
 invariant-loop-self l = Backing l.fn.self l.self l.level

@@ -4,9 +4,9 @@ use Rattle.std.proofs.lemmas.List.Elements.{All-contains, Contains-push}
 use Rattle.rr_cnf.specs.Clauses.{IsWithin}
 use Rattle.std.specs.Prelude.{vec_capacity, None}
 use Rattle.std.specs.Option.{option_to_list}
-use Rattle.rr_watch.specs.Trails.{IsTables}
-use Rattle.rr_watch.proofs.TrailLaws.{undo-decided, undo-forced, none_read, some_read}
-use Rattle.rr_watch.proofs.trail.Trail.undo.Goals as goal
+use Rattle.rr_trail.specs.Trails.{IsTables}
+use Rattle.rr_trail.proofs.TrailLaws.{undo-decided, undo-forced, none_read, some_read}
+use Rattle.rr_trail.proofs.trail.Trail.undo.Goals as goal
 
 pub invariant_of-self : goal.invariant_of-self
 invariant_of-self c =
