@@ -153,19 +153,6 @@ take_take (suc k) (suc n) (x ∷ xs) h = ap (λ t. x ∷ t) (take_take k n xs (o
 
 -- the trail is cut
 module _ (t : List Entry) (d : ℕ) (tr : IsTrail t d) where
-  pub last_level : 0 < length t → (entry t (length t - 1)).level ≡ d
-  last_level h = by_depth d tr
-    where
-      by_depth : (d : ℕ) → IsTrail t d → (entry t (length t - 1)).level ≡ d
-      by_depth zero r = (let k = r.below (length t - 1) (omega arith) in omega (arith, k))
-      by_depth (suc d) r =
-          let k = r.below (length t - 1) (omega arith) in
-          let q = r.begun (suc d) (omega arith) (omega arith) in
-          elim (cases_lt q.place (length t - 1)) [
-            | inl a ↦ (let m = r.rising q.place (length t - 1) a (omega arith) in omega (arith, m, k, q.level))
-            | inr b ↦ (let p : q.place ≡ length t - 1 = omega (arith, q.inside) in ap (λ i. (entry t i).level) (sym p) ∙ q.level)
-          ]
-
   module _ (n : ℕ) (h : n ≤ length t) where
     pub entry_take : (k : ℕ) → k < n → entry (take n t) k ≡ entry t k
     entry_take k a = get_or-take n t k _ a
@@ -199,36 +186,6 @@ module _ (t : List Entry) (d : ℕ) (tr : IsTrail t d) where
         level = there (λ x. x.level ≡ i) q.0.place q.1 q.0.level;
       };
     }
-
-  module _ (some : 0 < length t) where
-    whole_count : decisions t ≡ decisions (take (length t - 1) t) + cond (is_some (entry t (length t - 1)).reason) 0 1
-    whole_count =
-        let one : length t - 1 + 1 ≡ length t = omega arith in
-        ap decisions (sym (take_all (length t) t (omega arith)) ∙ ap (λ i. take i t) (sym one)) ∙ decisions_more t (length t - 1) (omega arith)
-
-    pub pop-decided : (entry t (length t - 1)).reason ≡ None → IsTrail (take (length t - 1) t) (d - 1)
-    pop-decided r =
-        let w = tr.opened (length t - 1) (omega arith) r in
-        let e = last_level some in
-        let c = weight_decided (entry t (length t - 1)).reason r in
-        IsTrail-take (length t - 1) (omega arith) (d - 1)
-        (omega (arith, whole_count, c, tr.deep))
-        (λ k a. let z = w.1 k a in omega (arith, z, e))
-        (λ i a b. let q = tr.begun i a (omega arith) in
-        (q, elim (cases_lt q.place (length t - 1)) [ inl x ↦ x | inr y ↦ absurd (let p : q.place ≡ length t - 1 = omega (arith, q.inside) in let z = ap (λ i. (entry t i).level) p in omega (arith, z, e, q.level, w.0)) ]))
-
-    forced_weight : (r : Option ℕ) → (r ≡ None → ⊥) → weight r ≡ 0
-    forced_weight None n = absurd (n refl)
-    forced_weight (Some x) n = refl
-
-    pub pop-forced : ((entry t (length t - 1)).reason ≡ None → ⊥) → IsTrail (take (length t - 1) t) d
-    pop-forced r =
-        let c = forced_weight (entry t (length t - 1)).reason r in
-        IsTrail-take (length t - 1) (omega arith) d
-        (omega (arith, whole_count, c, tr.deep))
-        (λ k a. tr.below k (omega arith))
-        (λ i a b. let q = tr.begun i a b in
-        (q, elim (cases_lt q.place (length t - 1)) [ inl x ↦ x | inr y ↦ absurd (let p : q.place ≡ length t - 1 = omega (arith, q.inside) in r (ap (λ i. (entry t i).reason) (sym p) ∙ q.decided)) ]))
 
 -- the reasons of a trail that grows
 pub AreForced-push : (named : ℕ → List Literal → Type 0) (t : List Entry) (e : Entry) → AreForced named t → ((id : ℕ) → e.reason ≡ Some id → (c : List Literal) × (named id c × Forces (lits t) c e.lit)) → AreForced named (t ++ e ∷ [])

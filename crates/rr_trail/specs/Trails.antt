@@ -1,7 +1,7 @@
 -- trails of decisions and of literals that clauses force
-use Rattle.std.specs.Prelude.{◌≡◌, ℕ, ◌+◌, ◌-◌, ◌<◌, ◌≤◌, ◌⊎◌, Bool, false, not, cond, is_some, List, [], ◌∷◌, length, get_or, take, map, All, Contains, Option, Some, None}
+use Rattle.std.specs.Prelude.{◌≡◌, ℕ, ◌+◌, ◌<◌, ◌≤◌, ◌⊎◌, false, cond, is_some, List, length, get_or, take, map, All, Contains, Option, Some, None}
 use Rattle.std.specs.List.{sum_by}
-use Rattle.rr_cnf.specs.Clauses.{Literal, negated, IsWithin}
+use Rattle.rr_cnf.specs.Clauses.{Literal, negated}
 
 -- a literal that is true, the number of decisions up to it, and the id of the clause that forces it, if
 -- it was not decided
@@ -82,36 +82,3 @@ abbrev pub MayStand : ℕ → Entry → Type 0
 MayStand depth e =
     ((e.reason ≡ None) × (e.level ≡ depth + 1))
     ⊎ ((e.level ≡ depth) × ((id : ℕ) × (e.reason ≡ Some id)))
-
--- no two literals of the list have one variable
-abbrev pub AreApart : List Literal → Type 0
-AreApart [] = Unit {0}
-AreApart (l ∷ ls) = All (λ m. l.var ≡ m.var → ⊥) ls × AreApart ls
-
--- the table has the literal as true
-abbrev pub ReadsTrue : List (Option Bool) → Literal → Type 0
-ReadsTrue values l = get_or values l.var None ≡ Some (not l.negative)
-
--- the table has the values of these true literals
-pub record Represents (values : List (Option Bool)) (held : List Literal) : Type 0 where
-  pub marked : (l : Literal) → l.var < length values → Contains held l → ReadsTrue values l
-  pub holds : (l : Literal) → l.var < length values → ReadsTrue values l → Contains held l
-
--- the entry of a literal, by the tables of its variable
-abbrev pub entry_of : List ℕ → List (Option ℕ) → Literal → Entry
-entry_of levels reasons l = record { lit = l; level = get_or levels l.var 0; reason = get_or reasons l.var None }
-
-abbrev pub entries : List ℕ → List (Option ℕ) → List Literal → List Entry
-entries levels reasons ls = map (entry_of levels reasons) ls
-
--- the tables and the trail agree, and the trail has room for every variable
-pub record IsTables (values : List (Option Bool)) (levels : List ℕ) (reasons : List (Option ℕ)) (trail : List Literal) (depth capacity : ℕ) : Type 0 where
-  pub some : 1 ≤ length values
-  pub most : length values ≤ 4294967295
-  pub levels_long : length levels ≡ length values
-  pub reasons_long : length reasons ≡ length values
-  pub trail_within : All (IsWithin (length values - 1)) trail
-  pub apart : AreApart trail
-  pub marked : Represents values trail
-  pub room : length values - 1 ≤ capacity
-  pub lawful : IsTrail (entries levels reasons trail) depth

@@ -4,6 +4,7 @@
 //! and where going back to a level leaves exactly the levels up to it. It stands on `rr_cnf`.
 #![tactic(auto)]
 
+mod assignment;
 mod trail;
 
 pub use trail::Trail;

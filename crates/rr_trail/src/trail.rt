@@ -1,66 +1,45 @@
 //! The true literals, with their levels and reasons.
-ghost use Rattle.std.specs.Prelude.{◌≡◌, ℕ, ◌+◌, ◌-◌, ◌*◌, ◌^◌, ◌<◌, ◌≤◌, ◌++◌, ◌∷◌, [], All, Contains, length, take, IfOk, IsTrue, ◌↔◌, MatchOption, MatchBool, Option, Some, None};
+ghost use Rattle.std.specs.Prelude.{◌≡◌, ℕ, ◌+◌, ◌<◌, ◌≤◌, ◌++◌, ◌∷◌, [], All, Contains, length, IfOk, IsTrue, ◌↔◌, MatchOption, MatchBool, Some, None};
 ghost use Rattle.rr_cnf.specs.Clauses.{IsWithin, negated};
-ghost use Rattle.rr_trail.specs.Trails.{Entry, IsCutBack, IsTrail, MayStand, entry, lits};
+ghost use Rattle.rr_trail.specs.Trails.{Entry, IsCutBack, IsTrail, entry, lits};
 
+use crate::assignment::Assignment;
 use rr_cnf::Lit;
 use std::alloc::{AllocError, Global};
 use std::marker::Model;
 
-/// The true literals, in the order in which they became so, and for each variable its value, and the
-/// level and the reason that it got last.
+/// The true literals, in the order in which they became so, each with its level, which is the number of
+/// decisions up to it, and its reason, which is the id of the clause that forces it.
 #[derive(Drop)]
 pub struct Trail {
-    values: Vec<Option<bool>>,
-    levels: Vec<u32>,
-    reasons: Vec<Option<u64>>,
-    lits: Vec<Lit>,
-    depth: u32,
+    assignment: Assignment,
+    /// For each level from 1 on, the place of its decision.
+    starts: Vec<u32>,
 }
 
 impl Model for Trail {
-    ghost use Rattle.std.specs.Prelude.{◌-◌, length, vec_capacity};
-    ghost use Rattle.rr_trail.specs.Trails.{Standing, IsTables, entries};
+    ghost use Rattle.std.specs.Prelude.{length, vec_capacity};
+    ghost use Rattle.rr_trail.specs.Trails.{Standing};
+    ghost use Rattle.rr_trail.specs.Tables.{IsLevelled, standing};
 
     ghost Value = { Standing };
 
-    ghost view = { λ w. record { vars = length w.values.items - 1; entries = entries w.levels.items w.reasons.items w.lits.items; depth = w.depth } };
+    ghost view = { λ t. standing t.assignment (length t.starts.items) };
 
-    ghost invariant = { λ w. IsTables w.values.items w.levels.items w.reasons.items w.lits.items w.depth (vec_capacity w.lits) };
+    ghost invariant = { λ t. IsLevelled t.assignment t.starts.items (vec_capacity t.starts) };
 }
 
 impl Trail {
-    /// Nothing is true. Takes the room for every assignment of the variables 1 to `vars`.
+    /// Nothing is true. Takes the room for every assignment of the variables 1 to `vars`, at most 2^32 - 2,
+    /// and for as many levels; no other call takes memory.
     pub fn new(alloc: Global, vars: u64) -> Result<Trail, AllocError>
         requires { vars ≤ 4294967294 }
         ensures { IfOk result (λ t. t ≡ record { vars = vars; entries = []; depth = 0 }) }
     {
-        let size = vars as usize + 1;
         Ok(Trail {
-            values: vec![in alloc; None; size]?,
-            levels: vec![in alloc; 0; size]?,
-            reasons: vec![in alloc; None; size]?,
-            lits: Vec::with_capacity(alloc, size - 1)?,
-            depth: 0,
+            assignment: Assignment::new(alloc, vars)?,
+            starts: Vec::with_capacity(alloc, vars as usize)?,
         })
-    }
-
-    // Makes an open literal true.
-    fn assign(&mut self, lit: Lit, level: u32, reason: Option<u64>)
-        requires within { IsWithin self.old.vars lit }
-        requires not_true { Contains (lits self.old.entries) lit → ⊥ }
-        requires not_false { Contains (lits self.old.entries) (negated lit) → ⊥ }
-        requires stands { MayStand self.old.depth record { lit = lit; level = level; reason = reason } }
-        ensures state { self.new ≡ record self.old { entries = self.old.entries ++ record { lit = lit; level = level; reason = reason } ∷ []; depth = level } }
-        ensures lawful { IsTrail self.new.entries self.new.depth }
-        ensures room { length self.new.entries ≤ self.new.vars }
-    {
-        self.lits.push_reserved(lit);
-        let variable = lit.var() as usize;
-        self.values[variable] = Some(!lit.is_negative());
-        self.levels[variable] = level;
-        self.reasons[variable] = reason;
-        self.depth = level;
     }
 
     /// Begins a new level with an open literal.
@@ -72,8 +51,10 @@ impl Trail {
         ensures lawful { IsTrail self.new.entries self.new.depth }
         ensures room { length self.new.entries ≤ self.new.vars }
     {
-        let level = self.depth + 1;
-        self.assign(lit, level, None);
+        let place = self.assignment.lits().len() as u32;
+        let level = self.starts.len() as u32 + 1;
+        self.assignment.push(lit, level, None);
+        self.starts.push_reserved(place);
     }
 
     /// Makes an open literal true by the clause with this id.
@@ -85,37 +66,21 @@ impl Trail {
         ensures lawful { IsTrail self.new.entries self.new.depth }
         ensures room { length self.new.entries ≤ self.new.vars }
     {
-        let level = self.depth;
-        self.assign(lit, level, Some(id));
+        let level = self.starts.len() as u32;
+        self.assignment.push(lit, level, Some(id));
     }
 
-    // Takes the newest literal off the trail.
-    fn undo(&mut self)
-        requires { 0 < length self.old.entries }
-        ensures vars { self.new.vars ≡ self.old.vars }
-        ensures entries { self.new.entries ≡ take (length self.old.entries - 1) self.old.entries }
-        ensures decided { (entry self.old.entries (length self.old.entries - 1)).reason ≡ None → self.new.depth + 1 ≡ self.old.depth }
-        ensures forced { ((entry self.old.entries (length self.old.entries - 1)).reason ≡ None → ⊥) → self.new.depth ≡ self.old.depth }
-        ensures level { (entry self.old.entries (length self.old.entries - 1)).level ≡ self.old.depth }
-    {
-        if let Some(lit) = self.lits.pop() {
-            let variable = lit.var() as usize;
-            self.values[variable] = None;
-            if self.reasons[variable].is_none() {
-                self.depth -= 1;
-            }
-        }
-    }
-
-    /// Undoes the later levels.
+    /// Undoes the levels after this one, which is at most the last.
     pub fn back(&mut self, level: u32)
         requires { level ≤ self.old.depth }
         ensures back { IsCutBack self.old self.new level }
         ensures lawful { IsTrail self.new.entries self.new.depth }
         ensures room { length self.new.entries ≤ self.new.vars }
     {
-        while self.depth > level {
-            self.undo();
+        if level < self.depth() {
+            let start = self.starts[level as usize] as usize;
+            self.assignment.cut(start);
+            self.starts.truncate(level as usize);
         }
     }
 
@@ -126,14 +91,14 @@ impl Trail {
         ensures lawful { IsTrail self.now.entries self.now.depth }
         ensures room { length self.now.entries ≤ self.now.vars }
     {
-        self.lits.as_slice()
+        self.assignment.lits()
     }
 
     /// The number of decisions that stand.
     pub fn depth(&self) -> u32
         ensures { result ≡ self.now.depth }
     {
-        self.depth
+        self.starts.len() as u32
     }
 
     /// The number of variables.
@@ -141,7 +106,7 @@ impl Trail {
         ensures value { result ≡ self.now.vars }
         ensures most { result ≤ 4294967294 }
     {
-        (self.values.len() - 1) as u64
+        self.assignment.vars()
     }
 
     /// The value of a literal, if it has one.
@@ -150,9 +115,12 @@ impl Trail {
         ensures { MatchOption result ((Contains (lits self.now.entries) lit → ⊥) × (Contains (lits self.now.entries) (negated lit) → ⊥))
             (λ v. MatchBool v (Contains (lits self.now.entries) lit) (Contains (lits self.now.entries) (negated lit))) }
     {
-        match self.values[lit.var() as usize] {
-            None => None,
-            Some(value) => Some(value != lit.is_negative()),
+        if self.is_true(lit) {
+            Some(true)
+        } else if self.is_false(lit) {
+            Some(false)
+        } else {
+            None
         }
     }
 
@@ -161,10 +129,7 @@ impl Trail {
         requires { IsWithin self.now.vars lit }
         ensures { IsTrue result ↔ Contains (lits self.now.entries) lit }
     {
-        match self.values[lit.var() as usize] {
-            None => false,
-            Some(value) => value != lit.is_negative(),
-        }
+        self.assignment.is_true(lit)
     }
 
     /// Whether the literal is false.
@@ -180,7 +145,15 @@ impl Trail {
         requires { IsWithin self.now.vars lit }
         ensures { (k : ℕ) → k < length self.now.entries → (entry self.now.entries k).lit.var ≡ lit.var → (entry self.now.entries k).level ≡ result }
     {
-        self.levels[lit.var() as usize]
+        self.assignment.variable(lit).level
+    }
+
+    /// The place of an assigned literal, or of its negation, in the list of the true ones, from 0.
+    pub fn place(&self, lit: Lit) -> usize
+        requires { IsWithin self.now.vars lit }
+        ensures { (k : ℕ) → k < length self.now.entries → (entry self.now.entries k).lit.var ≡ lit.var → result ≡ k }
+    {
+        self.assignment.variable(lit).place as usize
     }
 
     /// The id of the clause that forces a true literal, if it was not decided.
@@ -188,6 +161,6 @@ impl Trail {
         requires { IsWithin self.now.vars lit }
         ensures { (k : ℕ) → k < length self.now.entries → (entry self.now.entries k).lit.var ≡ lit.var → (entry self.now.entries k).reason ≡ result }
     {
-        self.reasons[lit.var() as usize]
+        self.assignment.variable(lit).reason
     }
 }

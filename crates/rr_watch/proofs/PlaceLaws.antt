@@ -9,7 +9,7 @@ use Rattle.rr_trail.specs.Trails.{Entry, Standing, entry, lits, IsTrail}
 use Rattle.rr_watch.specs.Watches.{MayAdd, Asserts, HasLate}
 use Rattle.rr_watch.specs.Lists.{AreAlike, literal_at, RankIs, IsBest, BestIs, Serves}
 use Rattle.rr_trail.proofs.EntryLaws.{holds_at, decisions-le}
-use Rattle.rr_trail.proofs.TrailLaws.{negated-negated}
+use Rattle.rr_trail.proofs.TableLaws.{negated-negated}
 
 pub same_or_apart : (l m : Literal) → (l ≡ m) ⊎ (l ≡ m → ⊥)
 same_or_apart l m = elim (cases_eq (code_of l) (code_of m)) [ inl e ↦ inl (same_code l m e) | inr n ↦ inr (λ e. n (ap code_of e)) ]

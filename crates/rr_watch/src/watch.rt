@@ -156,6 +156,14 @@ impl<'f> Watch<'f> {
         self.propagator.trail.level(lit)
     }
 
+    /// The place in the trail of an assigned literal, or of its negation, from 0.
+    pub fn place(&self, lit: Lit) -> usize
+        requires { IsWithin self.now.vars lit }
+        ensures { (k : ℕ) → k < length self.now.trail → (entry self.now.trail k).lit.var ≡ lit.var → result ≡ k }
+    {
+        self.propagator.trail.place(lit)
+    }
+
     /// The id of the clause that forced a true literal: one that has the literal, and whose others were
     /// false before it. `None` exactly where it was decided.
     pub fn reason(&self, lit: Lit) -> Option<u64>
