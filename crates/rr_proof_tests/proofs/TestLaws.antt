@@ -4,7 +4,7 @@ use Rattle.std.specs.Prelude.{All, Contains, Option, Some, None}
 use Rattle.std.proofs.lemmas.List.Elements.{All-nil, All-cons, Contains-push_cases}
 use Rattle.rr_cnf.specs.Clauses.{Literal, negated}
 use Rattle.rr_cnf.specs.Partial.{IsUnit}
-use Rattle.rr_watch.specs.Trails.{Entry, entry, lits}
+use Rattle.rr_trail.specs.Trails.{Entry, entry, lits}
 use Rattle.rr_watch.specs.Watches.{State, Asserts, MayAdd}
 
 abbrev pub literal : ℕ → Literal

@@ -10,7 +10,7 @@ use Rattle.rr_derive.specs.Derive.{Leads}
 use Rattle.rr_derive.specs.Fresh.{Entry as Held, Hinted, IsFresh, IsOpen, IsTrail as Lawful, OthersFalse, decision_of, lits as held_lits}
 use Rattle.rr_derive.proofs.MarkLaws.{All-from_contains, negated-negated, Contains-negated}
 use Rattle.rr_derive.proofs.FreshLaws.{same_or_not}
-use Rattle.rr_watch.specs.Trails.{Entry, AreForced, Decision, IsTrail, entry, lits}
+use Rattle.rr_trail.specs.Trails.{Entry, AreForced, Decision, IsTrail, entry, lits}
 use Rattle.rr_watch.specs.Watches.{MayAdd}
 use Rattle.rr_solver.specs.Analysis.{Kept, Greatest}
 use Rattle.rr_solver.proofs.Walk.{more_cases, up_to, here, place_before, at_before, not_before, one_place}

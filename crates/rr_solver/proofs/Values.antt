@@ -7,7 +7,7 @@ use Rattle.std.proofs.lemmas.Bool.{cases_lt, false≢true, true≢false}
 use Rattle.rr_cnf.specs.Clauses.{Literal, negated}
 use Rattle.rr_derive.proofs.MarkLaws.{negated-apart}
 use Rattle.rr_cnf.specs.Partial.{IsAssigned}
-use Rattle.rr_watch.specs.Trails.{Entry, IsTrail, lits}
+use Rattle.rr_trail.specs.Trails.{Entry, IsTrail, lits}
 use Rattle.rr_solver.specs.Engines.{Agrees}
 use Rattle.rr_solver.specs.Searches.{given}
 use Rattle.rr_solver.proofs.Walk.{true_same}

@@ -9,9 +9,9 @@ use Rattle.rr_cnf.specs.Partial.{IsFalse, IsUnit}
 use Rattle.rr_derive.specs.Derive.{Leads}
 use Rattle.rr_derive.specs.Fresh.{Hinted}
 use Rattle.rr_derive.proofs.MarkLaws.{All-from_contains, negated-negated, Contains-negated, Contains-map_negated, sign-cases, negated-apart}
-use Rattle.rr_watch.specs.Trails.{Entry, Forces, IsTrail, entry, lits}
+use Rattle.rr_trail.specs.Trails.{Entry, Forces, IsTrail, entry, lits}
 use Rattle.rr_watch.specs.Watches.{Named, State}
-use Rattle.rr_watch.proofs.EntryLaws.{lit_at, holds_at, place_of}
+use Rattle.rr_trail.proofs.EntryLaws.{lit_at, holds_at, place_of}
 use Rattle.rr_solver.specs.Analysis.{AreNamed, IsMarked, Marked, Kept, Greatest, Learns}
 
 -- the marks of a clause, literal by literal

@@ -7,9 +7,9 @@ use Rattle.std.proofs.Math.Nat.{min-le_left, min-le_right}
 use Rattle.rr_cnf.specs.Clauses.{Literal, negated}
 use Rattle.rr_cnf.specs.Partial.{IsFalse}
 use Rattle.rr_derive.proofs.MarkLaws.{All-from_contains}
-use Rattle.rr_watch.specs.Trails.{Entry, Grown, IsTrail, Reason, entry, lits}
+use Rattle.rr_trail.specs.Trails.{Entry, Grown, IsTrail, Reason, entry, lits}
 use Rattle.rr_watch.specs.Watches.{Named, State}
-use Rattle.rr_watch.proofs.EntryLaws.{length_lits, lit_at, place_of}
+use Rattle.rr_trail.proofs.EntryLaws.{length_lits, lit_at, place_of}
 use Rattle.rr_solver.specs.Analysis.{Greatest, IsMarked}
 use Rattle.rr_solver.specs.Workspaces.{AreNoted, HaveOwnVars, IsBegun, IsReady, KeepsNotes, Met, PopsLast, StandsBelow, Waits, Work, var_at}
 use Rattle.rr_solver.proofs.Walk.{Walk, Walk-keep, Walk-over, Walk-resolve, Walk-start, one_place, place_before}

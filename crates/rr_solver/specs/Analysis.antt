@@ -4,7 +4,7 @@ use Rattle.rr_cnf.specs.Clauses.{Literal, negated, IsWithin}
 use Rattle.rr_cnf.specs.Partial.{IsFalse}
 use Rattle.rr_derive.specs.Derive.{Passes}
 use Rattle.rr_derive.specs.Fresh.{Hinted}
-use Rattle.rr_watch.specs.Trails.{Entry, lits, entry}
+use Rattle.rr_trail.specs.Trails.{Entry, lits, entry}
 use Rattle.rr_watch.specs.Watches.{State, Named}
 
 abbrev pub IsMarked : List Bool → ℕ → Type 0

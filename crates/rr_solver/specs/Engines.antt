@@ -4,7 +4,7 @@ use Rattle.rr_cnf.specs.Clauses.{Literal, Clauses, IsWithin, literal_true, negat
 use Rattle.rr_cnf.specs.Partial.{IsQuiet, Determined}
 use Rattle.rr_derive.specs.Derive.{Step, Proof}
 use Rattle.rr_derive.specs.Fresh.{Handed, NamesAtHand, hand_of}
-use Rattle.rr_watch.specs.Trails.{Entry, entry, lits}
+use Rattle.rr_trail.specs.Trails.{Entry, entry, lits}
 use Rattle.rr_watch.specs.Watches.{Named, Numbered, State, bare}
 use Rattle.rr_solver.specs.Searches.{HaveOwnIds, Search, IsLog, given}
 use Rattle.rr_solver.specs.Workspaces.{IsReady}

@@ -1,7 +1,7 @@
 //! The clause that is learned from a false clause.
 ghost use Rattle.std.specs.Prelude.{◌≡◌, ◌^◌, ◌<◌, All, length, List, IfOk, OnOk};
 ghost use Rattle.rr_cnf.specs.Clauses.{IsWithin, Literal};
-ghost use Rattle.rr_watch.specs.Trails.{lits};
+ghost use Rattle.rr_trail.specs.Trails.{lits};
 ghost use Rattle.rr_watch.specs.Watches.{Named};
 ghost use Rattle.rr_solver.specs.Analysis.{IsConflict, Learns, Resolves};
 ghost use Rattle.rr_solver.specs.Workspaces.{IsReady, KeepsNotes, Met};

@@ -3,7 +3,7 @@ ghost use Rattle.std.specs.Prelude.{◌≡◌, ℕ, ◌+◌, ◌-◌, ◌*◌, �
 ghost use Rattle.rr_cnf.specs.Clauses.{IsWithin, Literal, negated};
 ghost use Rattle.rr_cnf.specs.Partial.{Determined, IsAssigned, IsFalse, IsQuiet};
 ghost use Rattle.rr_derive.specs.Derive.{Passes};
-ghost use Rattle.rr_watch.specs.Trails.{Entry, entry, lits};
+ghost use Rattle.rr_trail.specs.Trails.{Entry, entry, lits};
 ghost use Rattle.rr_watch.specs.Watches.{IsBack, Named, PropagatedIs, bare};
 ghost use Rattle.rr_solver.specs.Analysis.{AreNamed, IsConflict, Learns};
 ghost use Rattle.rr_solver.specs.Searches.{IsNewId, Same, SteppedIs};

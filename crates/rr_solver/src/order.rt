@@ -1,7 +1,7 @@
 //! Which input is decided next, and with which sign: one that recent conflicts stood on. No contract speaks
 //! of this order; what comes out of it is looked at before it is decided.
 ghost use Rattle.std.specs.Prelude.{◌≤◌, ◌^◌, ◌<◌, IfSome};
-ghost use Rattle.rr_watch.specs.Trails.{lits};
+ghost use Rattle.rr_trail.specs.Trails.{lits};
 ghost use Rattle.rr_solver.specs.Engines.{IsOpenInput};
 
 use rr_cnf::Lit;

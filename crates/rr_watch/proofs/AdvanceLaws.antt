@@ -5,11 +5,11 @@ use Rattle.std.proofs.lemmas.List.{get_or-take, take_all, length-map, get_or-map
 use Rattle.std.proofs.lemmas.Bool.{cases_lt}
 use Rattle.rr_cnf.specs.Clauses.{Literal, negated}
 use Rattle.rr_cnf.specs.Codes.{code_of, same_code}
-use Rattle.rr_watch.specs.Trails.{Forces, Entry, entry, lits, Grown}
+use Rattle.rr_trail.specs.Trails.{Forces, Entry, entry, lits, Grown}
 use Rattle.rr_watch.specs.Holdings.{Held, all_numbered, held_at, numbered}
 use Rattle.rr_watch.specs.Lists.{watching_at, Advances, Stays, KeepsPlace, IsForcedShort, AreForcedShort, Whole, IsServed, AreServed, IsNext, IsOther, IsPlaced}
 use Rattle.rr_watch.specs.declared.propagator.Propagator.{Propagator}
-use Rattle.rr_watch.proofs.EntryLaws.{place_of, holds_at, take_take}
+use Rattle.rr_trail.proofs.EntryLaws.{place_of, holds_at, take_take}
 
 pub Grown-none : (t : List Entry) → Grown t t
 Grown-none t = record { longer = omega arith; same = take_all (length t) t (omega arith); forced = λ k a b r. omega arith }

@@ -5,7 +5,7 @@ use Rattle.std.proofs.lemmas.List.{take_more, take_all, get_or_default}
 use Rattle.std.proofs.lemmas.List.Elements.{Contains-push_cases}
 use Rattle.std.proofs.lemmas.Bool.{cases_lt, true≢false, false≢true}
 use Rattle.rr_cnf.specs.Clauses.{Literal, negated}
-use Rattle.rr_watch.specs.Trails.{Entry, lits}
+use Rattle.rr_trail.specs.Trails.{Entry, lits}
 use Rattle.rr_watch.specs.Lists.{literal_at, RankIs, IsApart, BestIs, IsReplacement, IsReplacementIn}
 
 -- the best of the first literals

@@ -1,5 +1,3 @@
-pub mod EntryLaws
-pub mod TrailLaws
 pub mod ListLaws
 pub mod StateLaws
 pub mod StateSteps

@@ -10,7 +10,7 @@ use Rattle.rr_watch.specs.Watches.{Numbered, Named, AreHeld, numbered_from}
 use Rattle.rr_watch.specs.Holdings.{Adds, all_numbered, held_at, numbered}
 use Rattle.rr_watch.specs.declared.propagator.Propagator.{Propagator}
 use Rattle.rr_watch.specs.Lists.{Whole}
-use Rattle.rr_watch.proofs.EntryLaws.{All-from_contains}
+use Rattle.rr_trail.proofs.EntryLaws.{All-from_contains}
 use Rattle.rr_watch.proofs.HandLaws.{numbered_length, numbered_push}
 use Rattle.rr_watch.specs.declared.hand.Source.TheVariants.{OfFormula}
 use Rattle.rr_watch.proofs.ListLaws.{named_place}

@@ -5,11 +5,11 @@ use Rattle.std.proofs.lemmas.List.Elements.{All-contains, Contains-get_or}
 use Rattle.std.proofs.lemmas.Bool.{cases_lt, cases_eq}
 use Rattle.rr_cnf.specs.Clauses.{Literal, negated}
 use Rattle.rr_cnf.specs.Codes.{code_of, same_code}
-use Rattle.rr_watch.specs.Trails.{Entry, Standing, entry, lits, IsTrail}
+use Rattle.rr_trail.specs.Trails.{Entry, Standing, entry, lits, IsTrail}
 use Rattle.rr_watch.specs.Watches.{MayAdd, Asserts, HasLate}
 use Rattle.rr_watch.specs.Lists.{AreAlike, literal_at, RankIs, IsBest, BestIs, Serves}
-use Rattle.rr_watch.proofs.EntryLaws.{holds_at, decisions-le}
-use Rattle.rr_watch.proofs.TrailLaws.{negated-negated}
+use Rattle.rr_trail.proofs.EntryLaws.{holds_at, decisions-le}
+use Rattle.rr_trail.proofs.TableLaws.{negated-negated}
 
 pub same_or_apart : (l m : Literal) → (l ≡ m) ⊎ (l ≡ m → ⊥)
 same_or_apart l m = elim (cases_eq (code_of l) (code_of m)) [ inl e ↦ inl (same_code l m e) | inr n ↦ inr (λ e. n (ap code_of e)) ]

@@ -1,4 +1,3 @@
-pub mod Trails
 pub mod WatchLists
 pub mod Holdings
 pub mod Lists

@@ -4,7 +4,7 @@ use Rattle.std.specs.List.{list_any, sum_by, swap_remove}
 use Rattle.rr_cnf.specs.Clauses.{Literal, negated, IsWithin}
 use Rattle.rr_cnf.specs.Codes.{code_of}
 use Rattle.rr_cnf.specs.Partial.{IsFalse}
-use Rattle.rr_watch.specs.Trails.{Entry, entry, lits, Forces, Standing, IsTrail, AreForced, Grown}
+use Rattle.rr_trail.specs.Trails.{Entry, entry, lits, Forces, Standing, IsTrail, AreForced, Grown}
 use Rattle.rr_watch.specs.Watches.{Named}
 use Rattle.rr_watch.specs.WatchLists.{WatchList, IsListed, blocker_of, is_brief, nobody}
 use Rattle.rr_watch.specs.declared.watchers.Watcher.{Watcher}

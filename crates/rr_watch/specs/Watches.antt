@@ -2,7 +2,7 @@
 use Rattle.std.specs.Prelude.{◌≡◌, ℕ, ◌+◌, ◌<◌, ◌⊎◌, List, [], ◌∷◌, length, get_or, map, All, Contains}
 use Rattle.rr_cnf.specs.Clauses.{Literal, negated, IsWithin}
 use Rattle.rr_cnf.specs.Partial.{IsFalse, IsQuiet, IsUnit}
-use Rattle.rr_watch.specs.Trails.{Entry, IsCut, entry, lits}
+use Rattle.rr_trail.specs.Trails.{Entry, IsCut, entry, lits}
 use Rattle.rr_watch.specs.declared.watch.Propagated.{Propagated}
 use Rattle.rr_watch.specs.declared.watch.Propagated.TheVariants.{Quiet, Conflict}
 

@@ -5,7 +5,6 @@
 
 mod hand;
 mod propagator;
-mod trail;
 mod watch;
 mod watchers;
 

@@ -3,7 +3,7 @@ ghost use Rattle.std.specs.Prelude.{◌≡◌, ℕ, ◌+◌, ◌*◌, ◌<◌, �
 ghost use Rattle.rr_cnf.specs.Clauses.{IsWithin, Literal, negated};
 ghost use Rattle.rr_cnf.specs.Codes.{code_of};
 ghost use Rattle.rr_cnf.specs.Partial.{IsQuiet};
-ghost use Rattle.rr_watch.specs.Trails.{Entry, Forces, IsCut, Standing, entry, lits};
+ghost use Rattle.rr_trail.specs.Trails.{Entry, Forces, IsCut, Standing, entry, lits};
 ghost use Rattle.rr_watch.specs.Lists.{Advances, AreAlike, AreServed, IsWatcher, watching_at, BestIs, IsAhead, IsApart, IsAsserted, IsConflict, IsNext, IsOther, IsPlaced, IsReplacement, IsReplacementIn, IsSettled, HasSpare, KeepsSeen, IsForcedShort, AreForcedShort, IsNew, KeepsPlace, RankIs, Serves, watcher_at, Stays, SteppedIs, Whole, first_of, has, list_at, list_len, literal_at, second_of, wanted};
 ghost use Rattle.rr_watch.specs.WatchLists.{blocker_of};
 ghost use Rattle.rr_watch.specs.Holdings.{Adds, Held, IsSource, all_numbered, coming, held_at, id_of};
@@ -11,9 +11,9 @@ ghost use Rattle.rr_watch.specs.declared.hand.Watched.{Watched};
 ghost use Rattle.rr_watch.specs.Watches.{MayAdd, Named, Numbered, bare};
 
 use crate::hand::{Hand, Source, Watched};
-use crate::trail::Trail;
 use crate::watchers::{WatchLists, Watcher};
 use rr_cnf::{Formula, Lit};
+use rr_trail::Trail;
 use std::alloc::{AllocError, Global};
 
 /// What became of a clause when a literal that it watched was seen to be false.

@@ -1,15 +1,17 @@
 //! Clauses and a trail.
 ghost use Rattle.std.specs.Prelude.{◌≡◌, ℕ, ◌+◌, ◌<◌, ◌≤◌, ◌++◌, ◌∷◌, [], All, Contains, length, List, take, IfOk, IfSome, IfNone, MatchBool, MatchOption, OnErr, OnOk, Option, Some, None};
 ghost use Rattle.rr_cnf.specs.Clauses.{IsWithin, Literal, negated};
-ghost use Rattle.rr_watch.specs.Trails.{AreForced, Entry, Grown, IsTrail, Reason, decisions, entry, lits};
+ghost use Rattle.rr_trail.specs.Trails.{AreForced, Entry, Grown, IsTrail, Reason, decisions, entry, lits};
 ghost use Rattle.rr_watch.specs.Watches.{AreHeld, IsBack, MayAdd, Named, Numbered, PropagatedIs, numbered_from};
 
 use crate::hand::Source;
 use crate::propagator::Propagator;
-use crate::trail::MOST_VARS;
 use rr_cnf::{Clause, Formula, Lit};
 use std::alloc::{AllocError, Global};
 use std::marker::Model;
+
+/// The most variables, so that a literal and a mark beside it fit 32 bits.
+const MOST_VARS: u64 = 1_073_741_823;
 
 /// What propagation comes to.
 #[derive(Debug, Clone, Copy, PartialEq, Eq)]
@@ -152,6 +154,14 @@ impl<'f> Watch<'f> {
         ensures count { (k : ℕ) → k < length self.now.trail → (entry self.now.trail k).lit.var ≡ lit.var → result ≡ decisions (take (k + 1) self.now.trail) }
     {
         self.propagator.trail.level(lit)
+    }
+
+    /// The place in the trail of an assigned literal, or of its negation, from 0.
+    pub fn place(&self, lit: Lit) -> usize
+        requires { IsWithin self.now.vars lit }
+        ensures { (k : ℕ) → k < length self.now.trail → (entry self.now.trail k).lit.var ≡ lit.var → result ≡ k }
+    {
+        self.propagator.trail.place(lit)
     }
 
     /// The id of the clause that forced a true literal: one that has the literal, and whose others were

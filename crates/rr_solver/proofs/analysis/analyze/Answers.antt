@@ -2,8 +2,8 @@ use Rattle.std.proofs.Common.{◌≡◌, ◌∙◌, ◌<◌, ◌≤◌, ◌++◌
 use Rattle.std.specs.Prelude.{All}
 use Rattle.std.proofs.lemmas.List.Elements.{All-get_or}
 use Rattle.rr_cnf.specs.Clauses.{IsWithin, negated}
-use Rattle.rr_watch.specs.Trails.{entry}
-use Rattle.rr_watch.proofs.EntryLaws.{length_lits}
+use Rattle.rr_trail.specs.Trails.{entry}
+use Rattle.rr_trail.proofs.EntryLaws.{length_lits}
 use Rattle.rr_solver.specs.Workspaces.{HaveOwnVars, IsBegun}
 use Rattle.rr_solver.proofs.Walk.{Learns-walk, Greatest-same, Greatest-new, lit_here}
 use Rattle.rr_solver.proofs.WalkSteps.{Stand-keep, Stand-resolve, Stand-start, Walk-end, inside, lower, own_vars}

@@ -1,6 +1,6 @@
 use Rattle.std.proofs.Common.{◌+◌, ap, ◌∙◌}
 use Rattle.std.proofs.lemmas.List.{length_push}
-use Rattle.rr_watch.specs.Trails.{lits}
+use Rattle.rr_trail.specs.Trails.{lits}
 use Rattle.rr_solver.proofs.Values.{Agrees-push}
 use Rattle.rr_solver.proofs.engine.bits_of.Goals as goal
 

@@ -1,5 +1,5 @@
 use Rattle.std.proofs.Common.{◌≡◌, ◌+◌, length}
-use Rattle.rr_watch.specs.Trails.{lits}
+use Rattle.rr_trail.specs.Trails.{lits}
 use Rattle.rr_solver.specs.Engines.{Agrees}
 use Rattle.rr_solver.proofs.engine.bits_of.Given as goal
 

@@ -1,7 +1,7 @@
 use Rattle.std.proofs.Common.{subst, false}
 use Rattle.std.specs.Prelude.{Contains, MatchBool}
 use Rattle.rr_cnf.specs.Clauses.{Literal, negated}
-use Rattle.rr_watch.specs.Trails.{lits}
+use Rattle.rr_trail.specs.Trails.{lits}
 use Rattle.rr_solver.proofs.Values.{truth_of}
 use Rattle.rr_solver.proofs.engine.is_true.Goals as goal
 

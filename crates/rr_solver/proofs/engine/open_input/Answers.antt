@@ -1,7 +1,7 @@
 use Rattle.std.proofs.Common.{◌+◌, subst, arith}
 use Rattle.std.specs.Prelude.{Contains, MatchOption, MatchBool}
 use Rattle.rr_cnf.specs.Clauses.{Literal, negated}
-use Rattle.rr_watch.specs.Trails.{lits}
+use Rattle.rr_trail.specs.Trails.{lits}
 use Rattle.rr_solver.proofs.Values.{assigned_from, up_one}
 use Rattle.rr_solver.proofs.engine.open_input.Goals as goal
 

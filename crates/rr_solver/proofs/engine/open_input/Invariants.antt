@@ -1,6 +1,6 @@
 use Rattle.std.proofs.Common.{ℕ, ◌≤◌}
 use Rattle.rr_cnf.specs.Partial.{IsAssigned}
-use Rattle.rr_watch.specs.Trails.{lits}
+use Rattle.rr_trail.specs.Trails.{lits}
 use Rattle.rr_solver.proofs.engine.open_input.Given as goal
 
 abbrev pub invariant-loop-index : goal.invariant-loop-index

@@ -1,6 +1,6 @@
 use Rattle.std.proofs.Common.{◌∙◌, inl, inr, ap, sym, refl}
 use Rattle.std.proofs.lemmas.Bool.{true≢false}
-use Rattle.rr_watch.proofs.EntryLaws.{place_of}
+use Rattle.rr_trail.proofs.EntryLaws.{place_of}
 use Rattle.rr_cnf.specs.Clauses.{negated}
 use Rattle.rr_watch.proofs.propagator.rank.Goals as goal
 

@@ -1,7 +1,7 @@
 use Rattle.std.proofs.Common.{◌≡◌, ◌⊎◌, ℕ, ◌<◌, ◌≤◌}
 use Rattle.std.specs.Prelude.{Contains}
 use Rattle.rr_cnf.specs.Clauses.{negated}
-use Rattle.rr_watch.specs.Trails.{lits}
+use Rattle.rr_trail.specs.Trails.{lits}
 use Rattle.rr_watch.specs.Lists.{literal_at}
 use Rattle.rr_watch.proofs.propagator.replacement_in.Given as goal
 

@@ -1,5 +1,5 @@
 use Rattle.std.proofs.Common.{◌≡◌, ◌∙◌, ◌+◌, ◌++◌, ◌∷◌, [], length, ap, refl, subst, arith}
-use Rattle.rr_watch.proofs.EntryLaws.{length_lits}
+use Rattle.rr_trail.proofs.EntryLaws.{length_lits}
 use Rattle.rr_solver.proofs.WalkSteps.{ready_cut}
 use Rattle.std.specs.Prelude.{All}
 use Rattle.rr_cnf.specs.Clauses.{IsWithin}

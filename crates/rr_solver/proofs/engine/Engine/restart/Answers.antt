@@ -1,5 +1,5 @@
 use Rattle.std.proofs.Common.{ap, length, sym, subst, ◌∙◌}
-use Rattle.rr_watch.proofs.EntryLaws.{length_lits}
+use Rattle.rr_trail.proofs.EntryLaws.{length_lits}
 use Rattle.rr_solver.proofs.WalkSteps.{ready_cut}
 use Rattle.rr_watch.specs.Watches.{bare}
 use Rattle.rr_solver.specs.Engines.{AllStand}

@@ -4,7 +4,7 @@ use Rattle.std.proofs.lemmas.List.Elements.{Contains-get_or}
 use Rattle.std.proofs.lemmas.Bool.{eqb-false}
 use Rattle.rr_cnf.specs.Clauses.{Literal, negated}
 use Rattle.rr_cnf.specs.Codes.{code_of}
-use Rattle.rr_watch.specs.Trails.{lits}
+use Rattle.rr_trail.specs.Trails.{lits}
 use Rattle.rr_watch.specs.Holdings.{held_at}
 use Rattle.rr_watch.specs.Lists.{AreAlike, first_of, literal_at, second_of}
 use Rattle.rr_watch.proofs.StateSteps.{literal_is}

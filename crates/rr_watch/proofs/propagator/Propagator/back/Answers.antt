@@ -1,8 +1,8 @@
 use Rattle.std.proofs.Common.{◌≡◌, ◌∙◌, ap, sym, arith, length, inl, inr}
 use Rattle.std.proofs.lemmas.Bool.{eqb-true, cases_lt}
-use Rattle.rr_watch.specs.Trails.{entry}
+use Rattle.rr_trail.specs.Trails.{entry}
 use Rattle.rr_watch.proofs.StateLaws.{State-back}
-use Rattle.rr_watch.proofs.EntryLaws.{length_lits}
+use Rattle.rr_trail.proofs.EntryLaws.{length_lits}
 use Rattle.rr_watch.proofs.propagator.Propagator.back.Goals.{then-self-len, else-self-len}
 use Rattle.rr_watch.proofs.propagator.Propagator.back.Goals as goal
 

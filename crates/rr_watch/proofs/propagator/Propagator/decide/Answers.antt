@@ -1,6 +1,6 @@
 use Rattle.std.proofs.Common.{◌≡◌, ◌∙◌, ap, sym, arith, length}
 use Rattle.std.specs.Prelude.{None, Some}
-use Rattle.rr_watch.proofs.EntryLaws.{length_lits}
+use Rattle.rr_trail.proofs.EntryLaws.{length_lits}
 use Rattle.rr_watch.proofs.StateLaws.{State-push}
 use Rattle.rr_watch.proofs.propagator.Propagator.decide.Goals as goal
 

@@ -2,7 +2,7 @@ use Rattle.std.proofs.Common.{◌≡◌, ◌∙◌, ap, sym, subst, arith}
 use Rattle.std.specs.Prelude.{Contains, Some}
 use Rattle.std.proofs.lemmas.List.{map_push}
 use Rattle.std.proofs.lemmas.List.Elements.{Contains-push}
-use Rattle.rr_watch.specs.Trails.{Entry, lits}
+use Rattle.rr_trail.specs.Trails.{Entry, lits}
 use Rattle.rr_watch.specs.Holdings.{all_numbered, held_at}
 use Rattle.rr_watch.specs.Watches.{Named}
 use Rattle.rr_watch.proofs.ListLaws.{named_at}

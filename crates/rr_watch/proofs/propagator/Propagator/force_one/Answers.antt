@@ -3,11 +3,11 @@ use Rattle.std.specs.Prelude.{Contains}
 use Rattle.std.proofs.lemmas.List.{get_or_default}
 use Rattle.std.proofs.lemmas.List.Elements.{Contains-get_or}
 use Rattle.rr_cnf.specs.Clauses.{Literal, negated}
-use Rattle.rr_watch.specs.Trails.{lits}
+use Rattle.rr_trail.specs.Trails.{lits}
 use Rattle.rr_watch.specs.Watches.{Named}
 use Rattle.rr_watch.specs.Holdings.{all_numbered, held_at}
 use Rattle.rr_watch.specs.Lists.{AreAlike}
-use Rattle.rr_watch.proofs.EntryLaws.{All-from_contains}
+use Rattle.rr_trail.proofs.EntryLaws.{All-from_contains}
 use Rattle.rr_watch.proofs.ListLaws.{named_at}
 use Rattle.rr_watch.proofs.propagator.Propagator.force_one.Goals as goal
 

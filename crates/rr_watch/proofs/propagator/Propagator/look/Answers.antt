@@ -2,7 +2,7 @@ use Rattle.std.proofs.Common.{◌≡◌, ◌∙◌, ◌⊎◌, ap, sym, subst, r
 use Rattle.std.specs.Prelude.{All, Contains}
 use Rattle.std.proofs.lemmas.List.Elements.{Contains-get_or}
 use Rattle.rr_cnf.specs.Clauses.{Literal, negated}
-use Rattle.rr_watch.specs.Trails.{Forces, lits}
+use Rattle.rr_trail.specs.Trails.{Forces, lits}
 use Rattle.rr_watch.specs.Holdings.{held_at}
 use Rattle.rr_watch.specs.Lists.{IsPlaced, IsServed, literal_at, watching_at}
 use Rattle.rr_watch.proofs.StateSteps.{literal_is}

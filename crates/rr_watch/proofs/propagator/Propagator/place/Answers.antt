@@ -1,7 +1,7 @@
 use Rattle.std.proofs.Common.{◌≡◌, ◌<◌, ℕ, ap, sym, subst, arith, refl}
 use Rattle.std.specs.Prelude.{Contains, None, Some}
 use Rattle.rr_cnf.specs.Clauses.{negated}
-use Rattle.rr_watch.specs.Trails.{entry, lits}
+use Rattle.rr_trail.specs.Trails.{entry, lits}
 use Rattle.rr_watch.specs.Lists.{IsBest, Serves, literal_at}
 use Rattle.rr_watch.proofs.PlaceLaws.{alike_none, alike_one, serves_first, serves_second}
 use Rattle.rr_watch.proofs.StateSteps.{literal_is}

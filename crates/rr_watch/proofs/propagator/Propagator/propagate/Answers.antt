@@ -1,6 +1,6 @@
 use Rattle.std.proofs.Common.{◌∙◌, ap, sym, subst, arith, length}
 use Rattle.rr_watch.specs.Lists.{AreForcedShort}
-use Rattle.rr_watch.proofs.EntryLaws.{length_lits}
+use Rattle.rr_trail.proofs.EntryLaws.{length_lits}
 use Rattle.rr_watch.proofs.AdvanceLaws.{Advances-trans, forced_more}
 use Rattle.rr_watch.proofs.StateLaws.{quiet_at_rest}
 use Rattle.rr_watch.proofs.propagator.Propagator.propagate.Goals as goal

@@ -1,5 +1,5 @@
 use Rattle.std.proofs.Common.{◌≡◌, ◌≤◌, ◌<◌, ℕ}
-use Rattle.rr_watch.specs.Trails.{entry}
+use Rattle.rr_trail.specs.Trails.{entry}
 use Rattle.rr_watch.proofs.propagator.Propagator.rewind.Given as goal
 
 abbrev pub invariant-loop-self : goal.invariant-loop-self

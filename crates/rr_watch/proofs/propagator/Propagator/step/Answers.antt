@@ -1,6 +1,6 @@
 use Rattle.std.proofs.Common.{◌∙◌, sym, subst, refl}
 use Rattle.std.specs.Prelude.{Contains}
-use Rattle.rr_watch.specs.Trails.{Forces, lits}
+use Rattle.rr_trail.specs.Trails.{Forces, lits}
 use Rattle.rr_watch.specs.Holdings.{held_at}
 use Rattle.rr_watch.specs.WatchLists.{blocker_of}
 use Rattle.rr_watch.specs.Lists.{IsServed, watching_at}

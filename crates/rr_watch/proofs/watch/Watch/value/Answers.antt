@@ -1,7 +1,7 @@
 use Rattle.std.proofs.Common.{subst}
 use Rattle.std.specs.Prelude.{Contains, MatchBool, MatchOption}
 use Rattle.rr_cnf.specs.Clauses.{negated}
-use Rattle.rr_watch.specs.Trails.{lits}
+use Rattle.rr_trail.specs.Trails.{lits}
 use Rattle.rr_watch.proofs.watch.Watch.value.Goals as goal
 
 pub returns : goal.returns
