@@ -2,7 +2,7 @@
 use Rattle.std.proofs.Common.{◌≡◌, ℕ, suc, zero, ◌+◌, ◌-◌, ◌<◌, ◌≤◌, List, [], ◌∷◌, ◌++◌, length, get_or, set, take, drop, map, refl, sym, ◌∙◌, ap, arith}
 use Rattle.std.specs.Prelude.{All}
 use Rattle.std.proofs.lemmas.List.{take_more, take_all, take-append-le, drop-append-le, drop_at, length-drop, length-set, length-take-le, length-map, length-append, get_or-map, get_or-take, get_or_append_left, get_or-append_right, map-set, map_push, append_assoc, append-nil, set-append_left, set-append_right, nil_from_length}
-use Rattle.std.proofs.lemmas.List.Elements.{All-get_or, All-head, All-push, All-tail, All-weaker}
+use Rattle.std.proofs.lemmas.List.Elements.{All-get_or, All-head, All-tail}
 use Rattle.rr_cnf.specs.Clauses.{Literal}
 use Rattle.rr_watch.specs.Watches.{Numbered, numbered_from}
 use Rattle.rr_watch.specs.Holdings.{Held, IsHand, IsInside, held_at, holds, of_added, of_formula, watching}
@@ -66,12 +66,6 @@ inside_all lits c (a ∷ added) h = ap (λ x. x ∷ map (of_added (lits ++ c)) a
 
 pub inside_new : (lits c : List Literal) (n m : ℕ) → n ≡ length lits → m ≡ length lits + length c → take (m - n) (drop n (lits ++ c)) ≡ c
 inside_new lits c n m start end = ap (take (m - n)) (drop_at lits c n (sym start)) ∙ take_all (m - n) c (omega (arith, start, end))
-
-pub inside_pushed : (lits c : List Literal) (added : List Added) (a : Added) → All (IsInside lits) added → a.start ≡ length lits → a.end ≡ length lits + length c → All (IsInside (lits ++ c)) (added ++ a ∷ [])
-inside_pushed lits c added a h start end =
-    let long = length-append lits c in
-    let earlier = All-weaker (IsInside lits) (IsInside (lits ++ c)) (λ x i. record { order = i.order; end = omega (arith, i.end, long) }) added h in
-    All-push (IsInside (lits ++ c)) added a earlier (record { order = omega (arith, start, end); end = omega (arith, end, long) })
 
 -- what is read at a place
 module _ (fs : List (List Literal)) (ws : List Watched) (added : List Added) (lits : List Literal) (h : IsHand fs ws added lits) where

@@ -9,3 +9,4 @@ pub mod PlaceLaws
 pub mod HandLaws
 pub mod NumberLaws
 pub mod AheadLaws
+pub mod BlockerLaws

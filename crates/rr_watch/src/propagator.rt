@@ -18,7 +18,7 @@ use std::alloc::{AllocError, Global};
 
 /// What became of a clause when a literal that it watched was seen to be false.
 enum Step {
-    /// Its other watched literal is true now.
+    /// A literal of it is true, and it watches what it did.
     Kept,
     /// It watches another literal in its place.
     Moved,
@@ -486,15 +486,54 @@ impl<'f> Propagator<'f> {
         };
         let other = clause[place as usize];
         if self.trail.is_true(other) {
+            self.block(falsified, at, other);
             return Step::Kept;
         }
         match replacement(&self.trail, clause, other, watched.beside(place)) {
-            Some(found) => {
-                self.rewatch(falsified, at, place, found);
-                Step::Moved
-            }
+            Some(found) => self.replace(falsified, at, place, found),
             None => self.settle(falsified, at, other),
         }
+    }
+
+    // Has the clause watch the literal at the found place. Where that one is true, the clause stays where
+    // it is, since it need not be looked at as long as that is so.
+    fn replace(&mut self, falsified: Lit, at: usize, other: u32, found: u32) -> Step
+        requires whole { Whole self.old }
+        requires next { IsNext self.old falsified }
+        requires at { at < list_len self.old falsified }
+        requires served { AreServed self.old falsified at }
+        requires other { IsOther (watching_at self.old falsified at) falsified (Some other) }
+        requires found { IsReplacement self.old.trail.entries (watching_at self.old falsified at).clause (literal_at (watching_at self.old falsified at).clause other) (Some found) }
+        ensures whole { Whole self.new }
+        ensures advances { Advances self.old self.new }
+        ensures keeps { KeepsPlace self.old self.new }
+        ensures stepped { SteppedIs self.old self.new falsified at result }
+    {
+        let index = self.watcher(falsified, at).place();
+        let lit = self.hand.clause(index)[found as usize];
+        if self.trail.is_true(lit) {
+            self.block(falsified, at, lit);
+            return Step::Kept;
+        }
+        self.rewatch(falsified, at, other, found);
+        Step::Moved
+    }
+
+    // Leaves a clause in the list, with a true literal of it as its blocker.
+    fn block(&mut self, falsified: Lit, at: usize, blocker: Lit)
+        requires whole { Whole self.old }
+        requires next { IsNext self.old falsified }
+        requires at { at < list_len self.old falsified }
+        requires served { AreServed self.old falsified at }
+        requires member { Contains (watching_at self.old falsified at).clause blocker }
+        requires held { Contains (lits self.old.trail.entries) blocker }
+        ensures whole { Whole self.new }
+        ensures stays { Stays self.old self.new }
+        ensures keeps { KeepsPlace self.old self.new }
+        ensures stepped { SteppedIs self.old self.new falsified at Step.Kept }
+    {
+        let watcher = self.watcher(falsified, at).blocked_by(blocker);
+        self.lists.set(falsified, at, watcher);
     }
 
     // Makes the literal of such a clause true whose other literals are false.
