@@ -97,7 +97,7 @@ fn holds_short_clauses(rt: HostRuntime) -> Result<(), Fail> {
     let empty = formula(alloc, 3, &[&[1], &[]])?;
     let mut watch = Watch::new(alloc, &empty)?;
     assert_eq!(rt; watch.propagate(), Propagated::Conflict(2));
-    assert_eq!(rt; watch.clause(2).map(|clause| clause.lits().len()), Some(0));
+    assert_eq!(rt; watch.clause(2).map(|clause| clause.len()), Some(0));
     assert!(rt;
         watch.clause(0).is_none() && watch.clause(3).is_none(),
         "no clause"
@@ -156,7 +156,7 @@ fn added(alloc: Global, none: &Formula) -> Result<Watch, Fail>
     watch.decide(two);
     let lits = [one.negated(), two.negated(), Lit::new(3, false)];
     let learned = Clause::from_lits(alloc, &lits)?;
-    watch.add(alloc, 9, &learned)?;
+    watch.add(9, &learned)?;
     Ok(watch)
 }
 
@@ -264,7 +264,7 @@ fn scan(alloc: Global, watch: &Watch) -> Result<Scanned, Fail> {
             scanned.is_changed = false;
             for id in 1..101 {
                 if let Some(clause) = watch.clause(id) {
-                    scanned.look(clause.lits());
+                    scanned.look(clause);
                 }
             }
         }
@@ -272,11 +272,8 @@ fn scan(alloc: Global, watch: &Watch) -> Result<Scanned, Fail> {
     Ok(scanned)
 }
 
-fn is_false(watch: &Watch, clause: &Clause) -> bool {
-    clause
-        .lits()
-        .iter()
-        .all(|lit| value(watch, *lit) == Some(false))
+fn is_false(watch: &Watch, clause: &[Lit]) -> bool {
+    clause.iter().all(|lit| value(watch, *lit) == Some(false))
 }
 
 fn same_values(watch: &Watch, scanned: &Scanned) -> bool {
@@ -304,13 +301,13 @@ fn agrees(alloc: Global, watch: &mut Watch) -> Result<bool, Fail>
 }
 
 /// Adds a clause, if nothing is decided.
-fn add(alloc: Global, watch: &mut Watch, id: u64, clause: &Clause) -> Result<(), Fail>
+fn add(watch: &mut Watch, id: u64, clause: &Clause) -> Result<(), Fail>
     requires { All (λ n. n.id < id) watch.old.clauses }
     ensures { All (λ n. n.id < id + 1) watch.new.clauses }
 {
     let vars = watch.vars();
     if watch.depth() == 0 && clause.lits().iter().all(|lit| lit.var() <= vars) {
-        watch.add(alloc, id, clause)?;
+        watch.add(id, clause)?;
     }
     Ok(())
 }
@@ -331,7 +328,7 @@ fn walk(alloc: Global, numbers: &mut Numbers, watch: &mut Watch, id: u64) -> Res
         1 | 2 => agrees(alloc, watch),
         3 => {
             let clause = random_clause(alloc, numbers, watch.vars())?;
-            add(alloc, watch, id, &clause)?;
+            add(watch, id, &clause)?;
             Ok(true)
         }
         _ => {

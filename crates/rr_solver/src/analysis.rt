@@ -29,7 +29,7 @@ fn meet_named(watch: &Watch<'_>, work: &mut Workspace, id: u64) -> Result<(), Al
     ensures met { (c : List Literal) → Named watch.now.clauses id c → OnOk result (Met work.old c work.new) }
 {
     if let Some(clause) = watch.clause(id) {
-        work.meet_all(clause.lits())?;
+        work.meet_all(clause)?;
     }
     Ok(())
 }

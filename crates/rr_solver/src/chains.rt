@@ -80,7 +80,7 @@ impl Chains {
         ensures { IfSome result (IsWithin watch.now.vars) }
     {
         let clause = watch.clause(watch.reason(lit)?)?;
-        for other in clause.lits() {
+        for other in clause {
             let is_known = other.var() == lit.var()
                 || work.is_marked(other.var())
                 || watch.level(*other) == 0

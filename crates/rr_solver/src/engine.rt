@@ -275,7 +275,7 @@ impl<'f> Engine<'f> {
         self.last = id;
         let kept = self.watch.trail();
         self.work.cut(kept.len());
-        self.watch.add(self.alloc, id, &clause)?;
+        self.watch.add(id, &clause)?;
         self.journal.push_at(id, clause, hints)?;
         self.status = Status::Running;
         Ok(Stepped::Learned)
@@ -399,7 +399,7 @@ impl<'f> Engine<'f> {
         self.handed.reserve(1)?;
         let place = self.watch.len() as usize;
         let _trail = self.watch.trail();
-        self.watch.add(self.alloc, id, clause)?;
+        self.watch.add(id, clause)?;
         self.handed.push_reserved(place);
         self.last = id;
         Ok(())

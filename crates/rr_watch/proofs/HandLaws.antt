@@ -1,9 +1,11 @@
 -- the clauses at hand, as they are read in the formula and among those that were added
-use Rattle.std.proofs.Common.{◌≡◌, ℕ, suc, zero, ◌+◌, ◌-◌, ◌<◌, ◌≤◌, List, [], ◌∷◌, ◌++◌, length, get_or, set, take, map, refl, sym, ◌∙◌, ap, arith}
-use Rattle.std.proofs.lemmas.List.{take_more, length-take-le, length-map, length-append, get_or-map, get_or-take, get_or_append_left, get_or-append_right, map_push, append_assoc, append-nil}
+use Rattle.std.proofs.Common.{◌≡◌, ℕ, suc, zero, ◌+◌, ◌-◌, ◌<◌, ◌≤◌, List, [], ◌∷◌, ◌++◌, length, get_or, set, take, drop, map, refl, sym, ◌∙◌, ap, arith}
+use Rattle.std.specs.Prelude.{All}
+use Rattle.std.proofs.lemmas.List.{take_more, take_all, take-append-le, drop-append-le, drop_at, length-drop, length-set, length-take-le, length-map, length-append, get_or-map, get_or-take, get_or_append_left, get_or-append_right, map-set, map_push, append_assoc, append-nil, set-append_left, set-append_right, nil_from_length}
+use Rattle.std.proofs.lemmas.List.Elements.{All-get_or, All-head, All-tail}
 use Rattle.rr_cnf.specs.Clauses.{Literal}
 use Rattle.rr_watch.specs.Watches.{Numbered, numbered_from}
-use Rattle.rr_watch.specs.Holdings.{Held, IsHand, held_at, numbered, numbers, of_added, watching}
+use Rattle.rr_watch.specs.Holdings.{Held, IsHand, IsInside, held_at, holds, of_added, of_formula, watching}
 use Rattle.rr_watch.specs.declared.hand.Added.{Added}
 use Rattle.rr_watch.specs.declared.hand.Watched.{Watched}
 
@@ -50,74 +52,94 @@ numbered_push n (x ∷ xs) c =
     let e : n + 1 + length xs ≡ n + length (x ∷ xs) = omega arith in
     ap (λ t. record { id = n; clause = x } ∷ t) (numbered_push (n + 1) xs c ∙ ap (λ k. numbered_from (n + 1) xs ++ record { id = k; clause = c } ∷ []) e)
 
-module _ (fs : List (List Literal)) (known : ℕ) (added : List Added) (few : known ≤ length fs) where
-  front_length : length (numbered_from 1 (take known fs)) ≡ known
-  front_length = numbered_length 1 (take known fs) ∙ length-take-le known fs few
+-- the literals of one clause among those of all
+pub inside_more : (lits c : List Literal) (a : Added) → IsInside lits a → of_added (lits ++ c) a ≡ of_added lits a
+inside_more lits c a i =
+    let e : take (a.end - a.start) (drop a.start (lits ++ c)) ≡ take (a.end - a.start) (drop a.start lits) =
+    ap (take (a.end - a.start)) (drop-append-le a.start lits c (omega (arith, i.order, i.end)))
+    ∙ take-append-le (a.end - a.start) (drop a.start lits) c (omega (arith, i.order, i.end, length-drop a.start lits)) in
+    ap (λ x. record { id = a.id; clause = x; first = a.watched.first; second = a.watched.second }) e
 
-  pub numbers_length : length (numbers fs known added) ≡ known + length added
-  numbers_length = length-append (numbered_from 1 (take known fs)) (map of_added added) ∙ omega (arith, front_length, length-map added of_added)
+pub inside_all : (lits c : List Literal) (added : List Added) → All (IsInside lits) added → map (of_added (lits ++ c)) added ≡ map (of_added lits) added
+inside_all lits c [] h = refl
+inside_all lits c (a ∷ added) h = ap (λ x. x ∷ map (of_added (lits ++ c)) added) (inside_more lits c a (All-head (IsInside lits) a added h)) ∙ ap (λ x. of_added lits a ∷ x) (inside_all lits c added (All-tail (IsInside lits) a added h))
 
-  pub numbers_known : (k : ℕ) (d : Numbered) (e : List Literal) → k < known → get_or (numbers fs known added) k d ≡ record { id = k + 1; clause = get_or fs k e }
-  numbers_known k d e b =
-      let s : 1 + k ≡ k + 1 = omega arith in
-      get_or_append_left (numbered_from 1 (take known fs)) (map of_added added) d k (omega (arith, front_length))
-      ∙ numbered_at 1 (take known fs) k d e (omega (arith, length-take-le known fs few))
-      ∙ ap (λ c. record { id = 1 + k; clause = c }) (get_or-take known fs k e b)
-      ∙ ap (λ i. record { id = i; clause = get_or fs k e }) s
-
-  pub numbers_added : (k : ℕ) (d : Numbered) (a : Added) → known ≤ k → k < known + length added → get_or (numbers fs known added) k d ≡ of_added (get_or added (k - known) a)
-  numbers_added k d a low high =
-      get_or-append_right (numbered_from 1 (take known fs)) (map of_added added) known k d front_length low
-      ∙ get_or-map of_added added (k - known) a d (omega arith)
-
-pub numbers_more : (fs : List (List Literal)) (known : ℕ) (added : List Added) (a : Added) → numbers fs known (added ++ a ∷ []) ≡ numbers fs known added ++ of_added a ∷ []
-numbers_more fs known added a = ap (λ x. numbered_from 1 (take known fs) ++ x) (map_push of_added added a) ∙ sym (append_assoc (numbered_from 1 (take known fs)) (map of_added added) (of_added a ∷ []))
-
-pub numbers_next : (fs : List (List Literal)) (known : ℕ) (added : List Added) (c : List Literal) → known < length fs → length added ≡ 0 → c ≡ get_or fs known [] → numbers fs (known + 1) added ≡ numbers fs known added ++ record { id = known + 1; clause = c } ∷ []
-numbers_next fs known (a ∷ added) c b none e = absurd (omega (arith, none))
-numbers_next fs known [] c b none e =
-    let n : 1 + length (take known fs) ≡ known + 1 = omega (arith, length-take-le known fs (omega arith)) in
-    append-nil (numbered_from 1 (take (known + 1) fs))
-    ∙ ap (numbered_from 1) (take_more fs known [] b ∙ ap (λ x. take known fs ++ x ∷ []) (sym e))
-    ∙ numbered_push 1 (take known fs) c
-    ∙ ap (λ i. numbered_from 1 (take known fs) ++ record { id = i; clause = c } ∷ []) n
-    ∙ sym (ap (λ x. x ++ record { id = known + 1; clause = c } ∷ []) (append-nil (numbered_from 1 (take known fs))))
+pub inside_new : (lits c : List Literal) (n m : ℕ) → n ≡ length lits → m ≡ length lits + length c → take (m - n) (drop n (lits ++ c)) ≡ c
+inside_new lits c n m start end = ap (take (m - n)) (drop_at lits c n (sym start)) ∙ take_all (m - n) c (omega (arith, start, end))
 
 -- what is read at a place
-module _ (fs : List (List Literal)) (known : ℕ) (added : List Added) (ws : List Watched) (h : IsHand fs known added ws) where
-  same : length ws ≡ length (numbers fs known added)
-  same = h.all ∙ sym (numbers_length fs known added h.few)
+module _ (fs : List (List Literal)) (ws : List Watched) (added : List Added) (lits : List Literal) (h : IsHand fs ws added lits) where
+  abbrev numbers : List Numbered
+  numbers = numbered_from 1 (take (length ws) fs)
 
-  pub hand_length : length (watching (numbers fs known added) ws) ≡ length ws
-  hand_length = watching_length (numbers fs known added) ws same
+  same : length ws ≡ length numbers
+  same = sym (numbered_length 1 (take (length ws) fs) ∙ length-take-le (length ws) fs h.few)
 
-  module _ (k : ℕ) (b : k < length (watching (numbers fs known added) ws)) where
-    inside : k < length ws
-    inside = omega (arith, b, hand_length)
+  front_length : length (of_formula fs ws) ≡ length ws
+  front_length = watching_length numbers ws same
 
-    read : (n : Numbered) (w : Watched) → held_at (watching (numbers fs known added) ws) k ≡ watcher (get_or (numbers fs known added) k n) (get_or ws k w)
-    read n w = watching_at (numbers fs known added) ws k n w same inside
+  pub hand_length : length (holds fs ws added lits) ≡ length ws + length added
+  hand_length = omega (arith, length-append (of_formula fs ws) (map (of_added lits) added), front_length, length-map added (of_added lits))
 
-    pub hand_first : (w : Watched) → (get_or ws k w).first ≡ (held_at (watching (numbers fs known added) ws) k).first
-    hand_first w = ap (λ x. x.first) (sym (read (record { id = 0; clause = [] }) w))
+  pub hand_front : (k : ℕ) (e : List Literal) (w : Watched) → k < length ws → held_at (holds fs ws added lits) k ≡ record { id = k + 1; clause = get_or fs k e; first = (get_or ws k w).first; second = (get_or ws k w).second }
+  hand_front k e w b =
+      let n : Numbered = record { id = 0; clause = [] } in
+      let s : 1 + k ≡ k + 1 = omega arith in
+      get_or_append_left (of_formula fs ws) (map (of_added lits) added) _ k (omega (arith, b, front_length))
+      ∙ watching_at numbers ws k n w same b
+      ∙ ap (λ x. watcher x (get_or ws k w)) (numbered_at 1 (take (length ws) fs) k n e (omega (arith, b, length-take-le (length ws) fs h.few)))
+      ∙ ap (λ c. watcher (record { id = 1 + k; clause = c }) (get_or ws k w)) (get_or-take (length ws) fs k e b)
+      ∙ ap (λ i. watcher (record { id = i; clause = get_or fs k e }) (get_or ws k w)) s
 
-    pub hand_second : (w : Watched) → (get_or ws k w).second ≡ (held_at (watching (numbers fs known added) ws) k).second
-    hand_second w = ap (λ x. x.second) (sym (read (record { id = 0; clause = [] }) w))
+  pub hand_behind : (k : ℕ) → length ws ≤ k → k < length (holds fs ws added lits) → k - length ws < length added
+  hand_behind k low b = omega (arith, low, b, hand_length)
 
-    pub hand_known : (e : List Literal) → k < known → record { id = k + 1; clause = get_or fs k e } ≡ numbered (held_at (watching (numbers fs known added) ws) k)
-    hand_known e x = sym (ap numbered (read (record { id = 0; clause = [] }) (record { first = 0; second = 0 })) ∙ numbers_known fs known added h.few k (record { id = 0; clause = [] }) e x)
+  pub hand_back : (k : ℕ) (a : Added) → length ws ≤ k → k < length (holds fs ws added lits) → held_at (holds fs ws added lits) k ≡ of_added lits (get_or added (k - length ws) a)
+  hand_back k a low b =
+      get_or-append_right (of_formula fs ws) (map (of_added lits) added) (length ws) k _ front_length low
+      ∙ get_or-map (of_added lits) added (k - length ws) a _ (hand_behind k low b)
 
-    pub hand_behind : known ≤ k → k - known < length added
-    hand_behind x = omega (arith, inside, h.all)
+  pub hand_inside : (k : ℕ) (a : Added) → length ws ≤ k → k < length (holds fs ws added lits) → IsInside lits (get_or added (k - length ws) a)
+  hand_inside k a low b = All-get_or (IsInside lits) added (k - length ws) a (hand_behind k low b) h.inside
 
-    pub hand_added : (a : Added) → known ≤ k → of_added (get_or added (k - known) a) ≡ numbered (held_at (watching (numbers fs known added) ws) k)
-    hand_added a x = sym (ap numbered (read (record { id = 0; clause = [] }) (record { first = 0; second = 0 })) ∙ numbers_added fs known added h.few k (record { id = 0; clause = [] }) a x (omega (arith, inside, h.all)))
+  pub hand_set_front : (k : ℕ) (w : Watched) → k < length ws → holds fs (set ws k w) added lits ≡ set (holds fs ws added lits) k (record (held_at (holds fs ws added lits) k) { first = w.first; second = w.second })
+  hand_set_front k w b =
+      let fl : k < length (of_formula fs ws) = omega (arith, b, front_length) in
+      let here = get_or_append_left (of_formula fs ws) (map (of_added lits) added) (record { id = 0; clause = []; first = 0; second = 0 }) k fl in
+      ap (λ n. watching (numbered_from 1 (take n fs)) (set ws k w) ++ map (of_added lits) added) (length-set ws k w)
+      ∙ ap (λ x. x ++ map (of_added lits) added) (watching_set numbers ws k w same b)
+      ∙ ap (λ (x : Held). set (of_formula fs ws) k (record x { first = w.first; second = w.second }) ++ map (of_added lits) added) (sym here)
+      ∙ sym (set-append_left (of_formula fs ws) (map (of_added lits) added) k _ fl)
 
-    pub hand_set : (w : Watched) → watching (numbers fs known added) (set ws k w) ≡ set (watching (numbers fs known added) ws) k (record (held_at (watching (numbers fs known added) ws) k) { first = w.first; second = w.second })
-    hand_set w = watching_set (numbers fs known added) ws k w same inside
+  pub hand_set_back : (k : ℕ) (a : Added) (w : Watched) → length ws ≤ k → k < length (holds fs ws added lits) → holds fs ws (set added (k - length ws) (record (get_or added (k - length ws) a) { watched = w })) lits ≡ set (holds fs ws added lits) k (record (held_at (holds fs ws added lits) k) { first = w.first; second = w.second })
+  hand_set_back k a w low b =
+      ap (λ x. of_formula fs ws ++ x) (map-set (of_added lits) added (k - length ws) (record (get_or added (k - length ws) a) { watched = w }))
+      ∙ ap (λ (x : Held). of_formula fs ws ++ set (map (of_added lits) added) (k - length ws) (record x { first = w.first; second = w.second })) (sym (hand_back k a low b))
+      ∙ sym (set-append_right (of_formula fs ws) (map (of_added lits) added) (length ws) k _ front_length low)
 
-  pub hand_more : (a : Added) (w : Watched) → watching (numbers fs known (added ++ a ∷ [])) (ws ++ w ∷ []) ≡ watching (numbers fs known added) ws ++ watcher (of_added a) w ∷ []
-  hand_more a w = ap (λ n. watching n (ws ++ w ∷ [])) (numbers_more fs known added a) ∙ watching_push (numbers fs known added) ws (of_added a) w same
+  pub hand_more : (c : List Literal) (a : Added) (w : Watched) → a.start ≡ length lits → a.end ≡ length lits + length c → a.watched ≡ w → holds fs ws (added ++ a ∷ []) (lits ++ c) ≡ holds fs ws added lits ++ record { id = a.id; clause = c; first = w.first; second = w.second } ∷ []
+  hand_more c a w start end on =
+      let e : of_added (lits ++ c) a ≡ record { id = a.id; clause = c; first = w.first; second = w.second } =
+      ap (λ x. record { id = a.id; clause = x; first = a.watched.first; second = a.watched.second }) (inside_new lits c a.start a.end start end)
+      ∙ ap (λ (x : Watched). record { id = a.id; clause = c; first = x.first; second = x.second }) on in
+      ap (λ x. of_formula fs ws ++ x) (map_push (of_added (lits ++ c)) added a)
+      ∙ ap (λ x. of_formula fs ws ++ (x ++ of_added (lits ++ c) a ∷ [])) (inside_all lits c added h.inside)
+      ∙ ap (λ x. of_formula fs ws ++ (map (of_added lits) added ++ x ∷ [])) e
+      ∙ sym (append_assoc (of_formula fs ws) (map (of_added lits) added) (record { id = a.id; clause = c; first = w.first; second = w.second } ∷ []))
 
-  pub hand_next : (c : List Literal) (w : Watched) → known < length fs → length (watching (numbers fs known added) ws) ≡ known → c ≡ get_or fs known [] → watching (numbers fs (known + 1) added) (ws ++ w ∷ []) ≡ watching (numbers fs known added) ws ++ record { id = known + 1; clause = c; first = w.first; second = w.second } ∷ []
-  hand_next c w b all e = ap (λ n. watching n (ws ++ w ∷ [])) (numbers_next fs known added c b (omega (arith, all, hand_length, h.all)) e) ∙ watching_push (numbers fs known added) ws (record { id = known + 1; clause = c }) w same
+  pub hand_next : (w : Watched) → length ws < length fs → length (holds fs ws added lits) ≡ length ws → holds fs (ws ++ w ∷ []) added lits ≡ holds fs ws added lits ++ record { id = length ws + 1; clause = get_or fs (length ws) []; first = w.first; second = w.second } ∷ []
+  hand_next w b all =
+      let none : added ≡ [] = nil_from_length added (omega (arith, all, hand_length)) in
+      let c = get_or fs (length ws) [] in
+      let long : length (ws ++ w ∷ []) ≡ length ws + 1 = omega (arith, length-append ws (w ∷ [])) in
+      let id : 1 + length (take (length ws) fs) ≡ length ws + 1 = omega (arith, length-take-le (length ws) fs h.few) in
+      let more : of_formula fs (ws ++ w ∷ []) ≡ of_formula fs ws ++ record { id = length ws + 1; clause = c; first = w.first; second = w.second } ∷ [] =
+      ap (λ n. watching (numbered_from 1 (take n fs)) (ws ++ w ∷ [])) long
+      ∙ ap (λ x. watching (numbered_from 1 x) (ws ++ w ∷ [])) (take_more fs (length ws) [] b)
+      ∙ ap (λ x. watching x (ws ++ w ∷ [])) (numbered_push 1 (take (length ws) fs) c ∙ ap (λ i. numbers ++ record { id = i; clause = c } ∷ []) id)
+      ∙ watching_push numbers ws (record { id = length ws + 1; clause = c }) w same in
+      ap (λ x. of_formula fs (ws ++ w ∷ []) ++ map (of_added lits) x) none
+      ∙ append-nil (of_formula fs (ws ++ w ∷ []))
+      ∙ more
+      ∙ ap (λ x. x ++ record { id = length ws + 1; clause = c; first = w.first; second = w.second } ∷ []) (sym (append-nil (of_formula fs ws)))
+      ∙ ap (λ x. (of_formula fs ws ++ map (of_added lits) x) ++ record { id = length ws + 1; clause = c; first = w.first; second = w.second } ∷ []) (sym none)

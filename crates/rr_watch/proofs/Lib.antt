@@ -7,3 +7,4 @@ pub mod PlaceLaws
 pub mod HandLaws
 pub mod NumberLaws
 pub mod AheadLaws
+pub mod BlockerLaws

@@ -1,5 +1,6 @@
 -- the clauses at hand: the first ones of a formula, and those that were added
-use Rattle.std.specs.Prelude.{◌≡◌, ℕ, ◌+◌, ◌≤◌, ◌<◌, List, [], ◌∷◌, ◌++◌, length, get_or, map, take}
+use Rattle.std.specs.Prelude.{◌≡◌, ℕ, ◌+◌, ◌≤◌, ◌<◌, List, [], ◌∷◌, ◌++◌, length, get_or, map, take, All}
+use Rattle.std.specs.List.{between}
 use Rattle.rr_cnf.specs.Clauses.{Literal}
 use Rattle.rr_watch.specs.Watches.{Numbered, numbered_from}
 use Rattle.rr_watch.specs.declared.hand.Added.{Added}
@@ -23,22 +24,32 @@ pub record Holding : Type 0 where
   pub known : ℕ
   pub held : List Held
 
-abbrev pub of_added : Added → Numbered
-of_added a = record { id = a.id; clause = a.clause }
-
 -- clauses with the places that they watch
 abbrev pub watching : List Numbered → List Watched → List Held
 watching [] ws = []
 watching (n ∷ ns) [] = []
 watching (n ∷ ns) (w ∷ ws) = record { id = n.id; clause = n.clause; first = w.first; second = w.second } ∷ watching ns ws
 
-abbrev pub numbers : List (List Literal) → ℕ → List Added → List Numbered
-numbers formula known added = numbered_from 1 (take known formula) ++ map of_added added
+-- the formula's first clauses, one for each of what they watch
+abbrev pub of_formula : List (List Literal) → List Watched → List Held
+of_formula formula ws = watching (numbered_from 1 (take (length ws) formula)) ws
 
--- each clause watches
-pub record IsHand (formula : List (List Literal)) (known : ℕ) (added : List Added) (watched : List Watched) : Type 0 where
-  pub few : known ≤ length formula
-  pub all : length watched ≡ known + length added
+-- a clause that was added, with its literals among those of all
+abbrev pub of_added : List Literal → Added → Held
+of_added lits a = record { id = a.id; clause = between a.start a.end lits; first = a.watched.first; second = a.watched.second }
+
+-- the formula's clauses, and behind them those that were added
+abbrev pub holds : List (List Literal) → List Watched → List Added → List Literal → List Held
+holds formula ws added lits = of_formula formula ws ++ map (of_added lits) added
+
+-- the literals of a clause that was added lie among those of all
+pub record IsInside (lits : List Literal) (a : Added) : Type 0 where
+  pub order : a.start ≤ a.end
+  pub end : a.end ≤ length lits
+
+pub record IsHand (formula : List (List Literal)) (ws : List Watched) (added : List Added) (lits : List Literal) : Type 0 where
+  pub few : length ws ≤ length formula
+  pub inside : All (IsInside lits) added
 
 -- the formula's clauses at hand, once a clause has come
 abbrev pub known_with : Holding → Source → ℕ

@@ -1,5 +1,5 @@
 -- clauses with their watched literals, and the lists of the clauses that watch each literal
-use Rattle.std.specs.Prelude.{◌≡◌, ℕ, ◌+◌, ◌-◌, ◌*◌, ◌<◌, ◌≤◌, ◌⊎◌, ◌==◌, ◌||◌, Bool, true, false, cond, List, [], ◌∷◌, ◌++◌, length, get_or, All, Contains, IfSome, Option, Some, None}
+use Rattle.std.specs.Prelude.{◌≡◌, ℕ, ◌+◌, ◌-◌, ◌*◌, ◌<◌, ◌≤◌, ◌⊎◌, ◌==◌, ◌||◌, Bool, true, false, cond, List, [], ◌∷◌, ◌++◌, length, get_or, set, All, Contains, IfSome, Option, Some, None}
 use Rattle.std.specs.List.{list_any, sum_by, swap_remove}
 use Rattle.rr_cnf.specs.Clauses.{Literal, negated, IsWithin}
 use Rattle.rr_cnf.specs.Codes.{code_of}
@@ -246,6 +246,13 @@ pub record Listed (ls new : List WatchList) (to : ℕ) (w : Watcher) : Type 0 wh
   pub entries : (list_at new to).entries ≡ (list_at ls to).entries ++ w ∷ []
   pub uses : (list_at new to).uses ≡ (list_at ls to).uses
   pub others : (c : ℕ) → (c ≡ to → ⊥) → list_at new c ≡ list_at ls c
+
+-- an entry of one list that is another one, for the same clause or another
+pub record Reblocked (ls new : List WatchList) (code at : ℕ) (w : Watcher) : Type 0 where
+  pub long : length new ≡ length ls
+  pub entries : (list_at new code).entries ≡ set (list_at ls code).entries at w
+  pub uses : (list_at new code).uses ≡ (list_at ls code).uses
+  pub others : (c : ℕ) → (c ≡ code → ⊥) → list_at new c ≡ list_at ls c
 
 -- the lists have room for one clause more that has these literals
 pub record HasRoom (old new : List WatchList) (c : List Literal) : Type 0 where

@@ -2,7 +2,7 @@
 ghost use Rattle.std.specs.Prelude.{◌≡◌, ◌⊎◌, ℕ, ◌+◌, ◌-◌, ◌<◌, ◌≤◌, ◌++◌, ◌∷◌, [], length, set, get_or, IfOk, OnErr, OnOk};
 ghost use Rattle.rr_watch.specs.Holdings.{Held, IsSource, coming, held_at, known_with};
 
-use rr_cnf::{Clause, Formula, Lit};
+use rr_cnf::{Formula, Lit};
 use std::alloc::{AllocError, Global};
 use std::marker::Model;
 
@@ -27,11 +27,14 @@ impl Watched {
     }
 }
 
-/// A clause that was added, with its id.
-#[derive(Drop)]
+/// A clause that was added: its id, the places of its literals from `start` to before `end` among those
+/// of all, and what it watches.
+#[derive(Clone, Copy)]
 pub(crate) struct Added {
     id: u64,
-    clause: Clause,
+    start: usize,
+    end: usize,
+    watched: Watched,
 }
 
 /// Where a clause comes from.
@@ -47,21 +50,22 @@ pub(crate) enum Source {
 #[derive(Drop)]
 pub(crate) struct Hand<'f> {
     formula: &'f Formula,
-    /// So many clauses of the formula are at hand.
-    known: usize,
-    added: Vec<Added>,
-    /// For each clause at hand, what it watches.
+    /// For each clause of the formula that is at hand, what it watches.
     watched: Vec<Watched>,
+    added: Vec<Added>,
+    /// The literals of those that were added, one clause behind another.
+    lits: Vec<Lit>,
 }
 
 impl<'f> Model for Hand<'f> {
-    ghost use Rattle.rr_watch.specs.Holdings.{Holding, IsHand, numbers, watching};
+    ghost use Rattle.std.specs.Prelude.{length};
+    ghost use Rattle.rr_watch.specs.Holdings.{Holding, IsHand, holds};
 
     ghost Value = { Holding };
 
-    ghost view = { λ h. record { formula = h.formula.now.clauses; known = h.known; held = watching (numbers h.formula.now.clauses h.known h.added.items) h.watched.items } };
+    ghost view = { λ h. record { formula = h.formula.now.clauses; known = length h.watched.items; held = holds h.formula.now.clauses h.watched.items h.added.items h.lits.items } };
 
-    ghost invariant = { λ h. IsHand h.formula.now.clauses h.known h.added.items h.watched.items };
+    ghost invariant = { λ h. IsHand h.formula.now.clauses h.watched.items h.added.items h.lits.items };
 }
 
 impl<'f> Hand<'f> {
@@ -71,9 +75,9 @@ impl<'f> Hand<'f> {
     {
         Ok(Hand {
             formula,
-            known: 0,
-            added: Vec::new(alloc),
             watched: Vec::with_capacity(alloc, formula.len() as usize)?,
+            added: Vec::new(alloc),
+            lits: Vec::new(alloc),
         })
     }
 
@@ -81,21 +85,23 @@ impl<'f> Hand<'f> {
     pub(crate) fn len(&self) -> usize
         ensures { result ≡ length self.now.held }
     {
-        self.watched.len()
+        self.watched.len() + self.added.len()
     }
 
     /// The clause at this place.
-    pub(crate) fn clause(&self, place: usize) -> &Clause
+    pub(crate) fn clause(&self, place: usize) -> &[Lit]
         requires { place < length self.now.held }
         ensures { result.now ≡ (held_at self.now.held place).clause }
     {
-        if place < self.known {
+        let known = self.watched.len();
+        if place < known {
             match self.formula.clause(place as u64 + 1) {
-                Some(clause) => clause,
+                Some(clause) => clause.lits(),
                 None => unreachable!(),
             }
         } else {
-            &self.added[place - self.known].clause
+            let Added { start, end, .. } = self.added[place - known];
+            &self.lits[start..end]
         }
     }
 
@@ -104,10 +110,11 @@ impl<'f> Hand<'f> {
         requires { place < length self.now.held }
         ensures { result ≡ (held_at self.now.held place).id }
     {
-        if place < self.known {
+        let known = self.watched.len();
+        if place < known {
             place as u64 + 1
         } else {
-            self.added[place - self.known].id
+            self.added[place - known].id
         }
     }
 
@@ -117,7 +124,12 @@ impl<'f> Hand<'f> {
         ensures first { result.first ≡ (held_at self.now.held place).first }
         ensures second { result.second ≡ (held_at self.now.held place).second }
     {
-        self.watched[place]
+        let known = self.watched.len();
+        if place < known {
+            self.watched[place]
+        } else {
+            self.added[place - known].watched
+        }
     }
 
     /// Has it watch other literals.
@@ -125,7 +137,12 @@ impl<'f> Hand<'f> {
         requires { place < length self.old.held }
         ensures { self.new ≡ record self.old { held = set self.old.held place record (held_at self.old.held place) { first = watched.first; second = watched.second } } }
     {
-        self.watched[place] = watched;
+        let known = self.watched.len();
+        if place < known {
+            self.watched[place] = watched;
+        } else {
+            self.added[place - known].watched = watched;
+        }
     }
 
     // Holds the formula's next clause.
@@ -135,34 +152,30 @@ impl<'f> Hand<'f> {
         ensures ok { OnOk result (self.new ≡ record { formula = self.old.formula; known = self.old.known + 1; held = self.old.held ++ record { id = self.old.known + 1; clause = get_or self.old.formula self.old.known []; first = watched.first; second = watched.second } ∷ [] }) }
         ensures err { OnErr result (self.new ≡ self.old) }
     {
-        self.watched.reserve(1)?;
-        self.watched.push_reserved(watched);
-        self.known += 1;
+        self.watched.push(watched)?;
         Ok(())
     }
 
     // Holds a copy of a clause.
-    fn copy(
-        &mut self,
-        alloc: Global,
-        id: u64,
-        clause: &[Lit],
-        watched: Watched,
-    ) -> Result<(), AllocError>
+    fn copy(&mut self, id: u64, clause: &[Lit], watched: Watched) -> Result<(), AllocError>
         ensures ok { OnOk result (self.new ≡ record self.old { held = self.old.held ++ record { id = id; clause = clause.now; first = watched.first; second = watched.second } ∷ [] }) }
         ensures err { OnErr result (self.new ≡ self.old) }
     {
-        self.watched.reserve(1)?;
-        let clause = Clause::from_lits(alloc, clause)?;
-        self.added.push(Added { id, clause })?;
-        self.watched.push_reserved(watched);
+        self.added.reserve(1)?;
+        let start = self.lits.len();
+        self.lits.extend_from_slice(clause)?;
+        self.added.push_reserved(Added {
+            id,
+            start,
+            end: self.lits.len(),
+            watched,
+        });
         Ok(())
     }
 
     /// Holds one more clause: the formula's next one, or a copy of another one.
     pub(crate) fn push(
         &mut self,
-        alloc: Global,
         source: Source,
         clause: &[Lit],
         watched: Watched,
@@ -173,7 +186,7 @@ impl<'f> Hand<'f> {
     {
         match source {
             Source::OfFormula => self.take(watched),
-            Source::Given(id) => self.copy(alloc, id, clause, watched),
+            Source::Given(id) => self.copy(id, clause, watched),
         }
     }
 }

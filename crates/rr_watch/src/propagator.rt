@@ -18,7 +18,7 @@ use std::alloc::{AllocError, Global};
 
 /// What became of a clause when a literal that it watched was seen to be false.
 enum Step {
-    /// Its other watched literal is true now.
+    /// A literal of it is true, and it watches what it did.
     Kept,
     /// It watches another literal in its place.
     Moved,
@@ -146,12 +146,7 @@ impl<'f> Propagator<'f> {
     }
 
     /// Holds one more clause: the formula's next one, or a copy of another one.
-    pub(crate) fn add(
-        &mut self,
-        alloc: Global,
-        source: Source,
-        clause: &[Lit],
-    ) -> Result<(), AllocError>
+    pub(crate) fn add(&mut self, source: Source, clause: &[Lit]) -> Result<(), AllocError>
         requires whole { Whole self.old }
         requires within { All (IsWithin self.old.trail.vars) clause.now }
         requires id { All (λ n. n.id < id_of self.old.hand source) (all_numbered self.old.hand.held) }
@@ -168,11 +163,11 @@ impl<'f> Propagator<'f> {
         }
         self.short.reserve(1)?;
         self.lists.expect(clause)?;
-        self.place(alloc, source, clause)
+        self.place(source, clause)
     }
 
     // Holds a clause for which the lists have room.
-    fn place(&mut self, alloc: Global, source: Source, clause: &[Lit]) -> Result<(), AllocError>
+    fn place(&mut self, source: Source, clause: &[Lit]) -> Result<(), AllocError>
         requires whole { Whole self.old }
         requires within { All (IsWithin self.old.trail.vars) clause.now }
         requires few { length clause.now < 4294967295 }
@@ -189,14 +184,14 @@ impl<'f> Propagator<'f> {
         ensures err { OnErr result (self.new.hand ≡ self.old.hand) }
     {
         let Some(first) = best(&self.trail, clause, &None) else {
-            return self.hold_short(alloc, source, clause);
+            return self.hold_short(source, clause);
         };
         let lit = clause[first as usize];
         let Some(second) = best(&self.trail, clause, &Some(lit)) else {
-            return self.hold_short(alloc, source, clause);
+            return self.hold_short(source, clause);
         };
         self.rewind(clause[second as usize]);
-        self.hold(alloc, source, clause, Watched { first, second })
+        self.hold(source, clause, Watched { first, second })
     }
 
     // Goes back to before the current level, if the literal is false.
@@ -220,13 +215,7 @@ impl<'f> Propagator<'f> {
     }
 
     // Holds a clause that watches two literals.
-    fn hold(
-        &mut self,
-        alloc: Global,
-        source: Source,
-        clause: &[Lit],
-        watched: Watched,
-    ) -> Result<(), AllocError>
+    fn hold(&mut self, source: Source, clause: &[Lit], watched: Watched) -> Result<(), AllocError>
         requires whole { Whole self.old }
         requires from { IsSource self.old.hand source clause.now }
         requires new { IsNew self.old (coming self.old.hand source clause.now watched) }
@@ -246,19 +235,14 @@ impl<'f> Propagator<'f> {
         let first = clause[watched.first as usize];
         let second = clause[watched.second as usize];
         let brief = clause.len() == 2;
-        self.hand.push(alloc, source, clause, watched)?;
+        self.hand.push(source, clause, watched)?;
         self.lists.push(first, Watcher::new(index, second, brief));
         self.lists.push(second, Watcher::new(index, first, brief));
         Ok(())
     }
 
     // Holds a clause that has no two literals.
-    fn hold_short(
-        &mut self,
-        alloc: Global,
-        source: Source,
-        clause: &[Lit],
-    ) -> Result<(), AllocError>
+    fn hold_short(&mut self, source: Source, clause: &[Lit]) -> Result<(), AllocError>
         requires whole { Whole self.old }
         requires from { IsSource self.old.hand source clause.now }
         requires new { IsNew self.old (coming self.old.hand source clause.now record { first = 0; second = 0 }) }
@@ -277,7 +261,7 @@ impl<'f> Propagator<'f> {
             first: 0,
             second: 0,
         };
-        self.hand.push(alloc, source, clause, none)?;
+        self.hand.push(source, clause, none)?;
         self.short.push_reserved(index);
         Ok(())
     }
@@ -371,7 +355,7 @@ impl<'f> Propagator<'f> {
         ensures { IfSome result (IsAsserted self.now) }
     {
         let newest = self.hand.len().checked_sub(1)?;
-        let clause = self.hand.clause(newest).lits();
+        let clause = self.hand.clause(newest);
         let watched = self.hand.watched(newest);
         let first = *clause.get(watched.first as usize)?;
         let second = *clause.get(watched.second as usize)?;
@@ -417,7 +401,7 @@ impl<'f> Propagator<'f> {
         ensures conflict { IfSome result (IsConflict self.new) }
     {
         let index = self.short[place] as usize;
-        match self.hand.clause(index).lits().first() {
+        match self.hand.clause(index).first() {
             None => Some(self.hand.id(index)),
             Some(lit) => {
                 let lit = *lit;
@@ -494,7 +478,7 @@ impl<'f> Propagator<'f> {
         ensures stepped { SteppedIs self.old self.new falsified at result }
     {
         let index = self.watcher(falsified, at).place();
-        let clause = self.hand.clause(index).lits();
+        let clause = self.hand.clause(index);
         let watched = self.hand.watched(index);
         let Some(place) = other(clause, watched, falsified) else {
             self.unlist(falsified, at);
@@ -502,15 +486,54 @@ impl<'f> Propagator<'f> {
         };
         let other = clause[place as usize];
         if self.trail.is_true(other) {
+            self.block(falsified, at, other);
             return Step::Kept;
         }
         match replacement(&self.trail, clause, other, watched.beside(place)) {
-            Some(found) => {
-                self.rewatch(falsified, at, place, found);
-                Step::Moved
-            }
+            Some(found) => self.replace(falsified, at, place, found),
             None => self.settle(falsified, at, other),
         }
+    }
+
+    // Has the clause watch the literal at the found place. Where that one is true, the clause stays where
+    // it is, since it need not be looked at as long as that is so.
+    fn replace(&mut self, falsified: Lit, at: usize, other: u32, found: u32) -> Step
+        requires whole { Whole self.old }
+        requires next { IsNext self.old falsified }
+        requires at { at < list_len self.old falsified }
+        requires served { AreServed self.old falsified at }
+        requires other { IsOther (watching_at self.old falsified at) falsified (Some other) }
+        requires found { IsReplacement self.old.trail.entries (watching_at self.old falsified at).clause (literal_at (watching_at self.old falsified at).clause other) (Some found) }
+        ensures whole { Whole self.new }
+        ensures advances { Advances self.old self.new }
+        ensures keeps { KeepsPlace self.old self.new }
+        ensures stepped { SteppedIs self.old self.new falsified at result }
+    {
+        let index = self.watcher(falsified, at).place();
+        let lit = self.hand.clause(index)[found as usize];
+        if self.trail.is_true(lit) {
+            self.block(falsified, at, lit);
+            return Step::Kept;
+        }
+        self.rewatch(falsified, at, other, found);
+        Step::Moved
+    }
+
+    // Leaves a clause in the list, with a true literal of it as its blocker.
+    fn block(&mut self, falsified: Lit, at: usize, blocker: Lit)
+        requires whole { Whole self.old }
+        requires next { IsNext self.old falsified }
+        requires at { at < list_len self.old falsified }
+        requires served { AreServed self.old falsified at }
+        requires member { Contains (watching_at self.old falsified at).clause blocker }
+        requires held { Contains (lits self.old.trail.entries) blocker }
+        ensures whole { Whole self.new }
+        ensures stays { Stays self.old self.new }
+        ensures keeps { KeepsPlace self.old self.new }
+        ensures stepped { SteppedIs self.old self.new falsified at Step.Kept }
+    {
+        let watcher = self.watcher(falsified, at).blocked_by(blocker);
+        self.lists.set(falsified, at, watcher);
     }
 
     // Makes the literal of such a clause true whose other literals are false.
@@ -583,7 +606,7 @@ impl<'f> Propagator<'f> {
         ensures stepped { SteppedIs self.old self.new falsified at Step.Moved }
     {
         let index = self.watcher(falsified, at).place();
-        let clause = self.hand.clause(index).lits();
+        let clause = self.hand.clause(index);
         let lit = clause[found as usize];
         let blocker = clause[other as usize];
         let watched = Watched {

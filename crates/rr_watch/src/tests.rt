@@ -109,7 +109,7 @@ fn add(alloc: Global, watch: &mut Watch, id: u64, numbers: &[i32]) -> Result<(),
     let vars = watch.vars();
     let clause = clause(alloc, numbers)?;
     if watch.depth() == 0 && clause.lits().iter().all(|lit| lit.var() <= vars) {
-        watch.add(alloc, id, &clause)?;
+        watch.add(id, &clause)?;
     }
     Ok(())
 }

@@ -57,7 +57,7 @@ impl<'f> Watch<'f> {
         let mut propagator = Propagator::new(alloc, formula)?;
         for index in 0..formula.len() {
             if let Some(clause) = formula.clause(index + 1) {
-                propagator.add(alloc, Source::OfFormula, clause.lits())?;
+                propagator.add(Source::OfFormula, clause.lits())?;
             }
         }
         Ok(Watch {
@@ -69,7 +69,7 @@ impl<'f> Watch<'f> {
     /// Holds one more clause, whose id exceeds all others. While decisions stand, one literal of it is
     /// open and its others are false, one of them, where there are others, since the last decision. The
     /// watch stays the same where memory runs out.
-    pub fn add(&mut self, alloc: Global, id: u64, clause: &Clause) -> Result<(), AllocError>
+    pub fn add(&mut self, id: u64, clause: &Clause) -> Result<(), AllocError>
         requires id { All (λ n. n.id < id) self.old.clauses }
         requires within { All (IsWithin self.old.vars) clause.now }
         requires may { MayAdd self.old.trail self.old.depth clause.now }
@@ -78,8 +78,7 @@ impl<'f> Watch<'f> {
     {
         let head = self.propagator.head;
         self.ahead = None;
-        self.propagator
-            .add(alloc, Source::Given(id), clause.lits())?;
+        self.propagator.add(Source::Given(id), clause.lits())?;
         self.ahead = Some(head);
         Ok(())
     }
@@ -175,7 +174,7 @@ impl<'f> Watch<'f> {
     }
 
     /// The clause with this id; `None` exactly where there is none.
-    pub fn clause(&self, id: u64) -> Option<&Clause>
+    pub fn clause(&self, id: u64) -> Option<&[Lit]>
         ensures found { IfSome result (λ c. Named self.now.clauses id c.now) }
         ensures one { IfSome result (λ c. (d : List Literal) → Named self.now.clauses id d → d ≡ c.now) }
         ensures none { IfNone result ((c : List Literal) → Named self.now.clauses id c → ⊥) }

@@ -1,8 +1,8 @@
 //! The lists of the clauses that watch each literal.
-ghost use Rattle.std.specs.Prelude.{◌≡◌, ◌+◌, ◌*◌, ◌<◌, ◌≤◌, ◌++◌, ◌∷◌, [], length, get_or, slice_index, All, OnErr, OnOk, IfOk};
+ghost use Rattle.std.specs.Prelude.{◌≡◌, ◌+◌, ◌*◌, ◌<◌, ◌≤◌, ◌++◌, ◌∷◌, [], length, get_or, set, slice_index, All, OnErr, OnOk, IfOk, false};
 ghost use Rattle.std.specs.List.{swap_remove};
 ghost use Rattle.rr_cnf.specs.Codes.{code_of};
-ghost use Rattle.rr_watch.specs.Lists.{HasRoom, Listed, Unlisted, list_at, watcher_at};
+ghost use Rattle.rr_watch.specs.Lists.{HasRoom, Listed, Reblocked, Unlisted, list_at, watcher_at};
 ghost use Rattle.rr_watch.specs.WatchLists.{blocker_of, is_brief, nobody};
 
 use rr_cnf::{Formula, Lit};
@@ -47,6 +47,16 @@ impl Watcher {
     {
         let code = self.packed / 2;
         Lit::new(u64::from(code / 2), code % 2 == 1)
+    }
+
+    /// The same clause, which has a third literal, with this literal of it.
+    pub(crate) fn blocked_by(self, blocker: Lit) -> Watcher
+        requires { blocker.var < 1073741824 }
+        ensures place { result.place ≡ self.place }
+        ensures blocker { blocker_of result ≡ blocker }
+        ensures brief { is_brief result ≡ false }
+    {
+        Watcher::new(self.place, blocker, false)
     }
 
     /// Whether the clause has no third literal.
@@ -115,6 +125,14 @@ impl Watchers {
         ensures uses { self.new.uses ≡ self.old.uses }
     {
         self.entries.swap_remove(at);
+    }
+
+    // Has another entry stand at this place of the list.
+    fn set(&mut self, at: usize, watcher: Watcher)
+        requires { at < length self.old.entries }
+        ensures { self.new ≡ record { entries = set self.old.entries at watcher; uses = self.old.uses } }
+    {
+        self.entries[at] = watcher;
     }
 
     // The clauses.
@@ -191,6 +209,15 @@ impl WatchLists {
         ensures { Listed self.old self.new (code_of lit) watcher }
     {
         self.lists[code(lit)].push(watcher);
+    }
+
+    /// Has another entry stand at this place of a literal's list.
+    pub(crate) fn set(&mut self, lit: Lit, at: usize, watcher: Watcher)
+        requires lit { code_of lit < length self.old }
+        requires at { at < length (list_at self.old (code_of lit)).entries }
+        ensures { Reblocked self.old self.new (code_of lit) at watcher }
+    {
+        self.lists[code(lit)].set(at, watcher);
     }
 
     /// Takes one of the clauses that watch a literal off its list; the last one takes its place.

@@ -5,4 +5,4 @@ use Rattle.rr_watch.proofs.hand.Hand.len.Goals as goal
 pub returns : goal.returns
 returns c =
     let h = c.self.inside in
-    omega (arith, c.len.ensures, h.watched.ok.0, hand_length h.formula.now.clauses h.known h.added.items h.watched.items c.self.invariant, ap (λ v. length v.held) c.self.view_is)
+    omega (arith, c.len.ensures, c.len-2.ensures, h.watched.ok.0, h.added.ok.0, hand_length h.formula.now.clauses h.watched.items h.added.items h.lits.items c.self.invariant, ap (λ v. length v.held) c.self.view_is)
