@@ -1,4 +1,4 @@
--- marks, noted places, and the places that wait
+-- marks, and the places that wait
 use Rattle.std.proofs.Common.{◌≡◌, ◌≢◌, inl, inr, ℕ, ◌+◌, ◌<◌, ◌≤◌, ◌==◌, Bool, true, false, cond, List, [], ◌∷◌, ◌++◌, length, get_or, map, set, refl, sym, ◌∙◌, ap, subst, arith}
 use Rattle.std.specs.Prelude.{All}
 use Rattle.std.specs.List.Sorted.{IsPermutation}
@@ -9,8 +9,10 @@ use Rattle.std.proofs.lemmas.List.Elements.{All-get_or, All-head, All-tail, All-
 use Rattle.std.proofs.lemmas.Bool.{cases_lt, cases_eq, eq-eqb, eqb-true, ne_eqb, false≢true}
 use Rattle.rr_cnf.specs.Clauses.{Literal}
 use Rattle.rr_derive.proofs.MarkLaws.{All-from_contains}
+use Rattle.rr_trail.specs.Trails.{Entry, entry, lits}
+use Rattle.rr_trail.proofs.EntryLaws.{length_lits, lit_at}
 use Rattle.rr_solver.specs.Analysis.{IsMarked, Marked}
-use Rattle.rr_solver.specs.Workspaces.{AreNoted, HaveOwnVars, KeepsNotes, Meets, Met, PopsLast, StandsBelow, Waits, Work, copies, var_at}
+use Rattle.rr_solver.specs.Workspaces.{HaveOwnVars, IsPlaceOf, KeepsWalk, Meets, Met, PopsLast, StandsBelow, Waits, Work, copies, var_at}
 use Rattle.rr_solver.proofs.Walk.{Marked-none, Marked-push}
 
 -- no stamp is newer than the newest
@@ -24,13 +26,6 @@ none_newer xs n low v m = elim (cases_lt v (length xs)) [
 
 pub marks_one : (xs : List ℕ) (n v : ℕ) → map (λ s. s == n) (set xs v n) ≡ set (map (λ s. s == n) xs) v true
 marks_one xs n v = map-set (λ s. s == n) xs v n ∙ ap (set (map (λ s. s == n) xs) v) (eq-eqb n n refl)
-
--- one place more is noted
-pub AreNoted-more : (places : List ℕ) (k : ℕ) (ls : List Literal) → HaveOwnVars ls → k < length ls → var_at ls k < length places → AreNoted places k ls → AreNoted (set places (var_at ls k) k) (k + 1) ls
-AreNoted-more places k ls own h inside noted j b = elim (cases_eq j k) [
-  | inl e ↦ subst (λ i. get_or (set places (var_at ls k) k) (var_at ls i) 0 ≡ i) (sym e) (get_or-set_same places (var_at ls k) k 0 inside)
-  | inr n ↦ get_or-set_other places (var_at ls k) (var_at ls j) k 0 (λ e. n (own j k (omega (arith, n)) h e)) ∙ noted j (omega (arith, n))
-]
 
 -- copies
 abbrev one : Bool → ℕ
@@ -67,7 +62,7 @@ stays : (s : List Bool) (v w : ℕ) → v < length s → IsMarked s w → IsMark
 stays s v w h m = elim (cases_eq w v) [ inl e ↦ subst (IsMarked (set s v true)) (sym e) (get_or-set_same s v true false h) | inr e ↦ get_or-set_other s v w true false e ∙ m ]
 
 -- one variable is marked
-module _ (old new : Work) (v : ℕ) (m : Meets old v new) (inside : v < length old.seen) (ls : List Literal) (k : ℕ) (low : k ≤ length ls) (own : HaveOwnVars ls) (noted : AreNoted old.places (length ls) ls) where
+module _ (ls : List Literal) (old new : Work) (v : ℕ) (m : Meets ls old v new) (inside : v < length old.seen) (k : ℕ) (low : k ≤ length ls) (own : HaveOwnVars ls) where
   pub Waits-meet : StandsBelow ls k old.seen v → Waits ls k old.seen old.waiting → Waits ls k new.seen new.waiting
   Waits-meet stands w = elim m.waiting [
     | inl a ↦ subst (λ s. Waits ls k s new.waiting) (sym m.seen) (subst (Waits ls k (set old.seen v true)) (sym a.1) (record {
@@ -76,12 +71,12 @@ module _ (old new : Work) (v : ℕ) (m : Meets old v new) (inside : v < length o
     }))
     | inr b ↦ elim stands [
       | inl y ↦ absurd (b.0 y)
-      | inr y ↦ subst (λ s. Waits ls k s new.waiting) (sym m.seen) (new_place b.0 b.1 y.0 y.1.0 y.1.1)
+      | inr y ↦ subst (λ s. Waits ls k s new.waiting) (sym m.seen) (new_place b.0 b.1.0 b.1.1.0 b.1.1.1 y.0 y.1.0 y.1.1)
     ]
   ]
     where
-      new_place : (IsMarked old.seen v → ⊥) → IsPermutation (get_or old.places v 0 ∷ old.waiting) new.waiting → (j : ℕ) → j < k → var_at ls j ≡ v → Waits ls k (set old.seen v true) new.waiting
-      new_place fresh p j h e = record {
+      new_place : (IsMarked old.seen v → ⊥) → (place : ℕ) → IsPlaceOf ls v place → IsPermutation (place ∷ old.waiting) new.waiting → (j : ℕ) → j < k → var_at ls j ≡ v → Waits ls k (set old.seen v true) new.waiting
+      new_place fresh place is_place p j h e = record {
         each = λ i b q. elim (cases_eq i j) [
           | inl s ↦ (let z = one_if_same j i (sym s) in
               let none : copies old.waiting i ≡ 0 = elim (cases_lt 0 (copies old.waiting i)) [
@@ -104,22 +99,22 @@ module _ (old new : Work) (v : ℕ) (m : Meets old v new) (inside : v < length o
         ];
       }
         where
-          at : get_or old.places v 0 ≡ j
-          at = ap (λ x. get_or old.places x 0) (sym e) ∙ noted j (omega arith)
+          at : place ≡ j
+          at = is_place j (omega arith) e
 
           total : (i : ℕ) → copies new.waiting i ≡ is j i + copies old.waiting i
           total i = sum_by_pushed (λ x. cond (x == i) 1 0) j old.waiting new.waiting (subst (λ x. IsPermutation (x ∷ old.waiting) new.waiting) at p)
 
-pub Met-none : (w : Work) → Met w [] w
-Met-none w = record { marked = Marked-none w.seen; waits = λ ls k a b c d e. e }
+pub Met-none : (ls : List Literal) (w : Work) → Met ls w [] w
+Met-none ls w = record { marked = Marked-none w.seen; waits = λ k a b c d. d }
 
-pub Met-push : (old now new : Work) (c : List Literal) (l : Literal) → l.var < length old.seen → KeepsNotes old now → Met old c now → Meets now l.var new → Met old (c ++ l ∷ []) new
-Met-push old now new c l h keeps m n = record {
+pub Met-push : (ls : List Literal) (old now new : Work) (c : List Literal) (l : Literal) → l.var < length old.seen → Met ls old c now → Meets ls now l.var new → Met ls old (c ++ l ∷ []) new
+Met-push ls old now new c l h m n = record {
   marked = subst (Marked old.seen (c ++ l ∷ [])) (sym n.seen) (Marked-push old.seen c now.seen l h m.marked);
-  waits = λ ls k low own noted stand w.
-      let before = m.waits ls k low own noted (All-from_contains (λ x. StandsBelow ls k old.seen x.var) c (λ x y. All-contains (λ x. StandsBelow ls k old.seen x.var) (c ++ l ∷ []) x stand (Contains-append_left c (l ∷ []) x y))) w in
+  waits = λ k low own stand w.
+      let before = m.waits k low own (All-from_contains (λ x. StandsBelow ls k old.seen x.var) c (λ x y. All-contains (λ x. StandsBelow ls k old.seen x.var) (c ++ l ∷ []) x stand (Contains-append_left c (l ∷ []) x y))) w in
       let last = All-contains (λ x. StandsBelow ls k old.seen x.var) (c ++ l ∷ []) l stand (Contains-push c l) in
-      Waits-meet now new l.var n (omega (arith, h, m.marked.long)) ls k low own (subst (λ ps. AreNoted ps (length ls) ls) (sym keeps.places) noted)
+      Waits-meet ls now new l.var n (omega (arith, h, m.marked.long)) k low own
       (elim last [ inl a ↦ inl (m.marked.kept l.var a) | inr b ↦ inr b ]) before;
 }
 
@@ -151,5 +146,9 @@ module _ (old new : Work) (p : ℕ) (m : PopsLast old p new) (ls : List Literal)
         (omega (arith, y, n), o.1);
   })
 
-pub keeps_more : (a b c : Work) → KeepsNotes a b → KeepsNotes b c → KeepsNotes a c
-keeps_more a b c m n = record { long = n.long ∙ m.long; places = n.places ∙ m.places; noted = n.noted ∙ m.noted; top = n.top ∙ m.top }
+pub keeps_more : (a b c : Work) → KeepsWalk a b → KeepsWalk b c → KeepsWalk a c
+keeps_more a b c m n = record { long = n.long ∙ m.long; top = n.top ∙ m.top }
+
+-- what the watch tells of a place
+pub place_is : (t : List Entry) (v p : ℕ) → ((k : ℕ) → k < length t → (entry t k).lit.var ≡ v → p ≡ k) → IsPlaceOf (lits t) v p
+place_is t v p f j h e = let i : j < length t = omega (arith, h, length_lits t) in f j i (ap (λ (l : Literal). l.var) (sym (lit_at t j _ i)) ∙ e)

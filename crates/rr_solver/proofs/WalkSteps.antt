@@ -1,17 +1,15 @@
 -- the steps of the walk, with the workspace
-use Rattle.std.proofs.Common.{◌≡◌, ◌⊎◌, inl, inr, ℕ, ◌+◌, ◌-◌, ◌<◌, ◌≤◌, List, [], ◌∷◌, ◌++◌, length, get_or, min, take, sym, ◌∙◌, ap, subst, arith}
+use Rattle.std.proofs.Common.{◌≡◌, ◌⊎◌, inl, inr, ℕ, ◌+◌, ◌-◌, ◌<◌, ◌≤◌, List, [], ◌∷◌, ◌++◌, length, take, sym, ◌∙◌, ap, subst, arith}
 use Rattle.std.specs.Prelude.{Contains, None}
-use Rattle.std.proofs.lemmas.List.{get_or-take}
 use Rattle.std.proofs.lemmas.List.Elements.{All-contains}
-use Rattle.std.proofs.Math.Nat.{min-le_left, min-le_right}
 use Rattle.rr_cnf.specs.Clauses.{Literal, negated}
 use Rattle.rr_cnf.specs.Partial.{IsFalse}
 use Rattle.rr_derive.proofs.MarkLaws.{All-from_contains}
-use Rattle.rr_trail.specs.Trails.{Entry, Grown, IsTrail, Reason, entry, lits}
+use Rattle.rr_trail.specs.Trails.{Entry, IsTrail, Reason, entry, lits}
 use Rattle.rr_watch.specs.Watches.{Named, State}
 use Rattle.rr_trail.proofs.EntryLaws.{length_lits, lit_at, place_of}
 use Rattle.rr_solver.specs.Analysis.{Greatest, IsMarked}
-use Rattle.rr_solver.specs.Workspaces.{AreNoted, HaveOwnVars, IsBegun, IsReady, KeepsNotes, Met, PopsLast, StandsBelow, Waits, Work, var_at}
+use Rattle.rr_solver.specs.Workspaces.{HaveOwnVars, IsBegun, IsReady, KeepsWalk, Met, PopsLast, StandsBelow, Waits, Work, var_at}
 use Rattle.rr_solver.proofs.Walk.{Walk, Walk-keep, Walk-over, Walk-resolve, Walk-start, one_place, place_before}
 use Rattle.rr_solver.proofs.Waiting.{Waits-none, Waits-pop, none_between, popped}
 
@@ -28,8 +26,6 @@ own_vars t d tr j k a b e =
 -- where the walk stands
 pub record Stand (s : State) (c : List Literal) (hints : List ℕ) (level : ℕ) (w : Work) : Type 0 where
   pub long : length w.seen ≡ s.vars + 1
-  pub noted : w.noted ≡ length s.trail
-  pub are : AreNoted w.places (length s.trail) (lits s.trail)
   pub walk : Walk (Named s.clauses) s.trail s.depth w.top c w.seen hints level
   pub waits : Waits (lits s.trail) w.top w.seen w.waiting
 
@@ -37,21 +33,19 @@ module _ (s : State) (tr : IsTrail s.trail s.depth) where
   long_lits : length (lits s.trail) ≡ length s.trail
   long_lits = length_lits s.trail
 
-  pub ready_of : (c : List Literal) (hints : List ℕ) (level : ℕ) (w : Work) → Stand s c hints level w → IsReady (lits s.trail) s.vars w
-  ready_of c hints level w a = record { long = a.long; noted = omega (arith, a.noted, long_lits); are = subst (λ n. AreNoted w.places n (lits s.trail)) (sym a.noted) a.are }
+  pub ready_of : (c : List Literal) (hints : List ℕ) (level : ℕ) (w : Work) → Stand s c hints level w → IsReady s.vars w
+  ready_of c hints level w a = a.long
 
   stands_at : (k : ℕ) (w : Work) (l : Literal) (j : ℕ) → j < k → k ≤ length s.trail → (entry s.trail j).lit ≡ negated l → StandsBelow (lits s.trail) k w.seen l.var
   stands_at k w l j a h e = inr (j, (a, var_is s.trail j (omega arith) ∙ ap (λ (x : Literal). x.var) e))
 
   -- the false clause is met
-  module _ (id : ℕ) (c : List Literal) (named : Named s.clauses id c) (false_now : IsFalse (lits s.trail) c) (old mid new : Work) (ready : IsReady (lits s.trail) s.vars old) (begun : IsBegun (lits s.trail) old mid) (keeps : KeepsNotes mid new) (met : Met mid c new) where
+  module _ (id : ℕ) (c : List Literal) (named : Named s.clauses id c) (false_now : IsFalse (lits s.trail) c) (old mid new : Work) (ready : IsReady s.vars old) (begun : IsBegun (length (lits s.trail)) old mid) (keeps : KeepsWalk mid new) (met : Met (lits s.trail) mid c new) where
     pub Stand-start : Stand s [] (id ∷ []) 0 new
     Stand-start = record {
-      long = keeps.long ∙ begun.long ∙ ready.long;
-      noted = keeps.noted ∙ begun.noted ∙ long_lits;
-      are = subst (λ p. AreNoted p (length s.trail) (lits s.trail)) (sym keeps.places) (subst (λ n. AreNoted mid.places n (lits s.trail)) long_lits begun.are);
+      long = keeps.long ∙ begun.long ∙ ready;
       walk = subst (λ k. Walk (Named s.clauses) s.trail s.depth k [] new.seen (id ∷ []) 0) (sym (keeps.top ∙ begun.top ∙ long_lits)) (Walk-start (Named s.clauses) s.trail s.depth id c mid.seen new.seen named false_now begun.none met.marked tr);
-      waits = subst (λ k. Waits (lits s.trail) k new.seen new.waiting) (sym (keeps.top ∙ begun.top)) (met.waits (lits s.trail) (length (lits s.trail)) (omega arith) (own_vars s.trail s.depth tr) begun.are
+      waits = subst (λ k. Waits (lits s.trail) k new.seen new.waiting) (sym (keeps.top ∙ begun.top)) (met.waits (length (lits s.trail)) (omega arith) (own_vars s.trail s.depth tr)
           (All-from_contains (λ l. StandsBelow (lits s.trail) (length (lits s.trail)) mid.seen l.var) c (λ l m. let p = place_of s.trail (negated l) (All-contains (λ x. Contains (lits s.trail) (negated x)) c l false_now m) in stands_at (length (lits s.trail)) mid l p.0 (omega (arith, p.1.0, long_lits)) (omega (arith, long_lits)) p.1.1))
           (subst (Waits (lits s.trail) (length (lits s.trail)) mid.seen) (sym begun.waiting) (Waits-none (lits s.trail) (length (lits s.trail)) mid.seen begun.none)));
     }
@@ -79,21 +73,16 @@ module _ (s : State) (tr : IsTrail s.trail s.depth) where
     pub Stand-keep : (more : ℕ) → (1 ≤ (entry s.trail p).level) × (((entry s.trail p).level < s.depth) ⊎ ((entry s.trail p).reason ≡ None)) → Greatest s.trail s.depth (c ++ negated (entry s.trail p).lit ∷ []) more → Stand s (c ++ negated (entry s.trail p).lit ∷ []) hints more mid
     Stand-keep more why g = record {
       long = ap length pops.seen ∙ a.long;
-      noted = pops.noted ∙ a.noted;
-      are = subst (λ q. AreNoted q (length s.trail) (lits s.trail)) (sym pops.places) a.are;
       walk = subst (λ k. Walk (Named s.clauses) s.trail s.depth k (c ++ negated (entry s.trail p).lit ∷ []) mid.seen hints more) (sym pops.top) (Walk-keep (Named s.clauses) s.trail s.depth tr p c mid.seen hints level walk_to more marked why g);
       waits = subst (λ k. Waits (lits s.trail) k mid.seen mid.waiting) (sym pops.top) (Waits-pop old mid p pops (lits s.trail) old.top a.waits);
     }
 
     -- its reason is resolved with
-    pub Stand-resolve : (id : ℕ) (r : Reason (Named s.clauses) s.trail p id) (new : Work) → KeepsNotes mid new → Met mid r.clause new → Stand s c (hints ++ id ∷ []) level new
+    pub Stand-resolve : (id : ℕ) (r : Reason (Named s.clauses) s.trail p id) (new : Work) → KeepsWalk mid new → Met (lits s.trail) mid r.clause new → Stand s c (hints ++ id ∷ []) level new
     Stand-resolve id r new keeps met = record {
       long = keeps.long ∙ ap length pops.seen ∙ a.long;
-      noted = keeps.noted ∙ pops.noted ∙ a.noted;
-      are = subst (λ q. AreNoted q (length s.trail) (lits s.trail)) (sym (keeps.places ∙ pops.places)) a.are;
       walk = subst (λ k. Walk (Named s.clauses) s.trail s.depth k c new.seen (hints ++ id ∷ []) level) (sym (keeps.top ∙ pops.top)) (Walk-resolve (Named s.clauses) s.trail s.depth tr p c mid.seen hints level walk_to id r.clause new.seen marked r.name r.forces met.marked);
-      waits = subst (λ k. Waits (lits s.trail) k new.seen new.waiting) (sym (keeps.top ∙ pops.top)) (met.waits (lits s.trail) p (omega (arith, inside, long_lits)) (own_vars s.trail s.depth tr)
-          (subst (λ n. AreNoted mid.places n (lits s.trail)) (sym long_lits) (subst (λ q. AreNoted q (length s.trail) (lits s.trail)) (sym pops.places) a.are))
+      waits = subst (λ k. Waits (lits s.trail) k new.seen new.waiting) (sym (keeps.top ∙ pops.top)) (met.waits p (omega (arith, inside, long_lits)) (own_vars s.trail s.depth tr)
           (All-from_contains (λ l. StandsBelow (lits s.trail) p mid.seen l.var) r.clause (λ l m. elim (All-contains (λ y. (y ≡ (entry s.trail p).lit) ⊎ Contains (lits (take p s.trail)) (negated y)) r.clause l r.forces.others m) [
             | inl e ↦ inl (subst (IsMarked mid.seen) (ap (λ (x : Literal). x.var) (sym e)) marked)
             | inr b ↦ (let q = place_before s.trail p (negated l) (omega (arith, inside)) b in stands_at p mid l q.0 q.1.0 (omega (arith, inside)) q.1.1)
@@ -110,26 +99,6 @@ module _ (s : State) (tr : IsTrail s.trail s.depth) where
       let z = ap length none in
       absurd (subst (λ xs. Rattle.rr_solver.specs.Workspaces.copies xs j ≡ 1 → ⊥) (sym none) (λ q. omega (arith, q)) e))
 
--- the notes, under a trail that grows and shrinks
-pub ready_grown : (old new : List Entry) (u v : ℕ) (w : Work) → Grown old new → v ≡ u → IsReady (lits old) u w → IsReady (lits new) v w
-ready_grown old new u v w g e r = record {
-  long = r.long ∙ ap (λ n. n + 1) (sym e);
-  noted = omega (arith, r.noted, length_lits old, length_lits new, g.longer);
-  are = λ k h.
-      let i : k < length old = omega (arith, h, r.noted, length_lits old) in
-      let same : entry new k ≡ entry old k = sym (get_or-take (length old) new k _ i) ∙ ap (λ t. entry t k) g.same in
-      let one : var_at (lits new) k ≡ var_at (lits old) k = var_is new k (omega (arith, i, g.longer)) ∙ ap (λ (x : Entry). x.lit.var) same ∙ sym (var_is old k i) in
-      subst (λ x. get_or w.places x 0 ≡ k) (sym one) (r.are k h);
-}
-
-pub ready_cut : (old new : List Entry) (n u v : ℕ) (w x : Work) → n ≡ length new → new ≡ take (length new) old → length new ≤ length old → x ≡ record { seen = w.seen; places = w.places; noted = min w.noted n; waiting = w.waiting; top = w.top } → v ≡ u → IsReady (lits old) u w → IsReady (lits new) v x
-ready_cut old new n u v w x size front shorter is e r = subst (IsReady (lits new) v) (sym is) (record {
-  long = r.long ∙ ap (λ n. n + 1) (sym e);
-  noted = omega (arith, size, length_lits new, min-le_right w.noted n);
-  are = λ k h.
-      let i : k < length new = omega (arith, h, size, min-le_right w.noted n) in
-      let j : k < w.noted = omega (arith, h, min-le_left w.noted n) in
-      let same : entry new k ≡ entry old k = ap (λ t. entry t k) front ∙ get_or-take (length new) old k _ i in
-      let one : var_at (lits new) k ≡ var_at (lits old) k = var_is new k i ∙ ap (λ (x : Entry). x.lit.var) same ∙ sym (var_is old k (omega (arith, i, shorter))) in
-      subst (λ x. get_or w.places x 0 ≡ k) (sym one) (r.are k j);
-})
+-- as many marks serve as many variables
+pub ready_same : (u v : ℕ) (w : Work) → v ≡ u → IsReady u w → IsReady v w
+ready_same u v w e r = r ∙ ap (λ n. n + 1) (sym e)

@@ -54,9 +54,9 @@ pub record IsEngine (w : State) (inputs count last : ℕ) (j : Proof) (places : 
 abbrev pub Whole : Engine → Type 0
 Whole e = IsEngine e.watch e.inputs e.count e.last e.journal e.handed.items e.status e.assignment.items
 
--- the notes of the workspace are those of the trail
+-- the workspace has a mark for each variable
 abbrev pub Ready : Engine → Type 0
-Ready e = IsReady (lits e.watch.trail) e.watch.vars e.work
+Ready e = IsReady e.watch.vars e.work
 
 -- the search as callers see it
 abbrev pub search_of : Engine → Search

@@ -4,7 +4,7 @@ ghost use Rattle.rr_cnf.specs.Clauses.{IsWithin, Literal};
 ghost use Rattle.rr_trail.specs.Trails.{lits};
 ghost use Rattle.rr_watch.specs.Watches.{Named};
 ghost use Rattle.rr_solver.specs.Analysis.{IsConflict, Learns, Resolves};
-ghost use Rattle.rr_solver.specs.Workspaces.{IsReady, KeepsNotes, Met};
+ghost use Rattle.rr_solver.specs.Workspaces.{IsReady, KeepsWalk, Met};
 
 use crate::chains::Chains;
 use crate::order::Order;
@@ -25,11 +25,11 @@ pub(crate) struct Learned {
 fn meet_named(watch: &Watch<'_>, work: &mut Workspace, id: u64) -> Result<(), AllocError>
     requires room { watch.now.vars < length work.old.seen }
     requires named { (c : List Literal) × Named watch.now.clauses id c }
-    ensures keeps { KeepsNotes work.old work.new }
-    ensures met { (c : List Literal) → Named watch.now.clauses id c → OnOk result (Met work.old c work.new) }
+    ensures keeps { KeepsWalk work.old work.new }
+    ensures met { (c : List Literal) → Named watch.now.clauses id c → OnOk result (Met (lits watch.now.trail) work.old c work.new) }
 {
     if let Some(clause) = watch.clause(id) {
-        work.meet_all(clause)?;
+        work.meet_all(watch, clause)?;
     }
     Ok(())
 }
@@ -69,9 +69,9 @@ pub(crate) fn analyze(
     id: u64,
 ) -> Result<Learned, AllocError>
     requires room { watch.now.vars < 4294967295 }
-    requires ready { IsReady (lits watch.now.trail) watch.now.vars work.old }
+    requires ready { IsReady watch.now.vars work.old }
     requires conflict { IsConflict watch.now id }
-    ensures ready { IsReady (lits watch.now.trail) watch.now.vars work.new }
+    ensures ready { IsReady watch.now.vars work.new }
     ensures learns { IfOk result (λ r. Learns watch.now r.clause r.hints.items r.level) }
 {
     let trail = watch.trail();
@@ -79,7 +79,7 @@ pub(crate) fn analyze(
     let mut clause = Vec::new(alloc);
     let mut hints = Vec::new(alloc);
     let mut level = 0;
-    work.begin(trail);
+    work.begin(trail.len());
     chains.begin();
     hints.push(id)?;
     meet_named(watch, work, id)?;

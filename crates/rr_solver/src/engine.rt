@@ -273,8 +273,7 @@ impl<'f> Engine<'f> {
         release(&self.watch, &mut self.order, level);
         self.watch.back(level);
         self.last = id;
-        let kept = self.watch.trail();
-        self.work.cut(kept.len());
+        let _kept = self.watch.trail();
         self.watch.add(id, &clause)?;
         self.journal.push_at(id, clause, hints)?;
         self.status = Status::Running;
@@ -416,6 +415,5 @@ impl<'f> Engine<'f> {
     {
         release(&self.watch, &mut self.order, 0);
         self.watch.back(0);
-        self.work.cut(self.watch.trail().len());
     }
 }

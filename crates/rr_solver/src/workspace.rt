@@ -1,10 +1,12 @@
-//! What the walk back from a conflict needs: which variables it has met, and where they stand.
-ghost use Rattle.std.specs.Prelude.{◌≡◌, ℕ, ◌+◌, ◌^◌, ◌<◌, ◌≤◌, All, List, [], length, get_or, min, set, IfOk, IfNone, IfSome, OnOk, true, false};
-ghost use Rattle.rr_cnf.specs.Clauses.{Literal};
+//! What the walk back from a conflict needs: which variables it has met, and which places wait for it.
+ghost use Rattle.std.specs.Prelude.{◌≡◌, ℕ, ◌<◌, All, [], length, get_or, set, IfOk, IfNone, IfSome, OnOk, true, false};
+ghost use Rattle.rr_cnf.specs.Clauses.{IsWithin};
+ghost use Rattle.rr_trail.specs.Trails.{lits};
 ghost use Rattle.rr_solver.specs.Analysis.{IsMarked};
-ghost use Rattle.rr_solver.specs.Workspaces.{AreNoted, HaveOwnVars, IsBegun, KeepsNotes, Meets, Met, PopsLast};
+ghost use Rattle.rr_solver.specs.Workspaces.{IsBegun, IsReady, KeepsWalk, Meets, Met, PopsLast};
 
 use rr_cnf::Lit;
+use rr_watch::Watch;
 use std::alloc::{AllocError, Global};
 use std::collections::BinaryHeap;
 use std::marker::Model;
@@ -63,85 +65,47 @@ impl Marks {
     }
 }
 
-// Notes the places of the literals of a trail from this one on.
-fn note(places: &mut Vec<u32>, from: usize, trail: &[Lit])
-    requires within { All (λ l. l.var < length places.old.items) trail.now }
-    requires few { length trail.now < 4294967296 }
-    requires from { from ≤ length trail.now }
-    requires are { AreNoted places.old.items from trail.now }
-    requires own { HaveOwnVars trail.now }
-    ensures long { length places.new.items ≡ length places.old.items }
-    ensures are { AreNoted places.new.items (length trail.now) trail.now }
-{
-    for place in from..trail.len() {
-        places[trail[place].var() as usize] = place as u32;
-    }
-}
-
-/// Marks, the places of the variables in the trail, and the places of the marked ones that are not
-/// walked over yet.
+/// Marks of variables, and the places in the trail of the marked ones that are not walked over yet.
 #[derive(Drop)]
 pub(crate) struct Workspace {
     marks: Marks,
-    /// By variable.
-    places: Vec<u32>,
-    /// The places of so many literals of the trail are noted.
-    noted: usize,
-    waiting: BinaryHeap<u32>,
+    waiting: BinaryHeap<usize>,
     /// The places from here on are walked over.
     top: usize,
 }
 
 impl Model for Workspace {
-    ghost use Rattle.std.specs.Prelude.{◌≡◌, length};
     ghost use Rattle.std.specs.Ordering.{nat_cmp};
     ghost use Rattle.std.specs.BinaryHeap.{IsHeap, heap_items};
     ghost use Rattle.rr_solver.specs.Workspaces.{Work};
 
     ghost Value = { Work };
 
-    ghost view = { λ w. record { seen = w.marks; places = w.places.items; noted = w.noted; waiting = heap_items w.waiting; top = w.top } };
+    ghost view = { λ w. record { seen = w.marks; waiting = heap_items w.waiting; top = w.top } };
 
-    ghost invariant = { λ w. (length w.places.items ≡ length w.marks) × IsHeap nat_cmp (heap_items w.waiting) };
+    ghost invariant = { λ w. IsHeap nat_cmp (heap_items w.waiting) };
 }
 
 impl Workspace {
-    /// For the variables up to this one; nothing is noted.
+    /// For the variables up to this one.
     pub(crate) fn new(alloc: Global, vars: u64) -> Result<Workspace, AllocError>
         requires { vars < 4294967295 }
-        ensures long { IfOk result (λ w. length w.seen ≡ vars + 1) }
-        ensures noted { IfOk result (λ w. w.noted ≡ 0) }
+        ensures { IfOk result (IsReady vars) }
     {
         Ok(Workspace {
             marks: Marks::new(alloc, vars as usize + 1)?,
-            places: vec![in alloc; 0; vars as usize + 1]?,
-            noted: 0,
             waiting: BinaryHeap::new(alloc),
             top: 0,
         })
     }
 
-    /// Only so many literals of the trail are left.
-    pub(crate) fn cut(&mut self, len: usize)
-        ensures { self.new ≡ record self.old { noted = min self.old.noted len } }
-    {
-        self.noted = self.noted.min(len);
-    }
-
-    /// Begins a walk: nothing is marked, and the places of the whole trail are noted.
-    pub(crate) fn begin(&mut self, trail: &[Lit])
-        requires within { All (λ l. l.var < length self.old.seen) trail.now }
-        requires few { length trail.now < 4294967296 }
-        requires noted { self.old.noted ≤ length trail.now }
-        requires are { AreNoted self.old.places self.old.noted trail.now }
-        requires own { HaveOwnVars trail.now }
-        ensures { IsBegun trail.now self.old self.new }
+    /// Begins a walk over so many literals: nothing is marked.
+    pub(crate) fn begin(&mut self, len: usize)
+        ensures { IsBegun len self.old self.new }
     {
         self.marks.clear();
         self.waiting.clear();
-        note(&mut self.places, self.noted, trail);
-        self.noted = trail.len();
-        self.top = trail.len();
+        self.top = len;
     }
 
     /// Whether the variable is marked.
@@ -151,27 +115,30 @@ impl Workspace {
         self.marks.is_marked(var)
     }
 
-    /// Marks a variable, whose place waits then.
-    fn meet(&mut self, var: u64) -> Result<(), AllocError>
-        requires { var < length self.old.seen }
-        ensures keeps { KeepsNotes self.old self.new }
-        ensures meets { OnOk result (Meets self.old var self.new) }
+    /// Marks the variable of a literal, whose place waits then.
+    fn meet(&mut self, watch: &Watch<'_>, lit: Lit) -> Result<(), AllocError>
+        requires within { IsWithin watch.now.vars lit }
+        requires room { watch.now.vars < length self.old.seen }
+        ensures keeps { KeepsWalk self.old self.new }
+        ensures meets { OnOk result (Meets (lits watch.now.trail) self.old lit.var self.new) }
     {
+        let var = lit.var();
         if !self.marks.is_marked(var) {
             self.marks.mark(var);
-            self.waiting.push(self.places[var as usize])?;
+            self.waiting.push(watch.place(lit))?;
         }
         Ok(())
     }
 
     /// Marks the variables of a clause.
-    pub(crate) fn meet_all(&mut self, clause: &[Lit]) -> Result<(), AllocError>
-        requires { All (λ l. l.var < length self.old.seen) clause.now }
-        ensures keeps { KeepsNotes self.old self.new }
-        ensures met { OnOk result (Met self.old clause.now self.new) }
+    pub(crate) fn meet_all(&mut self, watch: &Watch<'_>, clause: &[Lit]) -> Result<(), AllocError>
+        requires within { All (IsWithin watch.now.vars) clause.now }
+        requires room { watch.now.vars < length self.old.seen }
+        ensures keeps { KeepsWalk self.old self.new }
+        ensures met { OnOk result (Met (lits watch.now.trail) self.old clause.now self.new) }
     {
         for lit in clause {
-            self.meet(lit.var())?;
+            self.meet(watch, *lit)?;
         }
         Ok(())
     }
@@ -181,7 +148,7 @@ impl Workspace {
         ensures some { IfSome result (λ p. PopsLast self.old p self.new) }
         ensures none { IfNone result ((self.new ≡ self.old) × (self.old.waiting ≡ [])) }
     {
-        let place = self.waiting.pop()? as usize;
+        let place = self.waiting.pop()?;
         self.top = place;
         Some(place)
     }

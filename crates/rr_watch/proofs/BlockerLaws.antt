@@ -6,7 +6,7 @@ use Rattle.std.proofs.lemmas.List.Elements.{Contains-get_or}
 use Rattle.std.proofs.lemmas.Bool.{cases_eq}
 use Rattle.rr_cnf.specs.Clauses.{Literal}
 use Rattle.rr_cnf.specs.Codes.{code_of}
-use Rattle.rr_watch.specs.Trails.{Entry, Standing}
+use Rattle.rr_trail.specs.Trails.{Entry, Standing}
 use Rattle.rr_watch.specs.WatchLists.{WatchList, IsListed, nobody}
 use Rattle.rr_watch.specs.declared.watchers.Watcher.{Watcher}
 use Rattle.rr_watch.specs.Holdings.{Held, held_at}

@@ -4,21 +4,18 @@ use Rattle.std.proofs.lemmas.List.Elements.{All-get_or}
 use Rattle.rr_cnf.specs.Clauses.{IsWithin, negated}
 use Rattle.rr_trail.specs.Trails.{entry}
 use Rattle.rr_trail.proofs.EntryLaws.{length_lits}
-use Rattle.rr_solver.specs.Workspaces.{HaveOwnVars, IsBegun}
+use Rattle.rr_solver.specs.Workspaces.{IsBegun}
 use Rattle.rr_solver.proofs.Walk.{Learns-walk, Greatest-same, Greatest-new, lit_here}
-use Rattle.rr_solver.proofs.WalkSteps.{Stand-keep, Stand-resolve, Stand-start, Walk-end, inside, lower, own_vars}
+use Rattle.rr_solver.proofs.WalkSteps.{Stand-keep, Stand-resolve, Stand-start, Walk-end, inside, lower}
 use Rattle.rr_solver.proofs.analysis.analyze.Goals.{else-at-depth-via-then-at-depth+else-level-at, else-at-depth-via-else-at-depth}
 use Rattle.rr_solver.proofs.analysis.analyze.Goals as goal
-
-pub begin-requires-clause-own : goal.begin-requires-clause-own
-begin-requires-clause-own c = subst HaveOwnVars (sym c.trail-trail.ensures.trail) (own_vars c.args.watch.now.trail c.args.watch.now.depth c.trail-trail.ensures.lawful)
 
 pub loop-place-init : goal.loop-place-init
 loop-place-init c =
     let s = c.args.watch.now in
     let k = c.requires.conflict in
     let e = c.in_ok-meet_named.ensures in
-    let begun = subst (λ ls. IsBegun ls c.args.work.now c.begin.new.self) c.trail-trail.ensures.trail c.begin.ensures in
+    let begun = subst (λ ls. IsBegun (length ls) c.args.work.now c.begin.new.self) c.trail-trail.ensures.trail c.begin.ensures in
     let hints : c.push.new.self.items ≡ c.args.id ∷ [] = c.in_ok-push.ensures.items ∙ ap (λ x. x ++ c.args.id ∷ []) c.new-hints.ensures.items in
     rw (hints, c.new-clause.ensures.items) (Stand-start s c.trail-trail.ensures.lawful c.args.id k.0 k.1.0 k.1.1 c.args.work.now c.begin.new.self c.meet_named.new.work c.requires.ready begun e.keeps (e.met k.0 k.1.0))
 

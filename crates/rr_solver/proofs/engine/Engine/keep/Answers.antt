@@ -1,6 +1,5 @@
-use Rattle.std.proofs.Common.{◌≡◌, ◌∙◌, ◌+◌, ◌++◌, ◌∷◌, [], length, ap, refl, subst, arith}
-use Rattle.rr_trail.proofs.EntryLaws.{length_lits}
-use Rattle.rr_solver.proofs.WalkSteps.{ready_cut}
+use Rattle.std.proofs.Common.{◌≡◌, ◌∙◌, ◌+◌, ◌++◌, ◌∷◌, [], ap, refl, subst, arith}
+use Rattle.rr_solver.proofs.WalkSteps.{ready_same}
 use Rattle.std.specs.Prelude.{All}
 use Rattle.rr_cnf.specs.Clauses.{IsWithin}
 use Rattle.rr_solver.specs.Engines.{IsEngine}
@@ -98,22 +97,19 @@ pub returns-in_err-add-clause-ready : goal.returns-in_err-add-clause-ready
 returns-in_err-add-clause-ready c =
     let o = c.args.self.now in
     let b = c.back.ensures in
-    let size = ap length c.trail-kept.ensures.trail ∙ length_lits c.back.new.self.trail in
-    let r = ready_cut o.watch.trail c.back.new.self.trail (length c.trail-kept.result.now) o.watch.vars c.back.new.self.vars o.work c.cut.new.self size b.cut.front b.cut.shorter c.cut.ensures b.vars c.requires.ready in
+    let r = ready_same o.watch.vars c.back.new.self.vars o.work b.vars c.requires.ready in
     rw c.in_err-add.ensures.err r
 
 pub returns-in_err-push_at-clause-ready : goal.returns-in_err-push_at-clause-ready
 returns-in_err-push_at-clause-ready c =
     let o = c.args.self.now in
     let b = c.back.ensures in
-    let size = ap length c.trail-kept.ensures.trail ∙ length_lits c.back.new.self.trail in
-    let r = ready_cut o.watch.trail c.back.new.self.trail (length c.trail-kept.result.now) o.watch.vars c.back.new.self.vars o.work c.cut.new.self size b.cut.front b.cut.shorter c.cut.ensures b.vars c.requires.ready in
+    let r = ready_same o.watch.vars c.back.new.self.vars o.work b.vars c.requires.ready in
     rw c.in_ok-add.ensures.ok r
 
 pub returns-clause-ready : goal.returns-clause-ready
 returns-clause-ready c =
     let o = c.args.self.now in
     let b = c.back.ensures in
-    let size = ap length c.trail-kept.ensures.trail ∙ length_lits c.back.new.self.trail in
-    let r = ready_cut o.watch.trail c.back.new.self.trail (length c.trail-kept.result.now) o.watch.vars c.back.new.self.vars o.work c.cut.new.self size b.cut.front b.cut.shorter c.cut.ensures b.vars c.requires.ready in
+    let r = ready_same o.watch.vars c.back.new.self.vars o.work b.vars c.requires.ready in
     rw c.in_ok-add.ensures.ok r

@@ -1,6 +1,6 @@
 use Rattle.std.proofs.Common.{refl}
 use Rattle.rr_watch.specs.Watches.{bare}
-use Rattle.rr_solver.proofs.WalkSteps.{ready_grown}
+use Rattle.rr_solver.proofs.WalkSteps.{ready_same}
 use Rattle.rr_solver.proofs.EngineSteps.{AllStand-grown, Engine-trail}
 use Rattle.rr_solver.proofs.engine.Engine.propagate.Goals as goal
 
@@ -14,4 +14,4 @@ pub returns-clause-moves : goal.returns-clause-moves
 returns-clause-moves c =
     let o = c.args.self.now in
     let e = c.propagate.ensures in
-    record { vars = e.vars; clauses = e.clauses; inputs = refl; count = refl; last = refl; journal = refl; places = refl; status = refl; bits = refl; ready = ready_grown o.watch.trail c.propagate.new.self.trail o.watch.vars c.propagate.new.self.vars o.work e.grown e.vars }
+    record { vars = e.vars; clauses = e.clauses; inputs = refl; count = refl; last = refl; journal = refl; places = refl; status = refl; bits = refl; ready = ready_same o.watch.vars c.propagate.new.self.vars o.work e.vars }

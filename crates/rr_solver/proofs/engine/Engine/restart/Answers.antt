@@ -1,6 +1,5 @@
-use Rattle.std.proofs.Common.{ap, length, sym, subst, ◌∙◌}
-use Rattle.rr_trail.proofs.EntryLaws.{length_lits}
-use Rattle.rr_solver.proofs.WalkSteps.{ready_cut}
+use Rattle.std.proofs.Common.{length, sym, subst}
+use Rattle.rr_solver.proofs.WalkSteps.{ready_same}
 use Rattle.rr_watch.specs.Watches.{bare}
 use Rattle.rr_solver.specs.Engines.{AllStand}
 use Rattle.rr_solver.proofs.EngineSteps.{AllStand-take, Engine-trail}
@@ -18,5 +17,4 @@ pub returns-clause-ready : goal.returns-clause-ready
 returns-clause-ready c =
     let o = c.args.self.now in
     let b = c.back.ensures in
-    let size = ap length c.trail.ensures.trail ∙ length_lits c.back.new.self.trail in
-    ready_cut o.watch.trail c.back.new.self.trail (length c.trail.result.now) o.watch.vars c.back.new.self.vars o.work c.cut.new.self size b.cut.front b.cut.shorter c.cut.ensures b.vars c.requires.ready
+    ready_same o.watch.vars c.back.new.self.vars o.work b.vars c.requires.ready
