@@ -134,7 +134,7 @@ fn clear(truths: &mut Vec<bool>, lits: &[Lit], from: usize)
     }
 }
 
-// The place of what is known of a literal.
+// The place of a literal in the table of what is true.
 fn code(lit: Lit) -> usize
     ensures { result ≡ code_of lit }
 {

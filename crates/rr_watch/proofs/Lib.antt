@@ -1,4 +1,5 @@
 pub mod ListLaws
+pub mod SpanLaws
 pub mod StateLaws
 pub mod StateSteps
 pub mod Choices

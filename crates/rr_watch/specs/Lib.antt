@@ -1,4 +1,5 @@
 pub mod WatchLists
+pub mod Spans
 pub mod Holdings
 pub mod Lists
 pub mod Watches

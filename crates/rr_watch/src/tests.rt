@@ -67,8 +67,10 @@ const EIGHT: [&[i32]; 8] = [
 /// For each clause, in how many lists it stands.
 fn watched(alloc: Global, watch: &Watch) -> Result<Vec<u32>, Fail> {
     let mut counts = vec![in alloc; 0; watch.propagator.hand.len()]?;
-    for list in &watch.propagator.lists.lists {
-        for watcher in list.entries() {
+    let lists = &watch.propagator.lists;
+    for span in &lists.spans {
+        let behind = lists.entries.iter().skip(span.start as usize);
+        for watcher in behind.take(span.len as usize) {
             let at = watcher.place();
             if at < counts.len() {
                 counts[at] = u32::saturating_add(counts[at], 1);

@@ -1,9 +1,9 @@
 //! The lists of the clauses that watch each literal.
-ghost use Rattle.std.specs.Prelude.{◌≡◌, ◌+◌, ◌*◌, ◌<◌, ◌≤◌, ◌++◌, ◌∷◌, [], length, get_or, set, slice_index, All, OnErr, OnOk, IfOk, false};
-ghost use Rattle.std.specs.List.{swap_remove};
+ghost use Rattle.std.specs.Prelude.{◌≡◌, ◌+◌, ◌*◌, ◌<◌, ◌≤◌, [], length, set, take, All, OnErr, OnOk, IfOk, false};
 ghost use Rattle.rr_cnf.specs.Codes.{code_of};
 ghost use Rattle.rr_watch.specs.Lists.{HasRoom, Listed, Reblocked, Unlisted, list_at, watcher_at};
-ghost use Rattle.rr_watch.specs.WatchLists.{blocker_of, is_brief, nobody};
+ghost use Rattle.rr_watch.specs.Spans.{IsMoved, IsSpan};
+ghost use Rattle.rr_watch.specs.WatchLists.{blocker_of, is_brief};
 
 use rr_cnf::{Formula, Lit};
 use std::alloc::{AllocError, Global};
@@ -17,6 +17,12 @@ pub(crate) struct Watcher {
     // twice the blocker's code, and one more where the clause has no third literal
     packed: u32,
 }
+
+// What fills the room of a list behind its clauses.
+const NOBODY: Watcher = Watcher {
+    place: 0,
+    packed: 0,
+};
 
 impl Watcher {
     /// The clause at this place, with a literal of it; whether it has no third literal.
@@ -67,95 +73,37 @@ impl Watcher {
     }
 }
 
-/// The clauses that watch a literal, with room for each clause that has the literal, so
-/// that a watch moves without memory.
-#[derive(Drop)]
-pub(crate) struct Watchers {
-    entries: Vec<Watcher>,
-    uses: usize,
+/// Where the list of a literal lies in the table of all.
+#[derive(Clone, Copy)]
+pub(crate) struct Span {
+    pub(crate) start: u32,
+    /// The number of clauses in the list.
+    pub(crate) len: u32,
+    /// The number of clauses that it has room for.
+    room: u32,
+    /// The number of clauses that have the literal.
+    uses: u32,
 }
 
-impl Model for Watchers {
-    ghost use Rattle.std.specs.Prelude.{◌≤◌, vec_capacity};
-    ghost use Rattle.rr_watch.specs.WatchLists.{WatchList};
-
-    ghost Value = { WatchList };
-
-    ghost view = { λ w. record { entries = w.entries.items; uses = w.uses } };
-
-    ghost invariant = { λ w. w.uses ≤ vec_capacity w.entries };
-}
-
-impl Watchers {
-    // No clause has the literal yet. Takes the room for this many.
-    fn with_room(alloc: Global, room: usize) -> Result<Watchers, AllocError>
-        ensures { IfOk result (λ w. w ≡ record { entries = []; uses = 0 }) }
-    {
-        Ok(Watchers {
-            entries: Vec::with_capacity(alloc, room)?,
-            uses: 0,
-        })
-    }
-
-    // Takes the room for one clause more that has the literal.
-    fn expect(&mut self) -> Result<(), AllocError>
-        ensures ok { OnOk result (self.new ≡ record { entries = self.old.entries; uses = self.old.uses + 1 }) }
-        ensures err { OnErr result (self.new ≡ self.old) }
-    {
-        if self.uses >= self.entries.capacity() {
-            let missing = (self.uses + 1).saturating_sub(self.entries.len());
-            self.entries.reserve(missing)?;
-        }
-        self.uses += 1;
-        Ok(())
-    }
-
-    // Adds a clause, for which there is room.
-    fn push(&mut self, watcher: Watcher)
-        requires { length self.old.entries < self.old.uses }
-        ensures { self.new ≡ record { entries = self.old.entries ++ watcher ∷ []; uses = self.old.uses } }
-    {
-        self.entries.push_reserved(watcher);
-    }
-
-    // Takes the clause at this place of the list away; the last one takes its place.
-    fn remove(&mut self, at: usize)
-        requires { at < length self.old.entries }
-        ensures entries { self.new.entries ≡ swap_remove self.old.entries at nobody }
-        ensures uses { self.new.uses ≡ self.old.uses }
-    {
-        self.entries.swap_remove(at);
-    }
-
-    // Has another entry stand at this place of the list.
-    fn set(&mut self, at: usize, watcher: Watcher)
-        requires { at < length self.old.entries }
-        ensures { self.new ≡ record { entries = set self.old.entries at watcher; uses = self.old.uses } }
-    {
-        self.entries[at] = watcher;
-    }
-
-    // The clauses.
-    pub(crate) fn entries(&self) -> &[Watcher]
-        ensures { result.now ≡ self.now.entries }
-    {
-        self.entries.as_slice()
-    }
-}
-
-/// The list of each literal, by its code.
+/// The clauses that watch each literal, by its code. The list of a literal has room for each clause that
+/// has the literal, so that a watch moves without memory.
 #[derive(Drop)]
 pub(crate) struct WatchLists {
-    pub(crate) lists: Vec<Watchers>,
+    /// The lists with their room, and where a list was before it moved.
+    pub(crate) entries: Vec<Watcher>,
+    pub(crate) spans: Vec<Span>,
 }
 
 impl Model for WatchLists {
-    ghost use Rattle.std.specs.Prelude.{List};
+    ghost use Rattle.std.specs.Prelude.{List, length};
     ghost use Rattle.rr_watch.specs.WatchLists.{WatchList};
+    ghost use Rattle.rr_watch.specs.Spans.{AreSpans, lists_in};
 
     ghost Value = { List WatchList };
 
-    ghost view = { λ w. w.lists.items };
+    ghost view = { λ w. lists_in w.entries.items w.spans.items };
+
+    ghost invariant = { λ w. AreSpans (length w.entries.items) w.spans.items };
 }
 
 impl WatchLists {
@@ -166,11 +114,19 @@ impl WatchLists {
         ensures empty { IfOk result (λ l. All (λ w. w ≡ record { entries = []; uses = 0 }) l) }
     {
         let rooms = rooms(alloc, formula)?;
-        let mut lists = Vec::with_capacity(alloc, rooms.len())?;
+        let mut spans = Vec::with_capacity(alloc, rooms.len())?;
+        let mut end = 0;
         for room in &rooms {
-            lists.push(Watchers::with_room(alloc, *room as usize)?)?;
+            spans.push(Span {
+                start: end,
+                len: 0,
+                room: *room,
+                uses: 0,
+            })?;
+            end = sum(end, *room)?;
         }
-        Ok(WatchLists { lists })
+        let entries = vec![in alloc; NOBODY; end as usize]?;
+        Ok(WatchLists { entries, spans })
     }
 
     /// Takes the room for one clause more in the list of each of these literals.
@@ -180,7 +136,25 @@ impl WatchLists {
         ensures err { OnErr result (HasRoom self.old self.new []) }
     {
         for lit in clause {
-            self.lists[code(*lit)].expect()?;
+            self.expect_one(code(*lit))?;
+        }
+        Ok(())
+    }
+
+    // Takes the room for one clause more in one list, which moves where it has none.
+    fn expect_one(&mut self, at: usize) -> Result<(), AllocError>
+        requires { at < length self.old }
+        ensures ok { OnOk result (self.new ≡ set self.old at record { entries = (list_at self.old at).entries; uses = (list_at self.old at).uses + 1 }) }
+        ensures err { OnErr result (self.new ≡ self.old) }
+    {
+        let span = self.spans[at];
+        if span.uses < span.room {
+            self.spans[at] = Span {
+                uses: span.uses + 1,
+                ..span
+            };
+        } else {
+            self.spans[at] = moved(&mut self.entries, span)?;
         }
         Ok(())
     }
@@ -190,7 +164,7 @@ impl WatchLists {
         requires { code_of lit < length self.now }
         ensures { result ≡ length (list_at self.now (code_of lit)).entries }
     {
-        self.lists[code(lit)].entries().len()
+        self.spans[code(lit)].len as usize
     }
 
     /// One of them.
@@ -199,7 +173,8 @@ impl WatchLists {
         requires at { at < length (list_at self.now (code_of lit)).entries }
         ensures { result ≡ watcher_at self.now lit at }
     {
-        self.lists[code(lit)].entries()[at]
+        let span = self.spans[code(lit)];
+        self.entries[span.start as usize + at]
     }
 
     /// Has a clause, for which there is room, watch a literal.
@@ -208,7 +183,13 @@ impl WatchLists {
         requires room { length (list_at self.old (code_of lit)).entries < (list_at self.old (code_of lit)).uses }
         ensures { Listed self.old self.new (code_of lit) watcher }
     {
-        self.lists[code(lit)].push(watcher);
+        let list = code(lit);
+        let span = self.spans[list];
+        self.entries[span.start as usize + span.len as usize] = watcher;
+        self.spans[list] = Span {
+            len: span.len + 1,
+            ..span
+        };
     }
 
     /// Has another entry stand at this place of a literal's list.
@@ -217,7 +198,9 @@ impl WatchLists {
         requires at { at < length (list_at self.old (code_of lit)).entries }
         ensures { Reblocked self.old self.new (code_of lit) at watcher }
     {
-        self.lists[code(lit)].set(at, watcher);
+        let list = code(lit);
+        let span = self.spans[list];
+        self.entries[span.start as usize + at] = watcher;
     }
 
     /// Takes one of the clauses that watch a literal off its list; the last one takes its place.
@@ -226,8 +209,46 @@ impl WatchLists {
         requires at { at < length (list_at self.old (code_of lit)).entries }
         ensures { Unlisted self.old self.new (code_of lit) at }
     {
-        self.lists[code(lit)].remove(at);
+        let list = code(lit);
+        let span = self.spans[list];
+        let start = span.start as usize;
+        let len = span.len - 1;
+        self.entries[start + at] = self.entries[start + len as usize];
+        self.spans[list] = Span { len, ..span };
     }
+}
+
+// A sum that fits 32 bits.
+fn sum(a: u32, b: u32) -> Result<u32, AllocError>
+    ensures { IfOk result (λ r. r ≡ a + b) }
+{
+    match a.checked_add(b) {
+        Some(sum) => Ok(sum),
+        None => Err(AllocError),
+    }
+}
+
+// Copies a list to the end of the table, with room for another clause and twice as much as it had.
+fn moved(entries: &mut Vec<Watcher>, span: Span) -> Result<Span, AllocError>
+    requires { IsSpan (length entries.old.items) span }
+    ensures ok { IfOk result (λ s. IsMoved entries.old.items entries.new.items span s) }
+    ensures err { OnErr result (take (length entries.old.items) entries.new.items ≡ entries.old.items) }
+{
+    let first = span.start as usize;
+    let start = entries.len();
+    let room = 2 * (span.room as usize + 1);
+    let end = start + room;
+    if end > u32::MAX as usize {
+        return Err(AllocError);
+    }
+    entries.extend_from_within(first..first + span.len as usize)?;
+    entries.resize(end, NOBODY)?;
+    Ok(Span {
+        start: start as u32,
+        len: span.len,
+        room: room as u32,
+        uses: span.uses + 1,
+    })
 }
 
 // The place of the list of a literal.

@@ -3,4 +3,4 @@ use Rattle.rr_watch.specs.Lists.{HasRoom}
 use Rattle.rr_watch.proofs.watchers.WatchLists.expect.Given as goal
 
 abbrev pub invariant-loop-lit : goal.invariant-loop-lit
-invariant-loop-lit l = HasRoom l.fn.self l.self-inside.lists.items (take l.lit-index l.clause)
+invariant-loop-lit l = HasRoom l.fn.self l.self (take l.lit-index l.clause)
