@@ -726,7 +726,7 @@ fn misses(pairs: &[Pair]) -> Option<usize> {
 
 #[test]
 fn computes(rt: HostRuntime) {
-    assert_eq!(rt; misses(&PAIRS), None);
+    assert!(rt; misses(&PAIRS).is_none());
 }
 
 fn shifts(case: &(u32, u128, u128, u128, u128, u128)) -> bool {
@@ -752,10 +752,10 @@ fn powers(case: &(u32, u128, u128, u128)) -> bool {
 
 #[test]
 fn moves(rt: HostRuntime) {
-    assert_eq!(rt; SHIFTS.iter().position(|case| !shifts(case)), None);
-    assert_eq!(rt; SELECTS.iter().position(|case| !selects(case)), None);
-    assert_eq!(rt; EXTENSIONS.iter().position(|case| !extends(case)), None);
-    assert_eq!(rt; POWERS.iter().position(|case| !powers(case)), None);
+    assert!(rt; SHIFTS.iter().all(shifts), "shifts");
+    assert!(rt; SELECTS.iter().all(selects), "selects");
+    assert!(rt; EXTENSIONS.iter().all(extends), "extensions");
+    assert!(rt; POWERS.iter().all(powers), "powers");
 }
 
 #[test]
@@ -766,10 +766,9 @@ fn looks(rt: HostRuntime) {
         "bits"
     );
     assert!(rt; word.is_negative(true) && !word.is_negative(false), "sign");
-    assert_eq!(rt; word.width(), 4);
-    assert_eq!(rt; word.inverted(), Bits::from_u128(4, 0b0101));
-    assert_eq!(rt; Bits::from_u128(4, 3).negated(), Bits::from_u128(4, 13));
-    assert_eq!(rt; Bits::from_u128(8, 0x1ff).to_u128(), 0xff);
+    assert!(rt; word.width() == 4 && Bits::from_u128(8, 0x1ff).to_u128() == 0xff);
+    let found = [word.inverted(), Bits::from_u128(4, 3).negated()];
+    assert!(rt; found == [Bits::from_u128(4, 0b0101), Bits::from_u128(4, 13)]);
 }
 
 /// A word with another above it, where both fit 128 bits.
@@ -783,8 +782,11 @@ fn appended(low: Bits, high: Bits) -> Option<Bits> {
 
 #[test]
 fn appends(rt: HostRuntime) {
-    let word = appended(Bits::from_u128(4, 0b1010), Bits::from_u128(3, 0b110));
-    assert_eq!(rt; word, Some(Bits::from_u128(7, 0b110_1010)));
-    let word = appended(Bits::from_u128(127, 1), Bits::from_u128(1, 1));
-    assert_eq!(rt; word, Some(Bits::from_u128(128, 1 << 127 | 1)));
+    let seven = appended(Bits::from_u128(4, 0b1010), Bits::from_u128(3, 0b110));
+    let whole = appended(Bits::from_u128(127, 1), Bits::from_u128(1, 1));
+    let wanted = [
+        Bits::from_u128(7, 0b110_1010),
+        Bits::from_u128(128, 1 << 127 | 1),
+    ];
+    assert!(rt; [seven, whole] == [Some(wanted[0]), Some(wanted[1])]);
 }

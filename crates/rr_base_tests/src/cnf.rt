@@ -63,8 +63,13 @@ fn writes_the_greatest_variable(rt: HostRuntime) -> Result<(), Fail> {
     push(alloc, &mut formula, &lits)?;
     let text = write_dimacs(alloc, &formula)?;
     let wanted = b"p cnf 4611686018427387904 1\n-4611686018427387904 1 1 0\n";
-    assert_eq!(rt; text.as_slice(), wanted.as_slice());
+    assert!(rt; text.as_slice() == wanted.as_slice());
     Ok(())
+}
+
+/// Whether the clause of this number has these literals, or is not there.
+fn has_lits(formula: &Formula, id: u64, wanted: Option<&[Lit]>) -> bool {
+    formula.clause(id).map(|clause| clause.lits()) == wanted
 }
 
 #[test]
@@ -72,22 +77,14 @@ fn keeps_clauses(rt: HostRuntime) -> Result<(), Fail> {
     let alloc = rt.alloc();
     let five = [lit(1), lit(-2), lit(3), lit(-4), lit(5)];
     let clause = Clause::from_lits(alloc, &five)?;
-    assert_eq!(rt; clause.lits(), five.as_slice());
+    assert!(rt; clause.lits() == five.as_slice());
     let mut formula = Formula::new(alloc, 5);
     push(alloc, &mut formula, &five)?;
     push(alloc, &mut formula, &[])?;
-    assert_eq!(rt; formula.len(), 2);
-    assert_eq!(rt; formula.vars(), 5);
-    assert_eq!(rt;
-        formula.clause(1).map(|clause| clause.lits()),
-        Some(five.as_slice())
-    );
-    assert_eq!(rt;
-        formula.clause(2).map(|clause| clause.lits().len()),
-        Some(0)
-    );
+    assert!(rt; formula.len() == 2 && formula.vars() == 5);
+    assert!(rt; has_lits(&formula, 1, Some(&five)) && has_lits(&formula, 2, Some(&[])));
     assert!(rt;
-        formula.clause(0).is_none() && formula.clause(3).is_none(),
+        has_lits(&formula, 0, None) && has_lits(&formula, 3, None),
         "out of range"
     );
     assert!(rt; shared(&formula) && shared(&clause), "shared");
@@ -96,11 +93,10 @@ fn keeps_clauses(rt: HostRuntime) -> Result<(), Fail> {
 
 #[test]
 fn literals(rt: HostRuntime) {
-    let one = lit(1);
-    assert_eq!(rt; one.negated(), lit(-1));
-    assert_eq!(rt; one.negated().negated(), one);
-    assert!(rt; one.negated().is_negative() && !one.is_negative(), "signs");
-    assert_eq!(rt; Lit::new(1 << 62, true).var(), 1u64 << 62);
-    assert!(rt; one < one.negated() && one.negated() < lit(2), "order");
-    assert_eq!(rt; Lit::default(), one);
+    let (one, not_one) = (lit(1), lit(-1));
+    let found = [one.negated(), not_one.negated(), Lit::default()];
+    assert!(rt; found == [not_one, one, one]);
+    assert!(rt; not_one.is_negative() && !one.is_negative(), "signs");
+    assert!(rt; Lit::new(1 << 62, true).var() == 1 << 62);
+    assert!(rt; one < not_one && not_one < lit(2), "order");
 }

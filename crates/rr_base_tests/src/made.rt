@@ -84,7 +84,7 @@ fn is_known<R: Abort + AllocGlobal>(rt: &R, known: &Known) {
         "end of {}",
         known.seed
     );
-    assert_eq!(rt; table.len(), known.length);
+    assert!(rt; table.len() == known.length, "length of {}", known.seed);
 }
 
 #[test]
