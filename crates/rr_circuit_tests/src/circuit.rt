@@ -47,11 +47,10 @@ fn gates_have_their_truth_tables(rt: HostRuntime) -> Result<(), Fail> {
             true,
             false,
         ];
-        assert_eq!(rt; values.as_slice(), &want[..]);
+        assert!(rt; values.as_slice() == want.as_slice());
     }
-    assert_eq!(rt; circuit.wire(0), Some(Wire(3)));
-    assert_eq!(rt; circuit.wire(6), Some(Wire(0)));
-    assert_eq!(rt; circuit.wire(7), None);
+    let found = [circuit.wire(0), circuit.wire(6), circuit.wire(7)];
+    assert!(rt; found == [Some(Wire(3)), Some(Wire(0)), None]);
     assert!(rt; shared(&circuit));
     Ok(())
 }
@@ -62,15 +61,12 @@ fn equal_gates_are_shared(rt: HostRuntime) -> Result<(), Fail> {
     let mut b = Builder::new(alloc, 2)?;
     let (x, y) = (b.input(0), b.input(1));
     let once = b.and(x, y)?;
-    assert_eq!(rt; b.and(x, y)?, once);
-    assert_eq!(rt; b.and(y, x)?, once);
+    let found = [b.and(x, y)?, b.and(y, x)?];
+    assert!(rt; found == [once, once]);
     let circuit = b.finish(vec![in alloc; once]?);
-    assert_eq!(rt; circuit.gates.len(), 1);
+    assert!(rt; circuit.gates.len() == 1);
     let text = write_aag(alloc, &circuit)?;
-    assert_eq!(rt;
-        text.as_slice(),
-        b"aag 3 2 0 1 1\n2\n4\n6\n6 4 2\n".as_slice()
-    );
+    assert!(rt; text.as_slice() == b"aag 3 2 0 1 1\n2\n4\n6\n6 4 2\n".as_slice());
     Ok(())
 }
 
@@ -90,9 +86,9 @@ fn constants_and_equal_operands_are_folded(rt: HostRuntime) -> Result<(), Fail> 
         b.and(x, yes)?,
         b.xor(x, x)?,
     ];
-    assert_eq!(rt; folded.as_slice(), [x, no, no, no, x, x, no].as_slice());
+    assert!(rt; folded == [x, no, no, no, x, x, no]);
     let circuit = b.finish(Vec::new(alloc));
-    assert_eq!(rt; circuit.gates.len(), 0);
+    assert!(rt; circuit.gates.len() == 0);
     Ok(())
 }
 
@@ -103,7 +99,7 @@ fn constant_outputs_have_lines(rt: HostRuntime) -> Result<(), Fail> {
     let (no, yes) = (b.constant(false), b.constant(true));
     let circuit = b.finish(vec![in alloc; yes, no, yes]?);
     let text = write_aag(alloc, &circuit)?;
-    assert_eq!(rt; text.as_slice(), b"aag 0 0 0 3 0\n1\n0\n1\n".as_slice());
+    assert!(rt; text.as_slice() == b"aag 0 0 0 3 0\n1\n0\n1\n".as_slice());
     Ok(())
 }
 
@@ -123,7 +119,7 @@ fn copies_stand_over_given_wires(rt: HostRuntime) -> Result<(), Fail> {
     let copy = b.finish(outputs);
     for (x, y) in [(false, false), (false, true), (true, false), (true, true)] {
         let values = copy.eval(alloc, &[x, y])?;
-        assert_eq!(rt; values.as_slice(), &[y && !x, y || !x][..]);
+        assert!(rt; values.as_slice() == [y && !x, y || !x].as_slice());
     }
     Ok(())
 }
@@ -132,18 +128,12 @@ fn copies_stand_over_given_wires(rt: HostRuntime) -> Result<(), Fail> {
 fn texts_are_read(rt: HostRuntime) -> Result<(), Fail> {
     let alloc = rt.alloc();
     let read = read_aag(alloc, b"aag 1 1 0 2 0\n2\n2\n3\n")?;
-    assert_eq!(rt;
-        (read.inputs, read.gates.len(), read.outputs.len()),
-        (1, 0, 2)
-    );
-    assert_eq!(rt;
-        (read.wire(0), read.wire(1)),
-        (Some(Wire(2)), Some(Wire(3)))
-    );
+    assert!(rt; read.inputs == 1 && read.gates.len() == 0 && read.outputs.len() == 2);
+    assert!(rt; [read.wire(0), read.wire(1)] == [Some(Wire(2)), Some(Wire(3))]);
     // A greater right operand stays where it is.
     let text = b"aag 3 2 0 1 1\n2\n4\n7\n6 3 4\n";
     let read = read_aag(alloc, text)?;
-    assert_eq!(rt; write_aag(alloc, &read)?.as_slice(), text.as_slice());
+    assert!(rt; write_aag(alloc, &read)?.as_slice() == text.as_slice());
     Ok(())
 }
 
@@ -156,7 +146,7 @@ fn what_follows_is_not_read(rt: HostRuntime) -> Result<(), Fail> {
         "aag 1 1 0 0 0\n2\nc\nmade by hand\n\n 7",
         "aag 1 1 0 0 0\n2\ncomment",
     ] {
-        assert_eq!(rt; fault_of(alloc, text), None, "{text}");
+        assert!(rt; fault_of(alloc, text).is_none(), "{text}");
     }
     Ok(())
 }
@@ -221,9 +211,8 @@ const BAD: [(&str, u64); 46] = [
 fn bad_lines_are_told(rt: HostRuntime) {
     let alloc = rt.alloc();
     for (text, line) in BAD.iter() {
-        assert_eq!(rt;
-            fault_of(alloc, text),
-            Some(AagFault::BadCircuit(*line)),
+        assert!(rt;
+            fault_of(alloc, text) == Some(AagFault::BadCircuit(*line)),
             "{text}"
         );
     }

@@ -17,13 +17,16 @@ fn an_operand_of_a_gate_absorbs_it(rt: HostRuntime) -> Result<(), Fail> {
     let both = b.and(x, y)?;
     let not_both = b.not(both);
     let no = b.constant(false);
-    assert_eq!(rt; b.and(x, both)?, both);
-    assert_eq!(rt; b.and(both, y)?, both);
-    assert_eq!(rt; b.and(not_x, both)?, no);
-    assert_eq!(rt; b.and(both, not_y)?, no);
-    assert_eq!(rt; b.and(not_x, not_both)?, not_x);
-    assert_eq!(rt; b.and(not_both, not_y)?, not_y);
-    assert_eq!(rt; gates(alloc, b), 1);
+    let found = [
+        b.and(x, both)?,
+        b.and(both, y)?,
+        b.and(not_x, both)?,
+        b.and(both, not_y)?,
+        b.and(not_x, not_both)?,
+        b.and(not_both, not_y)?,
+    ];
+    assert!(rt; found == [both, both, no, no, not_x, not_y]);
+    assert!(rt; gates(alloc, b) == 1);
     Ok(())
 }
 
@@ -37,11 +40,14 @@ fn a_negated_gate_beside_its_operand_is_the_other_one_negated(rt: HostRuntime) -
     let not_both = b.not(both);
     let x_alone = b.and(x, not_y)?;
     let y_alone = b.and(y, not_x)?;
-    assert_eq!(rt; b.and(x, not_both)?, x_alone);
-    assert_eq!(rt; b.and(not_both, x)?, x_alone);
-    assert_eq!(rt; b.and(y, not_both)?, y_alone);
-    assert_eq!(rt; b.and(not_both, y)?, y_alone);
-    assert_eq!(rt; gates(alloc, b), 3);
+    let found = [
+        b.and(x, not_both)?,
+        b.and(not_both, x)?,
+        b.and(y, not_both)?,
+        b.and(not_both, y)?,
+    ];
+    assert!(rt; found == [x_alone, x_alone, y_alone, y_alone]);
+    assert!(rt; gates(alloc, b) == 3);
     Ok(())
 }
 
@@ -53,13 +59,16 @@ fn an_exclusive_or_and_its_negations_share_three_gates(rt: HostRuntime) -> Resul
     let (not_x, not_y) = (b.not(x), b.not(y));
     let differ = b.xor(x, y)?;
     let same = b.not(differ);
-    assert_eq!(rt; b.xor(y, x)?, differ);
-    assert_eq!(rt; b.xor(not_x, not_y)?, differ);
-    assert_eq!(rt; b.xor(not_x, y)?, same);
-    assert_eq!(rt; b.xor(x, not_y)?, same);
-    assert_eq!(rt; b.mux(x, y, not_y)?, same);
-    assert_eq!(rt; b.mux(x, not_y, y)?, differ);
-    assert_eq!(rt; gates(alloc, b), 3);
+    let found = [
+        b.xor(y, x)?,
+        b.xor(not_x, not_y)?,
+        b.xor(not_x, y)?,
+        b.xor(x, not_y)?,
+        b.mux(x, y, not_y)?,
+        b.mux(x, not_y, y)?,
+    ];
+    assert!(rt; found == [differ, differ, same, same, same, differ]);
+    assert!(rt; gates(alloc, b) == 3);
     Ok(())
 }
 
@@ -70,16 +79,19 @@ fn constants_and_equal_wires_need_no_gate(rt: HostRuntime) -> Result<(), Fail> {
     let (t, x) = (b.input(0), b.input(1));
     let (not_t, not_x) = (b.not(t), b.not(x));
     let (no, yes) = (b.constant(false), b.constant(true));
-    assert_eq!(rt; b.xor(x, no)?, x);
-    assert_eq!(rt; b.xor(yes, x)?, not_x);
-    assert_eq!(rt; b.xor(x, x)?, no);
-    assert_eq!(rt; b.xor(x, not_x)?, yes);
-    assert_eq!(rt; b.mux(t, x, x)?, x);
-    assert_eq!(rt; b.mux(yes, x, t)?, x);
-    assert_eq!(rt; b.mux(no, t, not_x)?, not_x);
-    assert_eq!(rt; b.mux(t, yes, no)?, t);
-    assert_eq!(rt; b.mux(t, no, yes)?, not_t);
-    assert_eq!(rt; gates(alloc, b), 0);
+    let found = [
+        b.xor(x, no)?,
+        b.xor(yes, x)?,
+        b.xor(x, x)?,
+        b.xor(x, not_x)?,
+        b.mux(t, x, x)?,
+        b.mux(yes, x, t)?,
+        b.mux(no, t, not_x)?,
+        b.mux(t, yes, no)?,
+        b.mux(t, no, yes)?,
+    ];
+    assert!(rt; found == [x, not_x, no, yes, x, x, not_x, t, not_t]);
+    assert!(rt; gates(alloc, b) == 0);
     Ok(())
 }
 
@@ -94,11 +106,14 @@ fn a_choice_of_a_constant_or_of_its_test_is_one_gate(rt: HostRuntime) -> Result<
     let yes_or_x = b.mux(t, yes, x)?;
     let no_or_x = b.mux(t, no, x)?;
     let x_or_no = b.mux(t, x, no)?;
-    assert_eq!(rt; b.mux(t, x, not_t)?, x_or_yes);
-    assert_eq!(rt; b.mux(t, t, x)?, yes_or_x);
-    assert_eq!(rt; b.mux(t, not_t, x)?, no_or_x);
-    assert_eq!(rt; b.mux(t, x, t)?, x_or_no);
-    assert_eq!(rt; gates(alloc, b), 4);
+    let found = [
+        b.mux(t, x, not_t)?,
+        b.mux(t, t, x)?,
+        b.mux(t, not_t, x)?,
+        b.mux(t, x, t)?,
+    ];
+    assert!(rt; found == [x_or_yes, yes_or_x, no_or_x, x_or_no]);
+    assert!(rt; gates(alloc, b) == 4);
     Ok(())
 }
 
@@ -110,10 +125,13 @@ fn a_choice_and_its_negation_share_three_gates(rt: HostRuntime) -> Result<(), Fa
     let (not_t, not_x, not_y) = (b.not(t), b.not(x), b.not(y));
     let choice = b.mux(t, x, y)?;
     let negation = b.not(choice);
-    assert_eq!(rt; b.mux(not_t, y, x)?, choice);
-    assert_eq!(rt; b.mux(t, not_x, not_y)?, negation);
-    assert_eq!(rt; b.mux(not_t, not_y, not_x)?, negation);
-    assert_eq!(rt; gates(alloc, b), 3);
+    let found = [
+        b.mux(not_t, y, x)?,
+        b.mux(t, not_x, not_y)?,
+        b.mux(not_t, not_y, not_x)?,
+    ];
+    assert!(rt; found == [choice, negation, negation]);
+    assert!(rt; gates(alloc, b) == 3);
     Ok(())
 }
 
@@ -129,12 +147,9 @@ fn gates_that_no_output_needs_are_swept(rt: HostRuntime) -> Result<(), Fail> {
     let (not_top, no) = (b.not(top), b.constant(false));
     let circuit = b.finish(vec![in alloc; not_top, z, no]?);
     let swept = circuit.swept(alloc)?;
-    assert_eq!(rt; circuit.gates.len(), 4);
+    assert!(rt; circuit.gates.len() == 4);
     let text = write_aag(alloc, &swept)?;
-    assert_eq!(rt;
-        text.as_slice(),
-        b"aag 5 3 0 3 2\n2\n4\n6\n11\n6\n0\n8 7 5\n10 9 2\n".as_slice()
-    );
+    assert!(rt; text.as_slice() == b"aag 5 3 0 3 2\n2\n4\n6\n11\n6\n0\n8 7 5\n10 9 2\n".as_slice());
     Ok(())
 }
 
@@ -146,9 +161,7 @@ fn a_circuit_without_needless_gates_is_swept_to_itself(rt: HostRuntime) -> Resul
     let differ = b.xor(x, y)?;
     let circuit = b.finish(vec![in alloc; differ]?);
     let swept = circuit.swept(alloc)?;
-    assert_eq!(rt;
-        write_aag(alloc, &swept)?.as_slice(),
-        write_aag(alloc, &circuit)?.as_slice()
-    );
+    let (text, whole) = (write_aag(alloc, &swept)?, write_aag(alloc, &circuit)?);
+    assert!(rt; text == whole);
     Ok(())
 }

@@ -61,6 +61,16 @@ fn first_wrong(alloc: Global, cases: &[Case]) -> Result<Option<usize>, AllocErro
     Ok(None)
 }
 
+/// Fails at the first case of these tables that is given otherwise.
+fn all_right(alloc: Global, tables: &[&[Case]]) -> Result<(), Fail> {
+    for (table, cases) in tables.iter().enumerate() {
+        if let Some(place) = first_wrong(alloc, cases)? {
+            return Err(Fail::new(format_args!("case {place} of table {table}")));
+        }
+    }
+    Ok(())
+}
+
 const REGISTERS_WITH_A_RESET: [Case; 3] = [
     (
         "module m(input clk, input rst, output reg a, output reg b); always @(posedge clk) if (rst) a <= 1'b1; else a <= b; always @(posedge clk) if (rst) b <= 1'b0; else b <= a; endmodule",
@@ -395,27 +405,30 @@ const WORKED: [Case; 4] = [
 
 #[test]
 fn designs_with_rows(rt: HostRuntime) -> Result<(), Fail> {
-    let alloc = rt.alloc();
-    assert_eq!(rt; first_wrong(alloc, &REGISTERS_WITH_A_RESET)?, None);
-    assert_eq!(rt; first_wrong(alloc, &REGISTERS_OF_BOTH_EDGES)?, None);
-    assert_eq!(rt; first_wrong(alloc, &ASSIGNMENTS_IN_ORDER)?, None);
-    assert_eq!(rt; first_wrong(alloc, &WRITES_OF_PARTS)?, None);
-    assert_eq!(rt; first_wrong(alloc, &WRITES_AT_AN_INDEX)?, None);
-    assert_eq!(rt; first_wrong(alloc, &SUMS_AND_CARRIES)?, None);
-    assert_eq!(rt; first_wrong(alloc, &PRODUCTS_AND_DIFFERENCES)?, None);
-    assert_eq!(rt; first_wrong(alloc, &SIGNED_SUMS)?, None);
-    assert_eq!(rt; first_wrong(alloc, &COMPARISONS)?, None);
-    assert_eq!(rt; first_wrong(alloc, &OPERATORS_ON_BITS)?, None);
-    assert_eq!(rt; first_wrong(alloc, &CHOICES_AND_CONCATENATIONS)?, None);
-    assert_eq!(rt; first_wrong(alloc, &SELECTS)?, None);
-    assert_eq!(rt; first_wrong(alloc, &LABELS_OF_CASES)?, None);
-    assert_eq!(rt; first_wrong(alloc, &SIGNS_OF_CASES)?, None);
-    assert_eq!(rt; first_wrong(alloc, &OPEN_NETS_AND_PORTS)?, None);
-    assert_eq!(rt; first_wrong(alloc, &INSTANCES_OF_MODULES)?, None);
-    assert_eq!(rt; first_wrong(alloc, &DRIVERS_IN_ANY_ORDER)?, None);
-    assert_eq!(rt; first_wrong(alloc, &WIRES_OF_CONCATENATIONS)?, None);
-    assert_eq!(rt; first_wrong(alloc, &WORKED)?, None);
-    Ok(())
+    all_right(
+        rt.alloc(),
+        &[
+            &REGISTERS_WITH_A_RESET,
+            &REGISTERS_OF_BOTH_EDGES,
+            &ASSIGNMENTS_IN_ORDER,
+            &WRITES_OF_PARTS,
+            &WRITES_AT_AN_INDEX,
+            &SUMS_AND_CARRIES,
+            &PRODUCTS_AND_DIFFERENCES,
+            &SIGNED_SUMS,
+            &COMPARISONS,
+            &OPERATORS_ON_BITS,
+            &CHOICES_AND_CONCATENATIONS,
+            &SELECTS,
+            &LABELS_OF_CASES,
+            &SIGNS_OF_CASES,
+            &OPEN_NETS_AND_PORTS,
+            &INSTANCES_OF_MODULES,
+            &DRIVERS_IN_ANY_ORDER,
+            &WIRES_OF_CONCATENATIONS,
+            &WORKED,
+        ],
+    )
 }
 
 /// The settled values of a lawful design with a row of inputs, and those of the next state.

@@ -102,10 +102,12 @@ fn rows_of(alloc: Global, design: &str, word: &str, table: &[u8]) -> Option<usiz
 fn designs(rt: HostRuntime) -> Result<(), Fail> {
     let alloc = rt.alloc();
     let falling = "module m(input d, input c, output reg q); always @(negedge c) q <= d; endmodule";
-    assert!(rt; falls(alloc, falling, "c"));
-    assert!(rt; is_no_clock(alloc, falling, "q", 7));
-    assert_eq!(rt; rows_of(alloc, falling, "c", b"d\n1\n0\n"), Some(2));
-    assert_eq!(rt; rows_of(alloc, falling, "c", b"c\n1\n0\n"), None);
+    assert!(rt;
+        falls(alloc, falling, "c")
+            && is_no_clock(alloc, falling, "q", 7)
+            && rows_of(alloc, falling, "c", b"d\n1\n0\n") == Some(2)
+            && rows_of(alloc, falling, "c", b"c\n1\n0\n") == None
+    );
     Ok(())
 }
 
@@ -140,26 +142,26 @@ fn runs(rt: HostRuntime) -> Result<(), Fail> {
 #[test]
 fn refusals_of_tables(rt: HostRuntime) -> Result<(), Fail> {
     let alloc = rt.alloc();
-    assert!(rt; refuses(alloc, CELLS, b"", Refusal::NoHeader));
-    assert!(rt; refuses(alloc, CELLS, b"a,b\n", Refusal::UnknownColumn(1)));
-    assert!(rt; refuses(alloc, CELLS, b"a,a\n", Refusal::ColumnTwice(1)));
-    assert!(rt; refuses(alloc, CELLS, b"y\n", Refusal::MissingInput("a")));
-    assert!(rt; refuses(alloc, CELLS, b"a,y\n1\n", Refusal::RowLength(1)));
     assert!(rt;
-        refuses(
-            alloc,
-            CELLS,
-            b"a,y\n1,q\n",
-            Refusal::BadCell { row: 1, column: 1 }
-        )
+        refuses(alloc, CELLS, b"", Refusal::NoHeader)
+            && refuses(alloc, CELLS, b"a,b\n", Refusal::UnknownColumn(1))
+            && refuses(alloc, CELLS, b"a,a\n", Refusal::ColumnTwice(1))
+            && refuses(alloc, CELLS, b"y\n", Refusal::MissingInput("a"))
     );
     assert!(rt;
-        refuses(
-            alloc,
-            CELLS,
-            b"a,y\n1,16\n",
-            Refusal::CellTooLarge { row: 1, column: 1 }
-        )
+        refuses(alloc, CELLS, b"a,y\n1\n", Refusal::RowLength(1))
+            && refuses(
+                alloc,
+                CELLS,
+                b"a,y\n1,q\n",
+                Refusal::BadCell { row: 1, column: 1 }
+            )
+            && refuses(
+                alloc,
+                CELLS,
+                b"a,y\n1,16\n",
+                Refusal::CellTooLarge { row: 1, column: 1 }
+            )
     );
     assert!(rt; refuses(alloc, CELLS, b"\xff", Refusal::NotUtf8));
     let both = "module m(input a,output y);always @* y = a;endmodule";
@@ -168,116 +170,116 @@ fn refusals_of_tables(rt: HostRuntime) -> Result<(), Fail> {
 }
 
 /// A design, its top, and the text of its refusal.
-type Refused = (&'static str, Option<&'static str>, &'static str);
+type Refused = (&'static str, &'static Option<&'static str>, &'static str);
 
 const REFUSED: [Refused; 25] = [
     (
         "module m(output y);assign y = \"a\";endmodule",
-        None,
+        &None,
         "1 BadByte at 30",
     ),
     (
         "module m(output y);assign y = 2'd;endmodule",
-        None,
+        &None,
         "2 BadNumber at 30",
     ),
-    ("module m(output y);/* x", None, "3 OpenComment at 19"),
-    ("`include \"a.v\"", None, "4 Directive at 0"),
+    ("module m(output y);/* x", &None, "3 OpenComment at 19"),
+    ("`include \"a.v\"", &None, "4 Directive at 0"),
     (
         "module m(output y);function f;endmodule",
-        None,
+        &None,
         "5 Unsupported at 19",
     ),
     (
         "module m(output y);assign y = ;endmodule",
-        None,
+        &None,
         "6 Syntax at 30",
     ),
-    ("", None, "7 NoTop at 0"),
-    (CELLS, Some("q"), "7 NoTop at 0"),
+    ("", &None, "7 NoTop at 0"),
+    (CELLS, &Some("q"), "7 NoTop at 0"),
     (
         "module m(output y);n u(y);endmodule",
-        None,
+        &None,
         "8 UnknownModule at 19",
     ),
     (
         "module m(output y);m u(y);endmodule",
-        Some("m"),
+        &Some("m"),
         "9 SelfInstance at 19",
     ),
     (
         "module m(output y);wire a;wire a;endmodule",
-        None,
+        &None,
         "10 NameTwice at 31",
     ),
     (
         "module m(output y);assign y = b;endmodule",
-        None,
+        &None,
         "11 UnknownName at 30",
     ),
     (
         "module m(output y);wire [3:0] a;assign y = a[0:1];endmodule",
-        None,
+        &None,
         "12 BadRange at 43",
     ),
     (
         "module m(output y);wire [y:0] a;endmodule",
-        None,
+        &None,
         "13 NotConstant at 25",
     ),
     (
         "module n(input a);endmodule module m(output y);n u(.b(y));endmodule",
-        None,
+        &None,
         "14 PortMismatch at 52",
     ),
     (
         "module m(output y);wire [128:0] a;endmodule",
-        None,
+        &None,
         "15 TooWide at 32",
     ),
     (
         "module m(output y);assign y = 1'b0;assign y = 1'b1;endmodule",
-        None,
+        &None,
         "17 TwoDrivers at 42",
     ),
     (
         "module m(input clk,output reg y);always @(posedge clk) begin y <= 1'b0; y = 1'b1; end endmodule",
-        None,
+        &None,
         "18 WrongAssign at 72",
     ),
     (
         "module m(input clk,output reg y);reg t;always @(posedge clk) t = ~t;always @(posedge clk) y <= t;endmodule",
-        None,
+        &None,
         "19 Race at 95",
     ),
     (
         "module m(input a,output reg y);always @* if (a) y = 1'b1;endmodule",
-        None,
+        &None,
         "20 Latch at 31",
     ),
     (
         "module m(output y);wire a;wire b;assign a = b;assign b = ~a;assign y = a;endmodule",
-        None,
+        &None,
         "21 Loop at 40",
     ),
     (
         "module m(input clk,output reg y);always @(posedge clk) y <= clk;endmodule",
-        None,
+        &None,
         "22 ClockUse at 60",
     ),
     (
         "module m(input clk,input d,output reg y,output reg z);always @(posedge clk) y <= d;always @(negedge clk) z <= d;endmodule",
-        None,
+        &None,
         "23 TwoClocks at 83",
     ),
     (
         "module m(input a,output y);always @* y = a;endmodule",
-        None,
+        &None,
         "24 BadTarget at 37",
     ),
     (
         "module m(input a,output reg y);always @* case(a) 1'bx: y = a; default: y = 1'b0; endcase endmodule",
-        None,
+        &None,
         "25 WildLabel at 49",
     ),
 ];
@@ -285,7 +287,7 @@ const REFUSED: [Refused; 25] = [
 #[test]
 fn refusals_of_designs(rt: HostRuntime) -> Result<(), Fail> {
     for (design, top, expected) in REFUSED.iter() {
-        assert!(rt; tells(rt.alloc(), design, *top, expected)?, "{expected}");
+        assert!(rt; tells(rt.alloc(), design, **top, expected)?, "{expected}");
     }
     Ok(())
 }
@@ -315,7 +317,7 @@ fn texts(rt: HostRuntime) -> Result<(), Fail> {
         (Refusal::NotUtf8, "33 NotUtf8"),
     ] {
         let text = format!(in alloc; "{refusal}")?;
-        assert_eq!(rt; text.as_str(), expected);
+        assert!(rt; text.as_str() == expected);
     }
     Ok(())
 }

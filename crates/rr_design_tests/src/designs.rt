@@ -40,9 +40,11 @@ endmodule
 #[test]
 fn hierarchy(rt: HostRuntime) -> Result<(), Fail> {
     let alloc = rt.alloc();
-    assert!(rt; counts(alloc, COUNTER, None) == Some((10, 6, 2, 0)));
-    assert!(rt; counts(alloc, COUNTER, Some("counter")) == Some((3, 0, 1, 0)));
-    assert!(rt; counts(alloc, COUNTER, Some("clock")) == None);
+    assert!(rt;
+        counts(alloc, COUNTER, None) == Some((10, 6, 2, 0))
+            && counts(alloc, COUNTER, Some("counter")) == Some((3, 0, 1, 0))
+            && counts(alloc, COUNTER, Some("clock")) == None
+    );
     Ok(())
 }
 
@@ -52,15 +54,14 @@ fn faults_in_order(rt: HostRuntime) -> Result<(), Fail> {
     assert!(rt;
         fault_of(alloc, "module m; wire w = 4'h; initial endmodule")
             == Some(DesignFault::Text(Wrong::Number, 19))
+            && fault_of(alloc, "module m; wire w initial endmodule")
+                == Some(DesignFault::Unsupported(17))
     );
     assert!(rt;
-        fault_of(alloc, "module m; wire w initial endmodule") == Some(DesignFault::Unsupported(17))
+        fault_of(alloc, "module m; wire w endmodule") == Some(DesignFault::Syntax(17))
+            && fault_of(alloc, "module m; wire w = v; endmodule")
+                == Some(DesignFault::Flaw(FlatFault::UnknownName(19)))
+            && fault_of(alloc, "module m; wire w; endmodule") == None
     );
-    assert!(rt; fault_of(alloc, "module m; wire w endmodule") == Some(DesignFault::Syntax(17)));
-    assert!(rt;
-        fault_of(alloc, "module m; wire w = v; endmodule")
-            == Some(DesignFault::Flaw(FlatFault::UnknownName(19)))
-    );
-    assert!(rt; fault_of(alloc, "module m; wire w; endmodule") == None);
     Ok(())
 }

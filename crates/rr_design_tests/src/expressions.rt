@@ -133,15 +133,11 @@ fn turns(case: &(u8, Operand, Operand), scope: &Scope) -> bool {
 #[test]
 fn computes(rt: HostRuntime) {
     let scope = Scope::new(rt.alloc());
-    assert_eq!(rt;
-        ARITHMETIC.iter().position(|pair| !gives(pair, &scope)),
-        None
+    assert!(rt;
+        ARITHMETIC.iter().position(|pair| !gives(pair, &scope)) == None
+            && COMPARISONS.iter().position(|pair| !gives(pair, &scope)) == None
+            && UNARY.iter().position(|case| !turns(case, &scope)) == None
     );
-    assert_eq!(rt;
-        COMPARISONS.iter().position(|pair| !gives(pair, &scope)),
-        None
-    );
-    assert_eq!(rt; UNARY.iter().position(|case| !turns(case, &scope)), None);
 }
 
 fn fault_of(op: u8, left: &Operand, right: &Operand, scope: &Scope) -> Option<ExprFault> {
@@ -158,19 +154,12 @@ fn fault_of(op: u8, left: &Operand, right: &Operand, scope: &Scope) -> Option<Ex
 #[test]
 fn refuses(rt: HostRuntime) {
     let scope = Scope::new(rt.alloc());
-    assert_eq!(rt;
-        fault_of(17, &(4, false, 1), &(4, false, 0), &scope),
-        Some(ExprFault::NotConstant(6))
+    assert!(rt;
+        fault_of(17, &(4, false, 1), &(4, false, 0), &scope) == Some(ExprFault::NotConstant(6))
+            && fault_of(18, &SEVEN, &(4, false, 0), &scope) == Some(ExprFault::NotConstant(6))
+            && fault_of(26, &TWO, &(4, true, 15), &scope) == Some(ExprFault::NotConstant(6))
     );
-    assert_eq!(rt;
-        fault_of(18, &SEVEN, &(4, false, 0), &scope),
-        Some(ExprFault::NotConstant(6))
-    );
-    assert_eq!(rt;
-        fault_of(26, &TWO, &(4, true, 15), &scope),
-        Some(ExprFault::NotConstant(6))
-    );
-    assert_eq!(rt; fault_of(26, &TWO, &(4, false, 15), &scope), None);
+    assert!(rt; fault_of(26, &TWO, &(4, false, 15), &scope) == None);
 }
 
 /// The three bits down from an index of a signal of eight bits with the value 0xd2, in a range.
@@ -211,17 +200,24 @@ fn three_down(
     }
 }
 
+/// A range and an index, with the three bits down from there.
+const SELECTS: [(u32, u32, u128, u128); 8] = [
+    (7, 0, 7, 6),
+    (7, 0, 0, 0),
+    (7, 0, 1, 4),
+    (7, 0, 8, 3),
+    (0, 7, 2, 6),
+    (0, 7, 0, 1),
+    (0, 7, 8, 4),
+    (0, 7, 4294967295, 0),
+];
+
 #[test]
 fn selects(rt: HostRuntime) -> Result<(), Fail> {
-    let alloc = rt.alloc();
-    assert_eq!(rt; three_down(7, 0, 7, alloc)?, Some(6));
-    assert_eq!(rt; three_down(7, 0, 0, alloc)?, Some(0));
-    assert_eq!(rt; three_down(7, 0, 1, alloc)?, Some(4));
-    assert_eq!(rt; three_down(7, 0, 8, alloc)?, Some(3));
-    assert_eq!(rt; three_down(0, 7, 2, alloc)?, Some(6));
-    assert_eq!(rt; three_down(0, 7, 0, alloc)?, Some(1));
-    assert_eq!(rt; three_down(0, 7, 8, alloc)?, Some(4));
-    assert_eq!(rt; three_down(0, 7, 4294967295, alloc)?, Some(0));
+    for (left, right, index, expected) in SELECTS.iter() {
+        let found = three_down(*left, *right, *index, rt.alloc())?;
+        assert!(rt; found == Some(*expected), "[{left}:{right}] at {index}");
+    }
     Ok(())
 }
 
@@ -255,9 +251,11 @@ fn carries(rt: HostRuntime) {
         left: &sum,
         right: &by,
     };
-    assert_eq!(rt; first_token(&half), 1);
-    assert_eq!(rt; in_context(&half, 4, false, rt.alloc()), Some(0));
-    assert_eq!(rt; in_context(&half, 5, false, rt.alloc()), Some(8));
+    assert!(rt;
+        first_token(&half) == 1
+            && in_context(&half, 4, false, rt.alloc()) == Some(0)
+            && in_context(&half, 5, false, rt.alloc()) == Some(8)
+    );
 }
 
 /// The negation of 1 in four bits.
@@ -273,9 +271,11 @@ fn negates(rt: HostRuntime) {
         op: Mark::MINUS,
         of: &signed,
     };
-    assert_eq!(rt; in_context(&minus, 8, false, rt.alloc()), Some(255));
-    assert_eq!(rt; in_context(&minus_signed, 4, true, rt.alloc()), Some(15));
-    assert_eq!(rt; in_context(&minus_signed, 8, true, rt.alloc()), Some(255));
+    assert!(rt;
+        in_context(&minus, 8, false, rt.alloc()) == Some(255)
+            && in_context(&minus_signed, 4, true, rt.alloc()) == Some(15)
+            && in_context(&minus_signed, 8, true, rt.alloc()) == Some(255)
+    );
 }
 
 /// Two copies of two bits.
@@ -310,8 +310,9 @@ fn chooses(rt: HostRuntime) {
         no: &eight,
     };
     let scope = Scope::new(rt.alloc());
-    assert!(rt; is_constant(&inner, &scope, &(6, true, 63)));
-    assert!(rt; is_constant(&outer, &scope, &(8, false, 63)));
+    assert!(rt;
+        is_constant(&inner, &scope, &(6, true, 63)) && is_constant(&outer, &scope, &(8, false, 63))
+    );
 }
 
 /// A digit x counts as 0: `&4'b1x11` and `|4'bx000`.
@@ -334,6 +335,7 @@ fn unknown_digits(rt: HostRuntime) {
         of: &digits,
     };
     let scope = Scope::new(rt.alloc());
-    assert!(rt; is_constant(&all, &scope, &(1, false, 0)));
-    assert!(rt; is_constant(&some, &scope, &(1, false, 1)));
+    assert!(rt;
+        is_constant(&all, &scope, &(1, false, 0)) && is_constant(&some, &scope, &(1, false, 1))
+    );
 }

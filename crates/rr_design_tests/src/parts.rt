@@ -41,14 +41,12 @@ fn targets(rt: HostRuntime) -> Result<(), Fail> {
     let alloc = rt.alloc();
     let mut parts = Vec::new(alloc);
     add_parts(&mut parts, &TARGET, false)?;
-    assert!(rt; parts.len() == 2);
-    assert!(rt; !parts[1].blocking);
+    assert!(rt; parts.len() == 2 && !parts[1].blocking);
     let mut targets = Vec::new(alloc);
     add_assigned_targets(&mut targets, &CHOICE)?;
-    assert!(rt; targets.len() == 3);
-    assert!(rt; targets[0].blocking);
-    assert!(rt; targets[1].blocking);
-    assert!(rt; !targets[2].blocking);
+    assert!(rt;
+        targets.len() == 3 && targets[0].blocking && targets[1].blocking && !targets[2].blocking
+    );
     Ok(())
 }
 
@@ -57,18 +55,13 @@ fn names(rt: HostRuntime) -> Result<(), Fail> {
     let alloc = rt.alloc();
     let mut within = Vec::new(alloc);
     add_names(&mut within, &TARGET)?;
-    assert!(rt; within.len() == 3);
-    assert!(rt; within[2].token == 9);
+    assert!(rt; within.len() == 3 && within[2].token == 9);
     let mut named = Vec::new(alloc);
     add_statement_names(&mut named, &CHOICE)?;
-    assert!(rt; named.len() == 7);
-    assert!(rt; named[0].token == 2);
-    assert!(rt; named[6].token == 18);
+    assert!(rt; named.len() == 7 && named[0].token == 2 && named[6].token == 18);
     let mut read = Vec::new(alloc);
     add_read_names(&mut read, &CHOICE)?;
-    assert!(rt; read.len() == 4);
-    assert!(rt; read[1].token == 9);
-    assert!(rt; read[3].token == 18);
+    assert!(rt; read.len() == 4 && read[1].token == 9 && read[3].token == 18);
     Ok(())
 }
 
@@ -93,21 +86,29 @@ fn parts_of_a_design(rt: HostRuntime) {
     assert!(rt; found.is_ok());
     if let Ok(design) = found {
         let flat = &design.flat;
-        assert_eq!(rt; flat.parts().len(), 2);
-        assert_eq!(rt; flat.driver_list().len(), 1);
-        assert_eq!(rt; flat.clocked_blocks().len(), 1);
-        assert_eq!(rt; flat.input_list().len(), 2);
-        assert!(rt; flat.combinational_blocks().is_empty());
-        assert!(rt; flat.driver_of(Part::Driver(0)).is_some());
-        assert!(rt; flat.driver_of(Part::Clocked(0)).is_none());
-        assert!(rt; flat.block_of(Part::Clocked(0)).is_some());
-        assert!(rt; flat.block_of(Part::Combinational(0)).is_none());
-        assert!(rt; flat.driver(0).is_some());
-        assert!(rt; flat.driver(1).is_none());
-        assert!(rt; flat.clocked_block(0).is_some());
-        assert!(rt; flat.combinational_block(0).is_none());
-        assert!(rt; flat.signal(3).is_some());
-        assert!(rt; flat.signal(4).is_none());
+        assert!(rt;
+            flat.parts().len() == 2
+                && flat.driver_list().len() == 1
+                && flat.clocked_blocks().len() == 1
+                && flat.input_list().len() == 2
+        );
+        assert!(rt;
+            flat.combinational_blocks().is_empty()
+                && flat.driver_of(Part::Driver(0)).is_some()
+                && flat.driver_of(Part::Clocked(0)).is_none()
+                && flat.block_of(Part::Clocked(0)).is_some()
+        );
+        assert!(rt;
+            flat.block_of(Part::Combinational(0)).is_none()
+                && flat.driver(0).is_some()
+                && flat.driver(1).is_none()
+                && flat.clocked_block(0).is_some()
+        );
+        assert!(rt;
+            flat.combinational_block(0).is_none()
+                && flat.signal(3).is_some()
+                && flat.signal(4).is_none()
+        );
     }
 }
 
@@ -118,20 +119,22 @@ fn signals_of_a_design(rt: HostRuntime) {
     assert!(rt; found.is_ok());
     if let Ok(design) = found {
         let flat = &design.flat;
-        assert_eq!(rt; flat.signal_count(), 4);
-        assert_eq!(rt; flat.signal_list().len(), 4);
-        assert_eq!(rt; signal_named(flat, 0, "q"), Some(3));
-        assert_eq!(rt; signal_named(flat, 0, "t"), None);
-        assert_eq!(rt; signal_named(flat, 1, "q"), None);
-        assert_eq!(rt; scalar_named(flat, 0, "d"), Some(1));
-        assert_eq!(rt; scalar_named(flat, 0, "q"), None);
-        assert!(rt; is_variable(flat, 3));
-        assert!(rt; !is_variable(flat, 2));
-        assert!(rt; is_input(flat, 1));
-        assert!(rt; !is_input(flat, 2));
-        assert!(rt; is_scalar(flat, 2));
-        assert!(rt; !is_scalar(flat, 3));
-        assert_eq!(rt; instance_of(flat, 3), 0);
+        assert!(rt;
+            flat.signal_count() == 4
+                && flat.signal_list().len() == 4
+                && signal_named(flat, 0, "q") == Some(3)
+                && signal_named(flat, 0, "t") == None
+        );
+        assert!(rt;
+            signal_named(flat, 1, "q") == None
+                && scalar_named(flat, 0, "d") == Some(1)
+                && scalar_named(flat, 0, "q") == None
+                && is_variable(flat, 3)
+        );
+        assert!(rt;
+            !is_variable(flat, 2) && is_input(flat, 1) && !is_input(flat, 2) && is_scalar(flat, 2)
+        );
+        assert!(rt; !is_scalar(flat, 3) && instance_of(flat, 3) == 0);
     }
 }
 
@@ -145,17 +148,21 @@ fn names_in_a_scope(rt: HostRuntime) {
         let flat = &design.flat;
         assert!(rt; flat.scope(1).is_none());
         if let Some(scope) = flat.scope(0) {
-            assert_eq!(rt; signal_of(scope.find("y")), Some(2));
-            assert!(rt; is_constant(&ONE, scope));
-            assert!(rt; !is_constant(&name!(0, "d"), scope));
+            assert!(rt;
+                signal_of(scope.find("y")) == Some(2)
+                    && is_constant(&ONE, scope)
+                    && !is_constant(&name!(0, "d"), scope)
+            );
             let bit = Expr::Bit {
                 token: 5,
                 name: "q",
                 index: &name!(7, "d"),
             };
-            assert!(rt; !is_fixed(&bit, scope));
-            assert!(rt; is_fixed(&name!(0, "q"), scope));
-            assert_eq!(rt; identifier_of(&bit).token, 5);
+            assert!(rt;
+                !is_fixed(&bit, scope)
+                    && is_fixed(&name!(0, "q"), scope)
+                    && identifier_of(&bit).token == 5
+            );
         }
     }
 }

@@ -136,15 +136,18 @@ const fn piece(signal: u32, width: u32, from: i64, count: u32) -> Piece {
 #[test]
 fn in_an_environment(rt: HostRuntime) -> Result<(), Fail> {
     let alloc = rt.alloc();
-    assert!(rt; pieces(alloc, &BIT, 5)?.as_slice() == [piece(0, 8, 5, 1)].as_slice());
-    assert!(rt; pieces(alloc, &BIT, 15)?.as_slice() == [piece(0, 8, -1, 1)].as_slice());
-    assert!(rt; pieces(alloc, &PART, 0)?.as_slice() == [piece(1, 8, 2, 4)].as_slice());
-    assert!(rt; pieces(alloc, &UP, 1)?.as_slice() == [piece(1, 8, 4, 3)].as_slice());
-    assert!(rt; pieces(alloc, &UP, 6)?.as_slice() == [piece(1, 8, -1, 3)].as_slice());
     assert!(rt;
-        pieces(alloc, &PAIR, 0)?.as_slice() == [piece(0, 8, 6, 2), piece(2, 1, 0, 1)].as_slice()
+        pieces(alloc, &BIT, 5)?.as_slice() == [piece(0, 8, 5, 1)].as_slice()
+            && pieces(alloc, &BIT, 15)?.as_slice() == [piece(0, 8, -1, 1)].as_slice()
+            && pieces(alloc, &PART, 0)?.as_slice() == [piece(1, 8, 2, 4)].as_slice()
     );
-    assert!(rt; piece(1, 8, -1, 3).range() == (0, 2));
+    assert!(rt;
+        pieces(alloc, &UP, 1)?.as_slice() == [piece(1, 8, 4, 3)].as_slice()
+            && pieces(alloc, &UP, 6)?.as_slice() == [piece(1, 8, -1, 3)].as_slice()
+            && pieces(alloc, &PAIR, 0)?.as_slice()
+                == [piece(0, 8, 6, 2), piece(2, 1, 0, 1)].as_slice()
+            && piece(1, 8, -1, 3).range() == (0, 2)
+    );
     assert!(rt; piece(0, 8, 6, 4).range() == (6, 8));
     Ok(())
 }
@@ -162,12 +165,16 @@ fn whatever_the_values(rt: HostRuntime) -> Result<(), Fail> {
         certain: true,
     };
     let index = piece(3, 4, 0, 4);
-    assert!(rt; writes.as_slice() == [first, second].as_slice());
-    assert!(rt; named.as_slice() == [first.piece, index, second.piece].as_slice());
-    assert!(rt; indices.as_slice() == [index].as_slice());
+    assert!(rt;
+        writes.as_slice() == [first, second].as_slice()
+            && named.as_slice() == [first.piece, index, second.piece].as_slice()
+            && indices.as_slice() == [index].as_slice()
+    );
     let (writes, named, indices) = texts(alloc, &PAIR)?;
-    assert!(rt; writes.len() == 2);
-    assert!(rt; named.as_slice() == [piece(0, 8, 6, 2), piece(2, 1, 0, 1)].as_slice());
-    assert!(rt; indices.is_empty());
+    assert!(rt;
+        writes.len() == 2
+            && named.as_slice() == [piece(0, 8, 6, 2), piece(2, 1, 0, 1)].as_slice()
+            && indices.is_empty()
+    );
     Ok(())
 }

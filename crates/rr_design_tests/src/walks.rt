@@ -9,23 +9,23 @@ use std::alloc::{AllocError, Global};
 use std::test::Fail;
 
 /// A text, its top, and what its flat design is.
-type Case = (&'static str, Option<&'static str>, &'static str);
+type Case = (&'static str, &'static Option<&'static str>, &'static str);
 
 /// Instances, with connections by name and by position.
 const CONNECTIONS: [Case; 3] = [
     (
         "module inc(input [3:0] a, output [3:0] y); assign y = a + 4'd2; endmodule module m(input [3:0] a, output [3:0] y); wire [3:0] t; inc u0(.a(a), .y(t)); inc u1(.a(t), .y(y)); endmodule",
-        None,
+        &None,
         "0.a:4 0.y:4 0.t:4 1.a:4 1.y:4 2.a:4 2.y:4 | 21/1<23/1@21 #3<62/0@62 68/0<#4@68 21/2<23/2@21 #5<78/0@78 84/0<#6@84 | d0 d1 d2 d3 d4 d5 | | 0 | 1 | 1 0 0 | 0 1 | 29",
     ),
     (
         "module m(input a, output y); n u(a, y); endmodule module n(input c, output z, input e); assign z = c; endmodule",
-        None,
+        &None,
         "0.a:1 0.y:1 1.c:1 1.z:1 1.e:1 | 33/1<35/1@33 #2<13/0@13 15/0<#3@15 | d0 d1 d2 | | 0 | 1 | 0 1 | 0 1 | 1",
     ),
     (
         "module n(input c, output z); assign z = c; endmodule module m(input a, output y); wire t; n u(a, t), v(t, y); endmodule",
-        None,
+        &None,
         "0.a:1 0.y:1 0.t:1 1.c:1 1.z:1 2.c:1 2.z:1 | 11/1<13/1@11 #3<32/0@32 34/0<#4@34 11/2<13/2@11 #5<39/0@39 41/0<#6@41 | d0 d1 d2 d3 d4 d5 | | 0 | 1 | 1 0 0 | 0 1 | 17",
     ),
 ];
@@ -34,12 +34,12 @@ const CONNECTIONS: [Case; 3] = [
 const OPEN_CONNECTIONS: [Case; 2] = [
     (
         "module n(input c, output z); assign z = c; endmodule module m(output y); n u(.c(), .z(y)); n v(.z(y)); n w(); endmodule",
-        None,
+        &None,
         "0.y:1 1.c:1 1.z:1 2.c:1 2.z:1 3.c:1 3.z:1 | 11/1<13/1@11 34/0<#2@34 11/2<13/2@11 44/0<#4@44 11/3<13/3@11 | d0 d1 d2 d3 d4 | | | 0 | 1 0 0 0 | 0 1 | 17",
     ),
     (
         "module n(output z); assign z = 1'b0; endmodule module m(input a, output y); n u(.z(a + y)); endmodule",
-        None,
+        &None,
         "0.a:1 0.y:1 1.z:1 | 8/1<10/1@8 29/0<#2@29 | d0 d1 | | 0 | 1 | 1 0 | 0 1 | 14",
     ),
 ];
@@ -48,17 +48,17 @@ const OPEN_CONNECTIONS: [Case; 2] = [
 const OVERRIDES: [Case; 3] = [
     (
         "module n #(parameter W = 2, V = 3)(input [W:0] c); wire [V:0] t; endmodule module m; n #(.V(7)) u(); n #(.W(0), .V()) v(); n w(); endmodule",
-        None,
+        &None,
         "1.c:3 1.t:8 2.c:1 2.t:4 3.c:3 3.t:4 | | | | | | 1 0 0 0 | 0 1 | 33",
     ),
     (
         "module n #(parameter W = 2)(input [W:0] c); localparam L = W + 1; parameter V = 3; wire [V:0] t; wire [L:0] s; endmodule module m; n #(4, 5) u(); n #() v(); endmodule",
-        None,
+        &None,
         "1.c:5 1.t:6 1.s:6 2.c:3 2.t:4 2.s:4 | | | | | | 1 0 0 | 0 1 | 49",
     ),
     (
         "module n #(parameter W = 1)(input [W:0] c); endmodule module k #(parameter W = 2)(input c); n #(.W(W + 1)) u(); endmodule module m; k #(.W(4)) u(); endmodule",
-        None,
+        &None,
         "1.c:1 2.c:6 | | | | | | 2 1 0 | 0 1 2 | 51",
     ),
 ];
@@ -67,17 +67,17 @@ const OVERRIDES: [Case; 3] = [
 const ITEMS: [Case; 3] = [
     (
         "module m(input a, output y); wire [3:0] t = a, s; assign y = t[0], s = 4'd1; wire r = y; endmodule",
-        None,
+        &None,
         "0.a:1 0.y:1 0.t:4 0.s:4 0.r:1 | #2<18/0@16 23/0<25/0@23 30/0<32/0@30 #4<37/0@35 | d0 d1 d2 d3 | | 0 | 1 | 0 | 0 | 1",
     ),
     (
         "module m(input k, input r, input a, output reg y); reg t, s; always @(posedge k or negedge r) y <= t; assign t = a; always @* t = a; always @(a or t) s = t + a; endmodule",
-        None,
+        &None,
         "0.k:1 0.r:1 0.a:1 0.y:1 0.t:1 0.s:1 | 36/0<38/0@36 | c0 d0 b0 b1 | 22/0+2 40/0+0 47/0+0 | 0 1 2 | 3 | 0 | 0 | 1",
     ),
     (
         "module m; parameter K = 1; reg y; always @(posedge K) y <= K; endmodule",
-        None,
+        &None,
         "0.y:1 | | c0 | 11/0+1 | | | 0 | 0 | 1",
     ),
 ];
@@ -86,24 +86,24 @@ const ITEMS: [Case; 3] = [
 const TOPS: [Case; 6] = [
     (
         "module a(output y); assign y = 1'b1; endmodule module b; c u(); endmodule module c; endmodule module d; endmodule module e; endmodule",
-        None,
+        &None,
         "| | | | | | 4 | 4 | 31",
     ),
     (
         "module a(output y); assign y = 1'b1; endmodule module b; c u(); endmodule module c; endmodule module d; endmodule module e; endmodule",
-        Some("b"),
+        &Some("b"),
         "| | | | | | 1 2 | 1 2 | 14",
     ),
-    ("", None, "NoTop"),
-    ("module m; endmodule", Some("n"), "NoTop"),
+    ("", &None, "NoTop"),
+    ("module m; endmodule", &Some("n"), "NoTop"),
     (
         "module a; b u(); endmodule module b; a u(); endmodule",
-        None,
+        &None,
         "NoTop",
     ),
     (
         "module m; endmodule module n; x u(); endmodule module m; endmodule",
-        Some("z"),
+        &Some("z"),
         "NameTwice(54)",
     ),
 ];
@@ -112,27 +112,27 @@ const TOPS: [Case; 6] = [
 const LIMITS: [Case; 5] = [
     (
         "module m0; m1 u(); endmodule module m1; m2 u(); endmodule module m2; m3 u(); endmodule module m3; m4 u(); endmodule module m4; m5 u(); endmodule module m5; m6 u(); endmodule module m6; m7 u(); endmodule module m7; m8 u(); endmodule module m8; m9 u(); endmodule module m9; m10 u(); endmodule module m10; m11 u(); endmodule module m11; m12 u(); endmodule module m12; m13 u(); endmodule module m13; m14 u(); endmodule module m14; m15 u(); endmodule module m15; endmodule",
-        Some("m0"),
+        &Some("m0"),
         "| | | | | | 0 1 2 3 4 5 6 7 8 9 10 11 12 13 14 15 | 0 1 2 3 4 5 6 7 8 9 10 11 12 13 14 15 | 1",
     ),
     (
         "module m0; m1 u(); endmodule module m1; m2 u(); endmodule module m2; m3 u(); endmodule module m3; m4 u(); endmodule module m4; m5 u(); endmodule module m5; m6 u(); endmodule module m6; m7 u(); endmodule module m7; m8 u(); endmodule module m8; m9 u(); endmodule module m9; m10 u(); endmodule module m10; m11 u(); endmodule module m11; m12 u(); endmodule module m12; m13 u(); endmodule module m13; m14 u(); endmodule module m14; m15 u(); endmodule module m15; m16 u(); endmodule module m16; endmodule",
-        Some("m0"),
+        &Some("m0"),
         "TooMany(Depth, 17)",
     ),
     (
         "module a; endmodule module b; a u0(), u1(), u2(), u3(), u4(), u5(), u6(), u7(), u8(), u9(), u10(), u11(), u12(), u13(), u14(), u15(); endmodule module c; b u0(), u1(), u2(), u3(), u4(), u5(), u6(), u7(), u8(), u9(), u10(), u11(), u12(), u13(), u14(); endmodule",
-        Some("c"),
+        &Some("c"),
         "| | | | | | 2 1 0 0 0 0 0 0 0 0 0 0 0 0 0 0 0 0 1 0 0 0 0 0 0 0 0 0 0 0 0 0 0 0 0 1 0 0 0 0 0 0 0 0 0 0 0 0 0 0 0 0 1 0 0 0 0 0 0 0 0 0 0 0 0 0 0 0 0 1 0 0 0 0 0 0 0 0 0 0 0 0 0 0 0 0 1 0 0 0 0 0 0 0 0 0 0 0 0 0 0 0 0 1 0 0 0 0 0 0 0 0 0 0 0 0 0 0 0 0 1 0 0 0 0 0 0 0 0 0 0 0 0 0 0 0 0 1 0 0 0 0 0 0 0 0 0 0 0 0 0 0 0 0 1 0 0 0 0 0 0 0 0 0 0 0 0 0 0 0 0 1 0 0 0 0 0 0 0 0 0 0 0 0 0 0 0 0 1 0 0 0 0 0 0 0 0 0 0 0 0 0 0 0 0 1 0 0 0 0 0 0 0 0 0 0 0 0 0 0 0 0 1 0 0 0 0 0 0 0 0 0 0 0 0 0 0 0 0 1 0 0 0 0 0 0 0 0 0 0 0 0 0 0 0 0 | 0 1 2 | 74",
     ),
     (
         "module a; endmodule module b; a u0(), u1(), u2(), u3(), u4(), u5(), u6(), u7(), u8(), u9(), u10(), u11(), u12(), u13(), u14(), u15(); endmodule module c; b u0(), u1(), u2(), u3(), u4(), u5(), u6(), u7(), u8(), u9(), u10(), u11(), u12(), u13(), u14(); a v(); endmodule",
-        Some("c"),
+        &Some("c"),
         "TooMany(Instances, 257)",
     ),
     (
         "module a; wire [127:0] x, y, z; endmodule module b; a u0(), u1(), u2(), u3(), u4(), u5(), u6(), u7(), u8(), u9(), u10(), u11(), u12(), u13(), u14(), u15(); endmodule module c; b u0(), u1(), u2(), u3(), u4(), u5(), u6(), u7(), u8(), u9(), u10(); endmodule",
-        Some("c"),
+        &Some("c"),
         "TooMany(FlatBits, 65664)",
     ),
 ];
@@ -141,42 +141,42 @@ const LIMITS: [Case; 5] = [
 const INSTANCES: [Case; 8] = [
     (
         "module m(output y); n u(y); endmodule",
-        None,
+        &None,
         "UnknownModule(20)",
     ),
     (
         "module m(output y); m u(y); endmodule",
-        Some("m"),
+        &Some("m"),
         "SelfInstance(20)",
     ),
     (
         "module a; b u(); endmodule module b; c u(); endmodule module c; a u(); endmodule",
-        Some("a"),
+        &Some("a"),
         "SelfInstance(64)",
     ),
     (
         "module n; endmodule module m; n u(); n u(); endmodule",
-        None,
+        &None,
         "NameTwice(39)",
     ),
     (
         "module n; endmodule module m; n t(); wire t; endmodule",
-        None,
+        &None,
         "NameTwice(32)",
     ),
     (
         "module n; endmodule module m(output y); assign y = u; n u(); endmodule",
-        None,
+        &None,
         "UnknownName(51)",
     ),
     (
         "module n(output z); assign z = q; endmodule module m(output y); n u(y); assign y = r; endmodule",
-        None,
+        &None,
         "UnknownName(31)",
     ),
     (
         "module m(input a); m #(.B(c)) u(.d(e)); endmodule",
-        Some("m"),
+        &Some("m"),
         "SelfInstance(19)",
     ),
 ];
@@ -185,52 +185,52 @@ const INSTANCES: [Case; 8] = [
 const MISMATCHES: [Case; 10] = [
     (
         "module n(input a); endmodule module m(output y); n u(.b(y)); endmodule",
-        None,
+        &None,
         "PortMismatch(54)",
     ),
     (
         "module n(input a); endmodule module m(output y); n u(.a(y), .a()); endmodule",
-        None,
+        &None,
         "PortMismatch(61)",
     ),
     (
         "module n(input a); endmodule module m(output y); n u(y, y + y, y); endmodule",
-        None,
+        &None,
         "PortMismatch(56)",
     ),
     (
         "module n; localparam W = 1; endmodule module m; n #(.W(2)) u(); endmodule",
-        None,
+        &None,
         "PortMismatch(53)",
     ),
     (
         "module n; localparam W = 1; parameter V = 1; endmodule module m; n #(2, 3) u(); endmodule",
-        None,
+        &None,
         "PortMismatch(72)",
     ),
     (
         "module n #(parameter W = 1); endmodule module m; n #(.W(2), .W(3)) u(); endmodule",
-        None,
+        &None,
         "PortMismatch(61)",
     ),
     (
         "module n #(parameter W = 1); wire V; endmodule module m; n #(.V(2), .V(3)) u(); endmodule",
-        None,
+        &None,
         "UnknownName(62)",
     ),
     (
         "module n #(parameter W = 1); endmodule module m(input a); n #(a) u(.z(b)); endmodule",
-        None,
+        &None,
         "NotConstant(62)",
     ),
     (
         "module n(input a); endmodule module m; n u(.b(q), .a(r)); endmodule",
-        None,
+        &None,
         "PortMismatch(44)",
     ),
     (
         "module n(input a); endmodule module m; n u(.a(q), .b(r)); endmodule",
-        None,
+        &None,
         "UnknownName(46)",
     ),
 ];
@@ -239,36 +239,40 @@ const MISMATCHES: [Case; 10] = [
 const EXPRESSIONS: [Case; 8] = [
     (
         "module m(output y); assign y = b; endmodule",
-        None,
+        &None,
         "UnknownName(31)",
     ),
-    ("module m; assign q = r; endmodule", None, "UnknownName(17)"),
+    (
+        "module m; assign q = r; endmodule",
+        &None,
+        "UnknownName(17)",
+    ),
     (
         "module m(input a, output y); assign y = a[0]; endmodule",
-        None,
+        &None,
         "BadRange(40)",
     ),
     (
         "module m(output y); wire [127:0] a; assign y = a[0 +: 129]; endmodule",
-        None,
+        &None,
         "TooWide(47, 129)",
     ),
     (
         "module m(output reg y); always @(posedge k) y <= q; endmodule",
-        None,
+        &None,
         "UnknownName(41)",
     ),
     (
         "module m(output reg y); always @(k or y) y = q; endmodule",
-        None,
+        &None,
         "UnknownName(33)",
     ),
     (
         "module n; endmodule module m(output reg y); n u(); always @(posedge u) y <= y; endmodule",
-        None,
+        &None,
         "UnknownName(68)",
     ),
-    ("module m; wire w = q; endmodule", None, "UnknownName(19)"),
+    ("module m; wire w = q; endmodule", &None, "UnknownName(19)"),
 ];
 
 /// Number of the instance, name and width of each signal.
@@ -369,24 +373,37 @@ fn told(alloc: Global, text: &str, top: Option<&str>) -> Result<String, AllocErr
 /// The place of the first case that is told otherwise.
 fn first_wrong(alloc: Global, cases: &[Case]) -> Result<Option<usize>, AllocError> {
     for (place, case) in cases.iter().enumerate() {
-        if told(alloc, case.0, case.1)?.as_str() != case.2 {
+        if told(alloc, case.0, *case.1)?.as_str() != case.2 {
             return Ok(Some(place));
         }
     }
     Ok(None)
 }
 
+/// Fails at the first case of these tables that is told otherwise.
+fn all_right(alloc: Global, tables: &[&[Case]]) -> Result<(), Fail> {
+    for (table, cases) in tables.iter().enumerate() {
+        if let Some(place) = first_wrong(alloc, cases)? {
+            return Err(Fail::new(format_args!("case {place} of table {table}")));
+        }
+    }
+    Ok(())
+}
+
 #[test]
 fn flat_designs(rt: HostRuntime) -> Result<(), Fail> {
-    let alloc = rt.alloc();
-    assert_eq!(rt; first_wrong(alloc, &CONNECTIONS)?, None);
-    assert_eq!(rt; first_wrong(alloc, &OPEN_CONNECTIONS)?, None);
-    assert_eq!(rt; first_wrong(alloc, &OVERRIDES)?, None);
-    assert_eq!(rt; first_wrong(alloc, &ITEMS)?, None);
-    assert_eq!(rt; first_wrong(alloc, &TOPS)?, None);
-    assert_eq!(rt; first_wrong(alloc, &LIMITS)?, None);
-    assert_eq!(rt; first_wrong(alloc, &INSTANCES)?, None);
-    assert_eq!(rt; first_wrong(alloc, &MISMATCHES)?, None);
-    assert_eq!(rt; first_wrong(alloc, &EXPRESSIONS)?, None);
-    Ok(())
+    all_right(
+        rt.alloc(),
+        &[
+            &CONNECTIONS,
+            &OPEN_CONNECTIONS,
+            &OVERRIDES,
+            &ITEMS,
+            &TOPS,
+            &LIMITS,
+            &INSTANCES,
+            &MISMATCHES,
+            &EXPRESSIONS,
+        ],
+    )
 }

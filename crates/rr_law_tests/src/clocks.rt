@@ -22,7 +22,7 @@ enum Told {
 }
 
 /// A text, the word that names its clock, and what is told.
-type Case = (&'static str, Option<&'static str>, Told);
+type Case = (&'static str, &'static Option<&'static str>, Told);
 
 macro_rules! clock {
     ($signal:expr, $rising:literal, $used:expr) => {
@@ -67,22 +67,32 @@ fn answer(alloc: Global, text: &str, word: Option<&str>) -> Result<Told, AllocEr
 /// The place of the first case that is told otherwise.
 fn first_wrong(alloc: Global, cases: &[Case]) -> Result<Option<usize>, AllocError> {
     for (place, case) in cases.iter().enumerate() {
-        if answer(alloc, case.0, case.1)? != case.2 {
+        if answer(alloc, case.0, *case.1)? != case.2 {
             return Ok(Some(place));
         }
     }
     Ok(None)
 }
 
+/// Fails at the first case of these tables that is told otherwise.
+fn all_right(alloc: Global, tables: &[&[Case]]) -> Result<(), Fail> {
+    for (table, cases) in tables.iter().enumerate() {
+        if let Some(place) = first_wrong(alloc, cases)? {
+            return Err(Fail::new(format_args!("case {place} of table {table}")));
+        }
+    }
+    Ok(())
+}
+
 const CLOCKS_WITHOUT_AN_EDGE: [Case; 2] = [
     (
         "module m(input a, input [1:0] w, output y); wire t; assign y = a; endmodule",
-        None,
+        &None,
         clock!(None, true, None),
     ),
     (
         "module m(input a, input [1:0] w, output y); wire t; assign y = a; endmodule",
-        Some("a"),
+        &Some("a"),
         clock!(Some(0), true, Some(63)),
     ),
 ];
@@ -90,22 +100,22 @@ const CLOCKS_WITHOUT_AN_EDGE: [Case; 2] = [
 const WORDS_THAT_NAME_NO_CLOCK: [Case; 4] = [
     (
         "module m(input a, input [1:0] w, output y); wire t; assign y = a; endmodule",
-        Some("z"),
+        &Some("z"),
         Told::Unknown(7),
     ),
     (
         "module m(input a, input [1:0] w, output y); wire t; assign y = a; endmodule",
-        Some("w"),
+        &Some("w"),
         Told::Unknown(7),
     ),
     (
         "module m(input a, input [1:0] w, output y); wire t; assign y = a; endmodule",
-        Some("t"),
+        &Some("t"),
         Told::Unknown(7),
     ),
     (
         "module m(input a, input [1:0] w, output y); wire t; assign y = a; endmodule",
-        Some("y"),
+        &Some("y"),
         Told::Unknown(7),
     ),
 ];
@@ -113,22 +123,22 @@ const WORDS_THAT_NAME_NO_CLOCK: [Case; 4] = [
 const BLOCKS_OF_ONE_EDGE: [Case; 4] = [
     (
         "module m(input clk, input d, output reg q); always @(posedge clk) q <= d; endmodule",
-        None,
+        &None,
         clock!(Some(0), true, None),
     ),
     (
         "module m(input clk, input d, output reg q); always @(posedge clk) q <= d; endmodule",
-        Some("d"),
+        &Some("d"),
         Told::Nowhere(44),
     ),
     (
         "module m(input clk, input d, output reg q); always @(negedge clk) q <= d; endmodule",
-        Some("clk"),
+        &Some("clk"),
         clock!(Some(0), false, None),
     ),
     (
         "module m(input clk, input d, output reg y, output reg z); always @(posedge clk) y <= d; always @(negedge clk) z <= d; endmodule",
-        None,
+        &None,
         Told::Nowhere(88),
     ),
 ];
@@ -136,12 +146,12 @@ const BLOCKS_OF_ONE_EDGE: [Case; 4] = [
 const BLOCKS_OF_TWO_EDGES: [Case; 2] = [
     (
         "module m(input c, input r, input d, output reg q); always @(negedge r or posedge c) if (!r) q <= r; else q <= d; endmodule",
-        None,
+        &None,
         clock!(Some(0), true, None),
     ),
     (
         "module m(input c, input r, input d, output reg q); always @(negedge r or posedge c) if (!r) q <= r; else q <= d; endmodule",
-        Some("r"),
+        &Some("r"),
         clock!(Some(1), false, Some(89)),
     ),
 ];
@@ -149,12 +159,12 @@ const BLOCKS_OF_TWO_EDGES: [Case; 2] = [
 const CLOCKS_USED_AS_DATA: [Case; 2] = [
     (
         "module m(input clk, output reg y); always @(posedge clk) y <= clk; endmodule",
-        None,
+        &None,
         clock!(Some(0), true, Some(62)),
     ),
     (
         "module m(input clk, input d, output reg q, output y); assign y = clk; always @(posedge clk) q <= d; endmodule",
-        None,
+        &None,
         clock!(Some(0), true, Some(65)),
     ),
 ];
@@ -162,31 +172,34 @@ const CLOCKS_USED_AS_DATA: [Case; 2] = [
 const CLOCKS_OF_NETS_AND_INSTANCES: [Case; 3] = [
     (
         "module m(input clk, input d, output reg q); wire w = clk; always @(posedge w) q <= d; endmodule",
-        None,
+        &None,
         Told::Nowhere(58),
     ),
     (
         "module leaf(input ck, input d, output reg q); always @(posedge ck) q <= d; endmodule module m(input clk, input en, input d, output q); leaf u(.ck(clk & en), .d(d), .q(q)); endmodule",
-        None,
+        &None,
         Told::Nowhere(46),
     ),
     (
         "module leaf(input ck, input d, output reg q); always @(posedge ck) q <= d; endmodule module mid(input c, input d, output q); leaf u(.ck(c), .d(d), .q(q)); endmodule module m(input clk, input d, output q); mid u(.c(clk), .d(d), .q(q)); endmodule",
-        None,
+        &None,
         clock!(Some(0), true, None),
     ),
 ];
 
 #[test]
 fn clocks_and_their_uses(rt: HostRuntime) -> Result<(), Fail> {
-    let alloc = rt.alloc();
-    assert_eq!(rt; first_wrong(alloc, &CLOCKS_WITHOUT_AN_EDGE)?, None);
-    assert_eq!(rt; first_wrong(alloc, &WORDS_THAT_NAME_NO_CLOCK)?, None);
-    assert_eq!(rt; first_wrong(alloc, &BLOCKS_OF_ONE_EDGE)?, None);
-    assert_eq!(rt; first_wrong(alloc, &BLOCKS_OF_TWO_EDGES)?, None);
-    assert_eq!(rt; first_wrong(alloc, &CLOCKS_USED_AS_DATA)?, None);
-    assert_eq!(rt; first_wrong(alloc, &CLOCKS_OF_NETS_AND_INSTANCES)?, None);
-    Ok(())
+    all_right(
+        rt.alloc(),
+        &[
+            &CLOCKS_WITHOUT_AN_EDGE,
+            &WORDS_THAT_NAME_NO_CLOCK,
+            &BLOCKS_OF_ONE_EDGE,
+            &BLOCKS_OF_TWO_EDGES,
+            &CLOCKS_USED_AS_DATA,
+            &CLOCKS_OF_NETS_AND_INSTANCES,
+        ],
+    )
 }
 
 /// The places of a design with its clock by name, and without one.

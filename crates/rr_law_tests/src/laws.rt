@@ -16,7 +16,7 @@ enum Told {
 }
 
 /// A text, the word that names its clock, and what is told.
-type Case = (&'static str, Option<&'static str>, Told);
+type Case = (&'static str, &'static Option<&'static str>, Told);
 
 fn placed(tokens: &[Token<'_>], law: u32, at: u32) -> Told {
     match byte_of(tokens, at) {
@@ -55,22 +55,32 @@ fn answer(alloc: Global, text: &str, clock: Option<&str>) -> Result<Told, AllocE
 /// The place of the first case that is told otherwise.
 fn first_wrong(alloc: Global, cases: &[Case]) -> Result<Option<usize>, AllocError> {
     for (place, case) in cases.iter().enumerate() {
-        if answer(alloc, case.0, case.1)? != case.2 {
+        if answer(alloc, case.0, *case.1)? != case.2 {
             return Ok(Some(place));
         }
     }
     Ok(None)
 }
 
+/// Fails at the first case of these tables that is told otherwise.
+fn all_right(alloc: Global, tables: &[&[Case]]) -> Result<(), Fail> {
+    for (table, cases) in tables.iter().enumerate() {
+        if let Some(place) = first_wrong(alloc, cases)? {
+            return Err(Fail::new(format_args!("case {place} of table {table}")));
+        }
+    }
+    Ok(())
+}
+
 const WORDS_THAT_NAME_THE_CLOCK: [Case; 2] = [
     (
         "module m(input clk, input d, output reg q); always @(posedge clk) q <= d; endmodule",
-        None,
+        &None,
         Told::Kept,
     ),
     (
         "module m(input clk, input d, output reg q); always @(posedge clk) q <= d; endmodule",
-        Some("clk"),
+        &Some("clk"),
         Told::Kept,
     ),
 ];
@@ -78,22 +88,22 @@ const WORDS_THAT_NAME_THE_CLOCK: [Case; 2] = [
 const WORDS_THAT_NAME_NO_CLOCK: [Case; 4] = [
     (
         "module m(input clk, input d, output reg q); always @(posedge clk) q <= d; endmodule",
-        Some("ck"),
+        &Some("ck"),
         Told::Broken(11, 7),
     ),
     (
         "module m(input [1:0] clk, output y); assign y = clk[0]; endmodule",
-        Some("clk"),
+        &Some("clk"),
         Told::Broken(11, 7),
     ),
     (
         "module m(input a, output y); wire w; assign w = a; assign y = w; endmodule",
-        Some("w"),
+        &Some("w"),
         Told::Broken(11, 7),
     ),
     (
         "module c(input i, output y); assign y = i; endmodule module m(input a, output y); c one(a, y); endmodule",
-        Some("i"),
+        &Some("i"),
         Told::Broken(11, 60),
     ),
 ];
@@ -101,12 +111,12 @@ const WORDS_THAT_NAME_NO_CLOCK: [Case; 4] = [
 const RESETS_BESIDE_THE_CLOCK: [Case; 2] = [
     (
         "module m(input clk, input rst, input d, output reg q); always @(posedge clk or posedge rst) if (rst) q <= 1'b0; else q <= d; endmodule",
-        None,
+        &None,
         Told::Kept,
     ),
     (
         "module m(input clk, input rst, input d, output reg q); always @(posedge rst or posedge clk) if (rst) q <= 1'b0; else q <= d; endmodule",
-        None,
+        &None,
         Told::Kept,
     ),
 ];
@@ -114,27 +124,27 @@ const RESETS_BESIDE_THE_CLOCK: [Case; 2] = [
 const BLOCKS_OF_ANOTHER_CLOCK: [Case; 5] = [
     (
         "module m(input clk, input en, input d, output reg q); wire g; assign g = clk & en; always @(posedge g) q <= d; endmodule",
-        None,
+        &None,
         Told::Broken(23, 83),
     ),
     (
         "module m(input a, input b, input d, output reg q, output reg r); always @(posedge a) q <= d; always @(posedge b) r <= d; endmodule",
-        None,
+        &None,
         Told::Broken(23, 93),
     ),
     (
         "module m(input clk, input d, output reg q, output reg r); always @(posedge clk) q <= d; always @(negedge clk) r <= d; endmodule",
-        None,
+        &None,
         Told::Broken(23, 88),
     ),
     (
         "module m(input clk, input d, output reg q, output reg r); always @(posedge clk) q <= d; always @(posedge q) r <= d; endmodule",
-        None,
+        &None,
         Told::Broken(23, 88),
     ),
     (
         "module m(input clk, input d, output reg q); always @(posedge d) q <= 1'b1; endmodule",
-        Some("clk"),
+        &Some("clk"),
         Told::Broken(23, 44),
     ),
 ];
@@ -142,22 +152,22 @@ const BLOCKS_OF_ANOTHER_CLOCK: [Case; 5] = [
 const USES_OF_THE_CLOCK_IN_ONE_MODULE: [Case; 4] = [
     (
         "module m(input clk, input d, output reg q, output y); assign y = clk; always @(posedge clk) q <= d; endmodule",
-        None,
+        &None,
         Told::Broken(22, 65),
     ),
     (
         "module m(input clk, input d, output reg q); always @(posedge clk) q <= clk; endmodule",
-        None,
+        &None,
         Told::Broken(22, 71),
     ),
     (
         "module m(input clk, input [1:0] d, output reg q); always @(posedge clk) q <= d[clk]; endmodule",
-        None,
+        &None,
         Told::Broken(22, 79),
     ),
     (
         "module m(input clk, input d, output y); assign y = clk & d; endmodule",
-        None,
+        &None,
         Told::Kept,
     ),
 ];
@@ -165,17 +175,17 @@ const USES_OF_THE_CLOCK_IN_ONE_MODULE: [Case; 4] = [
 const USES_OF_THE_CLOCK_IN_INSTANCES: [Case; 3] = [
     (
         "module c(input k, input d, output reg q); always @(negedge k) q <= d; endmodule module b(input k, input d, output q); c one(k, d, q); endmodule module m(input clk, input d, output q); b one(.k(clk), .d(d), .q(q)); endmodule",
-        None,
+        &None,
         Told::Kept,
     ),
     (
         "module c(input k, input d, output reg q); always @(negedge k) q <= d; endmodule module b(input k, input d, output q); c one(k, d, q); endmodule module m(input clk, input d, output q); b one(.k(clk), .d(clk & d), .q(q)); endmodule",
-        None,
+        &None,
         Told::Broken(22, 202),
     ),
     (
         "module c(input k, input d, output reg q); always @(posedge k) q <= d & k; endmodule module m(input clk, input d, output q); c one(clk, d, q); endmodule",
-        None,
+        &None,
         Told::Broken(22, 71),
     ),
 ];
@@ -183,27 +193,27 @@ const USES_OF_THE_CLOCK_IN_INSTANCES: [Case; 3] = [
 const TWO_DRIVERS_OF_A_NET: [Case; 5] = [
     (
         "module m(input a, input b, output y); assign y = a; assign y = b; endmodule",
-        None,
+        &None,
         Told::Broken(17, 59),
     ),
     (
         "module m(input [3:0] a, output [3:0] y); assign y[3:2] = a[3:2]; assign y[2:0] = a[2:0]; endmodule",
-        None,
+        &None,
         Told::Broken(17, 72),
     ),
     (
         "module m(input [3:0] a, output [3:0] y); assign y[3:2] = a[3:2]; assign y[1:0] = a[1:0]; endmodule",
-        None,
+        &None,
         Told::Kept,
     ),
     (
         "module m(input [1:0] a, output y); wire w; assign {y, y} = a; endmodule",
-        None,
+        &None,
         Told::Broken(17, 50),
     ),
     (
         "module c(input i, output o); assign o = i; endmodule module m(input a, input b, output y); c one(a, y); c two(b, y); endmodule",
-        None,
+        &None,
         Told::Broken(17, 113),
     ),
 ];
@@ -211,12 +221,12 @@ const TWO_DRIVERS_OF_A_NET: [Case; 5] = [
 const TWO_DRIVERS_OF_A_VARIABLE: [Case; 2] = [
     (
         "module m(input a, output reg y); always @* y = a; always @* y = ~a; endmodule",
-        None,
+        &None,
         Told::Broken(17, 50),
     ),
     (
         "module m(input clk, input [1:0] i, output reg [3:0] y); always @(posedge clk) y[i] <= 1'b1; always @(posedge clk) y[0] <= 1'b0; endmodule",
-        None,
+        &None,
         Told::Broken(17, 92),
     ),
 ];
@@ -224,22 +234,22 @@ const TWO_DRIVERS_OF_A_VARIABLE: [Case; 2] = [
 const KINDS_OF_ASSIGNMENT: [Case; 4] = [
     (
         "module m(input a, output reg y); always @* y <= a; endmodule",
-        None,
+        &None,
         Told::Broken(18, 43),
     ),
     (
         "module m(input clk, input a, output reg y); always @(posedge clk) begin y <= a; if (a) y = 1'b0; end endmodule",
-        None,
+        &None,
         Told::Broken(18, 87),
     ),
     (
         "module m(input clk, input a, output reg [1:0] y); always @(posedge clk) y[0] = a; always @(posedge clk) y[1] <= a; endmodule",
-        None,
+        &None,
         Told::Broken(18, 104),
     ),
     (
         "module m(input a, input b, output reg y, output reg z); always @* begin y = a; {z, y} <= {b, a}; end endmodule",
-        None,
+        &None,
         Told::Broken(18, 80),
     ),
 ];
@@ -247,27 +257,27 @@ const KINDS_OF_ASSIGNMENT: [Case; 4] = [
 const RACES: [Case; 5] = [
     (
         "module m(input clk, input d, output reg y, output reg z); always @(posedge clk) y = d; always @(posedge clk) z <= y; endmodule",
-        None,
+        &None,
         Told::Broken(19, 114),
     ),
     (
         "module m(input clk, input d, output reg y, output reg z); always @(posedge clk) if (y) z <= d; always @(posedge clk) y = d; endmodule",
-        None,
+        &None,
         Told::Broken(19, 84),
     ),
     (
         "module m(input clk, input [1:0] d, output reg [1:0] y, output reg [3:0] z); always @(posedge clk) y = d; always @(posedge clk) z[y] <= 1'b1; endmodule",
-        None,
+        &None,
         Told::Broken(19, 129),
     ),
     (
         "module m(input clk, input d, output reg y, output reg z); always @(posedge clk) y = d; always @(posedge clk) case (d) y: z <= 1'b1; default: z <= 1'b0; endcase endmodule",
-        None,
+        &None,
         Told::Broken(19, 118),
     ),
     (
         "module m(input clk, input d, output reg y, output z); always @(posedge clk) y = d ^ y; assign z = y; endmodule",
-        None,
+        &None,
         Told::Kept,
     ),
 ];
@@ -275,27 +285,27 @@ const RACES: [Case; 5] = [
 const BLOCKS_WITH_A_LATCH: [Case; 5] = [
     (
         "module m(input a, input b, output reg y); always @* if (a) y = b; endmodule",
-        None,
+        &None,
         Told::Broken(20, 42),
     ),
     (
         "module m(input [1:0] a, output reg y); always @* case (a) 2'b00: y = 1'b0; 2'b01: y = 1'b1; endcase endmodule",
-        None,
+        &None,
         Told::Broken(20, 39),
     ),
     (
         "module m(input a, output reg y, output reg z); always @* begin z = y; y = a; end endmodule",
-        None,
+        &None,
         Told::Broken(20, 47),
     ),
     (
         "module m(input [1:0] i, input a, output reg [3:0] y); always @* y[i] = a; endmodule",
-        None,
+        &None,
         Told::Broken(20, 54),
     ),
     (
         "module m(input a, output reg [1:0] y); always @* begin y[0] = a; if (a) y[1] = a; end endmodule",
-        None,
+        &None,
         Told::Broken(20, 39),
     ),
 ];
@@ -303,17 +313,17 @@ const BLOCKS_WITH_A_LATCH: [Case; 5] = [
 const BLOCKS_WITHOUT_A_LATCH: [Case; 3] = [
     (
         "module m(input [1:0] a, output reg y); always @* begin y = 1'b0; if (a[0]) y = a[1]; end endmodule",
-        None,
+        &None,
         Told::Kept,
     ),
     (
         "module m(input [1:0] a, output reg y); always @* case (a) 2'b00: y = 1'b0; default: y = 1'b1; endcase endmodule",
-        None,
+        &None,
         Told::Kept,
     ),
     (
         "module m(input [1:0] i, input a, output reg [3:0] y); always @* begin y = 4'h0; y[i] = a; end endmodule",
-        None,
+        &None,
         Told::Kept,
     ),
 ];
@@ -321,17 +331,17 @@ const BLOCKS_WITHOUT_A_LATCH: [Case; 3] = [
 const LOOPS_THROUGH_SIGNALS: [Case; 3] = [
     (
         "module m(input a, output y); wire w; assign w = y & a; assign y = w; endmodule",
-        None,
+        &None,
         Told::Broken(21, 62),
     ),
     (
         "module m(input a, output reg x, output reg y, output reg z); always @* x = z; always @* y = x & a; always @* z = y; endmodule",
-        None,
+        &None,
         Told::Broken(21, 61),
     ),
     (
         "module n(input i, output o); assign o = ~i; endmodule module m(output y); wire w; n one(w, y); n two(y, w); endmodule",
-        None,
+        &None,
         Told::Broken(21, 91),
     ),
 ];
@@ -339,22 +349,22 @@ const LOOPS_THROUGH_SIGNALS: [Case; 3] = [
 const LOOPS_THROUGH_BITS: [Case; 4] = [
     (
         "module m(input [2:0] a, output [3:0] y); assign y = {a & y[2:0], 1'b1}; endmodule",
-        None,
+        &None,
         Told::Broken(21, 48),
     ),
     (
         "module m(input a, output [3:0] y); assign y = {y[2:0], y[3]}; endmodule",
-        None,
+        &None,
         Told::Broken(21, 42),
     ),
     (
         "module m(input [1:0] i, output [3:0] y); assign y[3:1] = 3'b0; assign y[0] = y[i]; endmodule",
-        None,
+        &None,
         Told::Broken(21, 70),
     ),
     (
         "module m(output [3:0] y); assign y[3] = y[2]; assign y[2] = y[3]; assign y[0] = y[1]; assign y[1] = y[0]; endmodule",
-        None,
+        &None,
         Told::Broken(21, 73),
     ),
 ];
@@ -362,12 +372,12 @@ const LOOPS_THROUGH_BITS: [Case; 4] = [
 const CHAINS_OF_BITS: [Case; 2] = [
     (
         "module m(input a, output [3:0] y); assign y[0] = a; assign y[1] = y[0]; assign y[2] = y[1]; assign y[3] = y[2]; endmodule",
-        None,
+        &None,
         Told::Kept,
     ),
     (
         "module m(input a, output [3:0] y); assign y = {y[2:0], a}; endmodule",
-        None,
+        &None,
         Told::Kept,
     ),
 ];
@@ -375,22 +385,22 @@ const CHAINS_OF_BITS: [Case; 2] = [
 const TWO_LAWS_UP_TO_THE_CLOCK: [Case; 4] = [
     (
         "module m(input a, output y, output reg z); always @* case (a) 1'bx: z = a; default: z = 1'b0; endcase assign a = y; endmodule",
-        None,
+        &None,
         Told::Broken(24, 109),
     ),
     (
         "module m(input a, input b, input d, output reg y, output reg z); always @(posedge a) y <= d; always @(posedge b) case (d) 1'bx: z <= d; endcase endmodule",
-        None,
+        &None,
         Told::Broken(25, 122),
     ),
     (
         "module m(input a, input b, output reg y, output reg z); always @(posedge a) y <= a; always @(posedge b) z <= b; endmodule",
-        None,
+        &None,
         Told::Broken(23, 84),
     ),
     (
         "module m(input clk, input d, output y); assign y = d; assign y = d; reg q; always @(posedge clk) q <= clk; endmodule",
-        None,
+        &None,
         Told::Broken(22, 102),
     ),
 ];
@@ -398,22 +408,22 @@ const TWO_LAWS_UP_TO_THE_CLOCK: [Case; 4] = [
 const TWO_LAWS_AFTER_THE_CLOCK: [Case; 4] = [
     (
         "module m(input d, output y, output reg z); always @* z <= d; assign y = d; assign y = z; endmodule",
-        None,
+        &None,
         Told::Broken(17, 82),
     ),
     (
         "module m(input clk, input d, output reg y, output reg z); always @(posedge clk) y = d; always @(posedge clk) begin z <= y; z = d; end endmodule",
-        None,
+        &None,
         Told::Broken(18, 123),
     ),
     (
         "module m(input clk, input d, output reg y, output reg z, output reg l); always @* if (d) l = d; always @(posedge clk) y = d; always @(posedge clk) z <= y; endmodule",
-        None,
+        &None,
         Told::Broken(19, 152),
     ),
     (
         "module m(input d, output y, output reg l); assign y = ~y; always @* if (d) l = d; endmodule",
-        None,
+        &None,
         Told::Broken(20, 58),
     ),
 ];
@@ -421,22 +431,22 @@ const TWO_LAWS_AFTER_THE_CLOCK: [Case; 4] = [
 const ONE_LAW_UP_TO_THE_CLOCK: [Case; 4] = [
     (
         "module m(input clk,output reg y);always @(posedge clk) y <= clk;endmodule",
-        None,
+        &None,
         Told::Broken(22, 60),
     ),
     (
         "module m(input clk,input d,output reg y,output reg z);always @(posedge clk) y <= d;always @(negedge clk) z <= d;endmodule",
-        None,
+        &None,
         Told::Broken(23, 83),
     ),
     (
         "module m(input a,output y);always @* y = a;endmodule",
-        None,
+        &None,
         Told::Broken(24, 37),
     ),
     (
         "module m(input a,output reg y);always @* case(a) 1'bx: y = a; default: y = 1'b0; endcase endmodule",
-        None,
+        &None,
         Told::Broken(25, 49),
     ),
 ];
@@ -444,27 +454,27 @@ const ONE_LAW_UP_TO_THE_CLOCK: [Case; 4] = [
 const ONE_LAW_AFTER_THE_CLOCK: [Case; 5] = [
     (
         "module m(output y);assign y = 1'b0;assign y = 1'b1;endmodule",
-        None,
+        &None,
         Told::Broken(17, 42),
     ),
     (
         "module m(input clk,output reg y);always @(posedge clk) begin y <= 1'b0; y = 1'b1; end endmodule",
-        None,
+        &None,
         Told::Broken(18, 72),
     ),
     (
         "module m(input clk,output reg y);reg t;always @(posedge clk) t = ~t;always @(posedge clk) y <= t;endmodule",
-        None,
+        &None,
         Told::Broken(19, 95),
     ),
     (
         "module m(output y);\n  wire a, b;\n  assign a = b;\n  assign b = a;\n  assign y = a;\nendmodule\n",
-        None,
+        &None,
         Told::Broken(21, 42),
     ),
     (
         "module m(input [1:0] s, output reg y);\n  always @*\n    case (s)\n      2'd0: y = 1'b0;\n      2'd1: y = 1'b1;\n    endcase\nendmodule\n",
-        None,
+        &None,
         Told::Broken(20, 41),
     ),
 ];
@@ -472,58 +482,70 @@ const ONE_LAW_AFTER_THE_CLOCK: [Case; 5] = [
 const DESIGNS_THAT_KEEP_ALL_LAWS: [Case; 2] = [
     (
         "module m(input [1:0] s, output reg y);\n  always @*\n    begin y = 1'b0; case (s)\n      2'd0: y = 1'b0;\n      2'd1: y = 1'b1;\n    endcase end\nendmodule\n",
-        None,
+        &None,
         Told::Kept,
     ),
     (
         "module m(input [2:0] a, output [3:0] c); assign c[0] = 1'b0; assign c[1] = c[0] ^ a[0]; assign c[2] = c[1] ^ a[1]; assign c[3] = c[2] ^ a[2]; endmodule",
-        None,
+        &None,
         Told::Kept,
     ),
 ];
 
 #[test]
 fn the_clock_and_its_uses(rt: HostRuntime) -> Result<(), Fail> {
-    let alloc = rt.alloc();
-    assert_eq!(rt; first_wrong(alloc, &WORDS_THAT_NAME_THE_CLOCK)?, None);
-    assert_eq!(rt; first_wrong(alloc, &WORDS_THAT_NAME_NO_CLOCK)?, None);
-    assert_eq!(rt; first_wrong(alloc, &RESETS_BESIDE_THE_CLOCK)?, None);
-    assert_eq!(rt; first_wrong(alloc, &BLOCKS_OF_ANOTHER_CLOCK)?, None);
-    assert_eq!(rt; first_wrong(alloc, &USES_OF_THE_CLOCK_IN_ONE_MODULE)?, None);
-    assert_eq!(rt; first_wrong(alloc, &USES_OF_THE_CLOCK_IN_INSTANCES)?, None);
-    Ok(())
+    all_right(
+        rt.alloc(),
+        &[
+            &WORDS_THAT_NAME_THE_CLOCK,
+            &WORDS_THAT_NAME_NO_CLOCK,
+            &RESETS_BESIDE_THE_CLOCK,
+            &BLOCKS_OF_ANOTHER_CLOCK,
+            &USES_OF_THE_CLOCK_IN_ONE_MODULE,
+            &USES_OF_THE_CLOCK_IN_INSTANCES,
+        ],
+    )
 }
 
 #[test]
 fn drivers_kinds_and_races(rt: HostRuntime) -> Result<(), Fail> {
-    let alloc = rt.alloc();
-    assert_eq!(rt; first_wrong(alloc, &TWO_DRIVERS_OF_A_NET)?, None);
-    assert_eq!(rt; first_wrong(alloc, &TWO_DRIVERS_OF_A_VARIABLE)?, None);
-    assert_eq!(rt; first_wrong(alloc, &KINDS_OF_ASSIGNMENT)?, None);
-    assert_eq!(rt; first_wrong(alloc, &RACES)?, None);
-    Ok(())
+    all_right(
+        rt.alloc(),
+        &[
+            &TWO_DRIVERS_OF_A_NET,
+            &TWO_DRIVERS_OF_A_VARIABLE,
+            &KINDS_OF_ASSIGNMENT,
+            &RACES,
+        ],
+    )
 }
 
 #[test]
 fn latches_and_loops(rt: HostRuntime) -> Result<(), Fail> {
-    let alloc = rt.alloc();
-    assert_eq!(rt; first_wrong(alloc, &BLOCKS_WITH_A_LATCH)?, None);
-    assert_eq!(rt; first_wrong(alloc, &BLOCKS_WITHOUT_A_LATCH)?, None);
-    assert_eq!(rt; first_wrong(alloc, &LOOPS_THROUGH_SIGNALS)?, None);
-    assert_eq!(rt; first_wrong(alloc, &LOOPS_THROUGH_BITS)?, None);
-    assert_eq!(rt; first_wrong(alloc, &CHAINS_OF_BITS)?, None);
-    Ok(())
+    all_right(
+        rt.alloc(),
+        &[
+            &BLOCKS_WITH_A_LATCH,
+            &BLOCKS_WITHOUT_A_LATCH,
+            &LOOPS_THROUGH_SIGNALS,
+            &LOOPS_THROUGH_BITS,
+            &CHAINS_OF_BITS,
+        ],
+    )
 }
 
 #[test]
 fn the_first_law_that_is_broken(rt: HostRuntime) -> Result<(), Fail> {
-    let alloc = rt.alloc();
-    assert_eq!(rt; first_wrong(alloc, &TWO_LAWS_UP_TO_THE_CLOCK)?, None);
-    assert_eq!(rt; first_wrong(alloc, &TWO_LAWS_AFTER_THE_CLOCK)?, None);
-    assert_eq!(rt; first_wrong(alloc, &ONE_LAW_UP_TO_THE_CLOCK)?, None);
-    assert_eq!(rt; first_wrong(alloc, &ONE_LAW_AFTER_THE_CLOCK)?, None);
-    assert_eq!(rt; first_wrong(alloc, &DESIGNS_THAT_KEEP_ALL_LAWS)?, None);
-    Ok(())
+    all_right(
+        rt.alloc(),
+        &[
+            &TWO_LAWS_UP_TO_THE_CLOCK,
+            &TWO_LAWS_AFTER_THE_CLOCK,
+            &ONE_LAW_UP_TO_THE_CLOCK,
+            &ONE_LAW_AFTER_THE_CLOCK,
+            &DESIGNS_THAT_KEEP_ALL_LAWS,
+        ],
+    )
 }
 
 /// The names that lead to the clock, of a design that keeps all laws.

@@ -46,7 +46,7 @@ fn judges_small_proofs(rt: HostRuntime) -> Result<(), Fail> {
     let alloc = rt.alloc();
     for workers in [1, 2, 4, 64] {
         for (text, expected) in SMALL.iter() {
-            assert_eq!(rt; verdict(&rt, alloc, text, workers)?, *expected);
+            assert!(rt; verdict(&rt, alloc, text, workers)? == *expected);
         }
     }
     Ok(())
@@ -69,10 +69,7 @@ fn finds_the_least_in_each_part(rt: HostRuntime) -> Result<(), Fail> {
     for bad in [3u64, 7, 8, 16, 20, 27, 33, 42] {
         let text = long_proof(alloc, bad, 42, "43 0 1 2 0\n")?;
         for workers in [1, 2, 3, 4, 7, 40, 64] {
-            assert_eq!(rt;
-                verdict(&rt, alloc, &text, workers)?,
-                Verdict::Line(bad - 2)
-            );
+            assert!(rt; verdict(&rt, alloc, &text, workers)? == Verdict::Line(bad - 2));
         }
     }
     Ok(())
@@ -83,12 +80,9 @@ fn looks_for_the_empty_clause(rt: HostRuntime) -> Result<(), Fail> {
     let alloc = rt.alloc();
     for workers in [1, 2, 3, 4, 7, 40, 64] {
         let text = long_proof(alloc, 0, 0, "43 0 1 2 0\n")?;
-        assert_eq!(rt; verdict(&rt, alloc, &text, workers)?, Verdict::Accepted);
+        assert!(rt; verdict(&rt, alloc, &text, workers)? == Verdict::Accepted);
         let text = long_proof(alloc, 0, 0, "")?;
-        assert_eq!(rt;
-            verdict(&rt, alloc, &text, workers)?,
-            Verdict::NoEmptyClause
-        );
+        assert!(rt; verdict(&rt, alloc, &text, workers)? == Verdict::NoEmptyClause);
     }
     Ok(())
 }

@@ -78,7 +78,7 @@ fn refutes_circuits(rt: HostRuntime) -> Result<(), Fail> {
 fn satisfies_circuits(rt: HostRuntime) -> Result<(), Fail> {
     let alloc = rt.alloc();
     for width in 1..6 {
-        assert_eq!(rt; end(alloc, &absorbing(alloc, width)?)?, Ending::Model);
+        assert!(rt; end(alloc, &absorbing(alloc, width)?)? == Ending::Model);
     }
     Ok(())
 }

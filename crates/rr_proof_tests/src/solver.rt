@@ -128,7 +128,7 @@ fn ends_on_small_formulas(rt: HostRuntime) -> Result<(), Fail> {
     let alloc = rt.alloc();
     for (vars, clauses, budget, expected) in SMALL.iter() {
         let made = formula(alloc, *vars, clauses)?;
-        assert_eq!(rt; end(alloc, &made, *budget)?, *expected);
+        assert!(rt; end(alloc, &made, *budget)? == *expected);
     }
     Ok(())
 }
@@ -141,8 +141,9 @@ fn learns_from_eight_clauses(rt: HostRuntime) -> Result<(), Fail> {
     match search(alloc, &eight, 1)? {
         Outcome::Spent(journal) => {
             let lines = journal.lines();
-            assert_eq!(rt; lines.len(), 1);
-            assert_eq!(rt; lines.first().map(|line| line.clause.lits().len()), Some(2));
+            assert!(rt;
+                lines.len() == 1 && lines.first().map(|line| line.clause.lits().len()) == Some(2)
+            );
         }
         _ => assert!(rt; false, "spent"),
     }
@@ -250,21 +251,24 @@ fn takes_what_is_handed_over(rt: HostRuntime) -> Result<(), Fail> {
     let eight = formula(alloc, 3, &EIGHT)?;
     let mut solver = begin(alloc, &eight, 1)?;
     assert!(rt; shared(&solver), "shared");
-    assert_eq!(rt; step(&mut solver)?, Stepped::Learned);
-    assert_eq!(rt; solver.last_id(), 9);
+    assert!(rt; step(&mut solver)? == Stepped::Learned && solver.last_id() == 9);
     let vars = eight.vars();
     assert!(rt;
         hand_over(alloc, &mut solver, vars, &[lit(1)])?,
         "handed over"
     );
-    assert_eq!(rt; solver.last_id(), 10);
-    assert_eq!(rt; step(&mut solver)?, Stepped::Learned);
-    assert_eq!(rt; step(&mut solver)?, Stepped::Refuted);
-    assert_eq!(rt; step(&mut solver)?, Stepped::Refuted);
+    assert!(rt;
+        solver.last_id() == 10
+            && step(&mut solver)? == Stepped::Learned
+            && step(&mut solver)? == Stepped::Refuted
+            && step(&mut solver)? == Stepped::Refuted
+    );
     let lines = solver.journal().lines();
-    assert_eq!(rt; lines.len(), 3);
-    assert_eq!(rt; lines.first().map(|line| line.id), Some(9));
-    assert_eq!(rt; lines.last().map(|line| line.id), Some(12));
+    assert!(rt;
+        lines.len() == 3
+            && lines.first().map(|line| line.id) == Some(9)
+            && lines.last().map(|line| line.id) == Some(12)
+    );
     Ok(())
 }
 
@@ -275,13 +279,13 @@ fn ends_with_a_false_clause_handed_over(rt: HostRuntime) -> Result<(), Fail> {
     let mut solver = begin(alloc, &free, 2)?;
     let vars = free.vars();
     assert!(rt; hand_over(alloc, &mut solver, vars, &[])?, "handed over");
-    assert_eq!(rt; step(&mut solver)?, Stepped::Refuted);
+    assert!(rt; step(&mut solver)? == Stepped::Refuted);
     let hints = solver
         .journal()
         .lines()
         .first()
         .map(|line| line.hints.as_slice() == [2u64].as_slice());
-    assert_eq!(rt; hints, Some(true));
+    assert!(rt; hints == Some(true));
     Ok(())
 }
 
@@ -299,7 +303,7 @@ fn goes_on_after_restarts(rt: HostRuntime) -> Result<(), Fail> {
                 break;
             }
         }
-        assert_eq!(rt; last, Stepped::Refuted);
+        assert!(rt; last == Stepped::Refuted);
     }
     Ok(())
 }

@@ -50,12 +50,12 @@ fn finds_units_and_conflicts(rt: HostRuntime) -> Result<(), Fail> {
     let alloc = rt.alloc();
     let both = formula(alloc, 2, &[&[1, 2], &[1, -2]])?;
     let mut watch = Watch::new(alloc, &both)?;
-    assert_eq!(rt; watch.propagate(), Propagated::Quiet);
+    assert!(rt; watch.propagate() == Propagated::Quiet);
     assert!(rt; decide(&mut watch, lit(-1)), "open");
     let answer = watch.propagate();
     let is_conflict = answer == Propagated::Conflict(1) || answer == Propagated::Conflict(2);
     assert!(rt; is_conflict, "conflict");
-    assert_eq!(rt; watch.propagate(), answer);
+    assert!(rt; watch.propagate() == answer);
     assert!(rt; shared(&watch), "shared");
     Ok(())
 }
@@ -66,17 +66,18 @@ fn forces_a_literal(rt: HostRuntime) -> Result<(), Fail> {
     let one = formula(alloc, 2, &[&[1, 2]])?;
     let mut watch = Watch::new(alloc, &one)?;
     assert!(rt; decide(&mut watch, lit(-1)), "open");
-    assert_eq!(rt; watch.propagate(), Propagated::Quiet);
-    assert_eq!(rt; value(&watch, lit(2)), Some(true));
-    assert_eq!(rt; value(&watch, lit(1)), Some(false));
-    assert_eq!(rt; watch.trail(), [lit(-1), lit(2)].as_slice());
-    assert_eq!(rt;
-        (reason(&watch, lit(2)), reason(&watch, lit(-1))),
-        (Some(1), None)
+    assert!(rt;
+        watch.propagate() == Propagated::Quiet
+            && value(&watch, lit(2)) == Some(true)
+            && value(&watch, lit(1)) == Some(false)
+            && watch.trail() == [lit(-1), lit(2)].as_slice()
     );
-    assert_eq!(rt; (level(&watch, lit(2)), watch.depth()), (1, 1));
+    assert!(rt;
+        (reason(&watch, lit(2)), reason(&watch, lit(-1))) == (Some(1), None)
+            && (level(&watch, lit(2)), watch.depth()) == (1, 1)
+    );
     back(&mut watch, 0);
-    assert_eq!(rt; value(&watch, lit(2)), None);
+    assert!(rt; value(&watch, lit(2)) == None);
     Ok(())
 }
 
@@ -85,19 +86,23 @@ fn holds_short_clauses(rt: HostRuntime) -> Result<(), Fail> {
     let alloc = rt.alloc();
     let twice = formula(alloc, 3, &[&[2, 2], &[-2, 3, 3], &[1, -1]])?;
     let mut watch = Watch::new(alloc, &twice)?;
-    assert_eq!(rt; watch.propagate(), Propagated::Quiet);
-    assert_eq!(rt; watch.trail(), [lit(2), lit(3)].as_slice());
-    assert_eq!(rt; level(&watch, lit(3)), 0);
+    assert!(rt;
+        watch.propagate() == Propagated::Quiet
+            && watch.trail() == [lit(2), lit(3)].as_slice()
+            && level(&watch, lit(3)) == 0
+    );
     assert!(rt;
         !decide(&mut watch, lit(-3)) && decide(&mut watch, lit(1)),
         "open"
     );
-    assert_eq!(rt; watch.propagate(), Propagated::Quiet);
+    assert!(rt; watch.propagate() == Propagated::Quiet);
 
     let empty = formula(alloc, 3, &[&[1], &[]])?;
     let mut watch = Watch::new(alloc, &empty)?;
-    assert_eq!(rt; watch.propagate(), Propagated::Conflict(2));
-    assert_eq!(rt; watch.clause(2).map(|clause| clause.len()), Some(0));
+    assert!(rt;
+        watch.propagate() == Propagated::Conflict(2)
+            && watch.clause(2).map(|clause| clause.len()) == Some(0)
+    );
     assert!(rt;
         watch.clause(0).is_none() && watch.clause(3).is_none(),
         "no clause"
@@ -112,19 +117,18 @@ fn goes_back_to_each_level(rt: HostRuntime) -> Result<(), Fail> {
     let mut watch = Watch::new(alloc, &chain)?;
     for number in [1, 3, 5] {
         assert!(rt; decide(&mut watch, lit(number)), "open");
-        assert_eq!(rt; watch.propagate(), Propagated::Quiet);
+        assert!(rt; watch.propagate() == Propagated::Quiet);
     }
     let whole = [lit(1), lit(2), lit(3), lit(4), lit(5), lit(6)];
-    assert_eq!(rt; watch.trail(), whole.as_slice());
+    assert!(rt; watch.trail() == whole.as_slice());
     back(&mut watch, 2);
-    assert_eq!(rt; watch.trail(), &whole[..4]);
+    assert!(rt; watch.trail() == &whole[..4]);
     back(&mut watch, 1);
-    assert_eq!(rt; watch.trail(), &whole[..2]);
+    assert!(rt; watch.trail() == &whole[..2]);
     assert!(rt; decide(&mut watch, lit(5)), "open");
-    assert_eq!(rt; watch.propagate(), Propagated::Quiet);
-    assert_eq!(rt; level(&watch, lit(6)), 2);
+    assert!(rt; watch.propagate() == Propagated::Quiet && level(&watch, lit(6)) == 2);
     back(&mut watch, 0);
-    assert_eq!(rt; watch.trail().len(), 0);
+    assert!(rt; watch.trail().len() == 0);
     Ok(())
 }
 
@@ -136,12 +140,13 @@ fn sees_again_what_a_decision_hid(rt: HostRuntime) -> Result<(), Fail> {
     let mut watch = Watch::new(alloc, &one)?;
     let both = decide(&mut watch, lit(1)) && decide(&mut watch, lit(2));
     assert!(rt; both, "open");
-    assert_eq!(rt; watch.propagate(), Propagated::Quiet);
-    assert_eq!(rt; level(&watch, lit(3)), 2);
+    assert!(rt; watch.propagate() == Propagated::Quiet && level(&watch, lit(3)) == 2);
     back(&mut watch, 1);
-    assert_eq!(rt; value(&watch, lit(3)), None);
-    assert_eq!(rt; watch.propagate(), Propagated::Quiet);
-    assert_eq!(rt; level(&watch, lit(3)), 1);
+    assert!(rt;
+        value(&watch, lit(3)) == None
+            && watch.propagate() == Propagated::Quiet
+            && level(&watch, lit(3)) == 1
+    );
     Ok(())
 }
 
@@ -165,14 +170,14 @@ fn adds_under_decisions(rt: HostRuntime) -> Result<(), Fail> {
     let none = Formula::new(rt.alloc(), 3);
     let mut watch = added(rt.alloc(), &none)?;
     let three = lit(3);
-    assert_eq!(rt; watch.propagate(), Propagated::Quiet);
-    assert_eq!(rt; (reason(&watch, three), level(&watch, three)), (Some(9), 2));
+    assert!(rt;
+        watch.propagate() == Propagated::Quiet
+            && (reason(&watch, three), level(&watch, three)) == (Some(9), 2)
+    );
     back(&mut watch, 1);
-    assert_eq!(rt; watch.propagate(), Propagated::Quiet);
-    assert_eq!(rt; value(&watch, three), None);
+    assert!(rt; watch.propagate() == Propagated::Quiet && value(&watch, three) == None);
     assert!(rt; decide(&mut watch, lit(-3)), "open");
-    assert_eq!(rt; watch.propagate(), Propagated::Quiet);
-    assert_eq!(rt; value(&watch, lit(2)), Some(false));
+    assert!(rt; watch.propagate() == Propagated::Quiet && value(&watch, lit(2)) == Some(false));
     Ok(())
 }
 

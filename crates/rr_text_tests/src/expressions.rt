@@ -166,56 +166,60 @@ fn pairs_of_operators(rt: HostRuntime) -> Result<(), Fail> {
     Ok(())
 }
 
+/// Texts with the expression at their front and the token after it.
+const PRIMARIES: [(&str, &str, u32); 26] = [
+    ("a ? b : c ? d : e", "(a?b:(c?d:e))", 9),
+    ("a ? b ? c : d : e", "(a?(b?c:d):e)", 9),
+    ("a || b ? c && d : e || f", "((a||b)?(c&&d):(e||f))", 11),
+    ("{ 2 { a , b } }", "{2{a,b,}}", 8),
+    ("{ a { b } }", "{a{b,}}", 6),
+    ("{ a , { b , c } }", "{a,{b,c,},}", 9),
+    ("a [ 2 : b ]", "a[2:b]", 6),
+    ("a [ i +: 2 ] + b", "(a[i+:2]+b)", 8),
+    ("a [ i -: 2 ]", "a[i-:2]", 6),
+    ("a [ b [ i ] ]", "a[b[i]]", 7),
+    ("a [ i ? b : c : 2 ]", "a[(i?b:c):2]", 10),
+    ("$signed ( a )", "$signed(a)", 4),
+    ("$unsigned ( a + b ) * c", "($unsigned((a+b))*c)", 8),
+    ("( a + b ) * c", "(<(a+b)>*c)", 7),
+    ("- - a", "(-(-a))", 3),
+    ("& & a", "(&(&a))", 3),
+    ("a & & b", "(a&(&b))", 4),
+    ("a && & b", "(a&&(&b))", 4),
+    ("- a ** b", "((-a)**b)", 4),
+    ("a ** - b", "(a**(-b))", 4),
+    ("~^ a [ 2 ] ^~ ! b", "((~^a[2])^~(!b))", 8),
+    ("2", "2", 1),
+    ("a + b ;", "(a+b)", 3),
+    ("a * b ) + c", "(a*b)", 3),
+    ("a + b + ", "(a+b)", 3),
+    ("a ? b : ;", "a", 1),
+];
+
 #[test]
 fn each_primary_and_prefix(rt: HostRuntime) -> Result<(), Fail> {
-    let cases: [(&str, &str, u32); 26] = [
-        ("a ? b : c ? d : e", "(a?b:(c?d:e))", 9),
-        ("a ? b ? c : d : e", "(a?(b?c:d):e)", 9),
-        ("a || b ? c && d : e || f", "((a||b)?(c&&d):(e||f))", 11),
-        ("{ 2 { a , b } }", "{2{a,b,}}", 8),
-        ("{ a { b } }", "{a{b,}}", 6),
-        ("{ a , { b , c } }", "{a,{b,c,},}", 9),
-        ("a [ 2 : b ]", "a[2:b]", 6),
-        ("a [ i +: 2 ] + b", "(a[i+:2]+b)", 8),
-        ("a [ i -: 2 ]", "a[i-:2]", 6),
-        ("a [ b [ i ] ]", "a[b[i]]", 7),
-        ("a [ i ? b : c : 2 ]", "a[(i?b:c):2]", 10),
-        ("$signed ( a )", "$signed(a)", 4),
-        ("$unsigned ( a + b ) * c", "($unsigned((a+b))*c)", 8),
-        ("( a + b ) * c", "(<(a+b)>*c)", 7),
-        ("- - a", "(-(-a))", 3),
-        ("& & a", "(&(&a))", 3),
-        ("a & & b", "(a&(&b))", 4),
-        ("a && & b", "(a&&(&b))", 4),
-        ("- a ** b", "((-a)**b)", 4),
-        ("a ** - b", "(a**(-b))", 4),
-        ("~^ a [ 2 ] ^~ ! b", "((~^a[2])^~(!b))", 8),
-        ("2", "2", 1),
-        ("a + b ;", "(a+b)", 3),
-        ("a * b ) + c", "(a*b)", 3),
-        ("a + b + ", "(a+b)", 3),
-        ("a ? b : ;", "a", 1),
-    ];
-    for (text, wanted, count) in cases {
+    for &(text, wanted, count) in PRIMARIES.iter() {
         assert!(rt; reads(rt.alloc(), text, wanted, count)?, "{text}");
     }
     Ok(())
 }
 
+/// Texts with what is read of them and the token after it.
+const CUT_SHORT: [(&str, &str, u32); 8] = [
+    ("a [ b", "a", 1),
+    ("a [ b ; ]", "a", 1),
+    ("a [ b [ c ]", "a", 1),
+    ("a + b [ 2 : ]", "(a+b)", 3),
+    ("a + { b , }", "a", 1),
+    ("a + ( b", "a", 1),
+    ("a [ b ] [ c ]", "a[b]", 4),
+    ("a , b", "a", 1),
+];
+
 /// A select, a cast or a list that does not end leaves what stands before it.
 #[test]
 fn cut_short(rt: HostRuntime) -> Result<(), Fail> {
-    let cases: [(&str, &str, u32); 8] = [
-        ("a [ b", "a", 1),
-        ("a [ b ; ]", "a", 1),
-        ("a [ b [ c ]", "a", 1),
-        ("a + b [ 2 : ]", "(a+b)", 3),
-        ("a + { b , }", "a", 1),
-        ("a + ( b", "a", 1),
-        ("a [ b ] [ c ]", "a[b]", 4),
-        ("a , b", "a", 1),
-    ];
-    for (text, wanted, count) in cases {
+    for &(text, wanted, count) in CUT_SHORT.iter() {
         assert!(rt; reads(rt.alloc(), text, wanted, count)?, "{text}");
     }
     Ok(())
@@ -227,28 +231,33 @@ fn fails(alloc: Global, text: &str, from: u32) -> Result<bool, Fail> {
     Ok(matches!(expr(tokens, from, &arena), Err(ParseFault::Syntax(at)) if at == from))
 }
 
+/// Texts with no expression at their front.
+const NO_EXPRESSIONS: &[&str] = &[
+    "",
+    "; a",
+    ") a",
+    "* a",
+    "begin",
+    "$time ( a )",
+    "$signed a",
+    "( a",
+    "{ }",
+    "{ 2 { } }",
+    "-",
+    "< a",
+];
+
 #[test]
 fn nothing_begins(rt: HostRuntime) -> Result<(), Fail> {
-    for text in [
-        "",
-        "; a",
-        ") a",
-        "* a",
-        "begin",
-        "$time ( a )",
-        "$signed a",
-        "( a",
-        "{ }",
-        "{ 2 { } }",
-        "-",
-        "< a",
-    ] {
+    for &text in NO_EXPRESSIONS.iter() {
         assert!(rt; fails(rt.alloc(), text, 0)?, "{text}");
     }
-    assert!(rt; fails(rt.alloc(), "a + b", 1)? == false);
-    assert!(rt; fails(rt.alloc(), "a * b", 1)?);
-    assert!(rt; fails(rt.alloc(), "a", 1)?);
-    assert!(rt; fails(rt.alloc(), "a", 9)?);
+    assert!(rt;
+        fails(rt.alloc(), "a + b", 1)? == false
+            && fails(rt.alloc(), "a * b", 1)?
+            && fails(rt.alloc(), "a", 1)?
+            && fails(rt.alloc(), "a", 9)?
+    );
     Ok(())
 }
 
@@ -269,15 +278,25 @@ fn ends(alloc: Global, text: &str, depth: u32) -> Result<(Option<u32>, Option<u3
     }
 }
 
+/// Texts with a depth, the token after the operand at the front, and that after the expression.
+const ENDS: [(&str, u32, Option<u32>, Option<u32>); 7] = [
+    ("a <= b", 500, Some(1), Some(3)),
+    ("{ a , b [ 2 ] } <= c", 500, Some(8), Some(10)),
+    ("- a + b", 1, Some(2), Some(2)),
+    ("- a + b", 2, Some(2), Some(4)),
+    ("- a", 0, None, None),
+    ("a + b", 0, Some(1), Some(1)),
+    ("a [ b ]", 0, Some(1), Some(1)),
+];
+
 #[test]
 fn operands_and_depths(rt: HostRuntime) -> Result<(), Fail> {
-    assert!(rt; ends(rt.alloc(), "a <= b", 500)? == (Some(1), Some(3)));
-    assert!(rt; ends(rt.alloc(), "{ a , b [ 2 ] } <= c", 500)? == (Some(8), Some(10)));
-    assert!(rt; ends(rt.alloc(), "- a + b", 1)? == (Some(2), Some(2)));
-    assert!(rt; ends(rt.alloc(), "- a + b", 2)? == (Some(2), Some(4)));
-    assert!(rt; ends(rt.alloc(), "- a", 0)? == (None, None));
-    assert!(rt; ends(rt.alloc(), "a + b", 0)? == (Some(1), Some(1)));
-    assert!(rt; ends(rt.alloc(), "a [ b ]", 0)? == (Some(1), Some(1)));
+    for (text, depth, operand, whole) in ENDS.iter() {
+        assert!(rt;
+            ends(rt.alloc(), text, *depth)? == (*operand, *whole),
+            "{text}"
+        );
+    }
     let arena = Bump::new(rt.alloc());
     let tokens = tokens_of("a = b", &arena)?;
     assert!(rt;
@@ -299,10 +318,13 @@ fn target_end(alloc: Global, text: &str) -> Result<Option<u32>, Fail> {
     }
 }
 
+/// Texts with no target at their front.
+const NO_TARGETS: &[&str] = &["", "3 = a", "{ a , 3 } = b", "( a ) = b", "- a"];
+
 #[test]
 fn targets(rt: HostRuntime) -> Result<(), Fail> {
     assert!(rt; target_end(rt.alloc(), "{ a , b [ 2 ] } <= c")? == Some(8));
-    for text in ["", "3 = a", "{ a , 3 } = b", "( a ) = b", "- a"] {
+    for &text in NO_TARGETS.iter() {
         assert!(rt; target_end(rt.alloc(), text)? == None, "{text}");
     }
     Ok(())
@@ -318,10 +340,13 @@ fn closed_end(alloc: Global, text: &str) -> Result<Option<u32>, Fail> {
     }
 }
 
+/// Texts with no expression and a colon at their front.
+const NOT_CLOSED: &[&str] = &["", ": a", "a", "a ; b", "a + b", "a + ( b ) : c"];
+
 #[test]
 fn before_a_mark(rt: HostRuntime) -> Result<(), Fail> {
     assert!(rt; closed_end(rt.alloc(), "a + b : c")? == Some(4));
-    for text in ["", ": a", "a", "a ; b", "a + b", "a + ( b ) : c"] {
+    for &text in NOT_CLOSED.iter() {
         assert!(rt; closed_end(rt.alloc(), text)? == None, "{text}");
     }
     Ok(())
@@ -380,9 +405,11 @@ fn lists(alloc: Global, text: &str, wanted: &str, count: u32) -> Result<bool, Fa
 /// A list goes on as far as a name stands behind a comma; a comma with none is left.
 #[test]
 fn lists_with_commas(rt: HostRuntime) -> Result<(), Fail> {
-    assert!(rt; lists(rt.alloc(), "a , b , c ;", "abc", 5)?);
-    assert!(rt; lists(rt.alloc(), "a , 3", "a", 1)?);
-    assert!(rt; !lists(rt.alloc(), ", a", "", 0)?);
+    assert!(rt;
+        lists(rt.alloc(), "a , b , c ;", "abc", 5)?
+            && lists(rt.alloc(), "a , 3", "a", 1)?
+            && !lists(rt.alloc(), ", a", "", 0)?
+    );
     Ok(())
 }
 
@@ -405,14 +432,24 @@ fn nested(alloc: Global, open: &str, close: &str, deep: u32) -> Result<Option<u3
     end_of(alloc, text.as_str())
 }
 
+/// Openings and closings, how many there are, and where the expression ends.
+const LEVELS: [(&str, &str, u32, Option<u32>); 6] = [
+    ("(", ")", 500, Some(1001)),
+    ("(", ")", 501, None),
+    ("{", "}", 500, Some(1001)),
+    ("{", "}", 501, None),
+    ("- ", ";", 500, Some(501)),
+    ("- ", ";", 501, None),
+];
+
 #[test]
 fn five_hundred_levels(rt: HostRuntime) -> Result<(), Fail> {
-    assert!(rt; nested(rt.alloc(), "(", ")", 500)? == Some(1001));
-    assert!(rt; nested(rt.alloc(), "(", ")", 501)? == None);
-    assert!(rt; nested(rt.alloc(), "{", "}", 500)? == Some(1001));
-    assert!(rt; nested(rt.alloc(), "{", "}", 501)? == None);
-    assert!(rt; nested(rt.alloc(), "- ", ";", 500)? == Some(501));
-    assert!(rt; nested(rt.alloc(), "- ", ";", 501)? == None);
+    for (open, close, deep, end) in LEVELS.iter() {
+        assert!(rt;
+            nested(rt.alloc(), open, close, *deep)? == *end,
+            "{open} {deep}"
+        );
+    }
     Ok(())
 }
 
@@ -430,8 +467,10 @@ fn in_a_row(alloc: Global, open: &str, between: &str, count: u32) -> Result<Opti
 
 #[test]
 fn many_operands(rt: HostRuntime) -> Result<(), Fail> {
-    assert!(rt; in_a_row(rt.alloc(), "{", ", a", 100_000)? == Some(200_001));
-    assert!(rt; in_a_row(rt.alloc(), "- ", "+ a", 100_000)? == Some(1000));
+    assert!(rt;
+        in_a_row(rt.alloc(), "{", ", a", 100_000)? == Some(200_001)
+            && in_a_row(rt.alloc(), "- ", "+ a", 100_000)? == Some(1000)
+    );
     Ok(())
 }
 
@@ -440,12 +479,14 @@ fn many_operands(rt: HostRuntime) -> Result<(), Fail> {
 fn marks(rt: HostRuntime) -> Result<(), Fail> {
     let arena = Bump::new(rt.alloc());
     let tokens = tokens_of("a <<< begin 3 (", &arena)?;
-    assert_eq!(rt; mark_at(tokens, 1), Some(Mark::SIGNED_SHIFT_LEFT));
-    assert_eq!(rt; mark_at(tokens, 4), Some(Mark::OPEN_PARENTHESIS));
-    assert!(rt; is_mark(tokens, 4, Mark::OPEN_PARENTHESIS));
-    assert!(rt; !is_mark(tokens, 1, Mark::SHIFT_LEFT));
+    assert!(rt;
+        mark_at(tokens, 1) == Some(Mark::SIGNED_SHIFT_LEFT)
+            && mark_at(tokens, 4) == Some(Mark::OPEN_PARENTHESIS)
+            && is_mark(tokens, 4, Mark::OPEN_PARENTHESIS)
+            && !is_mark(tokens, 1, Mark::SHIFT_LEFT)
+    );
     for at in [0, 2, 3, 5, u32::MAX] {
-        assert_eq!(rt; mark_at(tokens, at), None);
+        assert!(rt; mark_at(tokens, at) == None);
     }
     Ok(())
 }

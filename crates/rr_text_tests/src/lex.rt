@@ -63,159 +63,210 @@ fn number(width: u32, signed: bool, value: u128, any: u128, unknown: u128) -> Nu
     }
 }
 
+/// Texts with the width, sign, value and don't-care and unknown bits of the number.
+const NUMBERS: [(&[u8], (u32, bool, u128, u128, u128)); 20] = [
+    (b"8'd300", (8, false, 44, 0, 0)),
+    (b"'h1F", (32, false, 31, 0, 0)),
+    (b"4 'b 1x0z", (4, false, 8, 1, 4)),
+    (b"3'sd7", (3, true, 7, 0, 0)),
+    (b"3'Sd7", (3, true, 7, 0, 0)),
+    (b"1_000", (32, true, 1000, 0, 0)),
+    (b"12'hx", (12, false, 0, 0, 4095)),
+    (b"4'bz1", (4, false, 1, 14, 0)),
+    (b"'o17", (32, false, 15, 0, 0)),
+    (b"8'hx?", (8, false, 0, 15, 240)),
+    (b"'dx_", (32, false, 0, 0, 4294967295)),
+    (b"6'DZ", (6, false, 0, 63, 0)),
+    (b"9'o7X", (9, false, 56, 0, 7)),
+    (b"2'o7", (2, false, 3, 0, 0)),
+    (b"4'bX1?0", (4, false, 4, 2, 8)),
+    (b"4294967295", (32, true, 4294967295, 0, 0)),
+    (b"12\n'h\t1_F", (12, false, 31, 0, 0)),
+    (b"'hFFFF_ffff", (32, false, 4294967295, 0, 0)),
+    (
+        b"128'd340282366920938463463374607431768211455",
+        (128, false, 340282366920938463463374607431768211455, 0, 0),
+    ),
+    (
+        b"128'hz",
+        (128, false, 0, 340282366920938463463374607431768211455, 0),
+    ),
+];
+
 #[test]
 fn reads_numbers(rt: HostRuntime) -> Result<(), Fail> {
-    let cases: [(&[u8], Number); 20] = [
-        (b"8'd300", number(8, false, 44, 0, 0)),
-        (b"'h1F", number(32, false, 31, 0, 0)),
-        (b"4 'b 1x0z", number(4, false, 8, 1, 4)),
-        (b"3'sd7", number(3, true, 7, 0, 0)),
-        (b"3'Sd7", number(3, true, 7, 0, 0)),
-        (b"1_000", number(32, true, 1000, 0, 0)),
-        (b"12'hx", number(12, false, 0, 0, 4095)),
-        (b"4'bz1", number(4, false, 1, 14, 0)),
-        (b"'o17", number(32, false, 15, 0, 0)),
-        (b"8'hx?", number(8, false, 0, 15, 240)),
-        (b"'dx_", number(32, false, 0, 0, 4294967295)),
-        (b"6'DZ", number(6, false, 0, 63, 0)),
-        (b"9'o7X", number(9, false, 56, 0, 7)),
-        (b"2'o7", number(2, false, 3, 0, 0)),
-        (b"4'bX1?0", number(4, false, 4, 2, 8)),
-        (b"4294967295", number(32, true, 4294967295, 0, 0)),
-        (b"12\n'h\t1_F", number(12, false, 31, 0, 0)),
-        (b"'hFFFF_ffff", number(32, false, 4294967295, 0, 0)),
-        (
-            b"128'd340282366920938463463374607431768211455",
-            number(128, false, 340282366920938463463374607431768211455, 0, 0),
-        ),
-        (
-            b"128'hz",
-            number(128, false, 0, 340282366920938463463374607431768211455, 0),
-        ),
-    ];
-    for (text, wanted) in cases {
-        assert!(rt; read_number(text) == Some(wanted));
+    for &(text, (width, signed, value, any, unknown)) in NUMBERS.iter() {
+        assert!(rt; read_number(text) == Some(number(width, signed, value, any, unknown)));
     }
     Ok(())
 }
 
+/// Texts that are no number.
+const NO_NUMBERS: &[&[u8]] = &[
+    b"",
+    b"2'd",
+    b"0'd1",
+    b"129'd1",
+    b"128'd340282366920938463463374607431768211456",
+    b"99999999999",
+    b"4294967296",
+    b"'h100000000",
+    b"'hx00000000",
+    b"4'd_1",
+    b"4'dxx",
+    b"4'b2",
+    b"a",
+    b"4'b1 ",
+];
+
 #[test]
 fn refuses_numbers(rt: HostRuntime) -> Result<(), Fail> {
-    let cases: [&[u8]; 14] = [
-        b"",
-        b"2'd",
-        b"0'd1",
-        b"129'd1",
-        b"128'd340282366920938463463374607431768211456",
-        b"99999999999",
-        b"4294967296",
-        b"'h100000000",
-        b"'hx00000000",
-        b"4'd_1",
-        b"4'dxx",
-        b"4'b2",
-        b"a",
-        b"4'b1 ",
-    ];
-    for text in cases {
+    for text in NO_NUMBERS.iter() {
         assert!(rt; read_number(text).is_none());
     }
     Ok(())
 }
 
+/// Names and keywords with their tokens.
+const NAMES: [(&[u8], &[(Kind, u32, u32)]); 5] = [
+    (
+        b"\\a+b c",
+        &[(Kind::Name("a+b"), 0, 4), (Kind::Name("c"), 5, 6)],
+    ),
+    (b"\\module ", &[(Kind::Name("module"), 0, 7)]),
+    (b"modules", &[(Kind::Name("modules"), 0, 7)]),
+    (
+        b"pulsestyle_ondetect",
+        &[(Kind::Keyword(Keyword::PULSESTYLE_ONDETECT), 0, 19)],
+    ),
+    (
+        b"$signed(",
+        &[
+            (Kind::System("signed"), 0, 7),
+            (Kind::Mark(Mark::OPEN_PARENTHESIS), 7, 8),
+        ],
+    ),
+];
+
 #[test]
 fn reads_names_and_keywords(rt: HostRuntime) -> Result<(), Fail> {
-    let cases: [(&[u8], &[(Kind, u32, u32)]); 5] = [
-        (
-            b"\\a+b c",
-            &[(Kind::Name("a+b"), 0, 4), (Kind::Name("c"), 5, 6)],
-        ),
-        (b"\\module ", &[(Kind::Name("module"), 0, 7)]),
-        (b"modules", &[(Kind::Name("modules"), 0, 7)]),
-        (
-            b"pulsestyle_ondetect",
-            &[(Kind::Keyword(Keyword::PULSESTYLE_ONDETECT), 0, 19)],
-        ),
-        (
-            b"$signed(",
-            &[
-                (Kind::System("signed"), 0, 7),
-                (Kind::Mark(Mark::OPEN_PARENTHESIS), 7, 8),
-            ],
-        ),
-    ];
-    for (text, wanted) in cases {
+    for &(text, wanted) in NAMES.iter() {
         if text.len() <= 1048576 {
             assert!(rt; lexes(rt.alloc(), text, wanted));
         }
     }
     Ok(())
 }
+
+/// Marks with their tokens.
+const MARKS: [(&[u8], &[(Kind, u32, u32)]); 3] = [
+    (
+        b"a<=b<<<c",
+        &[
+            (Kind::Name("a"), 0, 1),
+            (Kind::Mark(Mark::LESS_OR_EQUAL), 1, 3),
+            (Kind::Name("b"), 3, 4),
+            (Kind::Mark(Mark::SIGNED_SHIFT_LEFT), 4, 7),
+            (Kind::Name("c"), 7, 8),
+        ],
+    ),
+    (
+        b"@(*)",
+        &[
+            (Kind::Mark(Mark::AT), 0, 1),
+            (Kind::Mark(Mark::OPEN_PARENTHESIS), 1, 2),
+            (Kind::Mark(Mark::STAR), 2, 3),
+            (Kind::Mark(Mark::CLOSE_PARENTHESIS), 3, 4),
+        ],
+    ),
+    (
+        b"( *)",
+        &[
+            (Kind::Mark(Mark::OPEN_PARENTHESIS), 0, 1),
+            (Kind::Mark(Mark::STAR), 2, 3),
+            (Kind::Mark(Mark::CLOSE_PARENTHESIS), 3, 4),
+        ],
+    ),
+];
 
 #[test]
 fn reads_marks(rt: HostRuntime) -> Result<(), Fail> {
-    let cases: [(&[u8], &[(Kind, u32, u32)]); 3] = [
-        (
-            b"a<=b<<<c",
-            &[
-                (Kind::Name("a"), 0, 1),
-                (Kind::Mark(Mark::LESS_OR_EQUAL), 1, 3),
-                (Kind::Name("b"), 3, 4),
-                (Kind::Mark(Mark::SIGNED_SHIFT_LEFT), 4, 7),
-                (Kind::Name("c"), 7, 8),
-            ],
-        ),
-        (
-            b"@(*)",
-            &[
-                (Kind::Mark(Mark::AT), 0, 1),
-                (Kind::Mark(Mark::OPEN_PARENTHESIS), 1, 2),
-                (Kind::Mark(Mark::STAR), 2, 3),
-                (Kind::Mark(Mark::CLOSE_PARENTHESIS), 3, 4),
-            ],
-        ),
-        (
-            b"( *)",
-            &[
-                (Kind::Mark(Mark::OPEN_PARENTHESIS), 0, 1),
-                (Kind::Mark(Mark::STAR), 2, 3),
-                (Kind::Mark(Mark::CLOSE_PARENTHESIS), 3, 4),
-            ],
-        ),
-    ];
-    for (text, wanted) in cases {
+    for &(text, wanted) in MARKS.iter() {
         if text.len() <= 1048576 {
             assert!(rt; lexes(rt.alloc(), text, wanted));
         }
     }
     Ok(())
 }
+
+/// The number of `4'd3`.
+const THREE: Number = Number {
+    width: 4,
+    signed: false,
+    value: 3,
+    any: 0,
+    unknown: 0,
+};
+
+/// Numbers beside other tokens.
+const NUMBERS_AMONG_TOKENS: [(&[u8], &[(Kind, u32, u32)]); 3] = [
+    (
+        b"4'd3else",
+        &[
+            (Kind::Number(THREE), 0, 4),
+            (Kind::Keyword(Keyword::ELSE), 4, 8),
+        ],
+    ),
+    (
+        b"4'dx1",
+        &[
+            (
+                Kind::Number(Number {
+                    width: 4,
+                    signed: false,
+                    value: 0,
+                    any: 0,
+                    unknown: 15,
+                }),
+                0,
+                4,
+            ),
+            (
+                Kind::Number(Number {
+                    width: 32,
+                    signed: true,
+                    value: 1,
+                    any: 0,
+                    unknown: 0,
+                }),
+                4,
+                5,
+            ),
+        ],
+    ),
+    (
+        b"2 'b\t1 ~^^~",
+        &[
+            (
+                Kind::Number(Number {
+                    width: 2,
+                    signed: false,
+                    value: 1,
+                    any: 0,
+                    unknown: 0,
+                }),
+                0,
+                6,
+            ),
+            (Kind::Mark(Mark::XNOR), 7, 9),
+            (Kind::Mark(Mark::XNOR_REVERSED), 9, 11),
+        ],
+    ),
+];
 
 #[test]
 fn reads_numbers_among_tokens(rt: HostRuntime) -> Result<(), Fail> {
-    let three = Kind::Number(number(4, false, 3, 0, 0));
-    let cases: [(&[u8], &[(Kind, u32, u32)]); 3] = [
-        (
-            b"4'd3else",
-            &[(three, 0, 4), (Kind::Keyword(Keyword::ELSE), 4, 8)],
-        ),
-        (
-            b"4'dx1",
-            &[
-                (Kind::Number(number(4, false, 0, 0, 15)), 0, 4),
-                (Kind::Number(number(32, true, 1, 0, 0)), 4, 5),
-            ],
-        ),
-        (
-            b"2 'b\t1 ~^^~",
-            &[
-                (Kind::Number(number(2, false, 1, 0, 0)), 0, 6),
-                (Kind::Mark(Mark::XNOR), 7, 9),
-                (Kind::Mark(Mark::XNOR_REVERSED), 9, 11),
-            ],
-        ),
-    ];
-    for (text, wanted) in cases {
+    for &(text, wanted) in NUMBERS_AMONG_TOKENS.iter() {
         if text.len() <= 1048576 {
             assert!(rt; lexes(rt.alloc(), text, wanted));
         }
@@ -223,21 +274,32 @@ fn reads_numbers_among_tokens(rt: HostRuntime) -> Result<(), Fail> {
     Ok(())
 }
 
+/// Comments and directives with the tokens beside them.
+const SKIPPED: [(&[u8], &[(Kind, u32, u32)]); 6] = [
+    (
+        b"(* x *)3",
+        &[(
+            Kind::Number(Number {
+                width: 32,
+                signed: true,
+                value: 3,
+                any: 0,
+                unknown: 0,
+            }),
+            7,
+            8,
+        )],
+    ),
+    (b"(**)", &[]),
+    (b"/* * */ // the end", &[]),
+    (b"/*/ */\\b//", &[(Kind::Name("b//"), 6, 10)]),
+    (b"`timescale 1ns\n4'd3", &[(Kind::Number(THREE), 15, 19)]),
+    (b"`resetall", &[]),
+];
+
 #[test]
 fn skips_comments_and_directives(rt: HostRuntime) -> Result<(), Fail> {
-    let three = Kind::Number(number(4, false, 3, 0, 0));
-    let cases: [(&[u8], &[(Kind, u32, u32)]); 6] = [
-        (
-            b"(* x *)3",
-            &[(Kind::Number(number(32, true, 3, 0, 0)), 7, 8)],
-        ),
-        (b"(**)", &[]),
-        (b"/* * */ // the end", &[]),
-        (b"/*/ */\\b//", &[(Kind::Name("b//"), 6, 10)]),
-        (b"`timescale 1ns\n4'd3", &[(three, 15, 19)]),
-        (b"`resetall", &[]),
-    ];
-    for (text, wanted) in cases {
+    for &(text, wanted) in SKIPPED.iter() {
         if text.len() <= 1048576 {
             assert!(rt; lexes(rt.alloc(), text, wanted));
         }
@@ -255,84 +317,94 @@ fn all_fail(alloc: Global, cases: &[(&[u8], TextFault)]) -> bool {
     true
 }
 
+/// Texts with a byte that begins no token.
+const BAD_BYTES: [(&[u8], TextFault); 10] = [
+    (
+        b"module m(output y);assign y = \"a\";endmodule",
+        TextFault::BadByte(30),
+    ),
+    (b"\x00", TextFault::BadByte(0)),
+    (b"ab\x7f", TextFault::BadByte(2)),
+    (b"\xff", TextFault::BadByte(0)),
+    (b"\\", TextFault::BadByte(0)),
+    (b"\\ab\xc8", TextFault::BadByte(0)),
+    (b"$ ", TextFault::BadByte(0)),
+    (b"$(", TextFault::BadByte(0)),
+    (b"\" `define", TextFault::BadByte(0)),
+    (b"// x\n\"", TextFault::BadByte(5)),
+];
+
 #[test]
 fn finds_bad_bytes(rt: HostRuntime) -> Result<(), Fail> {
-    let cases: [(&[u8], TextFault); 10] = [
-        (
-            b"module m(output y);assign y = \"a\";endmodule",
-            TextFault::BadByte(30),
-        ),
-        (b"\x00", TextFault::BadByte(0)),
-        (b"ab\x7f", TextFault::BadByte(2)),
-        (b"\xff", TextFault::BadByte(0)),
-        (b"\\", TextFault::BadByte(0)),
-        (b"\\ab\xc8", TextFault::BadByte(0)),
-        (b"$ ", TextFault::BadByte(0)),
-        (b"$(", TextFault::BadByte(0)),
-        (b"\" `define", TextFault::BadByte(0)),
-        (b"// x\n\"", TextFault::BadByte(5)),
-    ];
-    assert!(rt; all_fail(rt.alloc(), &cases));
+    assert!(rt; all_fail(rt.alloc(), &BAD_BYTES));
     Ok(())
 }
+
+/// Texts with a bad number.
+const BAD_NUMBERS: [(&[u8], TextFault); 8] = [
+    (
+        b"module m(output y);assign y = 2'd;endmodule",
+        TextFault::BadNumber(30),
+    ),
+    (b"4 'z", TextFault::BadNumber(0)),
+    (b"a '", TextFault::BadNumber(2)),
+    (b"2 '\tb1", TextFault::BadNumber(0)),
+    (b"0'd1", TextFault::BadNumber(0)),
+    (b"129'd1", TextFault::BadNumber(0)),
+    (b"99999999999 /* ", TextFault::BadNumber(0)),
+    (
+        b"a 128'd340282366920938463463374607431768211456",
+        TextFault::BadNumber(2),
+    ),
+];
 
 #[test]
 fn finds_bad_numbers(rt: HostRuntime) -> Result<(), Fail> {
-    let cases: [(&[u8], TextFault); 8] = [
-        (
-            b"module m(output y);assign y = 2'd;endmodule",
-            TextFault::BadNumber(30),
-        ),
-        (b"4 'z", TextFault::BadNumber(0)),
-        (b"a '", TextFault::BadNumber(2)),
-        (b"2 '\tb1", TextFault::BadNumber(0)),
-        (b"0'd1", TextFault::BadNumber(0)),
-        (b"129'd1", TextFault::BadNumber(0)),
-        (b"99999999999 /* ", TextFault::BadNumber(0)),
-        (
-            b"a 128'd340282366920938463463374607431768211456",
-            TextFault::BadNumber(2),
-        ),
-    ];
-    assert!(rt; all_fail(rt.alloc(), &cases));
+    assert!(rt; all_fail(rt.alloc(), &BAD_NUMBERS));
     Ok(())
 }
 
+/// Texts with an open comment or a directive that is not taken.
+const OPEN_COMMENTS: [(&[u8], TextFault); 7] = [
+    (b"module m(output y);/* x", TextFault::OpenComment(19)),
+    (b"`include \"a.v\"", TextFault::Directive(0)),
+    (b" `define", TextFault::Directive(1)),
+    (b"`resetallx", TextFault::Directive(0)),
+    (b"a /*/", TextFault::OpenComment(2)),
+    (b"(* x )", TextFault::OpenComment(0)),
+    (b"(* x *) (*", TextFault::OpenComment(8)),
+];
+
 #[test]
 fn finds_open_comments_and_directives(rt: HostRuntime) -> Result<(), Fail> {
-    let cases: [(&[u8], TextFault); 7] = [
-        (b"module m(output y);/* x", TextFault::OpenComment(19)),
-        (b"`include \"a.v\"", TextFault::Directive(0)),
-        (b" `define", TextFault::Directive(1)),
-        (b"`resetallx", TextFault::Directive(0)),
-        (b"a /*/", TextFault::OpenComment(2)),
-        (b"(* x )", TextFault::OpenComment(0)),
-        (b"(* x *) (*", TextFault::OpenComment(8)),
-    ];
-    assert!(rt; all_fail(rt.alloc(), &cases));
+    assert!(rt; all_fail(rt.alloc(), &OPEN_COMMENTS));
     Ok(())
 }
+
+/// A width, a sign and a value, with the text.
+const LITERALS: [(u32, bool, u128, &[u8]); 5] = [
+    (4, false, 1, b"4'h1"),
+    (32, true, 1, b"32'sh00000001"),
+    (9, false, 482, b"9'h1e2"),
+    (1, true, 0, b"1'sh0"),
+    (
+        128,
+        false,
+        340282366920938463463374607431768211455,
+        b"128'hffffffffffffffffffffffffffffffff",
+    ),
+];
 
 #[test]
 fn writes_literals(rt: HostRuntime) -> Result<(), Fail> {
     let alloc = rt.alloc();
-    let cases: [(u32, bool, u128, &[u8]); 5] = [
-        (4, false, 1, b"4'h1"),
-        (32, true, 1, b"32'sh00000001"),
-        (9, false, 482, b"9'h1e2"),
-        (1, true, 0, b"1'sh0"),
-        (
-            128,
-            false,
-            340282366920938463463374607431768211455,
-            b"128'hffffffffffffffffffffffffffffffff",
-        ),
-    ];
-    for (width, signed, value, wanted) in cases {
+    for &(width, signed, value, wanted) in LITERALS.iter() {
         if 1 <= width && width <= 128 && (width == 128 || value < 1u128 << width) {
             let text = number_text(alloc, width, signed, value)?;
-            assert!(rt; text.as_slice() == wanted);
-            assert!(rt; read_number(&text) == Some(number(width, signed, value, 0, 0)));
+            assert!(rt;
+                text.as_slice() == wanted
+                    && read_number(&text) == Some(number(width, signed, value, 0, 0))
+            );
         }
     }
     Ok(())

@@ -190,25 +190,27 @@ fn each_rule(rt: HostRuntime) -> Result<(), Fail> {
     all_rules(rt.alloc(), "module m; always @*", &STATEMENTS, "endmodule")
 }
 
+/// Texts with what is read of them.
+const WORDS_OUTSIDE: [(&str, Outcome); 8] = [
+    ("", Outcome::Tree(0)),
+    ("module m; $display(a); endmodule", Outcome::Unsupported(3)),
+    (
+        "module m; always @* #5 a = b; endmodule",
+        Outcome::Unsupported(6),
+    ),
+    ("module m; n #(5) a (b); endmodule", Outcome::Tree(1)),
+    ("module m; ; wire = 1 initial", Outcome::Unsupported(7)),
+    ("module m; function f; for", Outcome::Unsupported(3)),
+    ("module m; wire a; endmodule wait", Outcome::Unsupported(7)),
+    ("module a; endmodule module b; endmodule", Outcome::Tree(2)),
+];
+
 /// The words outside the profile are looked for first, also behind other faults.
 #[test]
 fn words_outside(rt: HostRuntime) -> Result<(), Fail> {
-    let cases: [(&str, Outcome); 8] = [
-        ("", Outcome::Tree(0)),
-        ("module m; $display(a); endmodule", Outcome::Unsupported(3)),
-        (
-            "module m; always @* #5 a = b; endmodule",
-            Outcome::Unsupported(6),
-        ),
-        ("module m; n #(5) a (b); endmodule", Outcome::Tree(1)),
-        ("module m; ; wire = 1 initial", Outcome::Unsupported(7)),
-        ("module m; function f; for", Outcome::Unsupported(3)),
-        ("module m; wire a; endmodule wait", Outcome::Unsupported(7)),
-        ("module a; endmodule module b; endmodule", Outcome::Tree(2)),
-    ];
-    for (text, wanted) in cases {
+    for (text, wanted) in WORDS_OUTSIDE.iter() {
         let (outcome, _, _) = read_text(rt.alloc(), text)?;
-        assert!(rt; outcome == wanted, "{text}");
+        assert!(rt; outcome == *wanted, "{text}");
     }
     Ok(())
 }
@@ -341,8 +343,8 @@ fn spells(alloc: Global, text: &str) -> bool {
 
 #[test]
 fn usual_designs(rt: HostRuntime) -> Result<(), Fail> {
-    assert!(rt; spells(rt.alloc(), TRANSMITTER));
-    assert!(rt; spells(rt.alloc(), TOKEN_EDGES));
-    assert!(rt; spells(rt.alloc(), ""));
+    assert!(rt;
+        spells(rt.alloc(), TRANSMITTER) && spells(rt.alloc(), TOKEN_EDGES) && spells(rt.alloc(), "")
+    );
     Ok(())
 }

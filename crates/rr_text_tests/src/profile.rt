@@ -30,24 +30,26 @@ fn each_reserved_word(rt: HostRuntime) -> Result<(), Fail> {
     Ok(())
 }
 
+/// Texts with the first token that has no rule.
+const NAMES_AND_DELAYS: [(&str, Option<u32>); 13] = [
+    ("", None),
+    ("module m ; endmodule", None),
+    ("a = $signed ( b ) + $unsigned ( c ) ;", None),
+    ("$display ( a ) ;", Some(0)),
+    ("a = $time ;", Some(2)),
+    ("a = $sign ;", Some(2)),
+    ("# 5 a = b ;", Some(0)),
+    ("a = # b ;", Some(2)),
+    ("m # ( 5 ) i ( ) ;", None),
+    ("a #", Some(1)),
+    ("a # # ( 5 )", Some(1)),
+    ("a wait initial b", Some(1)),
+    ("a ; ; ) 5 5 $f function", Some(6)),
+];
+
 #[test]
 fn system_names_and_delays(rt: HostRuntime) -> Result<(), Fail> {
-    let cases: [(&str, Option<u32>); 13] = [
-        ("", None),
-        ("module m ; endmodule", None),
-        ("a = $signed ( b ) + $unsigned ( c ) ;", None),
-        ("$display ( a ) ;", Some(0)),
-        ("a = $time ;", Some(2)),
-        ("a = $sign ;", Some(2)),
-        ("# 5 a = b ;", Some(0)),
-        ("a = # b ;", Some(2)),
-        ("m # ( 5 ) i ( ) ;", None),
-        ("a #", Some(1)),
-        ("a # # ( 5 )", Some(1)),
-        ("a wait initial b", Some(1)),
-        ("a ; ; ) 5 5 $f function", Some(6)),
-    ];
-    for (text, wanted) in cases {
+    for &(text, wanted) in NAMES_AND_DELAYS.iter() {
         assert!(rt; first(rt.alloc(), text)? == wanted, "{text}");
     }
     Ok(())

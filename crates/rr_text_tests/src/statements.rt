@@ -117,98 +117,105 @@ fn shown(alloc: Global, text: &str) -> Result<String<Global>, Fail> {
     Ok(out)
 }
 
+/// Blocks and assignments, as they are shown.
+const BLOCKS: [(&str, &str); 10] = [
+    ("; ;", "; 1"),
+    ("begin end", "{} 2"),
+    ("begin : b ; a = b ; end", "{b:;a=b;} 9"),
+    ("begin begin end ; end end", "{{};} 5"),
+    ("a = b ; c", "a=b; 4"),
+    ("a <= b ;", "a<=b; 4"),
+    ("a <= b <= c ;", "a<=*; 6"),
+    ("a [ 2 ] <= b ;", "*<=b; 7"),
+    ("a [ 2 : 1 ] = b ;", "*=b; 9"),
+    ("{ a , { b [ i ] } } = c + d ;", "*=*; 15"),
+];
+
 #[test]
 fn each_block_and_assignment(rt: HostRuntime) -> Result<(), Fail> {
-    let cases: [(&str, &str); 10] = [
-        ("; ;", "; 1"),
-        ("begin end", "{} 2"),
-        ("begin : b ; a = b ; end", "{b:;a=b;} 9"),
-        ("begin begin end ; end end", "{{};} 5"),
-        ("a = b ; c", "a=b; 4"),
-        ("a <= b ;", "a<=b; 4"),
-        ("a <= b <= c ;", "a<=*; 6"),
-        ("a [ 2 ] <= b ;", "*<=b; 7"),
-        ("a [ 2 : 1 ] = b ;", "*=b; 9"),
-        ("{ a , { b [ i ] } } = c + d ;", "*=*; 15"),
-    ];
-    for (text, wanted) in cases {
+    for &(text, wanted) in BLOCKS.iter() {
         assert!(rt; shown(rt.alloc(), text)?.as_str() == wanted, "{text}");
     }
     Ok(())
 }
 
+/// Statements with `if` and `case`, as they are shown.
+const CHOICES: [(&str, &str); 10] = [
+    ("if ( a ) ; end", "if a(;) 5"),
+    ("if ( a ) b = c ; else ;", "if a(b=c;)else(;) 10"),
+    ("if ( a ) if ( b ) ; else ;", "if a(if b(;)else(;)) 11"),
+    (
+        "if ( a ) begin if ( b ) ; end else ;",
+        "if a({if b(;)})else(;) 13",
+    ),
+    (
+        "if ( a ) ; else if ( b ) ; else ;",
+        "if a(;)else(if b(;)else(;)) 13",
+    ),
+    ("case ( a ) b : ; endcase", "case a|b,:; end 8"),
+    (
+        "casez ( a ) b , 2 : ; default ; endcase",
+        "casez a|b,*,:;|; end 12",
+    ),
+    (
+        "case ( a ) default : if ( b ) ; c : ; endcase",
+        "case a|:if b(;)|c,:; end 15",
+    ),
+    ("case ( a ) b ? c : d : ; endcase", "case a|*,:; end 12"),
+    (
+        "casex ( { a , b } ) default begin end endcase",
+        "casex *|{} end 12",
+    ),
+];
+
 #[test]
 fn each_if_and_case(rt: HostRuntime) -> Result<(), Fail> {
-    let cases: [(&str, &str); 10] = [
-        ("if ( a ) ; end", "if a(;) 5"),
-        ("if ( a ) b = c ; else ;", "if a(b=c;)else(;) 10"),
-        ("if ( a ) if ( b ) ; else ;", "if a(if b(;)else(;)) 11"),
-        (
-            "if ( a ) begin if ( b ) ; end else ;",
-            "if a({if b(;)})else(;) 13",
-        ),
-        (
-            "if ( a ) ; else if ( b ) ; else ;",
-            "if a(;)else(if b(;)else(;)) 13",
-        ),
-        ("case ( a ) b : ; endcase", "case a|b,:; end 8"),
-        (
-            "casez ( a ) b , 2 : ; default ; endcase",
-            "casez a|b,*,:;|; end 12",
-        ),
-        (
-            "case ( a ) default : if ( b ) ; c : ; endcase",
-            "case a|:if b(;)|c,:; end 15",
-        ),
-        ("case ( a ) b ? c : d : ; endcase", "case a|*,:; end 12"),
-        (
-            "casex ( { a , b } ) default begin end endcase",
-            "casex *|{} end 12",
-        ),
-    ];
-    for (text, wanted) in cases {
+    for &(text, wanted) in CHOICES.iter() {
         assert!(rt; shown(rt.alloc(), text)?.as_str() == wanted, "{text}");
     }
     Ok(())
 }
+
+/// Texts with no statement at their front.
+const NO_STATEMENTS: &[&str] = &[
+    "",
+    "end",
+    "else ;",
+    "begin",
+    "begin : ; end",
+    "begin : 2 end",
+    "begin a = b end",
+    "a",
+    "a = ;",
+    "a = b",
+    "a + b = c ;",
+    "2 = a ;",
+    "( a ) = b ;",
+    "{ a , 2 } = b ;",
+    "{ 2 { a } } = b ;",
+    "- a = b ;",
+    "a == b ;",
+    "if a ;",
+    "if ( ) ;",
+    "if ( a ; )",
+    "if ( a )",
+    "if ( a ) else ;",
+    "if ( a ) ; else",
+    "case a b : ; endcase",
+    "case ( a ) endcase",
+    "case ( a ) b ; endcase",
+    "case ( a ) b , : ; endcase",
+    "case ( a ) b : endcase",
+    "case ( a ) b : ;",
+    "case ( a ) default : ; default ; endcase",
+    "case ( a ) default : ; b : ; default : ; endcase",
+    "for ( a = b ; a ; a = b ) ;",
+];
 
 /// A fault of a statement stands at its first token.
 #[test]
 fn no_statement(rt: HostRuntime) -> Result<(), Fail> {
-    for text in [
-        "",
-        "end",
-        "else ;",
-        "begin",
-        "begin : ; end",
-        "begin : 2 end",
-        "begin a = b end",
-        "a",
-        "a = ;",
-        "a = b",
-        "a + b = c ;",
-        "2 = a ;",
-        "( a ) = b ;",
-        "{ a , 2 } = b ;",
-        "{ 2 { a } } = b ;",
-        "- a = b ;",
-        "a == b ;",
-        "if a ;",
-        "if ( ) ;",
-        "if ( a ; )",
-        "if ( a )",
-        "if ( a ) else ;",
-        "if ( a ) ; else",
-        "case a b : ; endcase",
-        "case ( a ) endcase",
-        "case ( a ) b ; endcase",
-        "case ( a ) b , : ; endcase",
-        "case ( a ) b : endcase",
-        "case ( a ) b : ;",
-        "case ( a ) default : ; default ; endcase",
-        "case ( a ) default : ; b : ; default : ; endcase",
-        "for ( a = b ; a ; a = b ) ;",
-    ] {
+    for &text in NO_STATEMENTS.iter() {
         assert!(rt; shown(rt.alloc(), text)?.as_str() == "fault 0", "{text}");
     }
     Ok(())
@@ -235,22 +242,30 @@ fn nested(
     Ok(stmt(tokens, 0, depth, &arena).is_ok())
 }
 
+/// A front, a middle and an end, how often the front and the end stand, a depth, and whether it is read.
+const DEPTHS: [(&str, &str, &str, u32, u32, bool); 13] = [
+    ("begin ", ";", " end", 500, 500, true),
+    ("begin ", ";", " end", 501, 500, false),
+    ("if ( a ) ", ";", "", 500, 500, true),
+    ("if ( a ) ", ";", "", 501, 500, false),
+    ("if ( a ) ; else ", "b = c ;", "", 499, 500, true),
+    ("if ( a ) ; else ", "b = c ;", "", 500, 500, false),
+    ("case ( a ) b : ", ";", " endcase", 250, 500, true),
+    ("case ( a ) b : ", ";", " endcase", 251, 500, false),
+    ("begin ", "a = ( ( b ) ) ;", " end", 497, 500, true),
+    ("begin ", "a = ( ( b ) ) ;", " end", 498, 500, false),
+    ("", ";", "", 1, 0, true),
+    ("", "a = b ;", "", 1, 0, false),
+    ("", "a = b ;", "", 1, 1, true),
+];
+
 /// The levels of statements, arms and expressions count together.
 #[test]
 fn depths(rt: HostRuntime) -> Result<(), Fail> {
-    assert!(rt; nested(rt.alloc(), "begin ", ";", " end", 500, 500)?);
-    assert!(rt; !nested(rt.alloc(), "begin ", ";", " end", 501, 500)?);
-    assert!(rt; nested(rt.alloc(), "if ( a ) ", ";", "", 500, 500)?);
-    assert!(rt; !nested(rt.alloc(), "if ( a ) ", ";", "", 501, 500)?);
-    assert!(rt; nested(rt.alloc(), "if ( a ) ; else ", "b = c ;", "", 499, 500)?);
-    assert!(rt; !nested(rt.alloc(), "if ( a ) ; else ", "b = c ;", "", 500, 500)?);
-    assert!(rt; nested(rt.alloc(), "case ( a ) b : ", ";", " endcase", 250, 500)?);
-    assert!(rt; !nested(rt.alloc(), "case ( a ) b : ", ";", " endcase", 251, 500)?);
-    assert!(rt; nested(rt.alloc(), "begin ", "a = ( ( b ) ) ;", " end", 497, 500)?);
-    assert!(rt; !nested(rt.alloc(), "begin ", "a = ( ( b ) ) ;", " end", 498, 500)?);
-    assert!(rt; nested(rt.alloc(), "", ";", "", 1, 0)?);
-    assert!(rt; !nested(rt.alloc(), "", "a = b ;", "", 1, 0)?);
-    assert!(rt; nested(rt.alloc(), "", "a = b ;", "", 1, 1)?);
+    for (front, middle, end, deep, depth, expected) in DEPTHS.iter() {
+        let is_read = nested(rt.alloc(), front, middle, end, *deep, *depth)?;
+        assert!(rt; is_read == *expected, "{front} {deep}");
+    }
     Ok(())
 }
 
@@ -269,16 +284,16 @@ fn token_numbers(rt: HostRuntime) -> Result<(), Fail> {
                 9,
             ),
         ) => {
-            assert!(rt; name.token == 3);
             assert!(rt;
-                matches!(
-                    body.get(0),
-                    Some(Stmt::Assign {
-                        target: Expr::Name { token: 4, .. },
-                        now: false,
-                        value: Expr::Name { token: 6, .. }
-                    })
-                )
+                name.token == 3
+                    && matches!(
+                        body.get(0),
+                        Some(Stmt::Assign {
+                            target: Expr::Name { token: 4, .. },
+                            now: false,
+                            value: Expr::Name { token: 6, .. }
+                        })
+                    )
             );
         }
         _ => assert!(rt; false),
@@ -354,12 +369,14 @@ fn whole_source(rt: HostRuntime) -> Result<(), Fail> {
 fn reserved_words(rt: HostRuntime) -> Result<(), Fail> {
     let arena = Bump::new(rt.alloc());
     let tokens = tokens_of("a begin <= 3 endcase", &arena)?;
-    assert_eq!(rt; keyword_at(tokens, 1), Some(Keyword::BEGIN));
-    assert_eq!(rt; keyword_at(tokens, 4), Some(Keyword::ENDCASE));
-    assert!(rt; is_keyword(tokens, 4, Keyword::ENDCASE));
-    assert!(rt; !is_keyword(tokens, 1, Keyword::END));
+    assert!(rt;
+        keyword_at(tokens, 1) == Some(Keyword::BEGIN)
+            && keyword_at(tokens, 4) == Some(Keyword::ENDCASE)
+            && is_keyword(tokens, 4, Keyword::ENDCASE)
+            && !is_keyword(tokens, 1, Keyword::END)
+    );
     for at in [0, 2, 3, 5, u32::MAX] {
-        assert_eq!(rt; keyword_at(tokens, at), None);
+        assert!(rt; keyword_at(tokens, at) == None);
     }
     Ok(())
 }

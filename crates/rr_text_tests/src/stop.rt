@@ -135,30 +135,34 @@ fn leaves_in_blocks(alloc: Global, count: u32, first: &str, rest: &str) -> Resul
     leaves_behind(alloc, head.as_str(), first, rest)
 }
 
+/// How many blocks there are, what is read in them, and what is left.
+const IN_BLOCKS: [(u32, &str, &str); 14] = [
+    (496, "a = b;", "= c"),
+    (496, "a =", "(b);"),
+    (496, "a =", "-b;"),
+    (496, "a =", "$signed(b);"),
+    (495, "a = $signed(b", "+ c);"),
+    (497, "", "a = b;"),
+    (497, "", "if (a) ;"),
+    (496, "if (a) begin end", "endmodule"),
+    (495, "case (a) default", "= ;"),
+    (495, "casex (a) b: ; default:", "c = d;"),
+    (495, "casez (a) b: ;", "= endcase"),
+    (496, "", "case (a) default: ; endcase"),
+    (498, "end", "= ;"),
+    (498, "", "begin end"),
+];
+
 // The levels of modules, items, statements, arms and expressions count together: a token is taken
 // where what it begins may still have its least depth.
 #[test]
 fn depth_five_hundred(rt: HostRuntime) -> Result<(), Fail> {
-    assert!(rt; takes_nested(rt.alloc(), 496)?);
-    assert!(rt; !takes_nested(rt.alloc(), 495)?);
-    assert!(rt; !takes_nested(rt.alloc(), 497)?);
-    let cases: [(u32, &str, &str); 14] = [
-        (496, "a = b;", "= c"),
-        (496, "a =", "(b);"),
-        (496, "a =", "-b;"),
-        (496, "a =", "$signed(b);"),
-        (495, "a = $signed(b", "+ c);"),
-        (497, "", "a = b;"),
-        (497, "", "if (a) ;"),
-        (496, "if (a) begin end", "endmodule"),
-        (495, "case (a) default", "= ;"),
-        (495, "casex (a) b: ; default:", "c = d;"),
-        (495, "casez (a) b: ;", "= endcase"),
-        (496, "", "case (a) default: ; endcase"),
-        (498, "end", "= ;"),
-        (498, "", "begin end"),
-    ];
-    for (count, first, rest) in cases {
+    assert!(rt;
+        takes_nested(rt.alloc(), 496)?
+            && !takes_nested(rt.alloc(), 495)?
+            && !takes_nested(rt.alloc(), 497)?
+    );
+    for &(count, first, rest) in IN_BLOCKS.iter() {
         assert!(rt;
             leaves_in_blocks(rt.alloc(), count, first, rest)?,
             "{count} {first} {rest}"

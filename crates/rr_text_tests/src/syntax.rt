@@ -19,19 +19,26 @@ fn start_at(tokens: &[Token], offset: u32) -> Option<u32> {
     token_at(tokens, offset).map(|token| token.span.start)
 }
 
+/// Offsets with the start of the token that is there.
+const STARTS: [(u32, Option<u32>); 8] = [
+    (0, None),
+    (1, Some(1)),
+    (3, Some(1)),
+    (4, Some(3)),
+    (5, Some(3)),
+    (6, Some(3)),
+    (8, Some(6)),
+    (9, None),
+];
+
 // Spans of no bytes hold nothing, and of two that hold a byte the first is taken.
 #[test]
 fn tokens_by_offset(rt: HostRuntime) {
     let tokens = [comma(1, 4), comma(5, 5), comma(3, 7), comma(6, 9)];
-    assert_eq!(rt; start_at(&tokens, 0), None);
-    assert_eq!(rt; start_at(&tokens, 1), Some(1));
-    assert_eq!(rt; start_at(&tokens, 3), Some(1));
-    assert_eq!(rt; start_at(&tokens, 4), Some(3));
-    assert_eq!(rt; start_at(&tokens, 5), Some(3));
-    assert_eq!(rt; start_at(&tokens, 6), Some(3));
-    assert_eq!(rt; start_at(&tokens, 8), Some(6));
-    assert_eq!(rt; start_at(&tokens, 9), None);
-    assert_eq!(rt; start_at(&[], 0), None);
+    for (offset, start) in STARTS.iter() {
+        assert!(rt; start_at(&tokens, *offset) == *start, "at {offset}");
+    }
+    assert!(rt; start_at(&[], 0) == None);
 }
 
 // The measures of the expression in as many brackets.
@@ -54,7 +61,7 @@ fn deep_expression(rt: HostRuntime) {
         token: 500,
         name: "b",
     };
-    assert_eq!(rt; measure_brackets(&name, 500), (1001, 500));
+    assert!(rt; measure_brackets(&name, 500) == (1001, 500));
 }
 
 const NAME: Expr<'static> = Expr::Name {
@@ -88,8 +95,10 @@ const VALUES: Expr<'static> = Expr::Concat {
 // Names and their selects may be assigned, in braces too, and no value may.
 #[test]
 fn what_may_be_assigned(rt: HostRuntime) {
-    assert!(rt; is_target(&NAME));
-    assert!(rt; is_target(&TARGETS));
-    assert!(rt; !is_target(&VALUES));
-    assert!(rt; !is_target(&Expr::Paren { of: &NAME }));
+    assert!(rt;
+        is_target(&NAME)
+            && is_target(&TARGETS)
+            && !is_target(&VALUES)
+            && !is_target(&Expr::Paren { of: &NAME })
+    );
 }

@@ -55,7 +55,7 @@ fn run_case<R: Abort + AllocGlobal + Threads + Sync>(rt: &R, case: &Case<'_>) {
     let mut out = MemorySink::new(alloc, case.room, list(rt, case.out_fails)).expect(rt, "room");
     let mut notes = MemorySink::new(alloc, 1000, list(rt, case.notes_fails)).expect(rt, "room");
     let status = run(rt, alloc, &words, &mut shelf, &mut out, &mut notes);
-    assert_eq!(rt; status, case.status, "status of {}", case.proof);
+    assert!(rt; status == case.status, "status of {}", case.proof);
     assert!(rt;
         out.written() == case.out.as_bytes(),
         "out of {}",
@@ -66,8 +66,10 @@ fn run_case<R: Abort + AllocGlobal + Threads + Sync>(rt: &R, case: &Case<'_>) {
         "notes of {}",
         case.proof
     );
-    assert!(rt; shelf.held("c.aag") == Some(case.circuit.as_bytes()));
-    assert!(rt; shelf.held("c.lrat") == Some(case.proof.as_bytes()));
+    assert!(rt;
+        shelf.held("c.aag") == Some(case.circuit.as_bytes())
+            && shelf.held("c.lrat") == Some(case.proof.as_bytes())
+    );
 }
 
 /// A proof with its verdict.
@@ -334,10 +336,8 @@ fn refused_allocation_prints_no_verdict(rt: HostRuntime) {
     let status = run(&rt, alloc, &words, &mut shelf, &mut out, &mut notes);
     assert!(rt; status == 0 || status == 5);
     if status == 0 {
-        assert!(rt; out.written() == FIRST.out.as_bytes());
-        assert!(rt; notes.written().is_empty());
+        assert!(rt; out.written() == FIRST.out.as_bytes() && notes.written().is_empty());
     } else {
-        assert!(rt; out.written().is_empty());
-        assert!(rt; notes.written() == b"out of memory\n".as_slice());
+        assert!(rt; out.written().is_empty() && notes.written() == b"out of memory\n".as_slice());
     }
 }

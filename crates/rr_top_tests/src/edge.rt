@@ -13,14 +13,18 @@ fn memory_shelf_holds_what_is_written(rt: HostRuntime) {
     let mut shelf = MemoryShelf::new(alloc, Vec::new(alloc));
     shelf.place("a", b"abc").expect(&rt, "room");
     let bytes = shelf.read(alloc, "a", 3).expect(&rt, "held");
-    assert!(rt; bytes.as_slice() == b"abc".as_slice());
-    assert!(rt; shelf.read(alloc, "a", 2).err() == Some(ShelfFault::TooLong(3)));
-    assert!(rt; shelf.read(alloc, "b", 2).err() == Some(ShelfFault::Absent));
-    assert!(rt; shelf.write("b", b"x").is_ok());
-    assert!(rt; shelf.write("a", b"").is_ok());
-    assert!(rt; shelf.held("b") == Some(b"x"));
-    assert!(rt; shelf.held("a") == Some(b""));
-    assert!(rt; shelf.held("c").is_none());
+    assert!(rt;
+        bytes.as_slice() == b"abc".as_slice()
+            && shelf.read(alloc, "a", 2).err() == Some(ShelfFault::TooLong(3))
+            && shelf.read(alloc, "b", 2).err() == Some(ShelfFault::Absent)
+            && shelf.write("b", b"x").is_ok()
+    );
+    assert!(rt;
+        shelf.write("a", b"").is_ok()
+            && shelf.held("b") == Some(b"x")
+            && shelf.held("a") == Some(b"")
+            && shelf.held("c").is_none()
+    );
 }
 
 #[test]
@@ -62,12 +66,16 @@ fn memory_shelf_fails_at_each_call_in_turn(rt: HostRuntime) {
 fn memory_sink_takes_what_fits(rt: HostRuntime) {
     let alloc = rt.alloc();
     let mut sink = MemorySink::new(alloc, 4, list(&rt, 1)).expect(&rt, "room");
-    assert!(rt; sink.put(b"abc").is_ok());
-    assert!(rt; sink.put(b"d").is_err());
-    assert!(rt; sink.put(b"de").is_err());
-    assert!(rt; sink.put(b"").is_ok());
-    assert!(rt; sink.written() == b"abcd".as_slice());
-    assert!(rt; MemorySink::new(alloc, u64::MAX, Vec::new(alloc)).is_err());
+    assert!(rt;
+        sink.put(b"abc").is_ok()
+            && sink.put(b"d").is_err()
+            && sink.put(b"de").is_err()
+            && sink.put(b"").is_ok()
+    );
+    assert!(rt;
+        sink.written() == b"abcd".as_slice()
+            && MemorySink::new(alloc, u64::MAX, Vec::new(alloc)).is_err()
+    );
 }
 
 #[test]
@@ -79,9 +87,11 @@ fn file_shelf_reads_and_writes_files(rt: HostRuntime) {
     for place in 0..400_000u64 {
         long.push((place % 251) as u8).expect(&rt, "room");
     }
-    assert!(rt; shelf.write("long", &long).is_ok());
-    assert!(rt; shelf.read(alloc, "long", 400_000).expect(&rt, "held") == long);
-    assert!(rt; shelf.read(alloc, "long", u64::MAX).expect(&rt, "held") == long);
+    assert!(rt;
+        shelf.write("long", &long).is_ok()
+            && shelf.read(alloc, "long", 400_000).expect(&rt, "held") == long
+            && shelf.read(alloc, "long", u64::MAX).expect(&rt, "held") == long
+    );
     for limit in [0, 5000, 399_999u64] {
         let fault = shelf.read(alloc, "long", limit).err();
         assert!(rt;
@@ -89,10 +99,12 @@ fn file_shelf_reads_and_writes_files(rt: HostRuntime) {
             "limit {limit}"
         );
     }
-    assert!(rt; shelf.write("long", b"ab").is_ok());
-    assert!(rt; shelf.read(alloc, "long", 2).expect(&rt, "held").as_slice() == b"ab".as_slice());
-    assert!(rt; shelf.read(alloc, "long", 1).err() == Some(ShelfFault::TooLong(2)));
-    assert!(rt; shelf.write("empty", b"").is_ok());
+    assert!(rt;
+        shelf.write("long", b"ab").is_ok()
+            && shelf.read(alloc, "long", 2).expect(&rt, "held").as_slice() == b"ab".as_slice()
+            && shelf.read(alloc, "long", 1).err() == Some(ShelfFault::TooLong(2))
+            && shelf.write("empty", b"").is_ok()
+    );
     assert!(rt; shelf.read(alloc, "empty", 0).expect(&rt, "held").is_empty());
 }
 
@@ -113,12 +125,12 @@ fn file_shelf_counts_what_it_cannot_open(rt: HostRuntime) {
     let fault = shelf.read(alloc, "/dev/zero", 300_000).err();
     assert!(rt; fault == Some(ShelfFault::TooLong(300_001)));
     let fault = shelf.read(alloc, "/dev/zero", u64::MAX).err();
-    assert!(rt; fault == Some(ShelfFault::Memory));
     assert!(rt;
-        !shelf
-            .read(alloc, "/proc/self/status", 1_000_000)
-            .expect(&rt, "held")
-            .is_empty()
+        fault == Some(ShelfFault::Memory)
+            && !shelf
+                .read(alloc, "/proc/self/status", 1_000_000)
+                .expect(&rt, "held")
+                .is_empty()
     );
 }
 
@@ -127,26 +139,27 @@ fn out_sink_writes_to_its_writer(rt: HostRuntime) {
     let alloc = rt.alloc();
     let mut text: Vec<u8> = Vec::new(alloc);
     let mut sink = OutSink::new(&mut text);
-    assert!(rt; sink.put(b"abc").is_ok());
-    assert!(rt; sink.put(b"").is_ok());
-    assert!(rt; sink.put(b"de").is_ok());
-    assert!(rt; text.as_slice() == b"abcde".as_slice());
+    assert!(rt;
+        sink.put(b"abc").is_ok()
+            && sink.put(b"").is_ok()
+            && sink.put(b"de").is_ok()
+            && text.as_slice() == b"abcde".as_slice()
+    );
     let mut cell = [0u8; 2];
     let mut short = OutSink::new(&mut cell[..]);
-    assert!(rt; short.put(b"xyz").is_err());
-    assert!(rt; short.put(b"").is_ok());
-    assert!(rt; cell == *b"xy");
+    assert!(rt; short.put(b"xyz").is_err() && short.put(b"").is_ok() && cell == *b"xy");
 }
 
 #[test]
 fn out_sink_writes_to_files(rt: HostRuntime) {
     let mut file = OutSink::new(File::create(&rt, "out").expect(&rt, "a file"));
-    assert!(rt; file.put(b"abc").is_ok());
-    assert!(rt; file.put(b"de").is_ok());
-    assert!(rt; fs::read(&rt, "out").expect(&rt, "a file").as_slice() == b"abcde".as_slice());
+    assert!(rt;
+        file.put(b"abc").is_ok()
+            && file.put(b"de").is_ok()
+            && fs::read(&rt, "out").expect(&rt, "a file").as_slice() == b"abcde".as_slice()
+    );
     let mut full = OutSink::new(File::create(&rt, "/dev/full").expect(&rt, "a device"));
-    assert!(rt; full.put(b"abc").is_err());
-    assert!(rt; OutSink::new(rt.stdout()).put(b"").is_ok());
+    assert!(rt; full.put(b"abc").is_err() && OutSink::new(rt.stdout()).put(b"").is_ok());
 }
 
 /// The file that is opened is the one with the name, also where the name has a blank.

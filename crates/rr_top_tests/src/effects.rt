@@ -105,7 +105,7 @@ fn answers_are_carried_out(rt: HostRuntime) {
         );
         let report = deliver(found(&rt), &mut shelf, &mut out);
         let status = put_report(&report, &mut notes);
-        assert_eq!(rt; status, case.status, "{}", case.notes);
+        assert!(rt; status == case.status, "{}", case.notes);
         assert!(rt; out.written() == case.out.as_bytes(), "{}", case.notes);
         assert!(rt; notes.written() == case.notes.as_bytes(), "{}", case.notes);
         assert!(rt;
@@ -202,7 +202,7 @@ fn fetched<R: Abort + AllocGlobal>(rt: &R, fails: u64, reads: &[Read<'static>]) 
 fn files_are_fetched(rt: HostRuntime) {
     for (fails, reads, due, text) in READINGS {
         let (status, found) = fetched(&rt, fails, reads);
-        assert_eq!(rt; status, due, "{text}");
+        assert!(rt; status == due, "{text}");
         assert!(rt; found.as_slice() == text.as_bytes(), "{text}");
     }
 }
@@ -253,7 +253,7 @@ fn want_of_memory_leaves_whole_files(rt: HostRuntime) {
         } else {
             (5, "", "out of memory\n")
         };
-        assert_eq!(rt; put_report(&report, &mut notes), due, "{calls}");
+        assert!(rt; put_report(&report, &mut notes) == due, "{calls}");
         assert!(rt; out.written() == printed.as_bytes(), "{calls}");
         assert!(rt; notes.written() == told.as_bytes(), "{calls}");
         for (before, name) in [(0, "c.aag"), (1, "c.cnf"), (2, "c.lrat")] {
@@ -289,7 +289,7 @@ fn want_of_memory_prints_nothing(rt: HostRuntime) {
             let words = words_of(&rt, line);
             let status = run(&rt, alloc, &words, &mut shelf, &mut out, &mut notes);
             let due = if calls == 2 { 0 } else { 5 };
-            assert_eq!(rt; status, due, "{line} {calls}");
+            assert!(rt; status == due, "{line} {calls}");
             if calls < 2 {
                 assert!(rt; out.written().is_empty(), "{line} {calls}");
                 assert!(rt;

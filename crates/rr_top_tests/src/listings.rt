@@ -144,12 +144,11 @@ fn listed<R: Abort + AllocGlobal + Threads + Sync>(rt: &R, last: &str, wanted: (
     let mut notes = MemorySink::new(alloc, 1000, Vec::new(alloc)).expect(rt, "room");
     let status = run(rt, alloc, &words, &mut shelf, &mut out, &mut notes);
     let (due, lines, text) = wanted;
-    assert_eq!(rt; status, due);
-    assert_eq!(rt;
-        out.written().iter().filter(|byte| **byte == b'\n').count(),
-        lines
+    assert!(rt;
+        status == due
+            && out.written().iter().filter(|byte| **byte == b'\n').count() == lines
+            && notes.written() == text.as_bytes()
     );
-    assert!(rt; notes.written() == text.as_bytes());
 }
 
 #[test]

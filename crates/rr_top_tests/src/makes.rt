@@ -31,18 +31,17 @@ fn tells<R: Abort + AllocGlobal + Threads + Sync>(
 /// A seed whose input is mended by so many changes, with a certificate that is accepted.
 fn mends<R: Abort + AllocGlobal + Threads + Sync>(rt: &R, words: &str, summary: &str) {
     let mut shelf = MemoryShelf::new(rt.alloc(), list(rt, NONE));
-    assert_eq!(rt; tells(rt, &mut shelf, words, 1000, summary, ""), 0);
-    assert!(rt; shelf.held("c.cnf").is_some());
-    assert_eq!(rt;
-        tells(
-            rt,
-            &mut shelf,
-            "rtl_repair check c.aag c.lrat",
-            1000,
-            "accepted\n",
-            ""
-        ),
-        0
+    assert!(rt;
+        tells(rt, &mut shelf, words, 1000, summary, "") == 0
+            && shelf.held("c.cnf").is_some()
+            && tells(
+                rt,
+                &mut shelf,
+                "rtl_repair check c.aag c.lrat",
+                1000,
+                "accepted\n",
+                ""
+            ) == 0
     );
 }
 
@@ -77,7 +76,7 @@ fn three_changes_are_least(rt: HostRuntime) {
 #[test]
 fn nothing_is_read(rt: HostRuntime) {
     let mut shelf = MemoryShelf::new(rt.alloc(), list(&rt, 0));
-    assert_eq!(rt;
+    assert!(rt;
         tells(
             &rt,
             &mut shelf,
@@ -85,16 +84,15 @@ fn nothing_is_read(rt: HostRuntime) {
             1000,
             "",
             "fault write c.aag\n"
-        ),
-        4
+        ) == 4
+            && shelf.held("c.aag").is_none()
     );
-    assert!(rt; shelf.held("c.aag").is_none());
 }
 
 #[test]
 fn the_room_is_small(rt: HostRuntime) {
     let mut shelf = MemoryShelf::new(rt.alloc(), list(&rt, NONE));
-    assert_eq!(rt;
+    assert!(rt;
         tells(
             &rt,
             &mut shelf,
@@ -102,8 +100,7 @@ fn the_room_is_small(rt: HostRuntime) {
             8,
             "seed 0\nr",
             "fault out\n"
-        ),
-        4
+        ) == 4
+            && shelf.held("c.lrat").is_some()
     );
-    assert!(rt; shelf.held("c.lrat").is_some());
 }

@@ -91,11 +91,11 @@ pub(crate) fn check<R: Abort + AllocGlobal + Threads + Sync>(rt: &R, case: &Case
     let mut out = MemorySink::new(alloc, case.room, list(rt, case.out_fails)).expect(rt, "room");
     let mut notes = MemorySink::new(alloc, 1000, list(rt, case.notes_fails)).expect(rt, "room");
     let status = run(rt, alloc, &words, &mut shelf, &mut out, &mut notes);
-    assert_eq!(rt;
-        status,
-        case.status,
+    assert!(rt;
+        status == case.status,
         "status of {} on {}",
-        case.words, case.design
+        case.words,
+        case.design
     );
     assert!(rt;
         out.written() == case.out.as_bytes(),
@@ -109,12 +109,13 @@ pub(crate) fn check<R: Abort + AllocGlobal + Threads + Sync>(rt: &R, case: &Case
         case.words,
         case.design
     );
-    assert!(rt; shelf.held("d.v") == Some(case.design.as_bytes()));
-    assert!(rt; shelf.held("t.csv") == Some(case.table.as_bytes()));
+    assert!(rt;
+        shelf.held("d.v") == Some(case.design.as_bytes())
+            && shelf.held("t.csv") == Some(case.table.as_bytes())
+    );
     for (number, name) in CERTIFICATE.iter().enumerate() {
-        assert_eq!(rt;
-            shelf.held(name).is_some(),
-            number < case.certified,
+        assert!(rt;
+            shelf.held(name).is_some() == (number < case.certified),
             "{name} of {}",
             case.design
         );
@@ -526,22 +527,15 @@ fn is_told<R: Abort + AllocGlobal + Threads + Sync>(
 fn limits_of_bytes_are_kept(rt: HostRuntime) {
     let alloc = rt.alloc();
     let blanks = vec![in alloc; b' '; 1_048_577].expect(&rt, "room");
-    assert_eq!(rt;
-        is_told(&rt, &blanks, b"", "refused 16 TooMany bytes 1048577\n"),
-        3
-    );
-    assert_eq!(rt;
-        is_told(&rt, &blanks[1..], b"", "refused 7 NoTop at 0\n"),
-        3
-    );
-    assert_eq!(rt;
-        is_told(
-            &rt,
-            FIRST.design.as_bytes(),
-            b"\xff",
-            "refused 33 NotUtf8\n"
-        ),
-        3
+    assert!(rt;
+        is_told(&rt, &blanks, b"", "refused 16 TooMany bytes 1048577\n") == 3
+            && is_told(&rt, &blanks[1..], b"", "refused 7 NoTop at 0\n") == 3
+            && is_told(
+                &rt,
+                FIRST.design.as_bytes(),
+                b"\xff",
+                "refused 33 NotUtf8\n"
+            ) == 3
     );
 }
 
@@ -552,14 +546,13 @@ fn limits_of_rows_are_kept(rt: HostRuntime) {
     for _ in 0..65_537 {
         table.extend_from_slice(b"1,1\n").expect(&rt, "room");
     }
-    assert_eq!(rt;
+    assert!(rt;
         is_told(
             &rt,
             FIRST.design.as_bytes(),
             &table,
             "refused 16 TooMany rows 65537\n"
-        ),
-        3
+        ) == 3
     );
 }
 
@@ -592,11 +585,11 @@ fn refused_allocation_prints_nothing(rt: HostRuntime) {
     let status = run(&rt, alloc, &words, &mut shelf, &mut out, &mut notes);
     assert!(rt; status == 0 || status == 5);
     if status == 0 {
-        assert!(rt; out.written() == FIRST.out.as_bytes());
-        assert!(rt; notes.written() == FIRST.notes.as_bytes());
+        assert!(rt;
+            out.written() == FIRST.out.as_bytes() && notes.written() == FIRST.notes.as_bytes()
+        );
     } else {
-        assert!(rt; out.written().is_empty());
-        assert!(rt; notes.written() == b"out of memory\n".as_slice());
+        assert!(rt; out.written().is_empty() && notes.written() == b"out of memory\n".as_slice());
     }
 }
 

@@ -43,8 +43,10 @@ fn endings_are_told(rt: HostRuntime) {
     let report = absent(alloc, "a b").expect(&rt, "room");
     assert!(rt; report.text.as_bytes() == b"absent a b\n".as_slice());
     let report = read_fault(alloc, "a b").expect(&rt, "room");
-    assert!(rt; report.text.as_bytes() == b"fault read a b\n".as_slice());
-    assert!(rt; out_fault().text.as_bytes() == b"fault out\n".as_slice());
+    assert!(rt;
+        report.text.as_bytes() == b"fault read a b\n".as_slice()
+            && out_fault().text.as_bytes() == b"fault out\n".as_slice()
+    );
     let report = stopped(alloc, Stop::Memory);
     assert!(rt; report.text.as_bytes() == b"out of memory\n".as_slice());
 }
@@ -66,10 +68,12 @@ fn found<R: Abort + AllocGlobal + Threads + Sync>(
 fn certificates_are_judged(rt: HostRuntime) {
     let alloc = rt.alloc();
     let circuit = "aag 1 1 0 2 0\n2\n2\n3\n";
-    assert!(rt; found(&rt, circuit, "3 0 1 2 0\n") == Ok(Verdict::Accepted));
-    assert!(rt; found(&rt, circuit, "3 0 9 0\n") == Ok(Verdict::Line(1)));
-    assert!(rt; found(&rt, circuit, "") == Ok(Verdict::NoEmptyClause));
-    assert!(rt; found(&rt, "aag 9\n", "x") == Err(CertificateFault::Flawed(Flaw::Circuit, 1)));
+    assert!(rt;
+        found(&rt, circuit, "3 0 1 2 0\n") == Ok(Verdict::Accepted)
+            && found(&rt, circuit, "3 0 9 0\n") == Ok(Verdict::Line(1))
+            && found(&rt, circuit, "") == Ok(Verdict::NoEmptyClause)
+            && found(&rt, "aag 9\n", "x") == Err(CertificateFault::Flawed(Flaw::Circuit, 1))
+    );
     for (verdict, text) in [
         (Verdict::Accepted, "accepted\n"),
         (Verdict::Line(5), "refused addition 5\n"),
