@@ -7,9 +7,9 @@ use Rattle.rr_trace.specs.Tables.{Table}
 use Rattle.rr_made.specs.Made.{made_design, made_table}
 use Rattle.rr_report.specs.Found.{Answer}
 use Rattle.rr_repair.specs.Repairs.{IsLeastCount, Wish, design_of}
-use Rattle.rr_repair_laws.specs.Laws.{IsOneTaking}
-use Rattle.rr_repair_laws.specs.Outcomes.{IsMendable}
-use Rattle.rr_repair_laws.proofs.Once.{mendable_or_not, moved_choice, one_taking}
+use Rattle.rr_repair.specs.Laws.{IsOneTaking}
+use Rattle.rr_repair.specs.Outcomes.{IsMendable}
+use Rattle.rr_repair.proofs.Once.{mendable_or_not, moved_choice, one_taking}
 use Rattle.rr_search.specs.Least.{Least}
 use Rattle.rr_make.specs.Makes.{EachMake, IsNeverMade, IsUnmade, OneSummary, SummaryOrNone, made_wish, summary}
 

@@ -5,7 +5,7 @@ use Rattle.rr_made.specs.Made.{made_design, made_table}
 use Rattle.rr_report.specs.Found.{Answer}
 use Rattle.rr_report.specs.Refusals.{Refusal}
 use Rattle.rr_repair.specs.Repairs.{IsLeastCount, RefusesRepair, Wish}
-use Rattle.rr_repair_laws.specs.Outcomes.{IsDespaired, IsLeftOpen, IsMended, IsUnmendable}
+use Rattle.rr_repair.specs.Outcomes.{IsDespaired, IsLeftOpen, IsMended, IsUnmendable}
 
 -- what is asked: the top and the clock that the design tells, and 4 members of 20,000 lines
 abbrev pub made_wish : List ℕ → Wish

@@ -1,2 +1,4 @@
 mod Counting
 mod Telling
+pub mod Once
+pub mod Told

@@ -1,2 +1,4 @@
 pub mod Repairs
 pub mod Views
+pub mod Laws
+pub mod Outcomes

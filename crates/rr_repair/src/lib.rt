@@ -2,14 +2,18 @@
 //! and written, or the first refusal. It is right where the answer prints the source with the fewest
 //! changes whose run matches each known cell, with a certificate that fewer do not; or shows that no
 //! changes do; or says which question was left open. It stands on `rr_sites` for the design and its
-//! sites, `rr_blast` for its cycle, `rr_search` for the search, and `rr_answers` for what is done.
+//! sites, `rr_blast` for its cycle, `rr_search` for the search, and `rr_answers` for what is done. Its laws say
+//! that what a design and its table come to is decided by their bytes alone, and that each answer tells it or
+//! leaves it open.
 #![tactic(auto)]
 
 mod asked;
 mod counted;
 mod judging;
+mod laws;
 mod working;
 
 pub use asked::Asked;
 pub use counted::Counted;
 pub use judging::{repair, repair_counted};
+pub use laws::{repair_answers, repair_outcomes};

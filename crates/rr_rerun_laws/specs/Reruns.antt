@@ -12,7 +12,7 @@ use Rattle.rr_cycle.specs.Cycles.{Run}
 use Rattle.rr_run.specs.Runs.{IsLawfulDesign, IsRun}
 use Rattle.rr_report.specs.Found.{Answer}
 use Rattle.rr_repair.specs.Repairs.{Wish}
-use Rattle.rr_repair_laws.specs.Outcomes.{IsMended}
+use Rattle.rr_repair.specs.Outcomes.{IsMended}
 
 -- the bytes are a lawful design, and the text is the table of the rows with the outputs of its run on them, which equal each
 -- known cell of the table

@@ -25,10 +25,10 @@ use Rattle.rr_effects.specs.Reads.{AbsentAt, Gave, Given}
 use Rattle.rr_effects.specs.Delivery.{Delivers, Reports, with_files}
 use Rattle.rr_answers.specs.Texts.{unchanged_text}
 use Rattle.rr_repair.specs.Repairs.{AnswersRepair, Wish}
-use Rattle.rr_repair_laws.specs.Laws.{TellsOutcome}
-use Rattle.rr_repair_laws.specs.Outcomes.{IsAsItWas}
-use Rattle.rr_repair_laws.proofs.Once.{matching_mends}
-use Rattle.rr_repair_laws.proofs.Told.{ample_settles, each_answer, matching_stays}
+use Rattle.rr_repair.specs.Laws.{TellsOutcome}
+use Rattle.rr_repair.specs.Outcomes.{IsAsItWas}
+use Rattle.rr_repair.proofs.Once.{matching_mends}
+use Rattle.rr_repair.proofs.Told.{ample_settles, each_answer, matching_stays}
 use Rattle.rr_make.specs.Makes.{TellsMake}
 use Rattle.rr_make.proofs.Once.{each_make}
 use Rattle.rr_top.specs.Outcomes.{Outcome, mended, unmendable, ran, listed, checked, made, IsToldBy, Tells, outcome_status, verdict_status}

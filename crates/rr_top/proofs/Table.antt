@@ -16,10 +16,10 @@ use Rattle.rr_check.specs.declared.verdict.Verdict.{Verdict}
 use Rattle.rr_report.specs.Found.{Answer}
 use Rattle.rr_report.specs.Refusals.{Refusal, TooManyBytes, Input, Flawed}
 use Rattle.rr_repair.specs.Repairs.{AnswersRepair, IsTaken, RefusesRepair, Wish}
-use Rattle.rr_repair_laws.specs.Laws.{TellsOutcome}
-use Rattle.rr_repair_laws.specs.Outcomes.{IsLeftOpen}
-use Rattle.rr_repair_laws.proofs.Once.{mendable_or_not, one_refusal as one_repair_refusal, taken_or_refused}
-use Rattle.rr_repair_laws.proofs.Told.{each_answer}
+use Rattle.rr_repair.specs.Laws.{TellsOutcome}
+use Rattle.rr_repair.specs.Outcomes.{IsLeftOpen}
+use Rattle.rr_repair.proofs.Once.{mendable_or_not, one_refusal as one_repair_refusal, taken_or_refused}
+use Rattle.rr_repair.proofs.Told.{each_answer}
 use Rattle.rr_made.specs.Made.{made_design, made_table}
 use Rattle.rr_make.specs.Makes.{RefusesMake, TellsMake, made_wish}
 use Rattle.rr_make.proofs.Once.{each_make, one_summary, summary_or_none}

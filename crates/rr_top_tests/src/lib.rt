@@ -1,5 +1,5 @@
 //! Tests of the top call and of the crates below it that deal with arguments, files, reports and
-//! commands. It has no code but tests.
+//! commands, and of commands one after the other and under faults. It has no code but tests.
 #![tactic(auto)]
 
 #[cfg(test)]
@@ -7,9 +7,13 @@ mod arguments;
 #[cfg(test)]
 mod certificates;
 #[cfg(test)]
+mod commands;
+#[cfg(test)]
 mod edge;
 #[cfg(test)]
 mod effects;
+#[cfg(test)]
+mod hostile;
 #[cfg(test)]
 mod limits;
 #[cfg(test)]

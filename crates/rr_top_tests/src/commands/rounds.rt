@@ -1,9 +1,9 @@
 //! Repairs whose certificates are checked and whose sources are run again.
-use crate::designs::{
+use crate::commands::designs::{
     COUNTER, COUNTER_TABLE, RESETS, RESETS_TABLE, TRANSMITTER, TRANSMITTER_TABLE, TWO, TWO_TABLE,
     WIRE, WIRE_TABLE,
 };
-use crate::shelves::{command, leaves, shelf_of};
+use crate::commands::shelves::{command, leaves, shelf_of};
 use std::alloc::Global;
 use std::test::Fail;
 use std::thread::Threads;

@@ -1,5 +1,5 @@
 //! Laws of what files come to, as contracts of functions that do nothing.
-ghost use Rattle.rr_repair_laws.specs.Laws.{AmpleSettles, EachAnswer, MatchingIsMendable, MatchingStays, MendableOrNot, OneRefusal, OneTaking, TakenOrRefused};
+ghost use Rattle.rr_repair.specs.Laws.{AmpleSettles, EachAnswer, MatchingIsMendable, MatchingStays, MendableOrNot, OneRefusal, OneTaking, TakenOrRefused};
 
 /// Two files are taken in one way or refused by one refusal, but for the byte that is told of a text
 /// without a tree; and not some choice matches where none does.

@@ -1,11 +1,11 @@
 //! Worked examples, with the status, the output and the report of each.
-use crate::designs::{
+use crate::hostile::designs::{
     CELLS, COUNTER, COUNTER_TABLE, GATE, INSTANCES, INSTANCES_TABLE, INVERTED, INVERTED_TABLE,
     MENDED_COUNTER, MENDED_INSTANCES, MENDED_INVERTED, MENDED_MISSING, MENDED_TWO, MENDED_UNSIZED,
     MISSING, MISSING_TABLE, SWAP, TRANSMITTER, TRANSMITTER_RUN, TRANSMITTER_TABLE, TWO, TWO_TABLE,
     UNSIZED, WIRE,
 };
-use crate::shelves::{Left, NO_FAILS, NONE, command, leaves, shelf_of};
+use crate::hostile::shelves::{Left, NO_FAILS, NONE, command, leaves, shelf_of};
 use std::alloc::Global;
 use std::test::Fail;
 use std::thread::Threads;

@@ -23,7 +23,7 @@ use Rattle.rr_sites.specs.Lines.{site_lines}
 use Rattle.rr_sites.specs.Lists.{HasSites, RefusesSites}
 use Rattle.rr_sites.proofs.Once.{one_list, text_or_refusal, one_refusal as one_site_refusal}
 use Rattle.rr_repair.specs.Repairs.{HasMuchWork, HasNoTable, IsSited, IsTaken, Refuses, Wish, design_of, work_of}
-use Rattle.rr_repair_laws.specs.Laws.{IsOneTaking, OneTaking, OneRefusal, TakenOrRefused, MendableOrNot, MatchingIsMendable}
+use Rattle.rr_repair.specs.Laws.{IsOneTaking, OneTaking, OneRefusal, TakenOrRefused, MendableOrNot, MatchingIsMendable}
 
 module _ (w : Wish) (design : List ℕ) where
   -- ---- a design with its sites

@@ -8,7 +8,7 @@ use Rattle.rr_run.specs.Refusals.{Refusal as RunRefusal}
 use Rattle.rr_run.specs.Runs.{IsSameRefusal}
 use Rattle.rr_report.specs.Found.{Answer}
 use Rattle.rr_repair.specs.Repairs.{AnswersRepair, IsTaken, Refuses, Wish}
-use Rattle.rr_repair_laws.specs.Outcomes.{IsAmple, IsAsItWas, IsDespaired, IsLeftOpen, IsMatching, IsMendable, IsMended, IsUnmendable}
+use Rattle.rr_repair.specs.Outcomes.{IsAmple, IsAsItWas, IsDespaired, IsLeftOpen, IsMatching, IsMendable, IsMended, IsUnmendable}
 
 -- two ways to take the files are one
 pub record IsOneTaking (ts us : List Lexeme) (a b : SourceText) (ss rs : List Site) (x y : Table) : Type 0 where
