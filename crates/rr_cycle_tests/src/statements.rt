@@ -372,9 +372,7 @@ fn statements_by_hand(rt: HostRuntime) -> Result<(), Fail> {
 
 #[test]
 fn numbers(rt: HostRuntime) -> Result<(), Fail> {
-    assert!(rt;
-        merged(0b1111_0000, 2, Bits::from_u128(4, 0b1010)) == 0b1110_1000
-            && merged(u128::MAX, 127, Bits::from_u128(1, 0)) == u128::MAX >> 1
-    );
+    assert!(rt; merged(0b1111_0000, 2, Bits::from_u128(4, 0b1010)) == 0b1110_1000);
+    assert!(rt; merged(u128::MAX, 127, Bits::from_u128(1, 0)) == u128::MAX >> 1);
     Ok(())
 }
