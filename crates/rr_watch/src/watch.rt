@@ -46,8 +46,8 @@ impl<'f> Model for Watch<'f> {
 
 impl<'f> Watch<'f> {
     /// Holds the clauses of a formula by their numbers, with no literal true. Takes the room for every
-    /// assignment, and is out of memory too beyond 2^30 - 1 variables, 2^32 - 1 clauses or as many
-    /// literals in one.
+    /// assignment, and is out of memory too beyond 2^30 - 1 variables, 2^32 - 1 clauses, or as many
+    /// places in the table of watch lists, which has one for each literal of each clause.
     pub fn new(alloc: Global, formula: &'f Formula) -> Result<Watch<'f>, AllocError>
         ensures { IfOk result (λ w. w ≡ record { vars = formula.now.vars; clauses = numbered_from 1 formula.now.clauses; trail = []; depth = 0 }) }
     {
