@@ -6,14 +6,14 @@ use Rattle.rr_lex.specs.Tokens.{Lexeme}
 use Rattle.rr_trace.specs.Tables.{Table}
 use Rattle.rr_made.specs.Made.{made_design, made_table}
 use Rattle.rr_report.specs.Found.{Answer}
-use Rattle.rr_repair.specs.Repairs.{IsLeastCount, Wish, design_of}
+use Rattle.rr_repair.specs.Repairs.{IsLeastCount, PlainRequest, design_of}
 use Rattle.rr_repair.specs.Laws.{IsOneTaking}
 use Rattle.rr_repair.specs.Outcomes.{IsMendable}
 use Rattle.rr_repair.proofs.Once.{mendable_or_not, moved_choice, one_taking}
 use Rattle.rr_search.specs.Least.{Least}
-use Rattle.rr_make.specs.Makes.{EachMake, IsNeverMade, IsUnmade, OneSummary, SummaryOrNone, made_wish, summary}
+use Rattle.rr_make.specs.Makes.{EachMake, IsNeverMade, IsUnmade, OneSummary, SummaryOrNone, made_request, summary}
 
-module _ (w : Wish) (design table : List ℕ) where
+module _ (w : PlainRequest) (design table : List ℕ) where
   -- a least count is no more than the cost of a choice that mends the other way to take the files
   below : {ts us : List Lexeme} {a b : SourceText} {ss rs : List Site} {x y : Table} (k n : ℕ) → IsOneTaking ts us a b ss rs x y → Least (design_of w a) ss x k → Least (design_of w b) rs y n → n ≤ k
   below k n one p q =
@@ -42,11 +42,11 @@ module _ (w : Wish) (design table : List ℕ) where
 
 pub one_summary : OneSummary
 one_summary seed cert text other (k, (t, p)) (n, (u, q)) =
-    t ∙ ap (λ (m : ℕ). summary seed m) (one_count (made_wish cert) (made_design seed) (made_table seed) k n p q) ∙ sym u
+    t ∙ ap (λ (m : ℕ). summary seed m) (one_count (made_request cert) (made_design seed) (made_table seed) k n p q) ∙ sym u
 
 pub summary_or_none : SummaryOrNone
 summary_or_none seed cert text (k, (t, p)) none =
-    mendable_or_not (made_wish cert) (made_design seed) (made_table seed) (count_mends (made_wish cert) (made_design seed) (made_table seed) k p) none
+    mendable_or_not (made_request cert) (made_design seed) (made_table seed) (count_mends (made_request cert) (made_design seed) (made_table seed) k p) none
 
 never_made : (seed : ℕ) (cert : List ℕ) (answer : Answer) → IsUnmade seed cert answer → IsNeverMade seed cert
 never_made seed cert answer u = record { tokens = u.tokens; source = u.source; sites = u.sites; rows = u.rows; taken = u.taken; none = u.is.none }

@@ -6,7 +6,7 @@ use Rattle.rr_repair.specs.Repairs.{CountsRepair}
 use Rattle.rr_repair.specs.Laws.{TellsOutcome}
 use Rattle.rr_repair.specs.Outcomes.{IsDespaired, IsLeftOpen}
 use Rattle.rr_repair.proofs.Told.{each_answer}
-use Rattle.rr_make.specs.Makes.{AnswersMake, made_wish, summary}
+use Rattle.rr_make.specs.Makes.{AnswersMake, made_request, summary}
 
 -- an answer that agrees with a repair's in all that is told
 same_answer : (a b : Answer) → a.status ≡ b.status → a.files ≡ b.files → a.out ≡ b.out → a.notes ≡ b.notes → a ≡ b
@@ -16,13 +16,13 @@ same_answer a b s f o n =
     told_by : ℕ → List File → List ℕ → List ℕ → Answer
     told_by status files out notes = record { status = status; files = files; out = out; notes = notes }
 
-module _ (seed : ℕ) (cert : List ℕ) (repair : Answer) (changes : ℕ) (c : CountsRepair (made_wish cert) (made_design seed) (made_table seed) repair changes) where
-  told : TellsOutcome (made_wish cert) (made_design seed) (made_table seed) repair
-  told = each_answer (made_wish cert) (made_design seed) (made_table seed) repair c.answers
+module _ (seed : ℕ) (cert : List ℕ) (repair : Answer) (changes : ℕ) (c : CountsRepair (made_request cert) (made_design seed) (made_table seed) repair changes) where
+  told : TellsOutcome (made_request cert) (made_design seed) (made_table seed) repair
+  told = each_answer (made_request cert) (made_design seed) (made_table seed) repair c.answers
 
   -- its status is 0
   made_of : (answer : Answer) → answer.status ≡ 0 → answer.files ≡ repair.files → answer.out ≡ summary seed changes → answer.notes ≡ [] → repair.status ≡ 0
-      → TellsOutcome (made_wish cert) (made_design seed) (made_table seed) repair → AnswersMake seed cert answer
+      → TellsOutcome (made_request cert) (made_design seed) (made_table seed) repair → AnswersMake seed cert answer
   made_of answer s f o n zero (inl t) = inl (record { repair = repair; mended = t.0; changes = changes; least = c.least zero; files = f; printed = o; notes = n; status = s })
   made_of answer s f o n zero (inr (inl t)) = absurd (omega (arith, zero, t.1.1))
   made_of answer s f o n zero (inr (inr t)) = absurd (omega (arith, zero, t.1))
@@ -33,12 +33,12 @@ module _ (seed : ℕ) (cert : List ℕ) (repair : Answer) (changes : ℕ) (c : C
 
   -- .. or another one
   other_of : (answer : Answer) → answer.status ≡ repair.status → answer.files ≡ repair.files → answer.out ≡ [] → answer.notes ≡ repair.notes → (repair.status ≡ 0 → ⊥)
-      → TellsOutcome (made_wish cert) (made_design seed) (made_table seed) repair → AnswersMake seed cert answer
+      → TellsOutcome (made_request cert) (made_design seed) (made_table seed) repair → AnswersMake seed cert answer
   other_of answer s f o n some (inl t) = absurd (some t.1.1)
   other_of answer s f o n some (inr (inl t)) =
-      inr (inl (subst (λ (a : Answer). IsDespaired (made_wish cert) (made_design seed) (made_table seed) a) (sym (same_answer answer repair s f (o ∙ sym t.0.is.printed) n)) t.0))
+      inr (inl (subst (λ (a : Answer). IsDespaired (made_request cert) (made_design seed) (made_table seed) a) (sym (same_answer answer repair s f (o ∙ sym t.0.is.printed) n)) t.0))
   other_of answer s f o n some (inr (inr t)) =
-      inr (inr (subst (λ (a : Answer). IsLeftOpen (made_wish cert) (made_design seed) (made_table seed) a) (sym (same_answer answer repair s f (o ∙ sym t.0.is.printed) n)) t.0))
+      inr (inr (subst (λ (a : Answer). IsLeftOpen (made_request cert) (made_design seed) (made_table seed) a) (sym (same_answer answer repair s f (o ∙ sym t.0.is.printed) n)) t.0))
 
   pub other_told : (answer : Answer) → answer.status ≡ repair.status → answer.files ≡ repair.files → answer.out ≡ [] → answer.notes ≡ repair.notes → (repair.status ≡ 0 → ⊥)
       → AnswersMake seed cert answer

@@ -4,12 +4,12 @@ use Rattle.std.specs.Prelude.{◌≡◌, ◌⊎◌, ℕ, List, [], ◌++◌, Non
 use Rattle.rr_made.specs.Made.{made_design, made_table}
 use Rattle.rr_report.specs.Found.{Answer}
 use Rattle.rr_report.specs.Refusals.{Refusal}
-use Rattle.rr_repair.specs.Repairs.{IsLeastCount, RefusesRepair, Wish}
+use Rattle.rr_repair.specs.Repairs.{IsLeastCount, RefusesRepair, PlainRequest}
 use Rattle.rr_repair.specs.Outcomes.{IsDespaired, IsLeftOpen, IsMended, IsUnmendable}
 
 -- what is asked: the top and the clock that the design tells, and 4 members of 20,000 lines
-abbrev pub made_wish : List ℕ → Wish
-made_wish cert = record { top = None; clock = None; cert = cert; budget = 20000; members = 4 }
+abbrev pub made_request : List ℕ → PlainRequest
+made_request cert = record { top = None; clock = None; cert = cert; budget = 20000; members = 4 }
 
 -- the summary of so many changes, each line ended by LF
 abbrev pub summary : ℕ → ℕ → List ℕ
@@ -18,7 +18,7 @@ summary seed changes = codes "seed " ++ (decimal seed ++ (codes "\nrows 256\nsit
 -- ---- of a seed
 -- so many changes are the least with which the made design matches its table
 abbrev pub IsMadeCount : ℕ → List ℕ → ℕ → Type 0
-IsMadeCount seed cert changes = IsLeastCount (made_wish cert) (made_design seed) (made_table seed) changes
+IsMadeCount seed cert changes = IsLeastCount (made_request cert) (made_design seed) (made_table seed) changes
 
 -- .. and this text tells it
 abbrev pub IsSummary : ℕ → List ℕ → List ℕ → Type 0
@@ -26,13 +26,13 @@ IsSummary seed cert text = (changes : ℕ) × ((text ≡ summary seed changes) �
 
 -- no changes do
 abbrev pub IsNeverMade : ℕ → List ℕ → Type 0
-IsNeverMade seed cert = IsUnmendable (made_wish cert) (made_design seed) (made_table seed)
+IsNeverMade seed cert = IsUnmendable (made_request cert) (made_design seed) (made_table seed)
 
 -- ---- of an answer
 -- it prints the summary and reports nothing, and its files are those of a repair with so many changes
 pub record IsMade (seed : ℕ) (cert : List ℕ) (answer : Answer) : Type 0 where
   pub repair : Answer
-  pub mended : IsMended (made_wish cert) (made_design seed) (made_table seed) repair
+  pub mended : IsMended (made_request cert) (made_design seed) (made_table seed) repair
   pub changes : ℕ
   pub least : IsMadeCount seed cert changes
   pub files : answer.files ≡ repair.files
@@ -42,17 +42,17 @@ pub record IsMade (seed : ℕ) (cert : List ℕ) (answer : Answer) : Type 0 wher
 
 -- it is a repair's that tells that no changes match, or one's that leaves this open
 abbrev pub IsUnmade : ℕ → List ℕ → Answer → Type 0
-IsUnmade seed cert answer = IsDespaired (made_wish cert) (made_design seed) (made_table seed) answer
+IsUnmade seed cert answer = IsDespaired (made_request cert) (made_design seed) (made_table seed) answer
 
 abbrev pub IsMadeOpen : ℕ → List ℕ → Answer → Type 0
-IsMadeOpen seed cert answer = IsLeftOpen (made_wish cert) (made_design seed) (made_table seed) answer
+IsMadeOpen seed cert answer = IsLeftOpen (made_request cert) (made_design seed) (made_table seed) answer
 
 abbrev pub AnswersMake : ℕ → List ℕ → Answer → Type 0
 AnswersMake seed cert answer = IsMade seed cert answer ⊎ (IsUnmade seed cert answer ⊎ IsMadeOpen seed cert answer)
 
 -- why it is refused: as a repair of the two texts is
 abbrev pub RefusesMake : ℕ → List ℕ → Refusal → Type 0
-RefusesMake seed cert refusal = RefusesRepair (made_wish cert) (made_design seed) (made_table seed) refusal
+RefusesMake seed cert refusal = RefusesRepair (made_request cert) (made_design seed) (made_table seed) refusal
 
 -- ---- laws
 abbrev pub OneSummary : Type 0

@@ -3,11 +3,11 @@ ghost use Rattle.std.specs.Prelude.{◌≡◌, ◌≤◌, ℕ, IfOk, MatchResult
 ghost use Rattle.rr_made.specs.Made.{made_design, made_table};
 ghost use Rattle.rr_repair.specs.Repairs.{CountsRepair};
 ghost use Rattle.rr_report.specs.Views.{plain_answer, StopsWhere};
-ghost use Rattle.rr_make.specs.Makes.{AnswersMake, RefusesMake, made_wish, summary};
+ghost use Rattle.rr_make.specs.Makes.{AnswersMake, RefusesMake, made_request, summary};
 
 use bumpalo::Bump;
 use rr_made::{Input, made};
-use rr_repair::{Asked, Counted, repair_counted};
+use rr_repair::{Counted, Request, repair_counted};
 use rr_report::{Found, Piece, Stop, Text};
 use std::alloc::{AllocError, Global};
 use std::thread::Threads;
@@ -33,7 +33,7 @@ fn summed<'b>(
     cert: &str,
     counted: Counted<'_>,
 ) -> Result<Found<'b>, AllocError>
-    requires { CountsRepair (made_wish cert.now) (made_design seed) (made_table seed) (plain_answer counted.found) counted.changes }
+    requires { CountsRepair (made_request cert.now) (made_design seed) (made_table seed) (plain_answer counted.found) counted.changes }
     ensures { IfOk result (λ found. AnswersMake seed cert.now (plain_answer found)) }
 {
     let Counted { found, changes } = counted;
@@ -74,7 +74,7 @@ fn repaired<'b, 'a, R: Threads + Sync>(
     requires table { input.now.table.items ≡ made_table seed }
     ensures { MatchResult result (λ found. AnswersMake seed cert.now (plain_answer found)) (StopsWhere (RefusesMake seed cert.now)) }
 {
-    let asked = Asked {
+    let request = Request {
         top: None,
         clock: None,
         cert,
@@ -83,7 +83,7 @@ fn repaired<'b, 'a, R: Threads + Sync>(
     };
     let design = input.design.as_bytes();
     let table = input.table.as_slice();
-    match repair_counted(rt, alloc, design, table, &asked, arena) {
+    match repair_counted(rt, alloc, design, table, &request, arena) {
         Ok(counted) => match summed(alloc, seed, cert, counted) {
             Ok(found) => Ok(found),
             Err(_) => Err(Stop::Memory),

@@ -22,10 +22,10 @@ use Rattle.rr_run.proofs.Once.{one_lawful, one_refused}
 use Rattle.rr_sites.specs.Lines.{site_lines}
 use Rattle.rr_sites.specs.Lists.{HasSites, RefusesSites}
 use Rattle.rr_sites.proofs.Once.{one_list, text_or_refusal, one_refusal as one_site_refusal}
-use Rattle.rr_repair.specs.Repairs.{HasMuchWork, HasNoTable, IsSited, IsTaken, Refuses, Wish, design_of, work_of}
+use Rattle.rr_repair.specs.Repairs.{HasMuchWork, HasNoTable, IsSited, IsTaken, Refuses, PlainRequest, design_of, work_of}
 use Rattle.rr_repair.specs.Laws.{IsOneTaking, OneTaking, OneRefusal, TakenOrRefused, MendableOrNot, MatchingIsMendable}
 
-module _ (w : Wish) (design : List ℕ) where
+module _ (w : PlainRequest) (design : List ℕ) where
   -- ---- a design with its sites
   lawful_of : {ts : List Lexeme} {a : SourceText} {flat : Flat} {clock : Option ℕ} {ss : List Site} (s : IsSited w design ts a flat clock ss) → IsLawfulDesign design w.top w.clock ts flat clock s.rising
   lawful_of {ts} {a} {flat} {clock} {ss} s = record { design = record { tree = a; text = s.tree.text; flat = s.tree.flat }; lawful = s.lawful; one_clock = s.one_clock }
@@ -124,7 +124,7 @@ taken_or_refused w design table ts a ss x r t p = not_both w design table r t p
 
 -- ---- outcomes
 -- what matches of one way to take the files, matches of another
-pub moved_choice : (w : Wish) {ts us : List Lexeme} {a b : SourceText} {ss rs : List Site} {x y : Table} (choice : List Pick) → IsOneTaking ts us a b ss rs x y → IsChoice ss choice →
+pub moved_choice : (w : PlainRequest) {ts us : List Lexeme} {a b : SourceText} {ss rs : List Site} {x y : Table} (choice : List Pick) → IsOneTaking ts us a b ss rs x y → IsChoice ss choice →
     Matches (instance_design ss choice (design_of w a)) x → IsChoice rs choice × Matches (instance_design rs choice (design_of w b)) y
 moved_choice w {ts} {us} {a} {b} {ss} {rs} {x} {y} choice one chosen matches =
     let sites = one.sites in
@@ -132,7 +132,7 @@ moved_choice w {ts} {us} {a} {b} {ss} {rs} {x} {y} choice one chosen matches =
     let second : Matches (instance_design rs choice (design_of w b)) x = subst (λ (t : SourceText). Matches (instance_design rs choice (design_of w t)) x) one.source first in
     (subst (λ (l : List Site). IsChoice l choice) sites chosen, subst (λ (t : Table). Matches (instance_design rs choice (design_of w b)) t) one.rows second)
 
-pub moved_matches : (w : Wish) {ts us : List Lexeme} {a b : SourceText} {ss rs : List Site} {x y : Table} → IsOneTaking ts us a b ss rs x y → Matches (design_of w a) x → Matches (design_of w b) y
+pub moved_matches : (w : PlainRequest) {ts us : List Lexeme} {a b : SourceText} {ss rs : List Site} {x y : Table} → IsOneTaking ts us a b ss rs x y → Matches (design_of w a) x → Matches (design_of w b) y
 moved_matches w {a = a} {b = b} {x = x} {y = y} one matches =
     let first : Matches (design_of w b) x = subst (λ (t : SourceText). Matches (design_of w t) x) one.source matches in
     subst (λ (t : Table). Matches (design_of w b) t) one.rows first

@@ -51,7 +51,7 @@ use Rattle.rr_search.specs.Least.{Least}
 use Rattle.rr_unroll.specs.Faithful.{Faithful}
 use Rattle.rr_answers.specs.Certified.{certificate}
 use Rattle.rr_answers.specs.Texts.{beyond_text}
-use Rattle.rr_repair.specs.Repairs.{Wish, AnswersRepair, CountsRepair, IsAnswer, IsCounted, IsSited, Refuses, RefusesRepair, design_of, work_of}
+use Rattle.rr_repair.specs.Repairs.{PlainRequest, AnswersRepair, CountsRepair, IsAnswer, IsCounted, IsSited, Refuses, RefusesRepair, design_of, work_of}
 use Rattle.rr_repair.specs.Views.{answer_status, changes_of}
 
 pub choice_length : (ss : List Site) (ps : List Pick) → IsChoice ss ps → length ps ≡ length ss
@@ -67,7 +67,7 @@ choice_length (s ∷ ss) (p ∷ ps) h = ap suc (choice_length ss ps h.1)
 abbrev pub IsAcceptedWhere : OutputNetlist → Proof → Type 0
 IsAcceptedWhere circuit p = Refutes (formula_of circuit).clauses p.lines → AreWritable (formula_of circuit) p.lines → IsJudged (aag circuit) (lrat p) Accepted
 
-module _ (w : Wish) (design : List ℕ) (tokens : List Lexeme) (source : SourceText) (t : Task) (answer : Answer) where
+module _ (w : PlainRequest) (design : List ℕ) (tokens : List Lexeme) (source : SourceText) (t : Task) (answer : Answer) where
   pub repair_told : (proposals : ℕ) (c : List Pick) (k : ℕ) (circuit : OutputNetlist) (p : Proof) → search.IsRepair (design_of w source) t c k circuit p.lines → answer.files ≡ certificate w.cert circuit p → IsAcceptedWhere circuit p
       → answer.out ≡ printed design tokens t.sites c source → IsTree answer.out (instance_source t.sites c source) → answer.notes ≡ report tokens t.sites c proposals → answer.status ≡ 0
       → IsAnswer w design tokens source t.sites t.table answer
@@ -104,7 +104,7 @@ module _ (w : Wish) (design : List ℕ) (tokens : List Lexeme) (source : SourceT
   })))
 
 -- the number of changes
-module _ (w : Wish) (design : List ℕ) (tokens : List Lexeme) (source : SourceText) (t : Task) (told : Answer) where
+module _ (w : PlainRequest) (design : List ℕ) (tokens : List Lexeme) (source : SourceText) (t : Task) (told : Answer) where
   pub counted_told : (answer : SearchAnswer) → search.AnswerIs t (design_of w source) answer → IsAnswer w design tokens source t.sites t.table told → told.status ≡ answer_status answer
       → IsCounted w design tokens source t.sites t.table told (changes_of answer)
   counted_told found.Unchanged r is e = record { is = is; least = λ zero. r.least }
@@ -134,7 +134,7 @@ few_cycle flat clock ss s row x y es er ex ey l =
 
 -- refusals
 
-module _ (w : Wish) (design table : List ℕ) (tokens : List Lexeme) (source : SourceText) (flat : Flat) (clock : Option ℕ) (sites : List Site) (sited : IsSited w design tokens source flat clock sites) where
+module _ (w : PlainRequest) (design table : List ℕ) (tokens : List Lexeme) (source : SourceText) (flat : Flat) (clock : Option ℕ) (sites : List Site) (sited : IsSited w design tokens source flat clock sites) where
   pub stops_table : (f : RunFault) → RunStops (RefusesTable flat clock table) f → StopsWhere (RefusesRepair w design table) (stop_from f)
   stops_table (run_fault.Refused r) h = inr (inl (record { tokens = tokens; source = source; flat = flat; clock = clock; sites = sites; sited = sited; refused = h }))
   stops_table run_fault.Memory h = tt

@@ -7,12 +7,12 @@ use Rattle.rr_choice.specs.Sites.{Site}
 use Rattle.rr_trace.specs.Tables.{Table}
 use Rattle.rr_unroll.specs.Matches.{Matches}
 use Rattle.rr_report.specs.Found.{Answer}
-use Rattle.rr_repair.specs.Repairs.{IsAnswer, IsBeyond, IsOpen, IsRepaired, IsTaken, IsUnchanged, Wish, design_of}
+use Rattle.rr_repair.specs.Repairs.{IsAnswer, IsBeyond, IsOpen, IsRepaired, IsTaken, IsUnchanged, PlainRequest, design_of}
 use Rattle.rr_repair.specs.Outcomes.{IsAsItWas}
 use Rattle.rr_repair.specs.Laws.{AmpleSettles, EachAnswer, MatchingStays, TellsOutcome}
 use Rattle.rr_repair.proofs.Once.{matching_mends, moved_matches, one_taking}
 
-module _ (w : Wish) (design table : List ℕ) (answer : Answer) (ts : List Lexeme) (a : SourceText) (ss : List Site) (x : Table) (taken : IsTaken w design table ts a ss x) where
+module _ (w : PlainRequest) (design table : List ℕ) (answer : Answer) (ts : List Lexeme) (a : SourceText) (ss : List Site) (x : Table) (taken : IsTaken w design table ts a ss x) where
   of_unchanged : IsUnchanged w design a x answer → TellsOutcome w design table answer
   of_unchanged u = inl (
     record { tokens = ts; source = a; sites = ss; rows = x; taken = taken; is = inl u },

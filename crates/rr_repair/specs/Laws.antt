@@ -7,7 +7,7 @@ use Rattle.rr_trace.specs.Tables.{Table}
 use Rattle.rr_run.specs.Refusals.{Refusal as RunRefusal}
 use Rattle.rr_run.specs.Runs.{IsSameRefusal}
 use Rattle.rr_report.specs.Found.{Answer}
-use Rattle.rr_repair.specs.Repairs.{AnswersRepair, IsTaken, Refuses, Wish}
+use Rattle.rr_repair.specs.Repairs.{AnswersRepair, IsTaken, Refuses, PlainRequest}
 use Rattle.rr_repair.specs.Outcomes.{IsAmple, IsAsItWas, IsDespaired, IsLeftOpen, IsMatching, IsMendable, IsMended, IsUnmendable}
 
 -- two ways to take the files are one
@@ -18,37 +18,37 @@ pub record IsOneTaking (ts us : List Lexeme) (a b : SourceText) (ss rs : List Si
   pub rows : x ≡ y
 
 abbrev pub OneTaking : Type 0
-OneTaking = (w : Wish) (design table : List ℕ) (ts us : List Lexeme) (a b : SourceText) (ss rs : List Site) (x y : Table) →
+OneTaking = (w : PlainRequest) (design table : List ℕ) (ts us : List Lexeme) (a b : SourceText) (ss rs : List Site) (x y : Table) →
     IsTaken w design table ts a ss x → IsTaken w design table us b rs y → IsOneTaking ts us a b ss rs x y
 
 -- two refusals are one, but for the byte that is told of a text without a tree
 abbrev pub OneRefusal : Type 0
-OneRefusal = (w : Wish) (design table : List ℕ) (r s : RunRefusal) → Refuses w design table r → Refuses w design table s → IsSameRefusal r s
+OneRefusal = (w : PlainRequest) (design table : List ℕ) (r s : RunRefusal) → Refuses w design table r → Refuses w design table s → IsSameRefusal r s
 
 -- files that are taken are not refused
 abbrev pub TakenOrRefused : Type 0
-TakenOrRefused = (w : Wish) (design table : List ℕ) (ts : List Lexeme) (a : SourceText) (ss : List Site) (x : Table) (r : RunRefusal) →
+TakenOrRefused = (w : PlainRequest) (design table : List ℕ) (ts : List Lexeme) (a : SourceText) (ss : List Site) (x : Table) (r : RunRefusal) →
     IsTaken w design table ts a ss x → Refuses w design table r → ⊥
 
 abbrev pub MendableOrNot : Type 0
-MendableOrNot = (w : Wish) (design table : List ℕ) → IsMendable w design table → IsUnmendable w design table → ⊥
+MendableOrNot = (w : PlainRequest) (design table : List ℕ) → IsMendable w design table → IsUnmendable w design table → ⊥
 
 -- a design that matches as it is has a choice that matches: the one that changes nothing
 abbrev pub MatchingIsMendable : Type 0
-MatchingIsMendable = (w : Wish) (design table : List ℕ) → IsMatching w design table → IsMendable w design table
+MatchingIsMendable = (w : PlainRequest) (design table : List ℕ) → IsMatching w design table → IsMendable w design table
 
 -- of an answer: what the files come to, and the status
-abbrev pub TellsOutcome : Wish → List ℕ → List ℕ → Answer → Type 0
+abbrev pub TellsOutcome : PlainRequest → List ℕ → List ℕ → Answer → Type 0
 TellsOutcome w design table answer = (IsMended w design table answer × (IsMendable w design table × (answer.status ≡ 0)))
     ⊎ ((IsDespaired w design table answer × (IsUnmendable w design table × (answer.status ≡ 1))) ⊎ (IsLeftOpen w design table answer × (answer.status ≡ 2)))
 
 abbrev pub EachAnswer : Type 0
-EachAnswer = (w : Wish) (design table : List ℕ) (answer : Answer) → AnswersRepair w design table answer → TellsOutcome w design table answer
+EachAnswer = (w : PlainRequest) (design table : List ℕ) (answer : Answer) → AnswersRepair w design table answer → TellsOutcome w design table answer
 
 -- no answer leaves a repair open where the budget is ample
 abbrev pub AmpleSettles : Type 0
-AmpleSettles = (w : Wish) (design table : List ℕ) (answer : Answer) → IsAmple w design table → AnswersRepair w design table answer → answer.status ≡ 2 → ⊥
+AmpleSettles = (w : PlainRequest) (design table : List ℕ) (answer : Answer) → IsAmple w design table → AnswersRepair w design table answer → answer.status ≡ 2 → ⊥
 
 -- where the design matches as it is, each answer prints it so
 abbrev pub MatchingStays : Type 0
-MatchingStays = (w : Wish) (design table : List ℕ) (answer : Answer) → IsMatching w design table → AnswersRepair w design table answer → IsAsItWas design answer
+MatchingStays = (w : PlainRequest) (design table : List ℕ) (answer : Answer) → IsMatching w design table → AnswersRepair w design table answer → IsAsItWas design answer

@@ -11,11 +11,11 @@ use Rattle.rr_unroll.specs.Matches.{Matches}
 use Rattle.rr_search.specs.Least.{NoneMatches}
 use Rattle.rr_report.specs.Found.{Answer}
 use Rattle.rr_answers.specs.Texts.{unchanged_text}
-use Rattle.rr_repair.specs.Repairs.{IsBeyond, IsOpen, IsRepaired, IsTaken, IsUnchanged, Wish, design_of}
+use Rattle.rr_repair.specs.Repairs.{IsBeyond, IsOpen, IsRepaired, IsTaken, IsUnchanged, PlainRequest, design_of}
 
 -- ---- of two files
 -- both are taken, and the design matches as it is
-pub record IsMatching (w : Wish) (design table : List ℕ) : Type 0 where
+pub record IsMatching (w : PlainRequest) (design table : List ℕ) : Type 0 where
   pub tokens : List Lexeme
   pub source : SourceText
   pub sites : List Site
@@ -24,7 +24,7 @@ pub record IsMatching (w : Wish) (design table : List ℕ) : Type 0 where
   pub matches : Matches (design_of w source) rows
 
 -- both are taken, and some choice gives an instance that matches
-pub record IsMendable (w : Wish) (design table : List ℕ) : Type 0 where
+pub record IsMendable (w : PlainRequest) (design table : List ℕ) : Type 0 where
   pub tokens : List Lexeme
   pub source : SourceText
   pub sites : List Site
@@ -35,7 +35,7 @@ pub record IsMendable (w : Wish) (design table : List ℕ) : Type 0 where
   pub matches : Matches (instance_design sites choice (design_of w source)) rows
 
 -- both are taken, and no choice gives an instance that matches
-pub record IsUnmendable (w : Wish) (design table : List ℕ) : Type 0 where
+pub record IsUnmendable (w : PlainRequest) (design table : List ℕ) : Type 0 where
   pub tokens : List Lexeme
   pub source : SourceText
   pub sites : List Site
@@ -44,7 +44,7 @@ pub record IsUnmendable (w : Wish) (design table : List ℕ) : Type 0 where
   pub none : NoneMatches (design_of w source) sites rows
 
 -- both are taken, and each member may learn more than c * 3^c lines, for the c bits that write a choice of the sites
-pub record IsAmple (w : Wish) (design table : List ℕ) : Type 0 where
+pub record IsAmple (w : PlainRequest) (design table : List ℕ) : Type 0 where
   pub tokens : List Lexeme
   pub source : SourceText
   pub sites : List Site
@@ -54,7 +54,7 @@ pub record IsAmple (w : Wish) (design table : List ℕ) : Type 0 where
 
 -- ---- of an answer
 -- both files are taken, and the answer prints the source as it is, or with the fewest changes that match
-pub record IsMended (w : Wish) (design table : List ℕ) (answer : Answer) : Type 0 where
+pub record IsMended (w : PlainRequest) (design table : List ℕ) (answer : Answer) : Type 0 where
   pub tokens : List Lexeme
   pub source : SourceText
   pub sites : List Site
@@ -63,7 +63,7 @@ pub record IsMended (w : Wish) (design table : List ℕ) (answer : Answer) : Typ
   pub is : IsUnchanged w design source rows answer ⊎ IsRepaired w design tokens source sites rows answer
 
 -- both files are taken, and the answer tells that no changes match
-pub record IsDespaired (w : Wish) (design table : List ℕ) (answer : Answer) : Type 0 where
+pub record IsDespaired (w : PlainRequest) (design table : List ℕ) (answer : Answer) : Type 0 where
   pub tokens : List Lexeme
   pub source : SourceText
   pub sites : List Site
@@ -72,7 +72,7 @@ pub record IsDespaired (w : Wish) (design table : List ℕ) (answer : Answer) : 
   pub is : IsBeyond w source sites rows answer
 
 -- both files are taken, and the answer leaves open whether so many changes match
-pub record IsLeftOpen (w : Wish) (design table : List ℕ) (answer : Answer) : Type 0 where
+pub record IsLeftOpen (w : PlainRequest) (design table : List ℕ) (answer : Answer) : Type 0 where
   pub tokens : List Lexeme
   pub source : SourceText
   pub sites : List Site

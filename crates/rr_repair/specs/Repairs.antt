@@ -41,7 +41,7 @@ use Rattle.rr_answers.specs.Texts.{beyond_text, open_text, unchanged_text}
 
 -- what is asked: the top and the clock, each given or not, the name of the certificate's files, and how many lines each of how
 -- many members of a search may learn for one question
-pub record Wish : Type 0 where
+pub record PlainRequest : Type 0 where
   pub top : Option Text
   pub clock : Option Text
   pub cert : List ℕ
@@ -57,7 +57,7 @@ abbrev pub work_of : Flat → Table → ℕ
 work_of flat rows = min (length rows.inputs * flat_bits flat) 18446744073709551615
 
 -- the bytes of a design have these tokens, this tree and this lawful flat design, with at most 1,024 sites
-pub record IsSited (w : Wish) (design : List ℕ) (tokens : List Lexeme) (source : SourceText) (flat : Flat) (clock : Option ℕ) (sites : List Site) : Type 0 where
+pub record IsSited (w : PlainRequest) (design : List ℕ) (tokens : List Lexeme) (source : SourceText) (flat : Flat) (clock : Option ℕ) (sites : List Site) : Type 0 where
   pub tree : IsDesignOf design tokens source w.top flat
   pub lawful : Lawful flat w.clock
   pub rising : Bool
@@ -66,7 +66,7 @@ pub record IsSited (w : Wish) (design : List ℕ) (tokens : List Lexeme) (source
   pub few : length sites ≤ 1024
 
 -- both files are taken: these are the design and its sites, and the rows of its table
-pub record IsTaken (w : Wish) (design table : List ℕ) (tokens : List Lexeme) (source : SourceText) (sites : List Site) (rows : Table) : Type 0 where
+pub record IsTaken (w : PlainRequest) (design table : List ℕ) (tokens : List Lexeme) (source : SourceText) (sites : List Site) (rows : Table) : Type 0 where
   pub flat : Flat
   pub clock : Option ℕ
   pub sited : IsSited w design tokens source flat clock sites
@@ -74,13 +74,13 @@ pub record IsTaken (w : Wish) (design table : List ℕ) (tokens : List Lexeme) (
   pub small : work_of flat rows ≤ 262144
 
 -- the design, with the words for its top and its clock
-abbrev pub design_of : Wish → SourceText → Design
+abbrev pub design_of : PlainRequest → SourceText → Design
 design_of w source = record { source = source; top = w.top; word = w.clock }
 
 -- ---- answers
 
 -- the design matches as it is: it is printed as it is, and nothing is written
-pub record IsUnchanged (w : Wish) (design : List ℕ) (source : SourceText) (rows : Table) (answer : Answer) : Type 0 where
+pub record IsUnchanged (w : PlainRequest) (design : List ℕ) (source : SourceText) (rows : Table) (answer : Answer) : Type 0 where
   pub matches : Matches (design_of w source) rows
   pub files : answer.files ≡ []
   pub printed : answer.out ≡ design
@@ -95,7 +95,7 @@ pub record IsRefutation (j : Design) (sites : List Site) (rows : Table) (bound :
 
 -- a choice of at least one change whose instance matches, and none of fewer changes does: the source is printed with these
 -- changes, its tree is the instance, and the certificate of fewer changes is written
-pub record IsRepaired (w : Wish) (design : List ℕ) (tokens : List Lexeme) (source : SourceText) (sites : List Site) (rows : Table) (answer : Answer) : Type 0 where
+pub record IsRepaired (w : PlainRequest) (design : List ℕ) (tokens : List Lexeme) (source : SourceText) (sites : List Site) (rows : Table) (answer : Answer) : Type 0 where
   pub faulty : Matches (design_of w source) rows → ⊥
   pub choice : List Pick
   pub chosen : IsChoice sites choice
@@ -113,7 +113,7 @@ pub record IsRepaired (w : Wish) (design : List ℕ) (tokens : List Lexeme) (sou
   pub status : answer.status ≡ 0
 
 -- no choice gives an instance that matches: the certificate of all changes is written, and nothing is printed
-pub record IsBeyond (w : Wish) (source : SourceText) (sites : List Site) (rows : Table) (answer : Answer) : Type 0 where
+pub record IsBeyond (w : PlainRequest) (source : SourceText) (sites : List Site) (rows : Table) (answer : Answer) : Type 0 where
   pub faulty : Matches (design_of w source) rows → ⊥
   pub none : NoneMatches (design_of w source) sites rows
   pub circuit : OutputNetlist
@@ -126,7 +126,7 @@ pub record IsBeyond (w : Wish) (source : SourceText) (sites : List Site) (rows :
 
 -- whether at most so many changes match is left open: each member has learned exactly as many fresh lines as it may, which are
 -- written with the question, and nothing is printed
-pub record IsOpen (w : Wish) (source : SourceText) (sites : List Site) (rows : Table) (answer : Answer) : Type 0 where
+pub record IsOpen (w : PlainRequest) (source : SourceText) (sites : List Site) (rows : Table) (answer : Answer) : Type 0 where
   pub faulty : Matches (design_of w source) rows → ⊥
   pub bound : ℕ
   pub few : bound ≤ length sites
@@ -139,12 +139,12 @@ pub record IsOpen (w : Wish) (source : SourceText) (sites : List Site) (rows : T
   pub notes : answer.notes ≡ open_text w.budget bound
   pub status : answer.status ≡ 2
 
-abbrev pub IsAnswer : Wish → List ℕ → List Lexeme → SourceText → List Site → Table → Answer → Type 0
+abbrev pub IsAnswer : PlainRequest → List ℕ → List Lexeme → SourceText → List Site → Table → Answer → Type 0
 IsAnswer w design tokens source sites rows answer =
     IsUnchanged w design source rows answer ⊎ (IsRepaired w design tokens source sites rows answer ⊎ (IsBeyond w source sites rows answer ⊎ IsOpen w source sites rows answer))
 
 -- the answer for two files
-pub record AnswersRepair (w : Wish) (design table : List ℕ) (answer : Answer) : Type 0 where
+pub record AnswersRepair (w : PlainRequest) (design table : List ℕ) (answer : Answer) : Type 0 where
   pub tokens : List Lexeme
   pub source : SourceText
   pub sites : List Site
@@ -154,12 +154,12 @@ pub record AnswersRepair (w : Wish) (design table : List ℕ) (answer : Answer) 
 
 -- ---- the number of changes
 -- an answer, and the least number of changes that match, where it has status 0
-pub record IsCounted (w : Wish) (design : List ℕ) (tokens : List Lexeme) (source : SourceText) (sites : List Site) (rows : Table) (answer : Answer) (changes : ℕ) : Type 0 where
+pub record IsCounted (w : PlainRequest) (design : List ℕ) (tokens : List Lexeme) (source : SourceText) (sites : List Site) (rows : Table) (answer : Answer) (changes : ℕ) : Type 0 where
   pub is : IsAnswer w design tokens source sites rows answer
   pub least : answer.status ≡ 0 → Least (design_of w source) sites rows changes
 
 -- both files are taken, and this is the least number of changes with which the design matches
-pub record IsLeastCount (w : Wish) (design table : List ℕ) (changes : ℕ) : Type 0 where
+pub record IsLeastCount (w : PlainRequest) (design table : List ℕ) (changes : ℕ) : Type 0 where
   pub tokens : List Lexeme
   pub source : SourceText
   pub sites : List Site
@@ -168,14 +168,14 @@ pub record IsLeastCount (w : Wish) (design table : List ℕ) (changes : ℕ) : T
   pub least : Least (design_of w source) sites rows changes
 
 -- the answer for two files, and the least number of changes, where it has status 0
-pub record CountsRepair (w : Wish) (design table : List ℕ) (answer : Answer) (changes : ℕ) : Type 0 where
+pub record CountsRepair (w : PlainRequest) (design table : List ℕ) (answer : Answer) (changes : ℕ) : Type 0 where
   pub answers : AnswersRepair w design table answer
   pub least : answer.status ≡ 0 → IsLeastCount w design table changes
 
 -- ---- refusals
 
 -- the design is taken, and the table is none for its ports
-pub record HasNoTable (w : Wish) (design table : List ℕ) (refusal : RunRefusal) : Type 0 where
+pub record HasNoTable (w : PlainRequest) (design table : List ℕ) (refusal : RunRefusal) : Type 0 where
   pub tokens : List Lexeme
   pub source : SourceText
   pub flat : Flat
@@ -185,7 +185,7 @@ pub record HasNoTable (w : Wish) (design table : List ℕ) (refusal : RunRefusal
   pub refused : RefusesTable flat clock table refusal
 
 -- the table has these rows, and the work is above 262,144, which the refusal tells
-pub record HasMuchWork (w : Wish) (design table : List ℕ) (refusal : RunRefusal) : Type 0 where
+pub record HasMuchWork (w : PlainRequest) (design table : List ℕ) (refusal : RunRefusal) : Type 0 where
   pub tokens : List Lexeme
   pub source : SourceText
   pub flat : Flat
@@ -198,10 +198,10 @@ pub record HasMuchWork (w : Wish) (design table : List ℕ) (refusal : RunRefusa
   pub told : refusal ≡ TooMany limit.Work (work_of flat rows)
 
 -- why two files have no repair: of the design and its sites first, then of the table, then of the work
-abbrev pub Refuses : Wish → List ℕ → List ℕ → RunRefusal → Type 0
+abbrev pub Refuses : PlainRequest → List ℕ → List ℕ → RunRefusal → Type 0
 Refuses w design table refusal = RefusesSites design w.top w.clock refusal ⊎ (HasNoTable w design table refusal ⊎ HasMuchWork w design table refusal)
 
-abbrev pub RefusesRepair : Wish → List ℕ → List ℕ → Refusal → Type 0
+abbrev pub RefusesRepair : PlainRequest → List ℕ → List ℕ → Refusal → Type 0
 RefusesRepair w design table (TooManyBytes count) = ⊥
 RefusesRepair w design table (Input refusal) = Refuses w design table refusal
 RefusesRepair w design table (Flawed flaw line) = ⊥

@@ -2,11 +2,11 @@
 use Rattle.std.specs.Prelude.{ℕ, option_map}
 use Rattle.rr_search.specs.declared.answer.Answer.{Answer}
 use Rattle.rr_search.specs.declared.answer.Answer.TheVariants.{Unchanged, Repair, NoRepair, Spent}
-use Rattle.rr_repair.specs.declared.asked.Asked.{Asked}
-use Rattle.rr_repair.specs.Repairs.{Wish}
+use Rattle.rr_repair.specs.declared.request.Request.{Request}
+use Rattle.rr_repair.specs.Repairs.{PlainRequest}
 
-abbrev pub wish_of : Asked → Wish
-wish_of a = record {
+abbrev pub plain_request : Request → PlainRequest
+plain_request a = record {
   top = option_map (λ t. t.now) a.top;
   clock = option_map (λ c. c.now) a.clock;
   cert = a.cert.now;

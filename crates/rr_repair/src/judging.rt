@@ -17,10 +17,10 @@ ghost use Rattle.rr_trace.specs.Tops.{ports_of};
 ghost use Rattle.rr_trace.specs.View.{plain_table};
 ghost use Rattle.rr_report.specs.Views.{plain_answer, StopsWhere};
 ghost use Rattle.rr_repair.specs.Repairs.{AnswersRepair, CountsRepair, IsAnswer, IsCounted, IsSited, RefusesRepair, design_of};
-ghost use Rattle.rr_repair.specs.Views.{answer_status, wish_of};
+ghost use Rattle.rr_repair.specs.Views.{answer_status, plain_request};
 
-use crate::asked::Asked;
 use crate::counted::{Counted, changes_of};
+use crate::request::Request;
 use crate::working::{count_row, work_of};
 use bumpalo::Bump;
 use rr_answers::{beyond, left_open, repaired, unchanged};
@@ -76,7 +76,7 @@ fn told<'b>(
     bytes: &'b [u8],
     design: &LawfulDesign<'_>,
     job: &Job<'_>,
-    asked: &Asked<'_>,
+    request: &Request<'_>,
     tested: u32,
     answer: &Answer,
 ) -> Result<Found<'b>, AllocError>
@@ -84,10 +84,10 @@ fn told<'b>(
     requires text { IsText bytes.now (lexemes design.now.tokens.now) (plain_source design.now.source.now) }
     requires few { length job.now.list.now ≤ 1024 }
     requires named { AreNamed job.now.list.now }
-    requires members { job.now.members ≡ asked.now.members }
-    requires budget { job.now.budget ≡ asked.now.budget }
-    requires found { AnswerIs (task_of job.now) (design_of (wish_of asked.now) (plain_source design.now.source.now)) answer.now }
-    ensures answer { IfOk result (λ found. IsAnswer (wish_of asked.now) bytes.entry.now (lexemes design.now.tokens.now) (plain_source design.now.source.now) job.now.list.now (plain_table job.now.table.now) (plain_answer found)) }
+    requires members { job.now.members ≡ request.now.members }
+    requires budget { job.now.budget ≡ request.now.budget }
+    requires found { AnswerIs (task_of job.now) (design_of (plain_request request.now) (plain_source design.now.source.now)) answer.now }
+    ensures answer { IfOk result (λ found. IsAnswer (plain_request request.now) bytes.entry.now (lexemes design.now.tokens.now) (plain_source design.now.source.now) job.now.list.now (plain_table job.now.table.now) (plain_answer found)) }
     ensures status { IfOk result (λ found. found.status ≡ answer_status answer.now) }
 {
     match answer {
@@ -99,7 +99,7 @@ fn told<'b>(
             ..
         } => {
             let source = design.source;
-            let cert = asked.cert;
+            let cert = request.cert;
             let list = job.list;
             let tokens = design.tokens;
             let found = repaired(
@@ -109,7 +109,7 @@ fn told<'b>(
         }
         Answer::NoRepair { circuit, journal } => {
             let sites = job.list.sites().len();
-            let found = beyond(alloc, sites, asked.cert, circuit, journal)?;
+            let found = beyond(alloc, sites, request.cert, circuit, journal)?;
             Ok(found)
         }
         Answer::Spent {
@@ -117,7 +117,8 @@ fn told<'b>(
             circuit,
             journal,
         } => {
-            let found = left_open(alloc, asked.budget, *bound, asked.cert, circuit, journal)?;
+            let cert = request.cert;
+            let found = left_open(alloc, request.budget, *bound, cert, circuit, journal)?;
             Ok(found)
         }
     }
@@ -131,31 +132,31 @@ fn searched<'b, R: Threads + Sync>(
     design: &LawfulDesign<'_>,
     list: &SiteList<'_>,
     rows: &Table,
-    asked: &Asked<'_>,
+    request: &Request<'_>,
 ) -> Result<Counted<'b>, AllocError>
     requires small { length bytes.now < 2 ^ 32 }
     requires text { IsText bytes.now (lexemes design.now.tokens.now) (plain_source design.now.source.now) }
     requires few { length list.now ≤ 1024 }
     requires named { AreNamed list.now }
-    requires some { 1 ≤ asked.now.members }
-    requires most { asked.now.members ≤ 8 }
-    requires budget { 1 ≤ asked.now.budget }
-    requires fits { FitsArguments (design_of (wish_of asked.now) (plain_source design.now.source.now)) (plain_flat design.now.flat) design.now.order.clock design.now.order.rising design.now.order.steps.items list.now }
+    requires some { 1 ≤ request.now.members }
+    requires most { request.now.members ≤ 8 }
+    requires budget { 1 ≤ request.now.budget }
+    requires fits { FitsArguments (design_of (plain_request request.now) (plain_source design.now.source.now)) (plain_flat design.now.flat) design.now.order.clock design.now.order.rising design.now.order.steps.items list.now }
     requires read { (table : List ℕ) × (table_of (ports_of (plain_flat design.now.flat) design.now.order.clock) table ≡ Ok (plain_table rows.now)) }
-    ensures { IfOk result (λ c. IsCounted (wish_of asked.now) bytes.entry.now (lexemes design.now.tokens.now) (plain_source design.now.source.now) list.now (plain_table rows.now) (plain_answer c.found) c.changes) }
+    ensures { IfOk result (λ c. IsCounted (plain_request request.now) bytes.entry.now (lexemes design.now.tokens.now) (plain_source design.now.source.now) list.now (plain_table rows.now) (plain_answer c.found) c.changes) }
 {
     let cycle = cycle_of(alloc, design, list)?;
     let job = Job {
         list,
         transition: &cycle,
         table: rows,
-        budget: asked.budget,
-        members: asked.members,
+        budget: request.budget,
+        members: request.members,
     };
     let proposed = proposals(rt, alloc, &cycle, rows, list)?;
     let answer = least(rt, alloc, &job, proposed.as_slice())?;
     let tested = proposed.len().min(u32::MAX as usize) as u32;
-    let found = told(alloc, bytes, design, &job, asked, tested, &answer)?;
+    let found = told(alloc, bytes, design, &job, request, tested, &answer)?;
     Ok(Counted {
         found,
         changes: changes_of(&answer),
@@ -170,27 +171,27 @@ fn judge_rows<'b, 'a, R: Threads + Sync>(
     design: &LawfulDesign<'a>,
     list: &SiteList<'_>,
     rows: &Table,
-    asked: &Asked<'_>,
+    request: &Request<'_>,
 ) -> Result<Counted<'b>, Stop<'a>>
     requires small { length bytes.now < 2 ^ 32 }
     requires text { IsText bytes.now (lexemes design.now.tokens.now) (plain_source design.now.source.now) }
     requires few { length list.now ≤ 1024 }
     requires named { AreNamed list.now }
-    requires some { 1 ≤ asked.now.members }
-    requires most { asked.now.members ≤ 8 }
-    requires budget { 1 ≤ asked.now.budget }
-    requires fits { FitsArguments (design_of (wish_of asked.now) (plain_source design.now.source.now)) (plain_flat design.now.flat) design.now.order.clock design.now.order.rising design.now.order.steps.items list.now }
+    requires some { 1 ≤ request.now.members }
+    requires most { request.now.members ≤ 8 }
+    requires budget { 1 ≤ request.now.budget }
+    requires fits { FitsArguments (design_of (plain_request request.now) (plain_source design.now.source.now)) (plain_flat design.now.flat) design.now.order.clock design.now.order.rising design.now.order.steps.items list.now }
     requires read { (table : List ℕ) × (table_of (ports_of (plain_flat design.now.flat) design.now.order.clock) table ≡ Ok (plain_table rows.now)) }
-    ensures { (table : List ℕ) → IsSited (wish_of asked.now) bytes.entry.now (lexemes design.now.tokens.now) (plain_source design.now.source.now) (plain_flat design.now.flat) design.now.order.clock list.now
+    ensures { (table : List ℕ) → IsSited (plain_request request.now) bytes.entry.now (lexemes design.now.tokens.now) (plain_source design.now.source.now) (plain_flat design.now.flat) design.now.order.clock list.now
         → table_of (ports_of (plain_flat design.now.flat) design.now.order.clock) table ≡ Ok (plain_table rows.now)
-        → MatchResult result (λ c. CountsRepair (wish_of asked.now) bytes.entry.now table (plain_answer c.found) c.changes) (StopsWhere (RefusesRepair (wish_of asked.now) bytes.entry.now table)) }
+        → MatchResult result (λ c. CountsRepair (plain_request request.now) bytes.entry.now table (plain_answer c.found) c.changes) (StopsWhere (RefusesRepair (plain_request request.now) bytes.entry.now table)) }
 {
     let work = work_of(&design.flat, rows);
     if work > WORK_LIMIT {
         let refusal = RunRefusal::TooMany(Limit::Work, work);
         return Err(Stop::Refused(Refusal::Input(refusal)));
     }
-    match searched(rt, alloc, bytes, design, list, rows, asked) {
+    match searched(rt, alloc, bytes, design, list, rows, request) {
         Ok(counted) => Ok(counted),
         Err(_) => Err(Stop::Memory),
     }
@@ -204,21 +205,21 @@ fn judge_table<'b, 'a, R: Threads + Sync>(
     design: &LawfulDesign<'a>,
     list: &SiteList<'_>,
     table: &[u8],
-    asked: &Asked<'_>,
+    request: &Request<'_>,
 ) -> Result<Counted<'b>, Stop<'a>>
     requires small { length bytes.now < 2 ^ 32 }
     requires text { IsText bytes.now (lexemes design.now.tokens.now) (plain_source design.now.source.now) }
     requires few { length list.now ≤ 1024 }
     requires named { AreNamed list.now }
-    requires some { 1 ≤ asked.now.members }
-    requires most { asked.now.members ≤ 8 }
-    requires budget { 1 ≤ asked.now.budget }
-    requires fits { FitsArguments (design_of (wish_of asked.now) (plain_source design.now.source.now)) (plain_flat design.now.flat) design.now.order.clock design.now.order.rising design.now.order.steps.items list.now }
-    ensures { IsSited (wish_of asked.now) bytes.entry.now (lexemes design.now.tokens.now) (plain_source design.now.source.now) (plain_flat design.now.flat) design.now.order.clock list.now
-        → MatchResult result (λ c. CountsRepair (wish_of asked.now) bytes.entry.now table.now (plain_answer c.found) c.changes) (StopsWhere (RefusesRepair (wish_of asked.now) bytes.entry.now table.now)) }
+    requires some { 1 ≤ request.now.members }
+    requires most { request.now.members ≤ 8 }
+    requires budget { 1 ≤ request.now.budget }
+    requires fits { FitsArguments (design_of (plain_request request.now) (plain_source design.now.source.now)) (plain_flat design.now.flat) design.now.order.clock design.now.order.rising design.now.order.steps.items list.now }
+    ensures { IsSited (plain_request request.now) bytes.entry.now (lexemes design.now.tokens.now) (plain_source design.now.source.now) (plain_flat design.now.flat) design.now.order.clock list.now
+        → MatchResult result (λ c. CountsRepair (plain_request request.now) bytes.entry.now table.now (plain_answer c.found) c.changes) (StopsWhere (RefusesRepair (plain_request request.now) bytes.entry.now table.now)) }
 {
     match read_rows(alloc, design, table) {
-        Ok(rows) => judge_rows(rt, alloc, bytes, design, list, &rows, asked),
+        Ok(rows) => judge_rows(rt, alloc, bytes, design, list, &rows, request),
         Err(fault) => Err(stop_of(fault)),
     }
 }
@@ -230,20 +231,20 @@ fn judge_sites<'b, 'a, R: Threads + Sync>(
     bytes: &'b [u8],
     design: &LawfulDesign<'a>,
     table: &[u8],
-    asked: &Asked<'_>,
+    request: &Request<'_>,
     arena: &'a Bump,
 ) -> Result<Counted<'b>, Stop<'a>>
     requires small { length bytes.now < 2 ^ 32 }
-    requires tree { IsDesignOf bytes.now (lexemes design.now.tokens.now) (plain_source design.now.source.now) (wish_of asked.now).top (plain_flat design.now.flat) }
+    requires tree { IsDesignOf bytes.now (lexemes design.now.tokens.now) (plain_source design.now.source.now) (plain_request request.now).top (plain_flat design.now.flat) }
     requires input { IsClockInput (plain_flat design.now.flat) design.now.order.clock }
     requires fit { FitLiteralsSource (plain_source design.now.source.now) }
     requires few { length design.now.tokens.now < 2 ^ 32 }
-    requires ordered { InOrder design.now.flat design.now.order (wish_of asked.now).clock }
-    requires some { 1 ≤ asked.now.members }
-    requires most { asked.now.members ≤ 8 }
-    requires budget { 1 ≤ asked.now.budget }
-    ensures { OneClock (plain_flat design.now.flat) (wish_of asked.now).clock design.now.order.clock design.now.order.rising
-        → MatchResult result (λ c. CountsRepair (wish_of asked.now) bytes.entry.now table.now (plain_answer c.found) c.changes) (StopsWhere (RefusesRepair (wish_of asked.now) bytes.entry.now table.now)) }
+    requires ordered { InOrder design.now.flat design.now.order (plain_request request.now).clock }
+    requires some { 1 ≤ request.now.members }
+    requires most { request.now.members ≤ 8 }
+    requires budget { 1 ≤ request.now.budget }
+    ensures { OneClock (plain_flat design.now.flat) (plain_request request.now).clock design.now.order.clock design.now.order.rising
+        → MatchResult result (λ c. CountsRepair (plain_request request.now) bytes.entry.now table.now (plain_answer c.found) c.changes) (StopsWhere (RefusesRepair (plain_request request.now) bytes.entry.now table.now)) }
 {
     let list = match design_sites(alloc, design, arena) {
         Ok(list) => list,
@@ -254,7 +255,7 @@ fn judge_sites<'b, 'a, R: Threads + Sync>(
         let refusal = RunRefusal::TooMany(Limit::Sites, count as u64);
         return Err(Stop::Refused(Refusal::Input(refusal)));
     }
-    judge_table(rt, alloc, bytes, design, &list, table, asked)
+    judge_table(rt, alloc, bytes, design, &list, table, request)
 }
 
 /// The repair of a design of at most 1,048,576 bytes by its table: what is to be printed, reported and
@@ -266,19 +267,19 @@ pub fn repair_counted<'b, 'a, R: Threads + Sync>(
     alloc: Global,
     design: &'b [u8],
     table: &[u8],
-    asked: &Asked<'_>,
+    request: &Request<'_>,
     arena: &'a Bump,
 ) -> Result<Counted<'b>, Stop<'a>>
     requires small { length design.now ≤ 1048576 }
-    requires some { 1 ≤ asked.now.members }
-    requires most { asked.now.members ≤ 8 }
-    requires budget { 1 ≤ asked.now.budget }
+    requires some { 1 ≤ request.now.members }
+    requires most { request.now.members ≤ 8 }
+    requires budget { 1 ≤ request.now.budget }
     ensures { MatchResult result
-        (λ c. CountsRepair (wish_of asked.now) design.entry.now table.now (plain_answer c.found) c.changes)
-        (StopsWhere (RefusesRepair (wish_of asked.now) design.entry.now table.now)) }
+        (λ c. CountsRepair (plain_request request.now) design.entry.now table.now (plain_answer c.found) c.changes)
+        (StopsWhere (RefusesRepair (plain_request request.now) design.entry.now table.now)) }
 {
-    match lawful_design(alloc, design, asked.top, asked.clock, arena) {
-        Ok(lawful) => judge_sites(rt, alloc, design, &lawful, table, asked, arena),
+    match lawful_design(alloc, design, request.top, request.clock, arena) {
+        Ok(lawful) => judge_sites(rt, alloc, design, &lawful, table, request, arena),
         Err(fault) => Err(stop_of(fault)),
     }
 }
@@ -290,18 +291,18 @@ pub fn repair<'b, 'a, R: Threads + Sync>(
     alloc: Global,
     design: &'b [u8],
     table: &[u8],
-    asked: &Asked<'_>,
+    request: &Request<'_>,
     arena: &'a Bump,
 ) -> Result<Found<'b>, Stop<'a>>
     requires small { length design.now ≤ 1048576 }
-    requires some { 1 ≤ asked.now.members }
-    requires most { asked.now.members ≤ 8 }
-    requires budget { 1 ≤ asked.now.budget }
+    requires some { 1 ≤ request.now.members }
+    requires most { request.now.members ≤ 8 }
+    requires budget { 1 ≤ request.now.budget }
     ensures { MatchResult result
-        (λ found. AnswersRepair (wish_of asked.now) design.entry.now table.now (plain_answer found))
-        (StopsWhere (RefusesRepair (wish_of asked.now) design.entry.now table.now)) }
+        (λ found. AnswersRepair (plain_request request.now) design.entry.now table.now (plain_answer found))
+        (StopsWhere (RefusesRepair (plain_request request.now) design.entry.now table.now)) }
 {
-    match repair_counted(rt, alloc, design, table, asked, arena) {
+    match repair_counted(rt, alloc, design, table, request, arena) {
         Ok(counted) => Ok(counted.found),
         Err(stop) => Err(stop),
     }

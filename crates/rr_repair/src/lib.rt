@@ -7,13 +7,13 @@
 //! leaves it open.
 #![tactic(auto)]
 
-mod asked;
 mod counted;
 mod judging;
 mod laws;
+mod request;
 mod working;
 
-pub use asked::Asked;
 pub use counted::Counted;
 pub use judging::{repair, repair_counted};
 pub use laws::{repair_answers, repair_outcomes};
+pub use request::Request;

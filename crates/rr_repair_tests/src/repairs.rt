@@ -7,7 +7,7 @@ use crate::designs::{
     INVERTED_TABLE, MISSING, MISSING_TABLE, TWO, TWO_TABLE, WIRE, WIRE_TABLE,
 };
 use bumpalo::Bump;
-use rr_repair::{Asked, repair};
+use rr_repair::{Request, repair};
 use rr_report::{Found, Refusal, Stop};
 use rr_run::Refusal as RunRefusal;
 use std::alloc::Global;
@@ -15,11 +15,11 @@ use std::test::Fail;
 use std::thread::Threads;
 
 /// A repair with so many lines for each of so many members.
-fn asked(budget: u32, members: u32) -> Asked<'static>
+fn request(budget: u32, members: u32) -> Request<'static>
     ensures budget { result.budget ≡ budget }
     ensures members { result.members ≡ members }
 {
-    Asked {
+    Request {
         top: None,
         clock: None,
         cert: "c",
@@ -54,7 +54,7 @@ fn prints<R: Threads + Sync>(
         alloc,
         design.as_bytes(),
         table.as_bytes(),
-        &asked(1000, 2),
+        &request(1000, 2),
         &arena,
     ) {
         Err(_) => Err(Fail::from("stopped")),
@@ -128,7 +128,7 @@ fn one_literal_serves_two_instances(rt: HostRuntime) -> Result<(), Fail> {
         alloc,
         INSTANCES.as_bytes(),
         INSTANCES_TABLE.as_bytes(),
-        &asked(1000, 1),
+        &request(1000, 1),
         &arena,
     ) {
         Err(_) => Err(Fail::from("stopped")),
@@ -155,7 +155,7 @@ fn where_nothing_helps_a_certificate_says_so(rt: HostRuntime) -> Result<(), Fail
         alloc,
         WIRE.as_bytes(),
         WIRE_TABLE.as_bytes(),
-        &asked(5, 1),
+        &request(5, 1),
         &arena,
     ) {
         Err(_) => Err(Fail::from("stopped")),
@@ -183,7 +183,7 @@ fn a_cell_above_its_width_is_refused(rt: HostRuntime) -> Result<(), Fail> {
         alloc,
         CELLS.as_bytes(),
         table.as_bytes(),
-        &asked(5, 1),
+        &request(5, 1),
         &arena,
     ) {
         Err(Stop::Refused(Refusal::Input(RunRefusal::CellTooLarge { .. }))) => Ok(()),

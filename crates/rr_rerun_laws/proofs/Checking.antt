@@ -11,7 +11,7 @@ use Rattle.rr_certify.specs.Certificates.{IsJudged}
 use Rattle.rr_certify.proofs.Certified.{same_verdict}
 use Rattle.rr_report.specs.Found.{Answer, File}
 use Rattle.rr_answers.specs.Certified.{certificate}
-use Rattle.rr_repair.specs.Repairs.{Wish}
+use Rattle.rr_repair.specs.Repairs.{PlainRequest}
 use Rattle.rr_repair.specs.Outcomes.{IsDespaired, IsMended}
 use Rattle.rr_rerun_laws.specs.Checks.{AreAccepted}
 
@@ -25,11 +25,11 @@ written cert files circuit proof are judged = record {
   only = λ v j. same_verdict (aag circuit) (lrat proof) v Accepted j judged;
 }
 
-pub mended_accepted : (w : Wish) (design table : List ℕ) (answer : Answer) → IsMended w design table answer → (answer.files ≡ []) ⊎ AreAccepted w.cert answer.files
+pub mended_accepted : (w : PlainRequest) (design table : List ℕ) (answer : Answer) → IsMended w design table answer → (answer.files ≡ []) ⊎ AreAccepted w.cert answer.files
 mended_accepted w design table answer m = elim m.is [
   | inl u ↦ inl u.files
   | inr r ↦ inr (written w.cert answer.files r.circuit r.proof r.files r.fewer.accepted)
 ]
 
-pub despaired_accepted : (w : Wish) (design table : List ℕ) (answer : Answer) → IsDespaired w design table answer → AreAccepted w.cert answer.files
+pub despaired_accepted : (w : PlainRequest) (design table : List ℕ) (answer : Answer) → IsDespaired w design table answer → AreAccepted w.cert answer.files
 despaired_accepted w design table answer d = written w.cert answer.files d.is.circuit d.is.proof d.is.files d.is.all.accepted

@@ -35,12 +35,12 @@ use Rattle.rr_sites.proofs.Given.{formed, numbered, right}
 use Rattle.rr_run.specs.Runs.{IsRun}
 use Rattle.rr_run.proofs.Once.{one_run}
 use Rattle.rr_report.specs.Found.{Answer}
-use Rattle.rr_repair.specs.Repairs.{IsRepaired, IsTaken, IsUnchanged, Wish, design_of}
+use Rattle.rr_repair.specs.Repairs.{IsRepaired, IsTaken, IsUnchanged, PlainRequest, design_of}
 use Rattle.rr_rerun_laws.specs.Reruns.{RunsRight, RunsAgain, RunAgrees}
 use Rattle.rr_rerun_laws.proofs.Ports.{instance_ports, same_ports}
 
 -- a flat design of the text, with the clock, whose run agrees
-record IsRight (w : Wish) (flat : Flat) (clock : Option ℕ) (rows : Table) : Type 0 where
+record IsRight (w : PlainRequest) (flat : Flat) (clock : Option ℕ) (rows : Table) : Type 0 where
   lawful : Lawful flat w.clock
   rising : Bool
   one : OneClock flat w.clock clock rising
@@ -49,7 +49,7 @@ record IsRight (w : Wish) (flat : Flat) (clock : Option ℕ) (rows : Table) : Ty
   agree : AgreeRows rows.expected outputs (length rows.expected)
 
 -- a design that matches is right with its one flat design and its one clock
-right_by : (w : Wish) (source : SourceText) (rows : Table) (flat : Flat) (clock : Option ℕ) (rising : Bool) → flat_of source w.top ≡ Ok flat → OneClock flat w.clock clock rising →
+right_by : (w : PlainRequest) (source : SourceText) (rows : Table) (flat : Flat) (clock : Option ℕ) (rising : Bool) → flat_of source w.top ≡ Ok flat → OneClock flat w.clock clock rising →
     Matches (design_of w source) rows → IsRight w flat clock rows
 right_by w source rows flat clock rising e one m =
     let oks : Ok m.flat ≡ Ok flat = sym m.design.design ∙ e in
@@ -67,7 +67,7 @@ right_by w source rows flat clock rising e one m =
     }
 
 -- the same of a flat design that is equal without token numbers
-right_same : (w : Wish) (f g : Flat) (clock : Option ℕ) (rows : Table) → IsSameFlat f g → IsRight w f clock rows → IsRight w g clock rows
+right_same : (w : PlainRequest) (f g : Flat) (clock : Option ℕ) (rows : Table) → IsSameFlat f g → IsRight w f clock rows → IsRight w g clock rows
 right_same w f g clock rows same r = record {
   lawful = same_laws f g w.clock same r.lawful;
   rising = r.rising;
@@ -78,7 +78,7 @@ right_same w f g clock rows same r = record {
 }
 
 -- the run of a text with such a flat design
-told : (w : Wish) (bytes table : List ℕ) (ts : List Lexeme) (tree : SourceText) (flat : Flat) (clock : Option ℕ) (rows : Table) → IsText bytes ts tree → flat_of tree w.top ≡ Ok flat →
+told : (w : PlainRequest) (bytes table : List ℕ) (ts : List Lexeme) (tree : SourceText) (flat : Flat) (clock : Option ℕ) (rows : Table) → IsText bytes ts tree → flat_of tree w.top ≡ Ok flat →
     table_of (ports_of flat clock) table ≡ Ok rows → IsRight w flat clock rows → (text : List ℕ) × RunsRight bytes table w.top w.clock text
 told w bytes table ts tree flat clock rows x e read r = (
   table_text (ports_of flat clock) rows.inputs r.outputs,
@@ -100,7 +100,7 @@ told w bytes table ts tree flat clock rows x e read r = (
 tree_of : (bytes : List ℕ) (ts : List Lexeme) (tree : SourceText) → IsText bytes ts tree → IsTree bytes tree
 tree_of bytes ts tree x = record { tokens = ts; are = x.lexed; spells = x.spells.tree.spells }
 
-module _ (w : Wish) (design table : List ℕ) (ts : List Lexeme) (source : SourceText) (sites : List Site) (rows : Table) (taken : IsTaken w design table ts source sites rows) where
+module _ (w : PlainRequest) (design table : List ℕ) (ts : List Lexeme) (source : SourceText) (sites : List Site) (rows : Table) (taken : IsTaken w design table ts source sites rows) where
   its_right : AreRight source taken.flat w.clock sites
   its_right =
       right source w.top taken.flat (formed design ts source w.top taken.flat taken.sited.tree) (numbered design ts source w.top taken.flat taken.sited.tree) taken.sited.tree.flat w.clock taken.clock taken.sited.rising taken.sited.are.0 taken.sited.lawful taken.sited.one_clock taken.sited.are.1 sites taken.sited.are.2

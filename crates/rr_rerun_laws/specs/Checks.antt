@@ -4,7 +4,7 @@ use Rattle.rr_check.specs.declared.verdict.Verdict.{Verdict}
 use Rattle.rr_check.specs.declared.verdict.Verdict.TheVariants.{Accepted}
 use Rattle.rr_certify.specs.Certificates.{IsJudged}
 use Rattle.rr_report.specs.Found.{Answer, File}
-use Rattle.rr_repair.specs.Repairs.{Wish}
+use Rattle.rr_repair.specs.Repairs.{PlainRequest}
 use Rattle.rr_repair.specs.Outcomes.{IsDespaired, IsMended}
 
 -- the files of a certificate with this name: a circuit, a formula and a proof; circuit and proof have one verdict, that the
@@ -19,8 +19,8 @@ pub record AreAccepted (cert : List ℕ) (files : List File) : Type 0 where
 
 -- a repair writes nothing, where it changes nothing, or a certificate that a check accepts
 abbrev pub CheckAccepts : Type 0
-CheckAccepts = (w : Wish) (design table : List ℕ) (answer : Answer) → IsMended w design table answer → (answer.files ≡ []) ⊎ AreAccepted w.cert answer.files
+CheckAccepts = (w : PlainRequest) (design table : List ℕ) (answer : Answer) → IsMended w design table answer → (answer.files ≡ []) ⊎ AreAccepted w.cert answer.files
 
 -- so it does where no choice matches
 abbrev pub CheckAcceptsNone : Type 0
-CheckAcceptsNone = (w : Wish) (design table : List ℕ) (answer : Answer) → IsDespaired w design table answer → AreAccepted w.cert answer.files
+CheckAcceptsNone = (w : PlainRequest) (design table : List ℕ) (answer : Answer) → IsDespaired w design table answer → AreAccepted w.cert answer.files

@@ -11,7 +11,7 @@ use Rattle.rr_trace.specs.Written.{table_text}
 use Rattle.rr_cycle.specs.Cycles.{Run}
 use Rattle.rr_run.specs.Runs.{IsLawfulDesign, IsRun}
 use Rattle.rr_report.specs.Found.{Answer}
-use Rattle.rr_repair.specs.Repairs.{Wish}
+use Rattle.rr_repair.specs.Repairs.{PlainRequest}
 use Rattle.rr_repair.specs.Outcomes.{IsMended}
 
 -- the bytes are a lawful design, and the text is the table of the rows with the outputs of its run on them, which equal each
@@ -32,10 +32,10 @@ pub record RunsRight (bytes table : List ℕ) (top word : Option (List ℕ)) (te
 -- Printed bytes that are read as a text, which is so where its tree is at most 500 deep, have such a run: no law and no table
 -- refuses them.
 abbrev pub RunsAgain : Type 0
-RunsAgain = (w : Wish) (design table : List ℕ) (answer : Answer) → IsMended w design table answer → (tokens : List Lexeme) (tree : SourceText) → IsText answer.out tokens tree →
+RunsAgain = (w : PlainRequest) (design table : List ℕ) (answer : Answer) → IsMended w design table answer → (tokens : List Lexeme) (tree : SourceText) → IsText answer.out tokens tree →
     (text : List ℕ) × RunsRight answer.out table w.top w.clock text
 
 -- and each run of them is such
 abbrev pub RunAgrees : Type 0
-RunAgrees = (w : Wish) (design table : List ℕ) (answer : Answer) → IsMended w design table answer → (text : List ℕ) → IsRun answer.out table w.top w.clock text →
+RunAgrees = (w : PlainRequest) (design table : List ℕ) (answer : Answer) → IsMended w design table answer → (text : List ℕ) → IsRun answer.out table w.top w.clock text →
     RunsRight answer.out table w.top w.clock text

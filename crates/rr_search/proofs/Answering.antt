@@ -14,7 +14,7 @@ use Rattle.rr_unroll.specs.Matches.{Matches}
 use Rattle.rr_search.specs.declared.answer.Answer.{Answer}
 use Rattle.rr_search.specs.declared.answer.Answer.TheVariants.{Unchanged, Repair, NoRepair, Spent}
 use Rattle.rr_search.specs.Answers.{Task, AnswerIs, IsOf, IsOpenBelow, IsUnchanged, IsFine, IsRefuted, IsRepair, IsBeyondRepair, IsLeftOpen, Mends}
-use Rattle.rr_search.specs.Asked.{AreFaulty, IsClosed, IsMending, IsOpen, choice_at}
+use Rattle.rr_search.specs.Replies.{AreFaulty, IsClosed, IsMending, IsOpen, choice_at}
 use Rattle.rr_search.proofs.Chain.{same_design}
 
 -- a choice has no more switches on than there are sites

@@ -27,7 +27,7 @@ use Rattle.rr_unroll.specs.Questions.{judged}
 use Rattle.rr_unroll.proofs.FaithfulLaws.{cost_by_switches}
 use Rattle.rr_unroll.proofs.MatchLaws.{AllTrue, split, same_flat, matches_there, matches_back}
 use Rattle.rr_search.specs.Answers.{Task, IsOf, IsTask, Mends}
-use Rattle.rr_search.specs.Asked.{IsClosed, IsMending, IsOpen}
+use Rattle.rr_search.specs.Replies.{IsClosed, IsMending, IsOpen}
 
 -- a choice of cost 0 makes the design itself
 pub same_design : (j : Design) (sites : List Site) (c : List Pick) → cost c ≡ 0 → instance_design sites c j ≡ j

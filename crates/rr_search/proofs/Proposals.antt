@@ -9,7 +9,7 @@ use Rattle.rr_choice.specs.Choices.{cost, IsChoice}
 use Rattle.rr_choice.specs.Sites.{Site}
 use Rattle.rr_transition.specs.Cycles.{Design}
 use Rattle.rr_search.specs.Answers.{Task, IsOf, Mends, plain_choices}
-use Rattle.rr_search.specs.Asked.{IsCheapest, IsMending, choice_at}
+use Rattle.rr_search.specs.Replies.{IsCheapest, IsMending, choice_at}
 
 pub at_choice : (xs : List Choice) (k : ℕ) (x : Choice) → x ≡ get_or xs k x → k < length xs → choice_at (plain_choices xs) k ≡ x.picks.items
 at_choice xs k x e l = get_or-map (λ c. c.picks.items) xs k x [] l ∙ ap (λ c. c.picks.items) (sym e)

@@ -1,3 +1,3 @@
 pub mod Least
 pub mod Answers
-pub mod Asked
+pub mod Replies

@@ -4,7 +4,7 @@ ghost use Rattle.std.specs.Prelude.{◌≡◌, ◌<◌, IfOk, drop, length, take
 ghost use Rattle.rr_choice.specs.Choices.{decode as decode_of, total_bits};
 ghost use Rattle.rr_choice.specs.Sites.{IsSiteList};
 ghost use Rattle.rr_search.specs.Answers.{IsTask, task_of};
-ghost use Rattle.rr_search.specs.Asked.{AskedIs};
+ghost use Rattle.rr_search.specs.Replies.{ReplyIs};
 
 use crate::answer::Job;
 use rr_choice::{Choice, decode};
@@ -19,7 +19,7 @@ use std::thread::Threads;
 
 /// The outcome of a question.
 #[derive(Drop)]
-pub(crate) enum Asked {
+pub(crate) enum Reply {
     /// A choice within the bound mends the design.
     Mended(Choice),
     /// None does: the circuit, and lines that refute its formula.
@@ -47,10 +47,10 @@ pub(crate) fn ask<R: Threads + Sync>(
     alloc: Global,
     job: &Job,
     bound: u32,
-) -> Result<Asked, AllocError>
+) -> Result<Reply, AllocError>
     requires task { IsTask (task_of job.now) }
     requires listed { IsSiteList job.now.list.now }
-    ensures { IfOk result (AskedIs (task_of job.now) bound) }
+    ensures { IfOk result (ReplyIs (task_of job.now) bound) }
 {
     let circuit = question(rt, alloc, job.transition, job.table, bound, job.members)?;
     let formula = formula_of(alloc, &circuit)?;
@@ -66,9 +66,9 @@ pub(crate) fn ask<R: Threads + Sync>(
     )? {
         Outcome::Model(values) => {
             let choice = chosen(alloc, job, values.as_slice())?;
-            Ok(Asked::Mended(choice))
+            Ok(Reply::Mended(choice))
         }
-        Outcome::Refuted(journal) => Ok(Asked::Refuted(circuit, journal)),
-        Outcome::Spent(journal) => Ok(Asked::Open(circuit, journal)),
+        Outcome::Refuted(journal) => Ok(Reply::Refuted(circuit, journal)),
+        Outcome::Spent(journal) => Ok(Reply::Open(circuit, journal)),
     }
 }

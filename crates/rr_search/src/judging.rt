@@ -6,7 +6,7 @@ ghost use Rattle.rr_choice.specs.Sites.{IsSiteList};
 ghost use Rattle.rr_transition.specs.Cycles.{Design};
 ghost use Rattle.rr_unroll.specs.Matches.{Matches};
 ghost use Rattle.rr_search.specs.Answers.{IsOf, IsTask, Mends, plain_choices, task_of};
-ghost use Rattle.rr_search.specs.Asked.{IsCheapest};
+ghost use Rattle.rr_search.specs.Replies.{IsCheapest};
 
 use crate::answer::Job;
 use rr_choice::{Choice, cost};

@@ -5,10 +5,10 @@ ghost use Rattle.rr_choice.specs.Choices.{IsChoice, cost};
 ghost use Rattle.rr_transition.specs.Cycles.{Design};
 ghost use Rattle.rr_unroll.specs.Matches.{Matches};
 ghost use Rattle.rr_search.specs.Answers.{AnswerIs, IsOf, IsOpenBelow, IsTask, IsUnchanged, Mends, plain_choices, task_of};
-ghost use Rattle.rr_search.specs.Asked.{AreFaulty, IsMending};
+ghost use Rattle.rr_search.specs.Replies.{AreFaulty, IsMending};
 
 use crate::answer::{Answer, Job};
-use crate::asking::{Asked, ask};
+use crate::asking::{Reply, ask};
 use crate::judging::{cheapest, cost_in, matches, site_count};
 use rr_choice::Choice;
 use std::alloc::{AllocError, Global};
@@ -35,8 +35,8 @@ fn lower<R: Threads + Sync>(
             return Ok(Answer::Unchanged);
         }
         match ask(rt, alloc, job, k - 1)? {
-            Asked::Mended(choice) => best = choice,
-            Asked::Refuted(circuit, journal) => {
+            Reply::Mended(choice) => best = choice,
+            Reply::Refuted(circuit, journal) => {
                 return Ok(Answer::Repair {
                     choice: best,
                     k,
@@ -44,7 +44,7 @@ fn lower<R: Threads + Sync>(
                     journal,
                 });
             }
-            Asked::Open(circuit, journal) => {
+            Reply::Open(circuit, journal) => {
                 return Ok(Answer::Spent {
                     bound: k - 1,
                     circuit,
@@ -63,12 +63,12 @@ fn from_all<R: Threads + Sync>(rt: &R, alloc: Global, job: &Job) -> Result<Answe
 {
     let bound = site_count(job);
     match ask(rt, alloc, job, bound)? {
-        Asked::Mended(choice) => {
+        Reply::Mended(choice) => {
             let answer = lower(rt, alloc, job, choice)?;
             Ok(answer)
         }
-        Asked::Refuted(circuit, journal) => Ok(Answer::NoRepair { circuit, journal }),
-        Asked::Open(circuit, journal) => Ok(Answer::Spent {
+        Reply::Refuted(circuit, journal) => Ok(Answer::NoRepair { circuit, journal }),
+        Reply::Open(circuit, journal) => Ok(Answer::Spent {
             bound,
             circuit,
             journal,

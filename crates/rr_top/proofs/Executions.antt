@@ -24,7 +24,7 @@ use Rattle.rr_effects.specs.Outside.{KeepsShelf, KeepsOut}
 use Rattle.rr_effects.specs.Reads.{AbsentAt, Gave, Given}
 use Rattle.rr_effects.specs.Delivery.{Delivers, Reports, with_files}
 use Rattle.rr_answers.specs.Texts.{unchanged_text}
-use Rattle.rr_repair.specs.Repairs.{AnswersRepair, Wish}
+use Rattle.rr_repair.specs.Repairs.{AnswersRepair, PlainRequest}
 use Rattle.rr_repair.specs.Laws.{TellsOutcome}
 use Rattle.rr_repair.specs.Outcomes.{IsAsItWas}
 use Rattle.rr_repair.proofs.Once.{matching_mends}
@@ -32,7 +32,7 @@ use Rattle.rr_repair.proofs.Told.{ample_settles, each_answer, matching_stays}
 use Rattle.rr_make.specs.Makes.{TellsMake}
 use Rattle.rr_make.proofs.Once.{each_make}
 use Rattle.rr_top.specs.Outcomes.{Outcome, mended, unmendable, ran, listed, checked, made, IsToldBy, Tells, outcome_status, verdict_status}
-use Rattle.rr_top.specs.Commands.{AnswersRun, AnswersSites, AnswersCheck, AsksRepair, BothGiven, Command, Due, HasOneOutcome, Refuses, WhereOne, WhereTwo, check_command, command_of_plan, repair_command, run_command, sites_command, wish}
+use Rattle.rr_top.specs.Commands.{AnswersRun, AnswersSites, AnswersCheck, AsksRepair, BothGiven, Command, Due, HasOneOutcome, Refuses, WhereOne, WhereTwo, check_command, command_of_plan, repair_command, run_command, sites_command, request}
 use Rattle.rr_top.specs.Expected.{Expected, absent, refused, unparsed, done, IsChecked, IsPlaced, Judges}
 use Rattle.rr_top.specs.Endings.{CommandEnds}
 use Rattle.rr_top.specs.Execution.{Ends, IsUsage, Execution, IsExecution, IsRepaired, IsBeyondRepair, IsUnsettled, HoldsFiles, HoldsFirst, LeavesOpen, AsksNoRepair, IsSimulated, IsListed, IsSummed, IsNotMade, IsUndecided, IsAccepted, IsRejected, HasDone, HasFailed, HoldsNeverTrue, IsCheck, IsRefused, IsAbsent, IsReadFault, IsReportFault, Fails, IsFailure, IsAmpleRepair, IsMatchingRepair, PrintsAsItWas, IsExhausted, IsUnread, WhereCommand, SomeFault, ShowsOutcome, Follows, AllGiven, NoneRefuses, NoFaults}
@@ -66,7 +66,7 @@ one_given told one [] P g p = absurd p
 one_given told one (a ∷ []) P g p = record { only = a; only_given = g.0; holds = p }
 one_given told one (a ∷ (b ∷ files)) P g p = absurd p
 
-abbrev GivenRepair : Option Held → List ℕ → List ℕ → Wish → Answer → Type 0
+abbrev GivenRepair : Option Held → List ℕ → List ℕ → PlainRequest → Answer → Type 0
 GivenRepair told d t w answer = TwoGiven told (d, 1048576) (t, 16777216) (λ x y. AnswersRepair w x y answer)
 
 abbrev GivenRun : Option Held → List ℕ → List ℕ → Option (List ℕ) → Option (List ℕ) → Answer → Type 0
@@ -79,7 +79,7 @@ abbrev GivenCheck : Option Held → List ℕ → List ℕ → Answer → Type 0
 GivenCheck told c p answer = TwoGiven told (c, 268435456) (p, 1073741824) (λ x y. AnswersCheck x y answer)
 
 module _ (told : Option Held) (answer : Answer) where
-  repair_given : (d t : List ℕ) (w : Wish) → Due (repair_command d t w) told answer → GivenRepair told d t w answer
+  repair_given : (d t : List ℕ) (w : PlainRequest) → Due (repair_command d t w) told answer → GivenRepair told d t w answer
   repair_given d t w due = two_given told (d, 1048576) (t, 16777216) due.files (λ x y. AnswersRepair w x y answer) due.given due.answers
 
   run_given : (d t : List ℕ) (top clock : Option (List ℕ)) → Due (run_command d t top clock) told answer → GivenRun told d t top clock answer
@@ -295,7 +295,7 @@ module _ (r : Execution) (answer : Answer) (shelf : HoldsFiles r answer) (out : 
   keeps : answer.files ≡ [] → KeepsShelf r.before r.after
   keeps none = record { held = held_without r.before.held answer r.after.held none shelf.held; faults = shelf.faults }
 
-  module _ (d t : List ℕ) (w : Wish) (two : GivenRepair r.before.held d t w answer) where
+  module _ (d t : List ℕ) (w : PlainRequest) (two : GivenRepair r.before.held d t w answer) where
     both_given : BothGiven r.before.held d t two.first two.second
     both_given = record { design_given = two.first_given; table_given = two.second_given }
 
@@ -397,7 +397,7 @@ module _ (r : Execution) (answer : Answer) (shelf : HoldsFiles r answer) (out : 
 
   mends_due : (plan : Plan) → Due (command_of_plan plan) r.before.held answer → answer.status ≡ 0 → HasDone r plan
   mends_due (repair d t cert top clock budget members) due zero =
-      let w = wish cert top clock budget members in
+      let w = request cert top clock budget members in
       let two = repair_given r.before.held answer d t w due in
       inl (mends_told d t w two (told_in d t w two) zero)
   mends_due (run d t top clock) due zero = inr (inl (simulates_given d t top clock (run_given r.before.held answer d t top clock due)))
@@ -407,7 +407,7 @@ module _ (r : Execution) (answer : Answer) (shelf : HoldsFiles r answer) (out : 
 
   despairs_due : (plan : Plan) → Due (command_of_plan plan) r.before.held answer → answer.status ≡ 1 → HasFailed r plan
   despairs_due (repair d t cert top clock budget members) due one =
-      let w = wish cert top clock budget members in
+      let w = request cert top clock budget members in
       let two = repair_given r.before.held answer d t w due in
       inl (despairs_told d t w two (told_in d t w two) one)
   despairs_due (run d t top clock) due one = absurd (omega (arith, one, (run_given r.before.held answer d t top clock due).holds.status))
@@ -417,7 +417,7 @@ module _ (r : Execution) (answer : Answer) (shelf : HoldsFiles r answer) (out : 
 
   opens_due : (plan : Plan) → Due (command_of_plan plan) r.before.held answer → answer.status ≡ 2 → LeavesOpen r plan
   opens_due (repair d t cert top clock budget members) due left =
-      let w = wish cert top clock budget members in
+      let w = request cert top clock budget members in
       let two = repair_given r.before.held answer d t w due in
       inl (opens_told d t w two (told_in d t w two) left)
   opens_due (run d t top clock) due left = absurd (omega (arith, left, (run_given r.before.held answer d t top clock due).holds.status))
@@ -632,23 +632,23 @@ module _ (r : Execution) (design : List ℕ) (m : IsMatchingRepair r design) whe
   abbrev plan_in : Plan
   plan_in = repair m.design_name m.table_name m.cert m.top m.clock m.budget m.members
 
-  abbrev wish_in : Wish
-  wish_in = wish m.cert m.top m.clock m.budget m.members
+  abbrev request_in : PlainRequest
+  request_in = request m.cert m.top m.clock m.budget m.members
 
   abbrev command_in : Command
-  command_in = repair_command m.design_name m.table_name wish_in
+  command_in = repair_command m.design_name m.table_name request_in
 
   given_in : Given (Some m.held) command_in.reads (design ∷ (m.table ∷ []))
   given_in = (m.given.design_given, (m.given.table_given, tt))
 
   judged_in : Judges command_in m.held (done mended)
-  judged_in = record { files = design ∷ (m.table ∷ []); given = given_in; comes_to = matching_mends wish_in design m.table m.matching }
+  judged_in = record { files = design ∷ (m.table ∷ []); given = given_in; comes_to = matching_mends request_in design m.table m.matching }
 
   stays_in : (answer : Answer) → Due command_in (Some m.held) answer → IsAsItWas design answer
   stays_in answer due =
       let files = given_given m.held command_in.reads due.files (design ∷ (m.table ∷ [])) due.given given_in in
-      let answers : AnswersRepair wish_in design m.table answer = subst (λ (fs : List (List ℕ)). command_in.answers fs answer) files due.answers in
-      matching_stays wish_in design m.table answer m.matching answers
+      let answers : AnswersRepair request_in design m.table answer = subst (λ (fs : List (List ℕ)). command_in.answers fs answer) files due.answers in
+      matching_stays request_in design m.table answer m.matching answers
 
   abbrev Printed : Type 0
   Printed = Appends r.before.out r.after.out design × (Appends r.notes_before r.notes_after unchanged_text × KeepsShelf r.before r.after)
@@ -687,18 +687,18 @@ module _ (r : Execution) (m : IsAmpleRepair r) where
   abbrev ample_plan : Plan
   ample_plan = repair m.design_name m.table_name m.cert m.top m.clock m.budget m.members
 
-  abbrev ample_wish : Wish
-  ample_wish = wish m.cert m.top m.clock m.budget m.members
+  abbrev ample_request : PlainRequest
+  ample_request = request m.cert m.top m.clock m.budget m.members
 
   abbrev ample_command : Command
-  ample_command = repair_command m.design_name m.table_name ample_wish
+  ample_command = repair_command m.design_name m.table_name ample_request
 
   settles_in : (answer : Answer) → Due ample_command (Some m.held) answer → answer.status ≡ 2 → ⊥
   settles_in answer due two =
       let given : Given (Some m.held) ample_command.reads (m.design ∷ (m.table ∷ [])) = (m.given.design_given, (m.given.table_given, tt)) in
       let files = given_given m.held ample_command.reads due.files (m.design ∷ (m.table ∷ [])) due.given given in
-      let answers : AnswersRepair ample_wish m.design m.table answer = subst (λ (fs : List (List ℕ)). ample_command.answers fs answer) files due.answers in
-      ample_settles ample_wish m.design m.table answer m.ample answers two
+      let answers : AnswersRepair ample_request m.design m.table answer = subst (λ (fs : List (List ℕ)). ample_command.answers fs answer) files due.answers in
+      ample_settles ample_request m.design m.table answer m.ample answers two
 
   never_open : (o : Option Plan) → o ≡ Some ample_plan → Came r o → r.status ≡ 2 → ⊥
   never_open o is (came_fault f w s h) two = omega (arith, s, two)

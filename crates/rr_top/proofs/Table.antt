@@ -15,16 +15,16 @@ use Rattle.rr_certify.proofs.Certified.{same_verdict, verdict_or_flaw, same_flaw
 use Rattle.rr_check.specs.declared.verdict.Verdict.{Verdict}
 use Rattle.rr_report.specs.Found.{Answer}
 use Rattle.rr_report.specs.Refusals.{Refusal, TooManyBytes, Input, Flawed}
-use Rattle.rr_repair.specs.Repairs.{AnswersRepair, IsTaken, RefusesRepair, Wish}
+use Rattle.rr_repair.specs.Repairs.{AnswersRepair, IsTaken, RefusesRepair, PlainRequest}
 use Rattle.rr_repair.specs.Laws.{TellsOutcome}
 use Rattle.rr_repair.specs.Outcomes.{IsLeftOpen}
 use Rattle.rr_repair.proofs.Once.{mendable_or_not, one_refusal as one_repair_refusal, taken_or_refused}
 use Rattle.rr_repair.proofs.Told.{each_answer}
 use Rattle.rr_made.specs.Made.{made_design, made_table}
-use Rattle.rr_make.specs.Makes.{RefusesMake, TellsMake, made_wish}
+use Rattle.rr_make.specs.Makes.{RefusesMake, TellsMake, made_request}
 use Rattle.rr_make.proofs.Once.{each_make, one_summary, summary_or_none}
 use Rattle.rr_top.specs.Outcomes.{Outcome, mended, unmendable, ran, listed, checked, made, IsToldBy}
-use Rattle.rr_top.specs.Commands.{AnswersCheck, AnswersRun, AnswersSites, ComesToCheck, ComesToMake, ComesToRepair, ComesToRun, ComesToSites, HasOneOutcome, IsSameRefusal, RefusesCertificate, RefusesSiteList, RefusesTexts, AsksRepair, IsOfRepair, TellsOrLeavesOpen, WhereOne, WhereTwo, WritesNothing, wish, check_command, command_of_plan, repair_command, run_command, make_command, sites_command}
+use Rattle.rr_top.specs.Commands.{AnswersCheck, AnswersRun, AnswersSites, ComesToCheck, ComesToMake, ComesToRepair, ComesToRun, ComesToSites, HasOneOutcome, IsSameRefusal, RefusesCertificate, RefusesSiteList, RefusesTexts, AsksRepair, IsOfRepair, TellsOrLeavesOpen, WhereOne, WhereTwo, WritesNothing, request, check_command, command_of_plan, repair_command, run_command, make_command, sites_command}
 
 -- what facts about the same two files give
 both : {X : Type 0} (files : List (List ℕ)) (P Q : List ℕ → List ℕ → Type 0) → WhereTwo files P → WhereTwo files Q → ((a b : List ℕ) → P a b → Q a b → X) → X
@@ -62,7 +62,7 @@ told_of_one (a ∷ []) answer P Q p f = let some = f a p in (some.outcome, (some
 told_of_one (a ∷ (b ∷ files)) answer P Q p f = absurd p
 
 -- ---- `repair`
-module _ (w : Wish) (design table : List ℕ) where
+module _ (w : PlainRequest) (design table : List ℕ) where
   repair_refusals : (a b : Refusal) → RefusesRepair w design table a → RefusesRepair w design table b → IsSameRefusal a b
   repair_refusals (TooManyBytes n) b p q = absurd p
   repair_refusals (Flawed f n) b p q = absurd p
@@ -116,7 +116,7 @@ module _ (w : Wish) (design table : List ℕ) where
   repair_alone (checked verdict) p = p
   repair_alone (made text) p = absurd p
 
-module _ (d t : List ℕ) (w : Wish) where
+module _ (d t : List ℕ) (w : PlainRequest) where
   repair_answered : (files : List (List ℕ)) (answer : Answer) → WhereTwo files (λ x y. AnswersRepair w x y answer) → TellsOrLeavesOpen (repair_command d t w) files answer
   repair_answered [] answer a = absurd a
   repair_answered (x ∷ []) answer a = absurd a
@@ -300,9 +300,9 @@ module _ (c f : List ℕ) where
 
 -- ---- `make`
 module _ (seed : ℕ) (cert : List ℕ) where
-  make_not_refused : {ts : List Lexeme} {source : SourceText} {ss : List Site} {rows : Table} (a : Refusal) → IsTaken (made_wish cert) (made_design seed) (made_table seed) ts source ss rows
+  make_not_refused : {ts : List Lexeme} {source : SourceText} {ss : List Site} {rows : Table} (a : Refusal) → IsTaken (made_request cert) (made_design seed) (made_table seed) ts source ss rows
       → RefusesMake seed cert a → ⊥
-  make_not_refused a taken r = not_refused (made_wish cert) (made_design seed) (made_table seed) a taken r
+  make_not_refused a taken r = not_refused (made_request cert) (made_design seed) (made_table seed) a taken r
 
   make_or_refused : (v : Outcome) (a : Refusal) → ComesToMake seed cert v → RefusesMake seed cert a → ⊥
   make_or_refused mended a u r = u
@@ -345,7 +345,7 @@ module _ (seed : ℕ) (cert : List ℕ) where
 
   make_one : HasOneOutcome (make_command seed cert)
   make_one = record {
-    one_refusal = λ files a b p q. repair_refusals (made_wish cert) (made_design seed) (made_table seed) a b p q;
+    one_refusal = λ files a b p q. repair_refusals (made_request cert) (made_design seed) (made_table seed) a b p q;
     done_or_refused = λ files v a p q. make_or_refused v a p q;
     one_outcome = λ files v w p q. make_outcome v w p q;
     answered = λ files answer a. make_told files answer (each_make seed cert answer a);
@@ -356,7 +356,7 @@ module _ (seed : ℕ) (cert : List ℕ) where
 
 -- ---- the table
 pub one_in_table : (plan : Plan) → HasOneOutcome (command_of_plan plan)
-one_in_table (repair d t cert top clock budget members) = repair_one d t (wish cert top clock budget members)
+one_in_table (repair d t cert top clock budget members) = repair_one d t (request cert top clock budget members)
 one_in_table (run d t top clock) = run_one d t top clock
 one_in_table (sites d top clock) = sites_one d top clock
 one_in_table (check c p) = check_one c p

@@ -11,7 +11,7 @@ use Rattle.rr_check.specs.declared.verdict.Verdict.{Verdict}
 use Rattle.rr_report.specs.Found.{Answer}
 use Rattle.rr_report.specs.Refusals.{Refusal, TooManyBytes, Input, Flawed}
 use Rattle.rr_effects.specs.Reads.{Gave, Given, RefusesReads}
-use Rattle.rr_repair.specs.Repairs.{AnswersRepair, RefusesRepair, Wish}
+use Rattle.rr_repair.specs.Repairs.{AnswersRepair, RefusesRepair, PlainRequest}
 use Rattle.rr_repair.specs.Outcomes.{IsLeftOpen, IsMendable, IsUnmendable}
 use Rattle.rr_make.specs.Makes.{AnswersMake, IsMadeOpen, IsNeverMade, IsSummary, RefusesMake}
 use Rattle.rr_top.specs.Outcomes.{Outcome, mended, unmendable, ran, listed, checked, made, IsToldBy, verdict_status}
@@ -40,7 +40,7 @@ WhereTwo (first ∷ (second ∷ [])) P = P first second
 WhereTwo (first ∷ (second ∷ (third ∷ files))) P = ⊥
 
 -- ---- `repair`: 1 MiB of a design and 16 MiB of a table
-abbrev pub ComesToRepair : Wish → List ℕ → List ℕ → Outcome → Type 0
+abbrev pub ComesToRepair : PlainRequest → List ℕ → List ℕ → Outcome → Type 0
 ComesToRepair w design table mended = IsMendable w design table
 ComesToRepair w design table unmendable = IsUnmendable w design table
 ComesToRepair w design table (ran text) = ⊥
@@ -48,7 +48,7 @@ ComesToRepair w design table (listed text) = ⊥
 ComesToRepair w design table (checked verdict) = ⊥
 ComesToRepair w design table (made text) = ⊥
 
-abbrev pub repair_command : List ℕ → List ℕ → Wish → Command
+abbrev pub repair_command : List ℕ → List ℕ → PlainRequest → Command
 repair_command design_name table_name w = record {
   reads = (design_name, 1048576) ∷ ((table_name, 16777216) ∷ []);
   answers = λ files answer. WhereTwo files (λ design table. AnswersRepair w design table answer);
@@ -173,8 +173,8 @@ make_command seed cert = record {
 
 -- ---- the table
 -- what the words of a repair ask for
-abbrev pub wish : List ℕ → Option (List ℕ) → Option (List ℕ) → ℕ → ℕ → Wish
-wish cert top clock budget members = record {
+abbrev pub request : List ℕ → Option (List ℕ) → Option (List ℕ) → ℕ → ℕ → PlainRequest
+request cert top clock budget members = record {
   top = top;
   clock = clock;
   cert = cert;
@@ -183,7 +183,7 @@ wish cert top clock budget members = record {
 }
 
 abbrev pub command_of_plan : Plan → Command
-command_of_plan (repair design table cert top clock budget members) = repair_command design table (wish cert top clock budget members)
+command_of_plan (repair design table cert top clock budget members) = repair_command design table (request cert top clock budget members)
 command_of_plan (run design table top clock) = run_command design table top clock
 command_of_plan (sites design top clock) = sites_command design top clock
 command_of_plan (check circuit proof) = check_command circuit proof
@@ -272,8 +272,8 @@ pub record CertificateGiven (told : Option Held) (circuit_name proof_name circui
   pub proof_given : Gave told proof_name 1073741824 proof
 
 -- the plan is one of this command, for whose names and options this holds
-abbrev pub WhereRepair : Plan → (List ℕ → List ℕ → Wish → Type 0) → Type 0
-WhereRepair (repair design table cert top clock budget members) P = P design table (wish cert top clock budget members)
+abbrev pub WhereRepair : Plan → (List ℕ → List ℕ → PlainRequest → Type 0) → Type 0
+WhereRepair (repair design table cert top clock budget members) P = P design table (request cert top clock budget members)
 WhereRepair (run design table top clock) P = ⊥
 WhereRepair (sites design top clock) P = ⊥
 WhereRepair (check circuit proof) P = ⊥

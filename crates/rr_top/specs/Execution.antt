@@ -24,12 +24,12 @@ use Rattle.rr_effects.specs.Outside.{Outside, KeepsShelf, KeepsOut}
 use Rattle.rr_effects.specs.Reads.{AbsentAt, Gave, IsRead}
 use Rattle.rr_effects.specs.Delivery.{Reports, StopsAtWrite, file_at, with_files}
 use Rattle.rr_answers.specs.Texts.{unchanged_text}
-use Rattle.rr_repair.specs.Repairs.{Wish}
+use Rattle.rr_repair.specs.Repairs.{PlainRequest}
 use Rattle.rr_repair.specs.Outcomes.{IsAmple, IsDespaired, IsLeftOpen, IsMatching, IsMended}
 use Rattle.rr_made.specs.Made.{made_design, made_table}
-use Rattle.rr_make.specs.Makes.{IsMadeCount, IsMadeOpen, IsUnmade, made_wish, summary}
+use Rattle.rr_make.specs.Makes.{IsMadeCount, IsMadeOpen, IsUnmade, made_request, summary}
 use Rattle.rr_top.specs.Outcomes.{Outcome, mended, unmendable, ran, listed, checked, made}
-use Rattle.rr_top.specs.Commands.{AsksRepair, BothGiven, Command, Due, IsOfRepair, Refuses, WhereRepair, WhereRun, WhereSites, WhereCheck, WhereMake, command_of_plan, wish}
+use Rattle.rr_top.specs.Commands.{AsksRepair, BothGiven, Command, Due, IsOfRepair, Refuses, WhereRepair, WhereRun, WhereSites, WhereCheck, WhereMake, command_of_plan, request}
 use Rattle.rr_top.specs.Expected.{Expected, absent, refused, unparsed, done, IsChecked, expected_status}
 use Rattle.rr_top.specs.Endings.{CommandEnds}
 
@@ -73,7 +73,7 @@ pub record HoldsFiles (r : Execution) (answer : Answer) : Type 0 where
 -- Status 0 of `repair`: the design and the table were read, the output has grown by exactly the source as it is, or with a
 -- choice printed into it whose instance matches every known cell and costs least; the notes have grown by the report of this
 -- choice, and the shelf holds the certificate that fewer changes do not match.
-pub record IsRepaired (r : Execution) (design_name table_name : List ℕ) (w : Wish) : Type 0 where
+pub record IsRepaired (r : Execution) (design_name table_name : List ℕ) (w : PlainRequest) : Type 0 where
   pub design : List ℕ
   pub table : List ℕ
   pub given : BothGiven r.before.held design_name table_name design table
@@ -85,7 +85,7 @@ pub record IsRepaired (r : Execution) (design_name table_name : List ℕ) (w : W
 
 -- Status 1 of `repair`: the design and the table were read, no choice gives an instance that matches, nothing was put out,
 -- and the shelf holds the certificate of this.
-pub record IsBeyondRepair (r : Execution) (design_name table_name : List ℕ) (w : Wish) : Type 0 where
+pub record IsBeyondRepair (r : Execution) (design_name table_name : List ℕ) (w : PlainRequest) : Type 0 where
   pub design : List ℕ
   pub table : List ℕ
   pub given : BothGiven r.before.held design_name table_name design table
@@ -97,7 +97,7 @@ pub record IsBeyondRepair (r : Execution) (design_name table_name : List ℕ) (w
 
 -- Status 2 of `repair`: the design and the table were read, whether so many changes match is left open, nothing was put out,
 -- and the shelf holds the question with the fresh lines that each member learned.
-pub record IsUnsettled (r : Execution) (design_name table_name : List ℕ) (w : Wish) : Type 0 where
+pub record IsUnsettled (r : Execution) (design_name table_name : List ℕ) (w : PlainRequest) : Type 0 where
   pub design : List ℕ
   pub table : List ℕ
   pub given : BothGiven r.before.held design_name table_name design table
@@ -151,7 +151,7 @@ pub record IsSummed (r : Execution) (seed : ℕ) (cert : List ℕ) : Type 0 wher
   pub changes : ℕ
   pub least : IsMadeCount seed cert changes
   pub answer : Answer
-  pub repair : IsMended (made_wish cert) (made_design seed) (made_table seed) answer
+  pub repair : IsMended (made_request cert) (made_design seed) (made_table seed) answer
   pub printed : Appends r.before.out r.after.out (summary seed changes)
   pub reported : Appends r.notes_before r.notes_after []
   pub shelf : HoldsFiles r answer
@@ -359,7 +359,7 @@ pub record IsMatchingRepair (r : Execution) (design : List ℕ) : Type 0 where
   pub arguments : command_of r.arguments ≡ Some (repair design_name table_name cert top clock budget members)
   pub table : List ℕ
   pub given : BothGiven (Some held) design_name table_name design table
-  pub matching : IsMatching (wish cert top clock budget members) design table
+  pub matching : IsMatching (request cert top clock budget members) design table
 
 -- the source is put out as it was, and the shelf stays; or memory ran out; or something failed
 abbrev pub PrintsAsItWas : Execution → List ℕ → Type 0
@@ -382,7 +382,7 @@ pub record IsAmpleRepair (r : Execution) : Type 0 where
   pub design : List ℕ
   pub table : List ℕ
   pub given : BothGiven (Some held) design_name table_name design table
-  pub ample : IsAmple (wish cert top clock budget members) design table
+  pub ample : IsAmple (request cert top clock budget members) design table
 
 -- what `repair` and `make` alone may do is not asked for
 abbrev pub AsksNoRepair : List (List ℕ) → Type 0

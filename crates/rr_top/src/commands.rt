@@ -2,7 +2,7 @@
 ghost use Rattle.std.specs.Prelude.{◌≡◌, ◌≤◌, ℕ, List, [], ◌∷◌, IfOk, MatchResult, length};
 ghost use Rattle.rr_words.specs.Plan.{Plan, plan_of, texts_of};
 ghost use Rattle.rr_certify.specs.Certificates.{IsFlawed};
-ghost use Rattle.rr_repair.specs.Views.{wish_of};
+ghost use Rattle.rr_repair.specs.Views.{plain_request};
 ghost use Rattle.rr_report.specs.Views.{plain_answer, report_text, StopsWhere};
 ghost use Rattle.rr_effects.specs.Outside.{outside};
 ghost use Rattle.rr_effects.specs.Reads.{Given};
@@ -16,7 +16,7 @@ use rr_certify::{CertificateFault, Verdict, judge, verdict_text};
 use rr_edge::{Shelf, Sink};
 use rr_effects::deliver;
 use rr_make::make;
-use rr_repair::{Asked, repair};
+use rr_repair::{Request, repair};
 use rr_report::{Found, Piece, Refusal, Report, Stop, Text, stop_of, stopped};
 use rr_run::run_files;
 use rr_sites::list_sites;
@@ -48,17 +48,17 @@ fn repair_files<'b, 'a, R: Threads + Sync>(
     rt: &R,
     alloc: Global,
     files: &'b [Vec<u8>],
-    asked: &Asked<'_>,
+    request: &Request<'_>,
     arena: &'a Bump,
 ) -> Result<Found<'b>, Stop<'a>>
     requires within { WhereTwo (contents files.now) (λ design table. length design ≤ 1048576) }
-    requires some { 1 ≤ asked.now.members }
-    requires most { asked.now.members ≤ 8 }
-    requires budget { 1 ≤ asked.now.budget }
-    ensures { (design table : List ℕ) → Gives (repair_command design table (wish_of asked.now)) (contents files.entry.now) result }
+    requires some { 1 ≤ request.now.members }
+    requires most { request.now.members ≤ 8 }
+    requires budget { 1 ≤ request.now.budget }
+    ensures { (design table : List ℕ) → Gives (repair_command design table (plain_request request.now)) (contents files.entry.now) result }
 {
     let (design, table) = both(files);
-    repair(rt, alloc, design, table, asked, arena)
+    repair(rt, alloc, design, table, request, arena)
 }
 
 /// The answer of `run` for the bytes of a design and of its table.
@@ -265,14 +265,14 @@ pub(crate) fn answer_files<'a, R: Threads + Sync, H: Shelf, K: Sink>(
             members,
             ..
         } => {
-            let asked = Asked {
+            let request = Request {
                 top,
                 clock,
                 cert,
                 budget,
                 members,
             };
-            let answer = repair_files(rt, alloc, &files, &asked, arena);
+            let answer = repair_files(rt, alloc, &files, &request, arena);
             conclude(alloc, answer, shelf, out)
         }
         Command::Run { top, clock, .. } => {

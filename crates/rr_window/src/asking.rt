@@ -1,7 +1,7 @@
 //! One question over a window.
 ghost use Rattle.std.specs.Prelude.{◌≡◌, IfOk, length};
 ghost use Rattle.rr_choice.specs.Choices.{IsChoice, total_bits};
-ghost use Rattle.rr_window.specs.Asked.{IsAsked};
+ghost use Rattle.rr_window.specs.Replies.{IsReply};
 
 use rr_choice::{Choice, SiteList, decode};
 use rr_members::{OpenGate, solve};
@@ -21,7 +21,7 @@ const MEMBERS: u32 = 4;
 
 /// The outcome of a question over a window.
 #[derive(Drop)]
-pub(crate) enum Asked {
+pub(crate) enum Reply {
     /// A choice within the bound mends the rows.
     Mended(Choice),
     /// None does.
@@ -56,9 +56,9 @@ pub(crate) fn ask<R: Threads + Sync>(
     table: &Table,
     list: &SiteList<'_>,
     bound: u32,
-) -> Result<Asked, AllocError>
+) -> Result<Reply, AllocError>
     requires bits { transition.now.choice_bits ≡ total_bits list.now }
-    ensures { IfOk result (IsAsked list.now) }
+    ensures { IfOk result (IsReply list.now) }
 {
     let circuit = question(rt, alloc, transition, table, bound, MEMBERS)?;
     let formula = formula_of(alloc, &circuit)?;
@@ -66,9 +66,9 @@ pub(crate) fn ask<R: Threads + Sync>(
     match solve(rt, alloc, &formula, inputs, MEMBERS, BUDGET, &OpenGate)? {
         Outcome::Model(values) => {
             let choice = chosen(alloc, list, transition.choice_bits, values.as_slice())?;
-            Ok(Asked::Mended(choice))
+            Ok(Reply::Mended(choice))
         }
-        Outcome::Refuted(_) => Ok(Asked::Refuted),
-        Outcome::Spent(_) => Ok(Asked::Open),
+        Outcome::Refuted(_) => Ok(Reply::Refuted),
+        Outcome::Spent(_) => Ok(Reply::Open),
     }
 }

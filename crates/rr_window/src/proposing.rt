@@ -2,7 +2,7 @@
 ghost use Rattle.std.specs.Prelude.{◌≡◌, All, IfOk, IfSome};
 ghost use Rattle.rr_choice.specs.Choices.{IsChoice, total_bits};
 
-use crate::asking::{Asked, ask};
+use crate::asking::{Reply, ask};
 use crate::beginning::begun;
 use crate::walking::{first_miss, state_before};
 use rr_choice::{Choice, SiteList};
@@ -58,9 +58,9 @@ fn find<R: Threads + Sync>(
     let rows = cut(alloc, table, from, len)?;
     for bound in 0..MOST {
         match ask(rt, alloc, &there, &rows, list, bound + 1)? {
-            Asked::Mended(choice) => return Ok(Some(choice)),
-            Asked::Refuted => {}
-            Asked::Open => return Ok(None),
+            Reply::Mended(choice) => return Ok(Some(choice)),
+            Reply::Refuted => {}
+            Reply::Open => return Ok(None),
         }
     }
     Ok(None)

@@ -2,12 +2,12 @@ use Rattle.std.proofs.Common.{◌∙◌, ℕ, List, subst}
 use Rattle.rr_made.specs.Made.{made_table}
 use Rattle.rr_report.specs.Views.{plain_answer, StopsWhere}
 use Rattle.rr_repair.specs.Repairs.{CountsRepair, RefusesRepair}
-use Rattle.rr_make.specs.Makes.{made_wish}
+use Rattle.rr_make.specs.Makes.{made_request}
 use Rattle.rr_make.proofs.making.repaired.Goals as goal
 
 pub summed-requires : goal.summed-requires
 summed-requires g c =
-    let w = made_wish c.args.cert.now in
+    let w = made_request c.args.cert.now in
     let design = c.as_bytes-design.ensures.value ∙ c.requires.design in
     let table = c.as_slice-table.ensures.value ∙ c.requires.table in
     let found = plain_answer c.in-Ok.counted.found in
@@ -16,7 +16,7 @@ summed-requires g c =
 
 pub returns-in-Err : goal.returns-in-Err
 returns-in-Err g c =
-    let w = made_wish c.args.cert.now in
+    let w = made_request c.args.cert.now in
     let design = c.as_bytes-design.ensures.value ∙ c.requires.design in
     let table = c.as_slice-table.ensures.value ∙ c.requires.table in
     subst (λ (d : List ℕ). StopsWhere (RefusesRepair w d (made_table c.args.seed)) c.in-Err.stop) design

@@ -1,7 +1,7 @@
 use Rattle.rr_syntax.specs.View.{plain_source}
 use Rattle.rr_lex.specs.Tokens.{lexemes}
 use Rattle.rr_flat.specs.View.{plain_flat}
-use Rattle.rr_repair.specs.Views.{wish_of}
+use Rattle.rr_repair.specs.Views.{plain_request}
 use Rattle.rr_repair.proofs.Telling.{stops_table}
 use Rattle.rr_repair.proofs.judging.judge_table.Goals as goal
 
@@ -9,5 +9,5 @@ use Rattle.rr_repair.proofs.judging.judge_table.Goals as goal
 pub returns-in-Err : goal.returns-in-Err
 returns-in-Err g c = λ sited.
     rw c.stop_of.ensures
-    (stops_table (wish_of c.args.asked.now) c.args.bytes.now c.args.table.now (lexemes c.args.design.now.tokens.now) (plain_source c.args.design.now.source.now) (plain_flat c.args.design.now.flat)
+    (stops_table (plain_request c.args.request.now) c.args.bytes.now c.args.table.now (lexemes c.args.design.now.tokens.now) (plain_source c.args.design.now.source.now) (plain_flat c.args.design.now.flat)
     c.args.design.now.order.clock c.args.list.now sited c.in-Err.fault c.in-Err.ensures)

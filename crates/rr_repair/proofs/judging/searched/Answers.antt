@@ -7,25 +7,25 @@ use Rattle.rr_lex.specs.Tokens.{lexemes}
 use Rattle.rr_flat.specs.View.{plain_flat}
 use Rattle.rr_report.specs.Views.{plain_answer}
 use Rattle.rr_repair.specs.Repairs.{design_of}
-use Rattle.rr_repair.specs.Views.{wish_of}
+use Rattle.rr_repair.specs.Views.{plain_request}
 use Rattle.rr_repair.proofs.Telling.{counted_told, task_of_design, task_stands}
 use Rattle.rr_repair.proofs.judging.searched.Goals as goal
 
 -- src/judging.rt
 pub least-requires-clause-task : goal.least-requires-clause-task
 least-requires-clause-task g c =
-    let j = design_of (wish_of c.args.asked.now) (plain_source c.args.design.now.source.now) in
+    let j = design_of (plain_request c.args.request.now) (plain_source c.args.design.now.source.now) in
     λ κs o. task_stands _ j (c.in_ok-cycle.ensures j c.requires.fits) c.requires.some c.requires.most c.requires.budget
 
 pub told-requires-clause-found : goal.told-requires-clause-found
 told-requires-clause-found g c =
-    let j = design_of (wish_of c.args.asked.now) (plain_source c.args.design.now.source.now) in
+    let j = design_of (plain_request c.args.request.now) (plain_source c.args.design.now.source.now) in
     c.in_ok-answer.ensures.answer j
     (task_of_design _ j (c.in_ok-cycle.ensures j c.requires.fits) (plain_flat c.args.design.now.flat) c.requires.fits.design c.args.design.now.order.clock c.requires.read.0 c.requires.read.1)
 
 pub returns : goal.returns
 returns g c =
-    let w = wish_of c.args.asked.now in
+    let w = plain_request c.args.request.now in
     let source = plain_source c.args.design.now.source.now in
     let j = design_of w source in
     let is = c.in_ok-answer.ensures.answer j
@@ -35,7 +35,7 @@ returns g c =
 
 pub proposals-requires-clause-bits : goal.proposals-requires-clause-bits
 proposals-requires-clause-bits g c κs within =
-    let j = design_of (wish_of c.args.asked.now) (plain_source c.args.design.now.source.now) in
+    let j = design_of (plain_request c.args.request.now) (plain_source c.args.design.now.source.now) in
     (c.in_ok-cycle.ensures j c.requires.fits).choice_bits
 
 pub least-requires-clause-proposals : goal.least-requires-clause-proposals

@@ -3,7 +3,7 @@ use Rattle.rr_choice.specs.declared.pick.Pick.{Pick}
 use Rattle.rr_choice.specs.Choices.{cost, IsChoice}
 use Rattle.rr_transition.specs.Cycles.{Design}
 use Rattle.rr_search.specs.Answers.{Task, task_of, plain_choices, IsOf, Mends}
-use Rattle.rr_search.specs.Asked.{IsCheapest, IsMending, choice_at}
+use Rattle.rr_search.specs.Replies.{IsCheapest, IsMending, choice_at}
 use Rattle.rr_search.proofs.Proposals.{at_choice, choice_here, inside_plain, inside_proposals, stays, first_one, kept, replaced, place_of}
 use Rattle.rr_search.proofs.judging.cheaper.Goals as goal
 

@@ -1,6 +1,6 @@
 use Rattle.std.proofs.Common.{◌≡◌, ℕ, length, subst, arith}
 use Rattle.rr_search.specs.Answers.{plain_choices, task_of}
-use Rattle.rr_search.specs.Asked.{IsCheapest}
+use Rattle.rr_search.specs.Replies.{IsCheapest}
 use Rattle.rr_search.proofs.Proposals.{none_yet}
 use Rattle.rr_search.proofs.judging.cheapest.Goals as goal
 

@@ -1,5 +1,5 @@
 use Rattle.rr_search.specs.Answers.{plain_choices, task_of}
-use Rattle.rr_search.specs.Asked.{IsCheapest}
+use Rattle.rr_search.specs.Replies.{IsCheapest}
 use Rattle.rr_search.proofs.judging.cheapest.Given as goal
 
 abbrev pub invariant-loop-k : goal.invariant-loop-k

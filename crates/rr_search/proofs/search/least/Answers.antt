@@ -3,7 +3,7 @@ use Rattle.rr_choice.specs.Choices.{cost}
 use Rattle.rr_transition.specs.Cycles.{Design}
 use Rattle.rr_unroll.specs.Matches.{Matches}
 use Rattle.rr_search.specs.Answers.{Task, IsOf, plain_choices, task_of}
-use Rattle.rr_search.specs.Asked.{AreFaulty, IsCheapest}
+use Rattle.rr_search.specs.Replies.{AreFaulty, IsCheapest}
 use Rattle.rr_search.proofs.Answering.{fine, open_below_each, open_below_none, unchanged_iff}
 use Rattle.rr_search.proofs.Proposals.{at_choice, inside_proposals}
 use Rattle.rr_search.proofs.search.least.Goals as goal

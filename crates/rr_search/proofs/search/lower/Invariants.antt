@@ -1,7 +1,7 @@
 use Rattle.std.proofs.Common.{◌≤◌}
 use Rattle.rr_choice.specs.Choices.{cost}
 use Rattle.rr_search.specs.Answers.{task_of}
-use Rattle.rr_search.specs.Asked.{IsMending}
+use Rattle.rr_search.specs.Replies.{IsMending}
 use Rattle.rr_search.proofs.search.lower.Given as goal
 
 abbrev pub invariant-fewer : goal.invariant-fewer

@@ -4,7 +4,7 @@
 /// files, which end in `.aag`, `.cnf` and `.lrat`; how many lines each member of a search may learn for
 /// one question, 1 or more; and how many members there are, 1 to 8.
 #[derive(Clone, Copy)]
-pub struct Asked<'w> {
+pub struct Request<'w> {
     pub top: Option<&'w str>,
     pub clock: Option<&'w str>,
     pub cert: &'w str,

@@ -5,8 +5,8 @@ use Rattle.rr_derive.specs.Derive.{Step}
 use Rattle.rr_choice.specs.declared.pick.Pick.{Pick}
 use Rattle.rr_choice.specs.Choices.{cost, IsChoice}
 use Rattle.rr_members.specs.Searched.{IsSpent}
-use Rattle.rr_search.specs.declared.asking.Asked.{Asked}
-use Rattle.rr_search.specs.declared.asking.Asked.TheVariants.{Mended, Refuted, Open}
+use Rattle.rr_search.specs.declared.asking.Reply.{Reply}
+use Rattle.rr_search.specs.declared.asking.Reply.TheVariants.{Mended, Refuted, Open}
 use Rattle.rr_search.specs.Answers.{Task, IsOf, IsRefuted, Mends}
 use Rattle.rr_transition.specs.Cycles.{Design}
 use Rattle.rr_tseitin.specs.Tseitin.{formula_of}
@@ -33,10 +33,10 @@ pub record IsOpen (t : Task) (bound : ℕ) (circuit : OutputNetlist) (lines : Li
   pub spent : IsSpent (formula_of circuit) circuit.netlist.inputs t.members t.budget lines
 
 -- a choice of at most this cost that mends, or that there is none, or neither
-abbrev pub AskedIs : Task → ℕ → Asked → Type 0
-AskedIs t bound (Mended choice) = IsMending t choice.picks.items × (cost choice.picks.items ≤ bound)
-AskedIs t bound (Refuted circuit journal) = IsClosed t bound circuit journal.lines
-AskedIs t bound (Open circuit journal) = IsOpen t bound circuit journal.lines
+abbrev pub ReplyIs : Task → ℕ → Reply → Type 0
+ReplyIs t bound (Mended choice) = IsMending t choice.picks.items × (cost choice.picks.items ≤ bound)
+ReplyIs t bound (Refuted circuit journal) = IsClosed t bound circuit journal.lines
+ReplyIs t bound (Open circuit journal) = IsOpen t bound circuit journal.lines
 
 -- the choice at a place, the empty one where there is none
 abbrev pub choice_at : List (List Pick) → ℕ → List Pick
