@@ -68,7 +68,8 @@ def line(name, design, table):
         print(f"| {name} | {four[0]} | {one[1]:.2f} | {four[1]:.2f} | {four[2]} | {' | '.join(rest)} |", flush=True)
 
 
-print("| input | status | 1 member, s | 4 members, s | MiB | gates | clauses | lines | check, s | minisat, s |")
-print("|---|---|---|---|---|---|---|---|---|---|")
-for one in inputs():
-    line(*one)
+if __name__ == "__main__":
+    print("| input | status | 1 member, s | 4 members, s | MiB | gates | clauses | lines | check, s | minisat, s |")
+    print("|---|---|---|---|---|---|---|---|---|---|")
+    for one in inputs():
+        line(*one)
