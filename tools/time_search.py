@@ -27,9 +27,12 @@ def built(checkout, room):
         shutil.copy(f"{checkout}/HANDLES", folder)
         with open(f"{checkout}/crates.txt") as text, open(f"{folder}/crates.txt", "w") as out:
             out.write(text.read() + LINE)
-        os.makedirs(f"{folder}/crates/search/src", exist_ok=True)
-        for name in os.listdir(f"{top}/tools/search/src"):
-            shutil.copy(f"{top}/tools/search/src/{name}", f"{folder}/crates/search/src/{name.removesuffix('.txt')}")
+        for below, _, names in os.walk(f"{top}/tools/search"):
+            to = below.replace(f"{top}/tools/search", f"{folder}/crates/search")
+            os.makedirs(to, exist_ok=True)
+            for name in names:
+                # The gate takes sources in crates alone, so they have one more ending here.
+                shutil.copy(f"{below}/{name}", f"{to}/{name.removesuffix('.txt')}")
         with open(f"{folder}/log", "w") as log:
             subprocess.run(["rt", "run"], cwd=f"{folder}/crates/search", stdin=subprocess.DEVNULL, stdout=log, stderr=log, check=False)
     return f"{folder}/crates/search/out/search"
