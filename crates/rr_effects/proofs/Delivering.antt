@@ -1,6 +1,5 @@
 -- Answers that are carried out.
 use Rattle.std.proofs.Common.{◌≡◌, ℕ, ◌<◌, List, length, take, refl, Option}
-use Rattle.std.specs.Io.KnownBytes.{Appends}
 use Rattle.rr_edge.specs.Faults.{Faulted}
 use Rattle.rr_edge.specs.Held.{Held}
 use Rattle.rr_edge.specs.Sink.{AppendsFront}
@@ -9,7 +8,7 @@ use Rattle.rr_report.specs.declared.ending.Report.{Report}
 use Rattle.rr_report.specs.Found.{Answer}
 use Rattle.rr_report.specs.Texts.{memory_text, out_fault_text, write_fault_text}
 use Rattle.rr_report.specs.Views.{Says, report_text}
-use Rattle.rr_effects.specs.Outside.{outside, KeepsOut}
+use Rattle.rr_effects.specs.Outside.{outside}
 use Rattle.rr_effects.specs.Delivery.{Delivers, StopsAtWrite, file_at, with_files}
 
 module _ (answer : Answer) (old new : Option Held) (before now : ℕ) (report : Report) where

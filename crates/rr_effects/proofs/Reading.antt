@@ -11,10 +11,10 @@ use Rattle.rr_report.specs.declared.ending.Ending.TheVariants.{Usage, NoMemory, 
 use Rattle.rr_report.specs.declared.ending.Report.{Report}
 use Rattle.rr_report.specs.declared.refusal.Refusal.{Refusal as RustRefusal}
 use Rattle.rr_report.specs.Refusals.{Refusal, TooManyBytes, Input, Flawed, plain_refusal}
-use Rattle.rr_report.specs.Texts.{absent_text, memory_text, read_fault_text, refused_text}
+use Rattle.rr_report.specs.Texts.{absent_text, memory_text, read_fault_text}
 use Rattle.rr_report.specs.Views.{IsRefusedOrNoMemory, Says, report_text}
 use Rattle.rr_effects.specs.declared.reads.Read.{Read}
-use Rattle.rr_effects.specs.Reads.{AbsentAt, Gave, Given, IsRead, RefusesReads, StopsReading, TooLongAt}
+use Rattle.rr_effects.specs.Reads.{AbsentAt, FaultAt, Gave, Given, IsRead, RefusesReads, StopsReading, TellsFault, TooLongAt}
 use Rattle.rr_effects.specs.Views.{IsTooLong, StopsRead, contents, read_of}
 
 -- the reports of one read
@@ -50,6 +50,12 @@ module _ (told : Option Held) (read : List ℕ × ℕ) where
   long_at (r ∷ reads) (suc k) [] within is given count long = absurd given
   long_at (r ∷ reads) (suc k) (file ∷ files) within is given count long = inr ((file, given.0), long_at reads k files (omega (arith, within)) is given.1 count long)
 
+  fault_at : (reads : List (List ℕ × ℕ)) (k : ℕ) (files : List (List ℕ)) → k < length reads → read ≡ get_or reads k read → Given told (take k reads) files → FaultAt told reads read.0
+  fault_at [] k files within is given = absurd (omega (arith, within))
+  fault_at (r ∷ reads) zero files within is given = inl (ap (λ (x : List ℕ × ℕ). x.0) is)
+  fault_at (r ∷ reads) (suc k) [] within is given = absurd given
+  fault_at (r ∷ reads) (suc k) (file ∷ files) within is given = inr ((file, given.0), fault_at reads k files (omega (arith, within)) is given.1)
+
   is_read : (reads : List (List ℕ × ℕ)) (k : ℕ) → k < length reads → read ≡ get_or reads k read → IsRead reads read.0
   is_read [] k within is = absurd (omega (arith, within))
   is_read (r ∷ reads) zero within is = inl (ap (λ (x : List ℕ × ℕ). x.0) is)
@@ -82,6 +88,16 @@ module _ (told : Option Held) (read : List ℕ × ℕ) where
     stops_at before now OutFault text s = absurd s
     stops_at before now (Done status) text s = absurd s
 
+    fault_told : (before now : ℕ) (ending : Ending) (text : List ℕ) → StopsRead told read.0 read.1 before now ending text → TellsFault told reads ending
+    fault_told before now (ReadFault asked) text s = subst (λ (name : List ℕ). FaultAt told reads name) (sym s.0) (fault_at reads k files within is given)
+    fault_told before now (NoMemory n) text s = tt
+    fault_told before now (Absent asked) text s = tt
+    fault_told before now (Refused refusal) text s = tt
+    fault_told before now (WriteFault n) text s = absurd s
+    fault_told before now Usage text s = absurd s
+    fault_told before now OutFault text s = absurd s
+    fault_told before now (Done status) text s = absurd s
+
 -- the same of reads and files as the code has them
 module _ (told : Option Held) (reads : List Read) (k : ℕ) (files : List (Vec ℕ Global)) (d : Read) (within : k < length reads) (given : Given told (take k (map read_of reads)) (contents files)) where
   abbrev read : Read
@@ -97,6 +113,10 @@ module _ (told : Option Held) (reads : List Read) (k : ℕ) (files : List (Vec �
       → StopsRead told_now (get_or reads k d).name.now (get_or reads k d).limit between now ending text → StopsReading told (map read_of reads) before now ending text
   next_stops told_now before between now ending text same quiet s =
       stops_at told (read_of read) (map read_of reads) k (contents files) plain_within plain_is given before now ending text (rw (same, quiet) at s)
+
+  pub next_tells : (told_now : Option Held) (between now : ℕ) (ending : Ending) (text : List ℕ) → told_now ≡ told
+      → StopsRead told_now (get_or reads k d).name.now (get_or reads k d).limit between now ending text → TellsFault told (map read_of reads) ending
+  next_tells told_now between now ending text same s = fault_told told (read_of read) (map read_of reads) k (contents files) plain_within plain_is given between now ending text (rw same at s)
 
   pub next_given : (told_now : Option Held) (file : Vec ℕ Global) (grown : List (Vec ℕ Global)) → told_now ≡ told → Gave told_now (get_or reads k d).name.now (get_or reads k d).limit file.items
       → grown ≡ files ++ (file ∷ []) → Given told (take (k + 1) (map read_of reads)) (contents grown)

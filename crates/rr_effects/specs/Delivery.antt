@@ -9,7 +9,7 @@ use Rattle.rr_report.specs.declared.ending.Ending.{Ending}
 use Rattle.rr_report.specs.declared.ending.Ending.TheVariants.{Usage, NoMemory, Absent, ReadFault, WriteFault, OutFault, Refused, Done}
 use Rattle.rr_report.specs.Found.{File, Answer}
 use Rattle.rr_report.specs.Texts.{memory_text, out_fault_text, write_fault_text}
-use Rattle.rr_effects.specs.Outside.{Outside, KeepsShelf, KeepsOut}
+use Rattle.rr_effects.specs.Outside.{Outside, KeepsOut}
 
 -- the map with one file more: its name has its bytes, and each other name what it had
 abbrev pub with_file : Option Held → File → Option Held

@@ -30,6 +30,22 @@ TooLongAt told [] count = ⊥
 TooLongAt told (read ∷ reads) count = ((read.1 < count) × IfSome told (λ held. (bytes : List ℕ) × (held read.0 ≡ Some bytes) × (length bytes ≡ count)))
     ⊎ (((bytes : List ℕ) × Gave told read.0 read.1 bytes) × TooLongAt told reads count)
 
+-- a name whose read failed, where those before it are held and short enough
+abbrev pub FaultAt : Option Held → List (List ℕ × ℕ) → List ℕ → Type 0
+FaultAt told [] name = ⊥
+FaultAt told (read ∷ reads) name = (name ≡ read.0) ⊎ (((bytes : List ℕ) × Gave told read.0 read.1 bytes) × FaultAt told reads name)
+
+-- a fault of a read tells the name of such a one
+abbrev pub TellsFault : Option Held → List (List ℕ × ℕ) → Ending → Type 0
+TellsFault told reads (ReadFault name) = FaultAt told reads name.now
+TellsFault told reads (NoMemory written) = ⊤
+TellsFault told reads (Absent name) = ⊤
+TellsFault told reads (Refused refusal) = ⊤
+TellsFault told reads (WriteFault written) = ⊤
+TellsFault told reads Usage = ⊤
+TellsFault told reads OutFault = ⊤
+TellsFault told reads (Done status) = ⊤
+
 -- one of the names that are read
 abbrev pub IsRead : List (List ℕ × ℕ) → List ℕ → Type 0
 IsRead [] name = ⊥

@@ -1,5 +1,5 @@
 //! An answer that is carried out.
-ghost use Rattle.std.specs.Prelude.{◌≡◌, ◌<◌, length, map};
+ghost use Rattle.std.specs.Prelude.{◌≡◌, ◌≢◌, ◌<◌, IsOk, length, map};
 ghost use Rattle.rr_edge.specs.Shelf.{Counts, Writes};
 ghost use Rattle.rr_edge.specs.Sink.{Puts, CountsPut};
 ghost use Rattle.rr_report.specs.Endings.{status_of};
@@ -49,6 +49,7 @@ fn write_files<H: Shelf>(shelf: &mut H, files: &[File]) -> Result<(), WriteStop>
 fn put_piece<K: Sink>(sink: &mut K, piece: &[u8]) -> Result<(), SinkFault>
     ensures bytes { Puts (K.written sink.old) (K.written sink.new) piece.now result }
     ensures count { CountsPut (K.faults sink.old) (K.faults sink.new) result }
+    ensures nothing { length piece.now ≡ 0 → IsOk result }
 {
     if piece.is_empty() {
         return Ok(());
@@ -72,10 +73,12 @@ fn write_fault<'a>(files: Vec<File>, number: usize) -> Report<'a>
 /// Carries an answer out, but for its report: writes its files in order, and then puts its piece on the
 /// output, and answers the report that is due. Where a write does not succeed, nothing is put.
 pub fn deliver<'a, H: Shelf, K: Sink>(found: Found<'_>, shelf: &mut H, out: &mut K) -> Report<'a>
-    ensures { Delivers (plain_answer found.entry)
+    ensures delivers { Delivers (plain_answer found.entry)
         (outside (H.told shelf.old) (H.faults shelf.old) (K.written out.old) (K.faults out.old))
         (outside (H.told shelf.new) (H.faults shelf.new) (K.written out.new) (K.faults out.new))
         result.ending (report_text result) }
+    // An empty piece is not put, so an output that takes nothing is no fault.
+    ensures nothing { length (plain_answer found.entry).out ≡ 0 → result.ending ≢ Ending.OutFault }
 {
     let Found {
         status,
@@ -100,8 +103,9 @@ pub fn deliver<'a, H: Shelf, K: Sink>(found: Found<'_>, shelf: &mut H, out: &mut
 /// Puts a report on standard error, and answers the status: that of the report's ending, or 4 where
 /// the put failed.
 pub fn put_report<E: Sink>(report: &Report<'_>, notes: &mut E) -> u8
-    ensures { Reports (E.written notes.old) (E.written notes.new) (E.faults notes.old) (E.faults notes.new)
+    ensures reports { Reports (E.written notes.old) (E.written notes.new) (E.faults notes.old) (E.faults notes.new)
         (report_text report.now) (status_of report.now.ending) result }
+    ensures nothing { length (report_text report.now) ≡ 0 → result ≡ status_of report.now.ending }
 {
     match put_piece(notes, report.text.as_bytes()) {
         Ok(()) => status(report.ending),

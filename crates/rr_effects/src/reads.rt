@@ -1,5 +1,6 @@
 //! Files that are fetched from a shelf.
-ghost use Rattle.std.specs.Prelude.{◌≡◌, map};
+ghost use Rattle.std.specs.Prelude.{◌≡◌, IfErr, map};
+ghost use Rattle.rr_effects.specs.Reads.{TellsFault};
 ghost use Rattle.rr_effects.specs.Views.{Fetches, FetchesOne, read_of};
 
 use rr_edge::{Shelf, ShelfFault};
@@ -46,6 +47,7 @@ pub fn fetch<'a, H: Shelf>(
     reads: &[Read<'a>],
 ) -> Result<Vec<Vec<u8>>, Report<'a>>
     ensures answer { Fetches (H.told shelf.old) (map read_of reads.now) (H.faults shelf.old) (H.faults shelf.new) result }
+    ensures fault { IfErr result (λ report. TellsFault (H.told shelf.old) (map read_of reads.now) report.ending) }
     ensures same { H.told shelf.new ≡ H.told shelf.old }
 {
     let mut files = Vec::new(alloc);

@@ -1,5 +1,5 @@
 //! Sets of texts.
-ghost use Rattle.std.specs.Prelude.{◌≡◌, ◌++◌, ◌∷◌, [], ◌||◌, not, IfOk, OnOk, if◌then◌else◌};
+ghost use Rattle.std.specs.Prelude.{◌≡◌, ◌++◌, ◌∷◌, [], ◌||◌, not, IfOk, OnErr, OnOk, if◌then◌else◌};
 ghost use Rattle.std.specs.List.{list_any};
 ghost use Rattle.std.specs.Str.{bytes_eq};
 ghost use Rattle.rr_flat.specs.Signals.{Text};
@@ -39,11 +39,13 @@ impl<'a> TextSet<'a> {
         self.texts.contains(text)
     }
 
-    /// Adds a text behind the others, where it is not there, and answers whether it was new.
+    /// Adds a text behind the others, where it is not there, and answers whether it was new. Where
+    /// memory runs out nothing has changed.
     pub fn add(&mut self, text: &'a str) -> Result<bool, AllocError>
         ensures was_new { IfOk result (λ r. r ≡ not (list_any (bytes_eq text.now) self.old)) }
         ensures among { OnOk result ((name : Text) → list_any (bytes_eq name) self.new ≡ (list_any (bytes_eq name) self.old || bytes_eq name text.now)) }
         ensures added { OnOk result (self.new ≡ (if list_any (bytes_eq text.now) self.old then self.old else self.old ++ text.now ∷ [])) }
+        ensures unchanged { OnErr result (self.new ≡ self.old) }
     {
         match self.texts.insert(text) {
             Ok(was_new) => Ok(was_new),

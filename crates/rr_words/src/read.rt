@@ -118,7 +118,8 @@ fn matched<'a>(alloc: Global, words: &'a [String]) -> Result<ArgMatches<'a>, Wor
 }
 
 fn fault(kind: ErrorKind) -> WordsFault
-    ensures { (kind ≡ ErrorKind.OutOfMemory) → result ≡ WordsFault.Memory }
+    ensures memory { (kind ≡ ErrorKind.OutOfMemory) → result ≡ WordsFault.Memory }
+    ensures usage { (kind ≢ ErrorKind.OutOfMemory) → result ≡ WordsFault.Usage }
 {
     if kind == ErrorKind::OutOfMemory {
         WordsFault::Memory

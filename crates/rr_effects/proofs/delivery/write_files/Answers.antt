@@ -1,4 +1,4 @@
-use Rattle.std.proofs.Common.{◌≡◌, ◌∙◌, ◌<◌, length, arith}
+use Rattle.std.proofs.Common.{◌∙◌, ◌<◌, length, arith}
 use Rattle.rr_effects.proofs.Files.{more_written, plain_within, stopped_at}
 use Rattle.rr_effects.proofs.delivery.write_files.Goals as goal
 
