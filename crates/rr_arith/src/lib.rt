@@ -14,8 +14,8 @@ ghost use Rattle.rr_arith.specs.Orders.{less_next};
 use rr_circuit::{Builder, Wire};
 use std::alloc::{AllocError, Global};
 
-// The sum of three bits, and its carry, by seven gates.
-fn full_add(b: &mut Builder, x: Wire, y: Wire, carry: Wire) -> Result<(Wire, Wire), AllocError>
+/// The sum of three bits, and its carry, by seven gates, and by up to nine where wires are negated.
+pub fn full_add(b: &mut Builder, x: Wire, y: Wire, carry: Wire) -> Result<(Wire, Wire), AllocError>
     requires x { IsWire b.old x }
     requires y { IsWire b.old y }
     requires carry { IsWire b.old carry }
@@ -28,7 +28,7 @@ fn full_add(b: &mut Builder, x: Wire, y: Wire, carry: Wire) -> Result<(Wire, Wir
 {
     let half = b.xor(x, y)?;
     let sum = b.xor(half, carry)?;
-    // The builder shares these two gates with those of the sums.
+    // The builder shares these two gates with those of the sums where no wire is negated.
     let both = b.and(x, y)?;
     let through = b.and(half, carry)?;
     let next = b.or(both, through)?;

@@ -13,4 +13,4 @@ pub use finding::{Found, find};
 pub use list::{SiteList, are_listed};
 pub use pick::{Choice, Pick, cut, picked_form, picked_name};
 pub use reading::{cost, decode};
-pub use sites::{guard_names, site_bits, value_width};
+pub use sites::{form_width, guard_names, site_bits, value_width};

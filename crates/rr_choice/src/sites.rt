@@ -43,7 +43,7 @@ pub(crate) fn last_form(site: &Site) -> u8
 }
 
 /// The number of bits that write a form.
-pub(crate) fn form_width(site: &Site) -> u32
+pub fn form_width(site: &Site) -> u32
     ensures value { result ≡ form_width_of (plain_kind site.now.kind) }
     ensures small { result ≤ 3 }
 {

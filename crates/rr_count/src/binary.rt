@@ -5,30 +5,9 @@ ghost use Rattle.rr_circuit.specs.Values.{IsWire, AreWires, wire_value, wire_val
 ghost use Rattle.rr_bits.specs.Words.{bit, number};
 ghost use Rattle.rr_count.specs.Counts.{is_at_most, true_count};
 
-use rr_arith::less_unsigned;
+use rr_arith::{full_add, less_unsigned};
 use rr_circuit::{Builder, Wire};
 use std::alloc::{AllocError, Global};
-
-// The sum of three bits, and its carry, by seven gates, and by up to nine where wires are negated.
-fn full_add(b: &mut Builder, x: Wire, y: Wire, z: Wire) -> Result<(Wire, Wire), AllocError>
-    requires x { IsWire b.old x }
-    requires y { IsWire b.old y }
-    requires z { IsWire b.old z }
-    ensures extends { Extends b.old b.new }
-    ensures sum { IfOk result (λ r. IsWire b.new r.0) }
-    ensures carry { IfOk result (λ r. IsWire b.new r.1) }
-    ensures value { IfOk result (λ r. (env : ℕ → Bool) →
-        bit (wire_value b.new env r.0) + 2 * bit (wire_value b.new env r.1)
-        ≡ bit (wire_value b.old env x) + bit (wire_value b.old env y) + bit (wire_value b.old env z)) }
-{
-    let half = b.xor(x, y)?;
-    let sum = b.xor(half, z)?;
-    // The builder shares these two gates with those of the sums where no wire is negated.
-    let both = b.and(x, y)?;
-    let through = b.and(half, z)?;
-    let carry = b.or(both, through)?;
-    Ok((sum, carry))
-}
 
 // The wires, and one that is false where they are even in number.
 fn odd_wires(alloc: Global, b: &Builder, wires: &[Wire]) -> Result<Vec<Wire>, AllocError>

@@ -3,13 +3,13 @@
 ghost use Rattle.std.specs.Prelude.{◌≡◌, ℕ, ◌≤◌, ◌++◌, List, false, length, replicate, IfOk, OnOk};
 ghost use Rattle.rr_bits.specs.Words.{word};
 ghost use Rattle.rr_choice.specs.Choices.{IsChoice, cost, decode, total_bits};
-ghost use Rattle.rr_choice.specs.Sites.{IsSite, Site as PlainSite, form_width as form_width_of};
+ghost use Rattle.rr_choice.specs.Sites.{IsSite, Site as PlainSite};
 ghost use Rattle.rr_choice.specs.View.{plain_kind, plain_site};
 ghost use Rattle.rr_choice.specs.Codes.{code_of, guard_code};
 
 use rr_bits::Bits;
-use rr_choice::{Choice, Pick, SiteList, guard_names, site_bits, value_width};
-use rr_syntax::{Site, SiteKind};
+use rr_choice::{Choice, Pick, SiteList, form_width, guard_names, site_bits, value_width};
+use rr_syntax::Site;
 use std::alloc::{AllocError, Global};
 
 /// Adds the lowest bits of a number, as many as the width, lowest first.
@@ -25,18 +25,6 @@ fn push_word(bits: &mut Vec<bool>, width: u32, number: u128) -> Result<(), Alloc
         bits.push(word.get(place))?;
     }
     Ok(())
-}
-
-/// The number of bits that write a form.
-fn form_width(site: &Site) -> u32
-    ensures value { result ≡ form_width_of (plain_kind site.now.kind) }
-    ensures small { result ≤ 3 }
-{
-    match site.kind {
-        SiteKind::Literal { .. } => 0,
-        SiteKind::Guard { .. } => 3,
-        SiteKind::Overwrite { .. } => 2,
-    }
 }
 
 /// Adds the form and the name of a pick, of which a site without names has none.
