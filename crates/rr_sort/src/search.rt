@@ -4,7 +4,7 @@ ghost use Rattle.rr_sort.specs.Graphs.{names_of, IsGraph, CycleFrom, OnCycle, Is
 ghost use Rattle.rr_sort.specs.Walks.{IsReached, IsOff};
 
 use crate::rows::reversed;
-use crate::walk::{all_false, all_zero, next_name, push_node};
+use crate::walk::{next_name, push_node};
 use std::alloc::{AllocError, Global};
 
 /// A cycle from the lowest node that lies on one, where some node does.
@@ -35,8 +35,8 @@ fn cycle_through(
     requires start { start < length graph.now }
     ensures { IfOk result (λ r. MatchOption r (OnCycle (map names_of graph.now) start → ⊥) (λ c. CycleFrom (map names_of graph.now) start c.items)) }
 {
-    let mut reached = all_false(alloc, graph.len())?;
-    let mut seen = all_zero(alloc, graph.len())?;
+    let mut reached = vec![in alloc; false; graph.len()]?;
+    let mut seen = vec![in alloc; 0; graph.len()]?;
     let mut stack = Vec::new(alloc);
     push_node(&mut stack, start)?;
     'down: while stack.len() > 0 {
@@ -70,8 +70,8 @@ fn dry(alloc: Global, graph: &[Vec<usize>]) -> Result<Reached, AllocError>
     ensures { IfOk result (λ f. IsReached (map names_of graph.now) f.reached.items f.seen.items f.order.items) }
 {
     Ok(Reached {
-        reached: all_false(alloc, graph.len())?,
-        seen: all_zero(alloc, graph.len())?,
+        reached: vec![in alloc; false; graph.len()]?,
+        seen: vec![in alloc; 0; graph.len()]?,
         order: Vec::new(alloc),
     })
 }
@@ -131,7 +131,7 @@ fn off_cycles(alloc: Global, graph: &[Vec<usize>]) -> Result<Vec<bool>, AllocErr
 {
     let back = reversed(alloc, graph)?;
     let order = leaving(alloc, back.as_slice())?;
-    let mut off = all_false(alloc, graph.len())?;
+    let mut off = vec![in alloc; false; graph.len()]?;
     let mut reached = dry(alloc, graph)?;
     for at in 0..order.len() {
         let node = order[order.len() - 1 - at];

@@ -25,35 +25,11 @@ impl Walk {
     {
         Ok(Walk {
             order: Vec::new(alloc),
-            placed: all_false(alloc, count)?,
-            seen: all_zero(alloc, count)?,
-            stacked: all_false(alloc, count)?,
+            placed: vec![in alloc; false; count]?,
+            seen: vec![in alloc; 0; count]?,
+            stacked: vec![in alloc; false; count]?,
         })
     }
-}
-
-pub(crate) fn all_false(alloc: Global, count: usize) -> Result<Vec<bool>, AllocError>
-    ensures count { IfOk result (λ v. length v.items ≡ count) }
-    ensures none { IfOk result (λ v. (i : ℕ) → get_or v.items i false ≡ false) }
-{
-    let mut marks = Vec::with_capacity(alloc, count)?;
-    for made in 0..count {
-        let _node = made;
-        marks.push(false)?;
-    }
-    Ok(marks)
-}
-
-pub(crate) fn all_zero(alloc: Global, count: usize) -> Result<Vec<usize>, AllocError>
-    ensures count { IfOk result (λ v. length v.items ≡ count) }
-    ensures none { IfOk result (λ v. (i : ℕ) → get_or v.items i 0 ≡ 0) }
-{
-    let mut numbers = Vec::with_capacity(alloc, count)?;
-    for made in 0..count {
-        let _node = made;
-        numbers.push(0)?;
-    }
-    Ok(numbers)
 }
 
 pub(crate) fn push_node(nodes: &mut Vec<usize>, node: usize) -> Result<(), AllocError>
