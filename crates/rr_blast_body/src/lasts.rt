@@ -24,7 +24,7 @@ use rr_blast_terms::ChoiceWires;
 use rr_choice::site_bits;
 use rr_circuit::{Builder, Wire};
 use rr_expr::{Entity, Scope};
-use rr_machine::whole_spots;
+use rr_machine::whole_guarded_pieces;
 use rr_syntax::{Site, SiteKind};
 use rr_word_gates::extended;
 use std::alloc::{AllocError, Global};
@@ -115,7 +115,7 @@ fn run_last(
     match scope.meaning(last.target) {
         Entity::Signal { id, .. } => {
             let words = machine.now.as_slice();
-            let spots = whole_spots(alloc, b, id, words)?;
+            let guarded_pieces = whole_guarded_pieces(alloc, b, id, words)?;
             let own = words[id as usize].len() as u32;
             let width = own.max(last.width);
             let word = last_value(alloc, b, last, bits, width)?;
@@ -123,7 +123,7 @@ fn run_last(
             store(
                 b,
                 machine,
-                spots.as_slice(),
+                guarded_pieces.as_slice(),
                 word.as_slice(),
                 last.at_once,
                 guard,

@@ -17,7 +17,7 @@ use Rattle.rr_cycle.specs.Performing.{next_after}
 use Rattle.rr_blast_stmt.specs.Running.{Values}
 use Rattle.rr_blast_steps.specs.Designs.{ran_blocks}
 
-no_word : (words : List (Vec Wire Global)) (k : ℕ) → k < length words → Vec Wire Global
+pub no_word : (words : List (Vec Wire Global)) (k : ℕ) → k < length words → Vec Wire Global
 no_word [] k l = absurd (omega arith)
 no_word (v ∷ vs) k l = v
 

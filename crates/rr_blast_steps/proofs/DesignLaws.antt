@@ -30,32 +30,8 @@ use Rattle.rr_flat_instance.specs.Flats.{instance_block, instance_flat}
 use Rattle.rr_blast_body.specs.Overwrites.{body_instance}
 use Rattle.rr_blast_stmt.specs.Running.{Values, ran}
 use Rattle.rr_machine.specs.Words.{Holds}
-use Rattle.rr_meaning.proofs.Scoping.{IsSound, wide}
+use Rattle.rr_meaning.proofs.Scoping.{IsSound, number_of, wide}
 use Rattle.rr_blast_stmt.proofs.RanLaws.{made}
-
--- what holds of each entry, and of a name that is not there, holds of what each name stands for
-entry_of : (P : Entity → Type 0) (s : Names) (name : List ℕ) → AllByRecursion (λ x. P x.1) s → P entity.Instance → P (meant s name)
-unfolding meant lookup
-entry_of P [] name a i = i
-entry_of P (x ∷ xs) name a i = go (bytes_eq name x.0) (entry_of P xs name a.1 i)
-  where
-    go : (b : Bool) → P (or_instance (lookup name xs)) → P (or_instance (cond b (Some x.1) (lookup name xs)))
-    go true r = a.0
-    go false r = r
-
--- a name of a signal has the number of one, and its range
-record IsNumber (signals : List Signal) (id : ℕ) (range : Option (ℕ × ℕ)) : Type 0 where
-  inside : id < length signals
-  range_is : (signal_at (map plain_signal signals) id).range ≡ range
-
-number_of : (signals : List Signal) (s : Names) (name : List ℕ) (id : ℕ) (range : Option (ℕ × ℕ)) (signed : Bool) → IsScope signals s → meant s name ≡ entity.Signal id range signed → IsNumber signals id range
-number_of signals s name id range signed h q =
-    let k = subst (IsNamed 0 (map plain_signal signals)) q (entry_of (IsNamed 0 (map plain_signal signals)) s name (recursion_from_All (λ x. IsNamed 0 (map plain_signal signals) x.1) s h) tt) in
-    let z : id - 0 ≡ id = omega arith in
-    record {
-      inside = omega (arith, k.1, length-map signals plain_signal);
-      range_is = ap (λ (n : ℕ). (signal_at (map plain_signal signals) n).range) (sym z) ∙ k.2;
-    }
 
 pub width_there : (signals : List Signal) (id : ℕ) → id < length signals → get_or (signal_widths signals) id 0 ≡ (signal_at (map plain_signal signals) id).width
 width_there [] id l = absurd (omega arith)

@@ -28,22 +28,14 @@ use Rattle.rr_cycle.specs.Exec.{Environment}
 use Rattle.rr_blast_steps.specs.Designs.{signal_widths}
 use Rattle.rr_flat_instance.specs.Flats.{instance_side}
 use Rattle.rr_machine.specs.Words.{IsThere, carried, widths_of}
+use Rattle.rr_meaning.proofs.Placing.{there_is}
 use Rattle.rr_meaning.proofs.Scoping.{IsSound, wide}
 use Rattle.rr_blast_steps.proofs.DesignLaws.{width_there}
 use Rattle.rr_instance_laws.proofs.FormLaws.{form_instance}
-use Rattle.rr_machine.proofs.SpotLaws.{signal_piece}
+use Rattle.rr_machine.proofs.GuardedPieceLaws.{signal_piece}
 use Rattle.rr_machine.proofs.WordLaws.{count_of, value_there, width_at}
 
 -- whole signals
-
-there_is : (id : ℕ) (range : Option (ℕ × ℕ)) (signed : Bool) (e : Environment) (from n : ℕ) → from + n ≤ range_width range →
-    map (bit_value e) (bits_there (entity.Signal id range signed) (pos from) n) ≡ map (λ (i : ℕ). e (record { signal = id; place = i })) (range_with_len from n)
-unfolding bits_there
-there_is id range signed e from zero l = refl
-there_is id range signed e from (suc n) l =
-    let m : from < range_width range = omega arith in
-    rw (le-ltb from 0 (omega arith), lt-ltb from (range_width range) m)
-    (ap (λ (bs : List Bool). e (record { signal = id; place = from }) ∷ bs) (there_is id range signed e (from + 1) n (omega arith)))
 
 pub signal_wires : (n : Netlist) (env : ℕ → Bool) (d : Design) (words : List (Vec Wire Global)) (id : ℕ) (v : Vec Wire Global) → IsSound d → id < length d.signals → widths_of words ≡ signal_widths d.signals → v ≡ get_or words id v →
     wire_values n env v.items ≡ signal_value (plain_flat d) id (carried n env words)

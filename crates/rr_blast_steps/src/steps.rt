@@ -13,7 +13,7 @@ ghost use Rattle.rr_blast_steps.specs.Designs.{driver_value_of, ran_blocks, sign
 ghost use Rattle.rr_flat_instance.specs.Flats.{instance_driver, instance_flat, instance_side};
 ghost use Rattle.rr_blast_body.specs.Overwrites.{body_instance};
 ghost use Rattle.rr_blast_stmt.specs.Running.{IsMachine, held, ran};
-ghost use Rattle.rr_machine.specs.Spots.{AreSpots, put_spots};
+ghost use Rattle.rr_machine.specs.GuardedPieces.{AreGuardedPieces, put_guarded_pieces};
 ghost use Rattle.rr_machine.specs.Words.{AreWords, carried, widths_of};
 ghost use Rattle.rr_blast_terms.specs.Choosing.{IsReady, picks_of};
 
@@ -23,7 +23,7 @@ use rr_blast_terms::{ChoiceWires, wires};
 use rr_circuit::{Builder, Wire};
 use rr_expr::{Shape, shape_of};
 use rr_flat::{Block, Driver, Flat, Side};
-use rr_machine::{Spot, add_fixed, push_spot, put_all};
+use rr_machine::{GuardedPiece, add_fixed, push_guarded_piece, put_all};
 use rr_target::Piece;
 use rr_word_gates::extended;
 use std::alloc::{AllocError, Global};
@@ -82,16 +82,16 @@ fn side_wires(
 }
 
 /// The bits of a driver's target, whose indices are constant.
-fn driven_spots(
+fn driven_guarded_pieces(
     alloc: Global,
     b: &Builder,
     flat: &Flat,
     target: &Side,
-) -> Result<Vec<Spot>, AllocError>
+) -> Result<Vec<GuardedPiece>, AllocError>
     requires { IsSide flat.now.signals flat.now.scopes target.now }
-    ensures spots { IfOk result (λ r. AreSpots b.now (signal_widths flat.now.signals) r.items) }
+    ensures guarded_pieces { IfOk result (λ r. AreGuardedPieces b.now (signal_widths flat.now.signals) r.items) }
     ensures value { IfOk result (λ r. (env : ℕ → Bool) (vs : List Bool) (e : Environment) →
-        put_spots b.now env r.items vs e ≡ write (driven_by (plain_flat flat.now) (plain_side target.now)) vs e) }
+        put_guarded_pieces b.now env r.items vs e ≡ write (driven_by (plain_flat flat.now) (plain_side target.now)) vs e) }
 {
     let mut list = Vec::new(alloc);
     match target {
@@ -109,9 +109,9 @@ fn driven_spots(
                 count: width,
             };
             let when = b.constant(true);
-            push_spot(
+            push_guarded_piece(
                 &mut list,
-                Spot {
+                GuardedPiece {
                     piece,
                     when,
                     from: 0,
@@ -176,10 +176,10 @@ pub fn drive(
         (driver_value_of (plain_flat flat.now) (instance_driver choice.now.sites.now (picks_of b.old env choice.now) (plain_driver driver.now)) (carried b.old env words.old.items))
         (carried b.old env words.old.items)) }
 {
-    let spots = driven_spots(alloc, b, flat, &driver.target)?;
+    let guarded_pieces = driven_guarded_pieces(alloc, b, flat, &driver.target)?;
     let bits = driver_wires(alloc, b, flat, driver, choice, words.as_slice())?;
     let always = b.constant(true);
-    put_all(b, words, spots.as_slice(), bits.as_slice(), always)?;
+    put_all(b, words, guarded_pieces.as_slice(), bits.as_slice(), always)?;
     Ok(())
 }
 

@@ -22,27 +22,9 @@ use rr_expr::{Bit, Scope, shape_of};
 use rr_flat::{Driver, Flat, Side};
 use rr_machine::{bit_at, set_wire};
 use rr_syntax::Expr;
-use rr_target::{Piece, add_pieces, no_values};
+use rr_target::{add_pieces, named_bit, no_values};
 use rr_wiring::{is_concatenation, part_at};
 use std::alloc::{AllocError, Global};
-
-/// The bit at a place of the pieces, the last piece the lowest; `None` where there is none.
-fn named_at(pieces: &[Piece], place: u32) -> Option<Bit>
-    requires few { length (all_bits pieces.now) ≤ 128 }
-    ensures { result ≡ get_or (all_bits pieces.now) place None }
-{
-    let mut from = 0;
-    let mut left = pieces.len();
-    while left > 0 {
-        left -= 1;
-        let piece = &pieces[left];
-        if place < from + piece.count {
-            return piece.bit(place - from);
-        }
-        from += piece.count;
-    }
-    None
-}
 
 /// The bit at a place of a driver's target.
 fn driven_bit(
@@ -60,7 +42,7 @@ fn driven_bit(
             let none = no_values(alloc);
             let mut pieces = Vec::new(alloc);
             add_pieces(&mut pieces, expr, &flat.scopes[*scope as usize], &none)?;
-            let bit = named_at(pieces.as_slice(), place);
+            let bit = named_bit(pieces.as_slice(), place);
             Ok(bit)
         }
         Side::Whole(id) => {

@@ -9,17 +9,19 @@ ghost use Rattle.rr_flat.specs.Shapes.{arms_faults, list_faults, statement_fault
 ghost use Rattle.rr_instance.specs.Instances.{instance_arms, instance_parts, instance_statement, instance_statements, instance_tree};
 ghost use Rattle.rr_exec.specs.Work.{AreNarrow, ArmsNarrow};
 ghost use Rattle.rr_expr.specs.declared.types.Bit.{Bit};
-ghost use Rattle.rr_machine.specs.Spots.{AreSpots, put_spots};
+ghost use Rattle.rr_machine.specs.GuardedPieces.{AreGuardedPieces, put_guarded_pieces};
 ghost use Rattle.rr_cycle.specs.Exec.{Environment, assigned, is_matched as matches, write};
 ghost use Rattle.rr_blast_stmt.specs.Running.{IsMachine, held, ran, ran_all, ran_arms, ran_default, stored};
 ghost use Rattle.rr_machine.specs.Words.{AreWords, Holds, carried, widths_of};
 ghost use Rattle.rr_blast_terms.specs.Choosing.{IsReady, picks_of};
 
-use rr_blast_terms::{ChoiceWires, Selector, is_matched, spots_of, test as test_wire, wires};
+use rr_blast_terms::{
+    ChoiceWires, Selector, guarded_pieces_of, is_matched, test as test_wire, wires,
+};
 use rr_circuit::{Builder, Wire};
 use rr_exec::case_shape;
 use rr_expr::{Scope, shape_of};
-use rr_machine::{Spot, put_all};
+use rr_machine::{GuardedPiece, put_all};
 use rr_syntax::{Arm, Expr, Stmt};
 use std::alloc::{AllocError, Global};
 
@@ -65,11 +67,11 @@ fn right_side(
     Ok(bits)
 }
 
-/// The bits that runs of places name take those of a word where the guard is true, at once or later.
+/// The bits of guarded pieces take those of a word where the guard is true, at once or later.
 pub fn store(
     b: &mut Builder,
     machine: &mut Machine,
-    spots: &[Spot],
+    guarded_pieces: &[GuardedPiece],
     bits: &[Wire],
     now: bool,
     guard: Wire,
@@ -77,18 +79,18 @@ pub fn store(
     requires guard { IsWire b.old guard }
     requires bits { AreWires b.old bits.now }
     requires machine { IsMachine b.old (widths_of machine.old.now.items) machine.old }
-    requires spots { AreSpots b.old (widths_of machine.old.now.items) spots.now }
+    requires guarded_pieces { AreGuardedPieces b.old (widths_of machine.old.now.items) guarded_pieces.now }
     ensures extends { Extends b.old b.new }
     ensures machine { OnOk result (IsMachine b.new (widths_of machine.old.now.items) machine.new) }
     ensures ran { OnOk result ((env : ℕ → Bool) (named : List (Option Bit)) →
-        ((e : Environment) → put_spots b.old env spots.now (wire_values b.old env bits.now) e ≡ write named (wire_values b.old env bits.now) e) →
+        ((e : Environment) → put_guarded_pieces b.old env guarded_pieces.now (wire_values b.old env bits.now) e ≡ write named (wire_values b.old env bits.now) e) →
         held b.new env machine.new ≡ cond (wire_value b.old env guard) (stored now named (wire_values b.old env bits.now) (held b.old env machine.old)) (held b.old env machine.old)) }
 {
     if now {
-        put_all(b, &mut machine.now, spots, bits, guard)?;
+        put_all(b, &mut machine.now, guarded_pieces, bits, guard)?;
         return Ok(());
     }
-    put_all(b, &mut machine.later, spots, bits, guard)?;
+    put_all(b, &mut machine.later, guarded_pieces, bits, guard)?;
     Ok(())
 }
 
@@ -116,9 +118,16 @@ fn assign(
         ≡ cond (wire_value b.old env guard) (ran scope.now (Assign (plain target.now) now (instance_tree choice.now.sites.now (picks_of b.old env choice.now) (plain expr.now))) (held b.old env machine.old)) (held b.old env machine.old)) }
 {
     let words = machine.now.as_slice();
-    let spots = spots_of(alloc, b, target, scope, words)?;
+    let guarded_pieces = guarded_pieces_of(alloc, b, target, scope, words)?;
     let bits = right_side(alloc, b, target, expr, scope, words, choice)?;
-    store(b, machine, spots.as_slice(), bits.as_slice(), now, guard)?;
+    store(
+        b,
+        machine,
+        guarded_pieces.as_slice(),
+        bits.as_slice(),
+        now,
+        guard,
+    )?;
     Ok(())
 }
 

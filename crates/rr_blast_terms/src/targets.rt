@@ -8,13 +8,13 @@ ghost use Rattle.rr_expr.specs.Selects.{integer_with, lowest_place};
 ghost use Rattle.rr_expr.specs.Values.{form, nowhere, value};
 ghost use Rattle.rr_flat.specs.Targets.{bits_there, is_constant as is_constant_in, target_bits, targets_bits};
 ghost use Rattle.rr_cycle.specs.Exec.{Environment, write};
-ghost use Rattle.rr_machine.specs.Spots.{AreSpots, put_spots};
+ghost use Rattle.rr_machine.specs.GuardedPieces.{AreGuardedPieces, put_guarded_pieces};
 ghost use Rattle.rr_machine.specs.Words.{AreWords, Holds, carried, widths_of};
 
 use crate::expression::own_wires;
 use rr_circuit::{Builder, Wire};
 use rr_expr::{Entity, Scope, constant, shape_of};
-use rr_machine::{Moving, Spot, add_fixed, add_moving};
+use rr_machine::{GuardedPiece, Moving, add_fixed, add_moving};
 use rr_syntax::Expr;
 use std::alloc::{AllocError, Global};
 
@@ -22,7 +22,7 @@ use std::alloc::{AllocError, Global};
 fn add_select(
     alloc: Global,
     b: &mut Builder,
-    list: &mut Vec<Spot>,
+    list: &mut Vec<GuardedPiece>,
     name: &str,
     index: &Expr,
     up: bool,
@@ -37,14 +37,14 @@ fn add_select(
     requires few { from + count ≤ 128 }
     requires words { AreWords b.old words.now }
     requires holds { Holds scope.now (widths_of words.now) }
-    requires spots { AreSpots b.old (widths_of words.now) list.old.items }
+    requires guarded_pieces { AreGuardedPieces b.old (widths_of words.now) list.old.items }
     ensures extends { Extends b.old b.new }
     ensures next { IfOk result (λ r. r ≡ from + count) }
-    ensures spots { OnOk result (AreSpots b.new (widths_of words.now) list.new.items) }
+    ensures guarded_pieces { OnOk result (AreGuardedPieces b.new (widths_of words.now) list.new.items) }
     ensures value { OnOk result ((env : ℕ → Bool) (vs : List Bool) (e : Environment) →
-        put_spots b.new env list.new.items vs e
+        put_guarded_pieces b.new env list.new.items vs e
         ≡ write (bits_there (meant scope.now name.now) (lowest_place (entity_range (meant scope.now name.now)) up (integer_with (form scope.now (plain index.now)) (value scope.now (plain index.now) (carried b.old env words.now))) count) count)
-        (drop from vs) (put_spots b.old env list.old.items vs e)) }
+        (drop from vs) (put_guarded_pieces b.old env list.old.items vs e)) }
 {
     match scope.meaning(name) {
         Entity::Signal { id, range, .. } => {
@@ -80,10 +80,10 @@ fn is_constant(expr: &Expr, scope: &Scope) -> bool
 /// The bits that a target names, its indices taken from the wires as they are; the first of its
 /// parts takes the top bits of a word, the last those from a place up.
 #[cycle(naming)]
-fn add_spots(
+fn add_guarded_pieces(
     alloc: Global,
     b: &mut Builder,
-    list: &mut Vec<Spot>,
+    list: &mut Vec<GuardedPiece>,
     target: &Expr,
     scope: &Scope,
     words: &[Vec<Wire>],
@@ -93,13 +93,13 @@ fn add_spots(
     requires few { from + length (target_bits scope.now nowhere (plain target.now)) ≤ 128 }
     requires words { AreWords b.old words.now }
     requires holds { Holds scope.now (widths_of words.now) }
-    requires spots { AreSpots b.old (widths_of words.now) list.old.items }
+    requires guarded_pieces { AreGuardedPieces b.old (widths_of words.now) list.old.items }
     ensures extends { Extends b.old b.new }
     ensures next { IfOk result (λ r. r ≡ from + length (target_bits scope.now nowhere (plain target.now))) }
-    ensures spots { OnOk result (AreSpots b.new (widths_of words.now) list.new.items) }
+    ensures guarded_pieces { OnOk result (AreGuardedPieces b.new (widths_of words.now) list.new.items) }
     ensures value { OnOk result ((env : ℕ → Bool) (vs : List Bool) (e : Environment) →
-        put_spots b.new env list.new.items vs e
-        ≡ write (target_bits scope.now (carried b.old env words.now) (plain target.now)) (drop from vs) (put_spots b.old env list.old.items vs e)) }
+        put_guarded_pieces b.new env list.new.items vs e
+        ≡ write (target_bits scope.now (carried b.old env words.now) (plain target.now)) (drop from vs) (put_guarded_pieces b.old env list.old.items vs e)) }
 {
     match target {
         Expr::Name { .. } => {
@@ -133,7 +133,7 @@ fn add_spots(
             Ok(next)
         }
         Expr::Concat { parts } => {
-            let next = add_spots_of_all(alloc, b, list, parts, scope, words, from)?;
+            let next = add_guarded_pieces_of_all(alloc, b, list, parts, scope, words, from)?;
             Ok(next)
         }
         Expr::Literal { .. } => Ok(from),
@@ -147,10 +147,10 @@ fn add_spots(
 }
 
 #[cycle(naming)]
-fn add_spots_of_all(
+fn add_guarded_pieces_of_all(
     alloc: Global,
     b: &mut Builder,
-    list: &mut Vec<Spot>,
+    list: &mut Vec<GuardedPiece>,
     parts: &[Expr],
     scope: &Scope,
     words: &[Vec<Wire>],
@@ -160,41 +160,41 @@ fn add_spots_of_all(
     requires few { from + length (targets_bits scope.now nowhere (plain_list parts.now)) ≤ 128 }
     requires words { AreWords b.old words.now }
     requires holds { Holds scope.now (widths_of words.now) }
-    requires spots { AreSpots b.old (widths_of words.now) list.old.items }
+    requires guarded_pieces { AreGuardedPieces b.old (widths_of words.now) list.old.items }
     ensures extends { Extends b.old b.new }
     ensures next { IfOk result (λ r. r ≡ from + length (targets_bits scope.now nowhere (plain_list parts.now))) }
-    ensures spots { OnOk result (AreSpots b.new (widths_of words.now) list.new.items) }
+    ensures guarded_pieces { OnOk result (AreGuardedPieces b.new (widths_of words.now) list.new.items) }
     ensures value { OnOk result ((env : ℕ → Bool) (vs : List Bool) (e : Environment) →
-        put_spots b.new env list.new.items vs e
-        ≡ write (targets_bits scope.now (carried b.old env words.now) (plain_list parts.now)) (drop from vs) (put_spots b.old env list.old.items vs e)) }
+        put_guarded_pieces b.new env list.new.items vs e
+        ≡ write (targets_bits scope.now (carried b.old env words.now) (plain_list parts.now)) (drop from vs) (put_guarded_pieces b.old env list.old.items vs e)) }
 {
     let mut next = from;
     let mut left = parts.len();
     while left > 0 {
         left -= 1;
         let part = &parts[left];
-        next = add_spots(alloc, b, list, part, scope, words, next)?;
+        next = add_guarded_pieces(alloc, b, list, part, scope, words, next)?;
     }
     Ok(next)
 }
 
 /// The bits that a target names.
-pub fn spots_of(
+pub fn guarded_pieces_of(
     alloc: Global,
     b: &mut Builder,
     target: &Expr,
     scope: &Scope,
     words: &[Vec<Wire>],
-) -> Result<Vec<Spot>, AllocError>
+) -> Result<Vec<GuardedPiece>, AllocError>
     requires shaped { fault scope.now (plain target.now) false ≡ None }
     requires words { AreWords b.old words.now }
     requires holds { Holds scope.now (widths_of words.now) }
     ensures extends { Extends b.old b.new }
-    ensures spots { IfOk result (λ r. AreSpots b.new (widths_of words.now) r.items) }
+    ensures guarded_pieces { IfOk result (λ r. AreGuardedPieces b.new (widths_of words.now) r.items) }
     ensures value { IfOk result (λ r. (env : ℕ → Bool) (vs : List Bool) (e : Environment) →
-        put_spots b.new env r.items vs e ≡ write (target_bits scope.now (carried b.old env words.now) (plain target.now)) vs e) }
+        put_guarded_pieces b.new env r.items vs e ≡ write (target_bits scope.now (carried b.old env words.now) (plain target.now)) vs e) }
 {
     let mut list = Vec::new(alloc);
-    add_spots(alloc, b, &mut list, target, scope, words, 0)?;
+    add_guarded_pieces(alloc, b, &mut list, target, scope, words, 0)?;
     Ok(list)
 }

@@ -1,9 +1,8 @@
 -- writes of runs of places
-use Rattle.std.proofs.Common.{◌≡◌, ℕ, zero, suc, ◌+◌, ◌-◌, ◌*◌, ◌/◌, ◌%◌, ◌^◌, ◌<◌, ◌≤◌, List, [], ◌∷◌, ◌++◌, length, get_or, set, drop, Bool, true, false, cond, not, ◌&&◌, nat_eq, nat_lt, Option, Some, None, refl, ap, ◌∙◌, sym, arith, ◌⊎◌, inl, inr, ℤ, pos, ◌+ℤ◌, ◌-ℤ◌, length-append, drop-cons, FitsSigned}
+use Rattle.std.proofs.Common.{◌≡◌, ℕ, zero, suc, ◌+◌, ◌-◌, ◌*◌, ◌/◌, ◌%◌, ◌^◌, ◌<◌, ◌≤◌, List, [], ◌∷◌, ◌++◌, length, get_or, set, drop, Bool, true, false, cond, not, ◌&&◌, nat_eq, nat_lt, Option, Some, None, refl, ap, ◌∙◌, sym, arith, ◌⊎◌, inl, inr, ℤ, pos, ◌+ℤ◌, ◌-ℤ◌, FitsSigned}
 use mathlib.Core.Path.{fun_ext}
 use mir.Syntax.{w64}
 use mir.Val.{of_z, to_z}
-use Rattle.std.proofs.Math.IntN.{+ℤ_assoc}
 use Rattle.std.proofs.lemmas.Bool.{cases_Bool, cases_eq, cases_lt, eq-eqb, ne_eqb, lt-ltb, le-ltb}
 use Rattle.std.proofs.lemmas.Int.{ints}
 use Rattle.std.proofs.lemmas.List.{drop_all, drop_more, get_or_past, get_or-set_same, get_or-set_other}
@@ -15,8 +14,9 @@ use Rattle.rr_bits.proofs.Places.{has, get_tabulate, length_tabulate, has_above,
 use Rattle.rr_expr.specs.declared.types.Bit.{Bit}
 use Rattle.rr_expr.specs.Scopes.{env_of}
 use Rattle.rr_target.specs.declared.piece.Piece.{Piece}
-use Rattle.rr_target.specs.Pieces.{bit_in, bits_in, bits_of, all_bits, covers}
+use Rattle.rr_target.specs.Pieces.{bit_in, bits_of, all_bits, covers}
 use Rattle.rr_target.proofs.Runs.{bit_is, covers_in, has_in, IsIn}
+use Rattle.rr_target.proofs.Places.{all_bits_at, at_run, piece_length}
 use Rattle.rr_cycle.proofs.Applied.{applied_append}
 use Rattle.rr_cycle.specs.Exec.{Environment, put, write, Update, applied}
 use Rattle.rr_cycle.proofs.Writes.{write_outside, write_there}
@@ -39,7 +39,7 @@ twice false false = refl
 low_place : (n i : ℕ) → i < 128 → has (n % 2 ^ 128) i ≡ has n i
 low_place n i l = sym (get_word 128 (n % 2 ^ 128) i false l) ∙ ap (λ (xs : List Bool). get_or xs i false) (word_mod 128 n) ∙ get_word 128 n i false l
 
-number_place : (xs : List Bool) (i : ℕ) → has (number xs) i ≡ get_or xs i false
+pub number_place : (xs : List Bool) (i : ℕ) → has (number xs) i ≡ get_or xs i false
 number_place xs i = elim (cases_lt i (length xs)) [
   | inl l ↦ sym (get_word (length xs) (number xs) i false l) ∙ ap (λ (ys : List Bool). get_or ys i false) (word_number xs)
   | inr l ↦ has_above (number xs) (length xs) i (number-lt xs) l ∙ sym (get_or_past xs i false l)
@@ -83,23 +83,6 @@ merged_is old low k part here diff l h d e p = elim (cases_lt p 128) [
 
 -- Runs
 
-pub at_run : (p : Piece) (at : ℤ) (n j : ℕ) → j < n → get_or (bits_in p at n) j None ≡ bit_in p (at +ℤ pos j)
-unfolding bits_in
-at_run p at zero j l = absurd (omega arith)
-at_run p at (suc n) zero l = ap (bit_in p) (zero_right at)
-  where
-    zero_right : (z : ℤ) → z ≡ z +ℤ pos 0
-    zero_right z = omega (arith, ints)
-at_run p at (suc n) (suc j) l = at_run p (at +ℤ pos 1) n j (omega arith) ∙ ap (bit_in p) (+ℤ_assoc at (pos 1) (pos j) ∙ ap (λ (k : ℕ). at +ℤ pos k) (omega arith))
-
-run_length : (p : Piece) (at : ℤ) (n : ℕ) → length (bits_in p at n) ≡ n
-unfolding bits_in
-run_length p at zero = refl
-run_length p at (suc n) = ap suc (run_length p (at +ℤ pos 1) n)
-
-pub piece_length : (p : Piece) → length (bits_of p) ≡ p.count
-piece_length p = run_length p p.from p.count
-
 same_place : (at : ℤ) (i j m : ℕ) → at +ℤ pos i ≡ pos m → at +ℤ pos j ≡ pos m → i ≡ j
 same_place at i j m h k = omega (arith, ints, h, k)
 
@@ -116,7 +99,7 @@ piece_there p b vs e j c l q =
 pub piece_not : (p : Piece) (b : Bit) (vs : List Bool) (e : Environment) → covers p b ≡ false → write (bits_of p) vs e b ≡ e b
 piece_not p b vs e c = write_outside (bits_of p) vs e b (sym (covers_in p b) ∙ c)
 
-get_drop : (xs : List Bool) (n j : ℕ) → get_or (drop n xs) j false ≡ get_or xs (n + j) false
+pub get_drop : (xs : List Bool) (n j : ℕ) → get_or (drop n xs) j false ≡ get_or xs (n + j) false
 get_drop xs zero j = ap (λ (k : ℕ). get_or xs k false) (omega arith)
 get_drop [] (suc n) j = sym (get_or_past [] (suc n + j) false (omega arith))
 get_drop (x ∷ xs) (suc n) j = let s : suc (n + j) ≡ suc n + j = omega arith in get_drop xs n j ∙ ap (λ (k : ℕ). get_or (x ∷ xs) k false) s
@@ -128,7 +111,7 @@ env_set values s k b l = elim (cases_eq s b.signal) [
 ]
 
 -- the places that a range has, seen from the run's first place
-in_range : (p : Piece) (low high : ℕ) → ((b : Bit) → covers p b ≡ (nat_eq p.signal b.signal && (not (nat_lt b.place low) && nat_lt b.place high))) → (q : ℕ) → low ≤ q → q < high →
+pub in_range : (p : Piece) (low high : ℕ) → ((b : Bit) → covers p b ≡ (nat_eq p.signal b.signal && (not (nat_lt b.place low) && nat_lt b.place high))) → (q : ℕ) → low ≤ q → q < high →
     (j : ℕ) × (j < p.count) × (p.from +ℤ pos j ≡ pos q)
 in_range p low high h q l m =
     let b : Bit = record { signal = p.signal; place = q } in
@@ -211,26 +194,6 @@ write_append (Some a ∷ ps) qs [] e = write_append ps qs [] (put a false e) ∙
     drop_none (suc n) = refl
 write_append (Some a ∷ ps) qs (v ∷ vs) e = write_append ps qs vs (put a v e)
 
--- what stands past the last of a list
-abbrev pub no_piece : Piece
-no_piece = record { signal = 0; width = 0; from = pos 0; count = 0 }
-
-pub all_bits_at : (ps : List Piece) (i j : ℕ) (p d : Piece) → i < length ps → p ≡ get_or ps i d → j ≡ i + 1 → all_bits (drop i ps) ≡ all_bits (drop j ps) ++ bits_of p
-unfolding all_bits
-all_bits_at ps i j p d l q r =
-    let s : suc i ≡ j = omega arith in
-    ap all_bits (drop-cons ps i d l ∙ ap (λ (x : Piece). x ∷ drop (suc i) ps) (sym q)) ∙ ap (λ (k : ℕ). all_bits (drop k ps) ++ bits_of p) s
-
-pub bits_left : (ps : List Piece) (i : ℕ) → length (all_bits (drop i ps)) ≤ length (all_bits ps)
-unfolding all_bits
-bits_left ps zero = omega arith
-bits_left [] (suc i) = omega arith
-bits_left (p ∷ ps) (suc i) = omega (arith, bits_left ps i, length-append (all_bits ps) (bits_of p))
-
--- the number of bits so far, with one run more
-pub count_more : (ps : List Piece) (i j from : ℕ) (p d : Piece) → i < length ps → p ≡ get_or ps i d → j ≡ i + 1 → from ≡ length (all_bits (drop j ps)) → from + p.count ≡ length (all_bits (drop i ps))
-count_more ps i j from p d l q r f = omega (arith, ap length (all_bits_at ps i j p d l q r), length-append (all_bits (drop j ps)) (bits_of p), piece_length p, f)
-
 -- the runs so far, with one more
 pub write_more : (ps : List Piece) (i j from : ℕ) (p d : Piece) (bits : List Bool) (e f g : Environment) → i < length ps → p ≡ get_or ps i d → j ≡ i + 1 → from ≡ length (all_bits (drop j ps)) →
     f ≡ write (all_bits (drop j ps)) bits e → g ≡ write (bits_of p) (drop from bits) f → g ≡ write (all_bits (drop i ps)) bits e
@@ -245,11 +208,6 @@ pub write_none : (ps : List Piece) (bits : List Bool) (e : Environment) → e �
 unfolding all_bits write
 write_none [] bits e = refl
 write_none (p ∷ ps) bits e = write_none ps bits e
-
-pub count_none : (ps : List Piece) → 0 ≡ length (all_bits (drop (length ps) ps))
-unfolding all_bits
-count_none [] = refl
-count_none (p ∷ ps) = count_none ps
 
 -- updates
 

@@ -1,4 +1,4 @@
 pub mod WordLaws
 pub mod RunLaws
-pub mod SpotLaws
+pub mod GuardedPieceLaws
 pub mod NameLaws

@@ -11,7 +11,7 @@ use Rattle.rr_target.specs.declared.piece.Piece.{Piece}
 use Rattle.rr_target.specs.Pieces.{bits_of, covers}
 use Rattle.rr_target.proofs.Runs.{covers_in, has_in}
 use Rattle.rr_cycle.specs.Exec.{Environment, put, write}
-use Rattle.rr_exec.proofs.Pieces.{piece_there, piece_not}
+use Rattle.rr_exec.proofs.Pieces.{get_drop, in_range, piece_there, piece_not}
 use Rattle.rr_machine.specs.Words.{Fits, IsThere}
 
 -- the places from `low` up to before k take the bits of a word from `first` up
@@ -41,13 +41,6 @@ part_more signal low k first vs e l = fun_ext (λ (b : Bit). by b (cases_eq sign
 
 -- the places that a run has
 
-in_range : (p : Piece) (low high : ℕ) → ((b : Bit) → covers p b ≡ (nat_eq p.signal b.signal && (not (nat_lt b.place low) && nat_lt b.place high))) → (q : ℕ) → low ≤ q → q < high →
-    (j : ℕ) × (j < p.count) × (p.from +ℤ pos j ≡ pos q)
-in_range p low high h q l m =
-    let b : Bit = record { signal = p.signal; place = q } in
-    let c : covers p b ≡ true = h b ∙ rw (eq-eqb p.signal p.signal refl, le-ltb q low l, lt-ltb q high m) refl in
-    (has_in p p.from p.count b (sym (covers_in p b) ∙ c)).within
-
 abbrev pub IsRange : Piece → ℕ → ℕ → Type 0
 IsRange p low high = (b : Bit) → covers p b ≡ (nat_eq p.signal b.signal && (not (nat_lt b.place low) && nat_lt b.place high))
 
@@ -57,11 +50,6 @@ first_in p low high h l c = let r = in_range p low high h low (omega arith) l in
 pub there_in : (widths : List ℕ) (p : Piece) (low high q : ℕ) → IsRange p low high → Fits widths p → low ≤ q → q < high → IsThere widths (record { signal = p.signal; place = q })
 there_in widths p low high q h f l m =
     f (record { signal = p.signal; place = q }) (h (record { signal = p.signal; place = q }) ∙ rw (eq-eqb p.signal p.signal refl, le-ltb q low l, lt-ltb q high m) refl)
-
-get_drop : (xs : List Bool) (n j : ℕ) → get_or (drop n xs) j false ≡ get_or xs (n + j) false
-get_drop xs zero j = ap (λ (k : ℕ). get_or xs k false) (omega arith)
-get_drop [] (suc n) j = refl
-get_drop (x ∷ xs) (suc n) j = let s : suc (n + j) ≡ suc n + j = omega arith in get_drop xs n j ∙ ap (λ (k : ℕ). get_or (x ∷ xs) k false) s
 
 same_place : (at : ℤ) (i j d m q : ℕ) → at +ℤ pos i ≡ pos m → at +ℤ pos j ≡ pos q → q ≡ m + d → j ≡ i + d
 same_place at i j d m q h k r = omega (arith, ints, h, k)

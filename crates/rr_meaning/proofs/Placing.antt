@@ -24,29 +24,8 @@ use Rattle.rr_cycle.specs.Exec.{Environment, put, write}
 use Rattle.rr_cycle.proofs.Wiring.{length_there}
 use Rattle.rr_flat.proofs.Bits.{has_append, place_has, bits_of_name}
 use Rattle.rr_exec.specs.Work.{Fits}
-use Rattle.rr_exec.proofs.Pieces.{all_bits_at, at_run, bits_left, count_more, env_set}
+use Rattle.rr_exec.proofs.Pieces.{env_set}
 use Rattle.rr_meaning.proofs.Scoping.{IsSound, wide}
-
-prefix_at : (ps : List Piece) (i n : ℕ) → n < length (all_bits (drop i ps)) → get_or (all_bits ps) n None ≡ get_or (all_bits (drop i ps)) n None
-unfolding all_bits
-prefix_at ps zero n l = refl
-prefix_at [] (suc i) n l = refl
-prefix_at (p ∷ ps) (suc i) n l = get_or_append_left (all_bits ps) (bits_of p) None n (omega (arith, bits_left ps i)) ∙ prefix_at ps i n l
-
--- the piece that has the bit at a place
-pub piece_hit : (ps : List Piece) (i j from n : ℕ) (p d : Piece) → i < length ps → p ≡ get_or ps i d → j ≡ i + 1 → from ≡ length (all_bits (drop j ps)) → from ≤ n → n < from + p.count →
-    bit_in p (p.from +ℤ pos (n - from)) ≡ get_or (all_bits ps) n None
-piece_hit ps i j from n p d l q r f u v =
-    let e : all_bits (drop i ps) ≡ all_bits (drop j ps) ++ bits_of p = all_bits_at ps i j p d l q r in
-    let k : n - from < p.count = omega arith in
-    sym
-    (prefix_at ps i n (omega (arith, count_more ps i j from p d l q r f))
-    ∙ ap (λ (bs : List (Option Bit)). get_or bs n None) e
-    ∙ get_or-append_right (all_bits (drop j ps)) (bits_of p) from n None (sym f) u
-    ∙ at_run p p.from p.count (n - from) k)
-
-pub piece_miss : (ps : List Piece) (n : ℕ) → length (all_bits ps) ≤ n → None ≡ get_or (all_bits ps) n None
-piece_miss ps n l = sym (get_or_past (all_bits ps) n None l)
 
 -- a bit of pieces that fit
 fits_there : (n : ℕ) (ps : List Piece) (b : Bit) → AllByRecursion (Fits n) ps → has_bit (all_bits ps) b ≡ true → (b.signal < n) × (b.place < 128)
@@ -93,7 +72,7 @@ bit_set values b on k part s merge in' = fun_ext (λ c. env_set values b.signal 
 
 -- whole signals
 
-there_is : (id : ℕ) (range : Option (ℕ × ℕ)) (signed : Bool) (e : Environment) (from n : ℕ) → from + n ≤ range_width range →
+pub there_is : (id : ℕ) (range : Option (ℕ × ℕ)) (signed : Bool) (e : Environment) (from n : ℕ) → from + n ≤ range_width range →
     map (bit_value e) (bits_there (entity.Signal id range signed) (pos from) n) ≡ map (λ (i : ℕ). e (record { signal = id; place = i })) (range_with_len from n)
 unfolding bits_there
 there_is id range signed e from zero l = refl

@@ -141,7 +141,7 @@ over_is signals (id ∷ ids) row e b = by (cases_eq id b.signal) (over_is signal
         ∙ ap (λ (k : ℕ). nat_lt b.place (signal_at signals k).width && get_or (word 128 (head row)) b.place false) q)
     by (inr q) r = rw (ne_eqb id b.signal q) r
 
-not_given : (ids row : List ℕ) (b : Bit) → any_is ids b.signal ≡ false → given ids row b ≡ false
+pub not_given : (ids row : List ℕ) (b : Bit) → any_is ids b.signal ≡ false → given ids row b ≡ false
 unfolding given any_is
 not_given [] row b h = refl
 not_given (id ∷ ids) row b h = elim (cases_Bool (nat_eq id b.signal)) [

@@ -31,7 +31,7 @@ abbrev pub IsSound : Design → Type 0
 IsSound d = IsFlat d.signals d.scopes d.drivers d.clocked d.combinational d.walk d.inputs d.outputs d.owners
 
 -- what holds of each entry, and of a name that is not there, holds of what each name stands for
-entry_of : (P : Entity → Type 0) (s : Names) (name : List ℕ) → AllByRecursion (λ x. P x.1) s → P entity.Instance → P (meant s name)
+pub entry_of : (P : Entity → Type 0) (s : Names) (name : List ℕ) → AllByRecursion (λ x. P x.1) s → P entity.Instance → P (meant s name)
 unfolding meant lookup
 entry_of P [] name a i = i
 entry_of P (x ∷ xs) name a i = go (bytes_eq name x.0) (entry_of P xs name a.1 i)
@@ -55,11 +55,11 @@ pub wide : (d : Design) (id : ℕ) → IsSound d → id < length d.signals → I
 wide d id f l = wide_at (length d.scopes) d.signals id l (recursion_from_All (IsSignal (length d.scopes)) d.signals f.signals_in)
 
 -- a name of a signal has the number of one, and its range
-record IsNumber (signals : List Signal) (id : ℕ) (range : Option (ℕ × ℕ)) : Type 0 where
-  inside : id < length signals
-  range_is : (signal_at (map plain_signal signals) id).range ≡ range
+pub record IsNumber (signals : List Signal) (id : ℕ) (range : Option (ℕ × ℕ)) : Type 0 where
+  pub inside : id < length signals
+  pub range_is : (signal_at (map plain_signal signals) id).range ≡ range
 
-number_of : (signals : List Signal) (s : Names) (name : List ℕ) (id : ℕ) (range : Option (ℕ × ℕ)) (signed : Bool) → IsScope signals s → meant s name ≡ entity.Signal id range signed → IsNumber signals id range
+pub number_of : (signals : List Signal) (s : Names) (name : List ℕ) (id : ℕ) (range : Option (ℕ × ℕ)) (signed : Bool) → IsScope signals s → meant s name ≡ entity.Signal id range signed → IsNumber signals id range
 number_of signals s name id range signed h q =
     let k = subst (IsNamed 0 (map plain_signal signals)) q (entry_of (IsNamed 0 (map plain_signal signals)) s name (recursion_from_All (λ x. IsNamed 0 (map plain_signal signals) x.1) s h) tt) in
     let z : id - 0 ≡ id = omega arith in

@@ -16,7 +16,7 @@ use rr_bits::Bits;
 use rr_exec::{Machine, execute, merged, own_shape, write_pieces};
 use rr_expr::{Bit, Env, Shape, value};
 use rr_flat::{Driver, Flat, Side, Step};
-use rr_target::{Piece, add_pieces, push_piece};
+use rr_target::{Piece, add_pieces, named_bit, push_piece};
 use rr_wiring::{is_concatenation, own_bit};
 use std::alloc::AllocError;
 
@@ -123,24 +123,6 @@ fn drive(flat: &Flat, driver: &Driver, machine: &mut Machine) -> Result<(), Allo
     Ok(())
 }
 
-/// The bit at a place of the pieces, the last piece the lowest; `None` where there is none.
-fn bit_at(pieces: &[Piece], place: u32) -> Option<Bit>
-    requires few { length (all_bits pieces.now) ≤ 128 }
-    ensures { result ≡ get_or (all_bits pieces.now) place None }
-{
-    let mut from = 0;
-    let mut left = pieces.len();
-    while left > 0 {
-        left -= 1;
-        let piece = &pieces[left];
-        if place < from + piece.count {
-            return piece.bit(place - from);
-        }
-        from += piece.count;
-    }
-    None
-}
-
 /// A bit takes a value.
 fn set_bit(values: &mut Vec<u128>, bit: Bit, on: bool)
     requires signal { bit.signal < length values.old.items }
@@ -164,7 +146,7 @@ fn wire(flat: &Flat, driver: &Driver, place: u32, machine: &mut Machine) -> Resu
 {
     driven_pieces(&mut machine.pieces, flat, &driver.target, &machine.none)?;
     let on = driver_bit(flat, driver, &machine.env, place);
-    match bit_at(machine.pieces.as_slice(), place) {
+    match named_bit(machine.pieces.as_slice(), place) {
         Some(bit) => set_bit(&mut machine.env.values, bit, on),
         None => {}
     }

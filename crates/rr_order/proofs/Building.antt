@@ -21,7 +21,7 @@ pub record IsLaid (ws : List ℕ) (k : ℕ) (starts : List ℕ) (table : List Bi
 pub laid_none : (ws : List ℕ) → IsLaid ws 0 [] []
 laid_none ws = record { count = refl; starts_at = λ s l. absurd (omega arith); size = refl; few = omega arith; at = λ b i l. absurd (omega arith) }
 
-push_count : {A : Type 0} → (xs : List A) (y : A) → length (xs ++ y ∷ []) ≡ suc (length xs)
+pub push_count : {A : Type 0} → (xs : List A) (y : A) → length (xs ++ y ∷ []) ≡ suc (length xs)
 push_count xs y = omega (arith, length-append xs (y ∷ []))
 
 start_push : (ws starts : List ℕ) (k n : ℕ) → length starts ≡ k → n ≡ start_of ws k → ((s : ℕ) → s < k → get_or starts s 0 ≡ start_of ws s) → (s : ℕ) → s < suc k → get_or (starts ++ n ∷ []) s 0 ≡ start_of ws s

@@ -33,10 +33,9 @@ use Rattle.rr_flat.proofs.Bits.{missed, place_inside}
 use Rattle.rr_order.proofs.Designs.{step_added}
 use Rattle.rr_writers.specs.Assigned.{assigns}
 use Rattle.rr_order.proofs.Layouts.{node_once, node_below}
+use Rattle.rr_order.proofs.Inside.{same_get}
+use Rattle.rr_order.proofs.Building.{push_count}
 use Rattle.rr_order.proofs.Lists.{row_same, row_valid, row_written, written_same}
-
-push_count : {A : Type 0} → (xs : List A) (y : A) → length (xs ++ y ∷ []) ≡ suc (length xs)
-push_count xs y = omega (arith, length-append xs (y ∷ []))
 
 pub graph_added : (flat : Flat) (P Q : Step → Type 0) (steps : List Step) (s : Step) (rows new : List (Vec ℕ Global)) (row nodes : List ℕ) → IsStepGraph flat P steps rows → IsStep flat s → (P s → ⊥) → Q s → ((t : Step) → P t → Q t)
     → ((t : Step) → IsStep flat t → Q t → P t ⊎ (t ≡ s)) → IsRow (widths flat) (IsNamedBy flat s) row → IsWritten (widths flat) (IsWrittenBy flat s) nodes → Joined (map names_of rows ++ row ∷ []) (map names_of new) nodes (length rows)
@@ -238,11 +237,6 @@ all_steps flat (step.Wire k j) i = inl i.0
 all_steps flat (step.Block k) i = i
 
 -- what a flat design keeps
-
-same_get : {A : Type 0} → (xs : List A) (k : ℕ) (x d : A) → k < length xs → get_or xs k x ≡ get_or xs k d
-same_get [] k y d l = absurd (omega arith)
-same_get (x ∷ xs) zero y d l = refl
-same_get (x ∷ xs) (suc k) y d l = same_get xs k y d (omega arith)
 
 past_get : {A : Type 0} → (xs : List A) (k : ℕ) (d : A) → length xs ≤ k → get_or xs k d ≡ d
 past_get [] k d l = refl

@@ -21,33 +21,26 @@ use Rattle.rr_flat.specs.Targets.{has_bit, is_bit_of, bits_there, target_bits, t
 use Rattle.rr_flat.specs.Writers.{scope_at, signal_bits, entity_of_signal, taken, all_taken, nothing}
 use Rattle.rr_order.specs.Nodes.{IsBit, IsClosed, widths}
 use Rattle.rr_flat.proofs.Bits.{has_append, one_of_name, bits_of_name}
+use Rattle.rr_target.proofs.Runs.{of_is}
 
 -- a bit of what some name stands for
 abbrev pub Of : Names → Bit → Type 0
 Of s b = (name : List ℕ) × (is_bit_of (meant s name) b ≡ true)
 
-is_of : (e : Entity) (b : Bit) → IsBitOf e b → is_bit_of e b ≡ true
-is_of (Constant bits signed) b h = absurd h
-is_of (Signal id range signed) b h = and_from (nat_eq id b.signal) (nat_lt b.place (range_width range)) (eq-eqb id b.signal (sym h.0)) (lt b.place (range_width range) h.1)
-  where
-    lt : (a c : ℕ) → a < c → nat_lt a c ≡ true
-    lt a c l = grind arith
-is_of Instance b h = absurd h
-
 at_of : (k : Bool) (s : Names) (name : List ℕ) (from : ℤ) (n : ℕ) (index : Type 0) (b : Bit) → (index → Of s b) → NamesAt k (meant s name) from n index b → Of s b
-at_of true s name from n index b f h = (name, is_of (meant s name) b h.0)
-at_of false s name from n index b f (inl h) = (name, is_of (meant s name) b h)
+at_of true s name from n index b f h = (name, of_is (meant s name) b h.0)
+at_of false s name from n index b f (inl h) = (name, of_is (meant s name) b h)
 at_of false s name from n index b f (inr h) = f h
 
 mutual
   unfolding NamesBit
 
   pub named_of : (s : Names) (t : Tree) (b : Bit) → NamesBit s t b → Of s b
-  named_of s (Name token name) b h = (name, is_of (meant s name) b h)
+  named_of s (Name token name) b h = (name, of_is (meant s name) b h)
   named_of s (Literal token n) b h = absurd h
   named_of s (BitSelect token name i) b h =
       at_of (is_none (fault s i true)) s name (place (entity_range (meant s name)) (integer_with (form s i) (value s i nowhere))) 1 (NamesBit s i b) b (λ n. named_of s i b n) h
-  named_of s (Part token name l r) b h = (name, is_of (meant s name) b h.0)
+  named_of s (Part token name l r) b h = (name, of_is (meant s name) b h.0)
   named_of s (Indexed token name f n up) b h =
       at_of (is_none (fault s f true)) s name (lowest_place (entity_range (meant s name)) up (integer_with (form s f) (value s f nowhere)) (constant_count s n)) (constant_count s n) (NamesBit s f b) b (λ m. named_of s f b m) h
   named_of s (Unary op t) b h = named_of s t b h
@@ -211,7 +204,7 @@ meant_all P n (e ∷ es) h name = elim (cases_Bool (bytes_eq name e.0)) [
   | inr t ↦ rw t (meant_all P n es (λ i l. h (suc i) (omega arith)) name)
 ]
 
-same_get : {A : Type 0} → (xs : List A) (k : ℕ) (x d : A) → k < length xs → get_or xs k x ≡ get_or xs k d
+pub same_get : {A : Type 0} → (xs : List A) (k : ℕ) (x d : A) → k < length xs → get_or xs k x ≡ get_or xs k d
 same_get [] k y d l = absurd (omega arith)
 same_get (x ∷ xs) zero y d l = refl
 same_get (x ∷ xs) (suc k) y d l = same_get xs k y d (omega arith)

@@ -2,6 +2,7 @@
 use Rattle.std.proofs.Common.{◌≡◌, ℕ, zero, suc, ◌+◌, ◌-◌, ◌≤◌, ◌<◌, ◌⊎◌, inl, inr, List, [], ◌∷◌, length, get_or, ap, ◌∙◌, arith}
 use Rattle.std.proofs.lemmas.Bool.{cases_lt, cases_order}
 use Rattle.rr_expr.specs.declared.types.Bit.{Bit}
+use Rattle.rr_flat.proofs.Bits.{bit_eq}
 use Rattle.rr_order.specs.Nodes.{start_of, total, IsBit, bit_node}
 
 pub start_more : (ws : List ℕ) (s : ℕ) → s < length ws → start_of ws (suc s) ≡ start_of ws s + get_or ws s 0
@@ -28,15 +29,9 @@ node_before ws a b i j (inl l) =
     omega (arith, e, m, i.1)
 node_before ws a b i j (inr (e, l)) = let m = ap (start_of ws) e in omega (arith, m, l)
 
-abbrev made : ℕ → ℕ → Bit
-made s p = record { signal = s; place = p }
-
-same : (a b : Bit) → a.signal ≡ b.signal → a.place ≡ b.place → a ≡ b
-same a b p q = ap (λ (s : ℕ). made s a.place) p ∙ ap (made b.signal) q
-
 pub node_once : (ws : List ℕ) (a b : Bit) → IsBit ws a → IsBit ws b → bit_node ws a ≡ bit_node ws b → a ≡ b
 node_once ws a b i j e = elim (cases_order a.signal b.signal) [
-  | inl s ↦ let m = ap (start_of ws) s in same a b s (omega (arith, e, m))
+  | inl s ↦ let m = ap (start_of ws) s in bit_eq a b s (omega (arith, e, m))
   | inr s ↦ elim s [
     | inl l ↦ let n = node_before ws a b i j (inl l) in absurd (omega (arith, e, n))
     | inr l ↦ let n = node_before ws b a j i (inl l) in absurd (omega (arith, e, n))

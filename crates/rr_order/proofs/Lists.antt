@@ -10,7 +10,7 @@ use Rattle.rr_flat.specs.Signals.{no_signal}
 use Rattle.rr_flat.specs.View.{plain_signal}
 use Rattle.rr_flat.specs.View.{Design, plain_flat}
 use Rattle.rr_sort.specs.Graphs.{Graph, Names, named, names_of}
-use Rattle.rr_sort.proofs.Sorting.{get_old, get_new}
+use Rattle.rr_sort.proofs.Sorting.{get_old, get_new, get_take}
 use Rattle.rr_order.specs.Nodes.{IsBit, bit_node, signal_node, In, Fits, IsRow, IsWritten, Joined, Added, Covered, Stamped, widths}
 
 pub in_old : (xs : List ℕ) (y v : ℕ) → In v xs → In v (xs ++ y ∷ [])
@@ -119,12 +119,6 @@ row_written ws row P R h f g = record {
 }
 
 -- the first elements of a list
-
-get_take : (xs : List ℕ) (k i : ℕ) → i < k → get_or (take k xs) i 0 ≡ get_or xs i 0
-get_take xs zero i l = absurd (omega arith)
-get_take [] (suc k) i l = refl
-get_take (x ∷ xs) (suc k) zero l = refl
-get_take (x ∷ xs) (suc k) (suc i) l = get_take xs k i (omega arith)
 
 take_count : (xs : List ℕ) (k : ℕ) → k ≤ length xs → length (take k xs) ≡ k
 take_count xs zero l = refl

@@ -16,6 +16,7 @@ use Rattle.rr_order.specs.Loops.{AreOrdered, BitChain, IsLoop, step_token}
 use Rattle.rr_order.specs.Nodes.{IsBit, bit_node, total, widths, IsTable, IsNamedBy, IsWrittenBy, IsClosed, IsStepGraph, StepsTo, keep, steps_in, pick, bits_among, no_bit}
 use Rattle.rr_order.proofs.Designs.{graph_closed}
 use Rattle.rr_order.proofs.Layouts.{node_below}
+use Rattle.rr_order.proofs.Inside.{same_get}
 use Rattle.rr_order.proofs.Growing.{all_steps}
 use Rattle.rr_order.proofs.Naming.{step_between, names_by, unranked, written_there, named_there}
 use Rattle.rr_order.proofs.Rings.{Leads, Ring, IsRing, lowest_ring, second}
@@ -167,11 +168,6 @@ wire_number d k j i = omega (arith, i.0, length-map d.drivers plain_driver)
 pub block_number : (d : Design) (k : ℕ) → IsStep (plain_flat d) (step.Block k) → k < length d.combinational
 unfolding IsStep
 block_number d k i = omega (arith, i, length-map d.combinational plain_block)
-
-same_get : {A : Type 0} → (xs : List A) (k : ℕ) (x d : A) → k < length xs → get_or xs k x ≡ get_or xs k d
-same_get [] k y d l = absurd (omega arith)
-same_get (x ∷ xs) zero y d l = refl
-same_get (x ∷ xs) (suc k) y d l = same_get xs k y d (omega arith)
 
 pub steps_put : (first : ℕ) (steps : List Step) (order : List ℕ) (k : ℕ) (done : List Step) (z : Step) → k < length order → done ++ steps_in (step.Block 0) first steps (drop k order) ≡ steps_in (step.Block 0) first steps order
     → first ≤ get_or order k 0 → get_or order k 0 - first < length steps → (done ++ get_or steps (get_or order k 0 - first) z ∷ []) ++ steps_in (step.Block 0) first steps (drop (k + 1) order) ≡ steps_in (step.Block 0) first steps order

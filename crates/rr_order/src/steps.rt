@@ -23,7 +23,7 @@ pub(crate) fn graph_of(alloc: Global, flat: &Flat, layout: &Layout) -> Result<No
     ensures graph { IfOk result (λ n. IsStepGraph (plain_flat flat.now) (StepsTo (length flat.now.drivers) 0 (length flat.now.combinational)) n.steps.items n.rows.items) }
 {
     let mut nodes = without_steps(alloc, flat, layout)?;
-    let mut own = all_zero(alloc, layout.table.len())?;
+    let mut own = vec![in alloc; 0; layout.table.len()]?;
     for driver in 0..flat.drivers.len() {
         add_driver(alloc, flat, layout, &mut nodes, number_of(driver)?, &own)?;
     }
@@ -31,18 +31,6 @@ pub(crate) fn graph_of(alloc: Global, flat: &Flat, layout: &Layout) -> Result<No
         add_block(alloc, flat, layout, &mut nodes, number_of(block)?, &mut own)?;
     }
     Ok(nodes)
-}
-
-fn all_zero(alloc: Global, count: usize) -> Result<Vec<usize>, AllocError>
-    ensures count { IfOk result (λ r. length r.items ≡ count) }
-    ensures none { IfOk result (λ r. (i : ℕ) → get_or r.items i 0 ≡ 0) }
-{
-    let mut numbers = Vec::with_capacity(alloc, count)?;
-    for made in 0..count {
-        let _node = made;
-        numbers.push(0)?;
-    }
-    Ok(numbers)
 }
 
 /// The steps of a driver: one, or one for each bit of its target where it only wires.

@@ -1,4 +1,5 @@
 pub mod Runs
+pub mod Places
 pub mod Nodes
 pub mod Growing
 pub mod Naming

@@ -9,7 +9,7 @@ mod select;
 mod targets;
 mod writes;
 
-pub use piece::{Piece, push_piece};
+pub use piece::{Piece, named_bit, push_piece};
 pub use reads::{add_named_bits, add_target_reads};
 pub use select::no_values;
 pub use targets::{add_driven, add_pieces};

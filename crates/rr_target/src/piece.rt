@@ -1,5 +1,5 @@
 //! Runs of places of a signal.
-ghost use Rattle.std.specs.Prelude.{◌≡◌, ◌<◌, ◌≤◌, ◌++◌, ◌∷◌, [], OnOk, length, min, not, pos, ◌+ℤ◌, ◌&&◌, nat_eq, nat_lt};
+ghost use Rattle.std.specs.Prelude.{◌≡◌, ◌<◌, ◌≤◌, ◌++◌, ◌∷◌, [], None, OnOk, get_or, length, min, not, pos, ◌+ℤ◌, ◌&&◌, nat_eq, nat_lt};
 ghost use Rattle.rr_expr.specs.Selects.{count as at_least_zero};
 ghost use Rattle.rr_expr.specs.declared.types.Bit.{Bit as BitOfSignal};
 ghost use Rattle.rr_flat.specs.Signals.{signal_at};
@@ -102,4 +102,23 @@ pub fn push_piece(list: &mut Vec<Piece>, piece: Piece) -> Result<(), AllocError>
 {
     list.push(piece)?;
     Ok(())
+}
+
+/// The bit that a place of the pieces names, counted from the last piece's lowest one up; `None` where
+/// there is none.
+pub fn named_bit(pieces: &[Piece], place: u32) -> Option<Bit>
+    requires few { length (all_bits pieces.now) ≤ 128 }
+    ensures { result ≡ get_or (all_bits pieces.now) place None }
+{
+    let mut from = 0;
+    let mut left = pieces.len();
+    while left > 0 {
+        left -= 1;
+        let piece = &pieces[left];
+        if place < from + piece.count {
+            return piece.bit(place - from);
+        }
+        from += piece.count;
+    }
+    None
 }

@@ -12,10 +12,10 @@ use Rattle.rr_flat.specs.Targets.{bits_there}
 use Rattle.rr_choice.specs.Choices.{picked_form, picked_name}
 use Rattle.rr_instance.specs.Instances.{gate}
 use Rattle.rr_cycle.specs.Exec.{Environment, is_true, write}
-use Rattle.rr_machine.specs.declared.spots.Spot.{Spot}
-use Rattle.rr_machine.specs.Spots.{put_spots}
+use Rattle.rr_machine.specs.declared.guarded_pieces.GuardedPiece.{GuardedPiece}
+use Rattle.rr_machine.specs.GuardedPieces.{put_guarded_pieces}
 use Rattle.rr_machine.specs.Words.{carried, widths_of}
-use Rattle.rr_machine.proofs.SpotLaws.{put_spots-extends}
+use Rattle.rr_machine.proofs.GuardedPieceLaws.{put_guarded_pieces-extends}
 use Rattle.rr_machine.proofs.WordLaws.{count_of, width_at}
 use Rattle.rr_blast_stmt.specs.Running.{Values, held, stored}
 use Rattle.rr_blast_stmt.proofs.ArmLaws.{held-extends}
@@ -23,8 +23,8 @@ use Rattle.rr_blast_body.specs.Lasts.{last_pick}
 use Rattle.rr_blast_body.proofs.LastLaws.{last_made, last_of_constant, last_of_instance}
 use Rattle.rr_blast_body.proofs.lasts.run_last.Goals as goal
 
-pub whole_spots-requires-clause-there : goal.whole_spots-requires-clause-there
-whole_spots-requires-clause-there c =
+pub whole_guarded_pieces-requires-clause-there : goal.whole_guarded_pieces-requires-clause-there
+whole_guarded_pieces-requires-clause-there c =
     let h = c.requires.holds c.args.last.now.target.now c.in-Signal.id c.in-Signal.range c.in-Signal.signed (sym c.meaning.ensures ∙ c.in-Signal.is) in
     omega (arith, h.0, count_of c.args.machine.now.now.items, ap length c.as_slice-words.ensures.value)
 
@@ -64,14 +64,14 @@ returns-in_ok-store-in-Signal-clause-ran c = λ env.
     let vs : List Bool = wire_values n env c.args.bits.now in
     let v : Values = held n env c.args.machine.now in
     let x = c.in_ok-guard-in-Signal.ensures in
-    let spots = c.in_ok-spots-in-Signal.ensures in
+    let guarded_pieces = c.in_ok-guarded_pieces-in-Signal.ensures in
     let word = c.in_ok-word-in-Signal.ensures in
     let us : List Bool = wire_values m env c.as_slice-in-Signal.result.now in
     let bits : List (Option Bit) = bits_there (Signal id range signed) (pos 0) (range_width range) in
-    let put : (e : Environment) → put_spots m env c.as_slice.result.now us e ≡ write bits us e =
-    λ e. ap (λ (ps : List Spot). put_spots m env ps us e) c.as_slice.ensures.value
-    ∙ put_spots-extends n m env (widths_of words) c.in_ok-spots-in-Signal.spots.items us e x.extends spots.spots
-    ∙ spots.value range signed width env us e in
+    let put : (e : Environment) → put_guarded_pieces m env c.as_slice.result.now us e ≡ write bits us e =
+    λ e. ap (λ (ps : List GuardedPiece). put_guarded_pieces m env ps us e) c.as_slice.ensures.value
+    ∙ put_guarded_pieces-extends n m env (widths_of words) c.in_ok-guarded_pieces-in-Signal.guarded_pieces.items us e x.extends guarded_pieces.guarded_pieces
+    ∙ guarded_pieces.value range signed width env us e in
     c.in_ok-store-in-Signal.ensures.ran env bits put
     ∙ ap₂ (λ (g : Bool) (y : Values). cond g (stored last.at_once bits us y) y)
     (x.value env

@@ -17,8 +17,8 @@ use Rattle.rr_machine.proofs.NameLaws.{few_bits, none_bits}
 use Rattle.rr_meaning.proofs.Scoping.{signal_read}
 use Rattle.rr_blast_steps.proofs.wiring.driven_bit.Goals as goal
 
-pub named_at-bit-requires : goal.named_at-bit-requires
-named_at-bit-requires c =
+pub named_bit-bit-requires : goal.named_bit-bit-requires
+named_bit-bit-requires c =
     let d : Design = c.args.flat.now in
     let f : IsSound d = subst IsSound c.flat.view_is c.flat.invariant in
     let r = rw c.in-Text.is at c.requires in
@@ -36,7 +36,7 @@ returns-in_ok-add_pieces-in-Text-clause-bit c =
     let x : c.index.result.now ≡ scope_at (plain_flat d) c.in-Text.scope = scope_read d c.in-Text.scope c.index.result.now c.flat.inside.scopes.items r.0 c.index.ensures (ap (λ (z : Design). z.scopes) c.flat.view_is) in
     let e : all_bits c.as_slice.result.now ≡ target_bits c.index.result.now nowhere (plain c.in-Text.expr.now) =
     ap all_bits c.as_slice.ensures.value ∙ none_bits c.index.result.now (plain c.in-Text.expr.now) c.no_values-none.result.values.items c.new-pieces.result.items (all_bits c.add_pieces.new.list.items) c.no_values-none.ensures c.new-pieces.ensures.items c.in_ok-add_pieces-in-Text.ensures in
-    rw c.in-Text.is (c.named_at-bit.ensures ∙ ap (λ (bs : List (Option Bit)). get_or bs c.args.place None) (e ∙ ap (λ (s : Names). target_bits s nowhere (plain c.in-Text.expr.now)) x))
+    rw c.in-Text.is (c.named_bit-bit.ensures ∙ ap (λ (bs : List (Option Bit)). get_or bs c.args.place None) (e ∙ ap (λ (s : Names). target_bits s nowhere (plain c.in-Text.expr.now)) x))
 
 pub returns-in_ok-add_pieces-in-Text-clause-there : goal.returns-in_ok-add_pieces-in-Text-clause-there
 returns-in_ok-add_pieces-in-Text-clause-there c =
@@ -46,9 +46,9 @@ returns-in_ok-add_pieces-in-Text-clause-there c =
     let x : c.index.result.now ≡ scope_at (plain_flat d) c.in-Text.scope = scope_read d c.in-Text.scope c.index.result.now c.flat.inside.scopes.items r.0 c.index.ensures (ap (λ (z : Design). z.scopes) c.flat.view_is) in
     let e : all_bits c.as_slice.result.now ≡ target_bits c.index.result.now nowhere (plain c.in-Text.expr.now) =
     ap all_bits c.as_slice.ensures.value ∙ none_bits c.index.result.now (plain c.in-Text.expr.now) c.no_values-none.result.values.items c.new-pieces.result.items (all_bits c.add_pieces.new.list.items) c.no_values-none.ensures c.new-pieces.ensures.items c.in_ok-add_pieces-in-Text.ensures in
-    some_if c.named_at-bit.result (λ b. IsThere (signal_widths d.signals) b)
+    some_if c.named_bit-bit.result (λ b. IsThere (signal_widths d.signals) b)
     (λ b h. named_there c.index.result.now (signal_widths d.signals) nowhere (plain c.in-Text.expr.now) c.args.place b (scope_holds d c.index.result.now f (scope_is d c.in-Text.scope c.index.result.now f r.0 x))
-    (sym (ap (λ (bs : List (Option Bit)). get_or bs c.args.place None) e) ∙ sym c.named_at-bit.ensures ∙ h))
+    (sym (ap (λ (bs : List (Option Bit)). get_or bs c.args.place None) e) ∙ sym c.named_bit-bit.ensures ∙ h))
 
 pub returns-then-place-index-clause-bit : goal.returns-then-place-index-clause-bit
 unfolding driven_by

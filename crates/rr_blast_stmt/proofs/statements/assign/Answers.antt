@@ -10,10 +10,10 @@ use Rattle.rr_flat.specs.Targets.{target_bits}
 use Rattle.rr_choice.specs.declared.pick.Pick.{Pick}
 use Rattle.rr_instance.specs.Instances.{instance_tree}
 use Rattle.rr_cycle.specs.Exec.{Environment, assigned, write}
-use Rattle.rr_machine.specs.declared.spots.Spot.{Spot}
-use Rattle.rr_machine.specs.Spots.{put_spots}
+use Rattle.rr_machine.specs.declared.guarded_pieces.GuardedPiece.{GuardedPiece}
+use Rattle.rr_machine.specs.GuardedPieces.{put_guarded_pieces}
 use Rattle.rr_machine.specs.Words.{carried, widths_of}
-use Rattle.rr_machine.proofs.SpotLaws.{put_spots-extends}
+use Rattle.rr_machine.proofs.GuardedPieceLaws.{put_guarded_pieces-extends}
 use Rattle.rr_machine.proofs.WordLaws.{carried-extends}
 use Rattle.rr_blast_terms.specs.Choosing.{picks_of}
 use Rattle.rr_blast_terms.proofs.ChoiceLaws.{picks-extends}
@@ -24,7 +24,7 @@ use Rattle.rr_blast_stmt.proofs.statements.assign.Goals as goal
 
 pub returns-clause-ran : goal.returns-clause-ran
 returns-clause-ran c = λ env.
-    let x = c.in_ok-spots.ensures in
+    let x = c.in_ok-guarded_pieces.ensures in
     let y = c.in_ok-bits.ensures in
     let z = Extends-trans _ _ _ x.extends y.extends in
     let s = c.args.scope.now in
@@ -39,11 +39,11 @@ returns-clause-ran c = λ env.
     let vs : wire_values c.right_side.new.b env c.as_slice-2.result.now ≡ assigned s t e m =
     ap (wire_values c.right_side.new.b env) c.as_slice-2.ensures.value ∙ y.value env
     ∙ ap₂ (λ (ps : List Pick) (f : Environment). assigned s t (instance_tree ss ps (plain c.args.expr.now)) f)
-    (picks-extends c.args.b.now c.spots_of.new.b env c.args.choice.now x.extends c.requires.choice)
-    (ap (carried c.spots_of.new.b env) words ∙ carried-extends c.args.b.now c.spots_of.new.b env c.args.machine.now.now.items x.extends c.requires.machine.now) in
-    let put : (us : List Bool) (f : Environment) → put_spots c.right_side.new.b env c.as_slice.result.now us f ≡ write (target_bits s m t) us f =
-    λ us f. ap (λ (ps : List Spot). put_spots c.right_side.new.b env ps us f) c.as_slice.ensures.value
-    ∙ put_spots-extends c.spots_of.new.b c.right_side.new.b env (widths_of c.as_slice-words.result.now) c.in_ok-spots.spots.items us f y.extends x.spots
+    (picks-extends c.args.b.now c.guarded_pieces_of.new.b env c.args.choice.now x.extends c.requires.choice)
+    (ap (carried c.guarded_pieces_of.new.b env) words ∙ carried-extends c.args.b.now c.guarded_pieces_of.new.b env c.args.machine.now.now.items x.extends c.requires.machine.now) in
+    let put : (us : List Bool) (f : Environment) → put_guarded_pieces c.right_side.new.b env c.as_slice.result.now us f ≡ write (target_bits s m t) us f =
+    λ us f. ap (λ (ps : List GuardedPiece). put_guarded_pieces c.right_side.new.b env ps us f) c.as_slice.ensures.value
+    ∙ put_guarded_pieces-extends c.guarded_pieces_of.new.b c.right_side.new.b env (widths_of c.as_slice-words.result.now) c.in_ok-guarded_pieces.guarded_pieces.items us f y.extends x.guarded_pieces
     ∙ x.value env us f
     ∙ ap (λ (w : List (Vec Wire Global)). write (target_bits s (carried c.args.b.now env w) t) us f) words in
     c.in_ok-store.ensures.ran env (target_bits s m t) (put (wire_values c.right_side.new.b env c.as_slice-2.result.now))

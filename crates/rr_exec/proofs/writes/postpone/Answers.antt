@@ -2,7 +2,8 @@ use Rattle.std.proofs.Common.{◌≡◌, ◌+◌, ◌-◌, ◌<◌, ◌≤◌, a
 use Rattle.std.proofs.lemmas.List.Elements.{All-push}
 use Rattle.rr_cycle.specs.Exec.{applied}
 use Rattle.rr_exec.specs.Work.{IsLater, updates_in}
-use Rattle.rr_exec.proofs.Pieces.{applied_push, bits_left, count_more, count_none, no_piece, write_more, write_none}
+use Rattle.rr_target.proofs.Places.{bits_left, count_more, count_none, no_piece}
+use Rattle.rr_exec.proofs.Pieces.{applied_push, write_more, write_none}
 use Rattle.rr_exec.proofs.writes.postpone.Goals as goal
 
 pub loop-left-init : goal.loop-left-init

@@ -6,13 +6,14 @@ use Rattle.rr_expr.specs.Values.{nowhere}
 use Rattle.rr_cycle.specs.Exec.{Environment, write}
 use Rattle.rr_target.specs.declared.piece.Piece.{Piece}
 use Rattle.rr_target.specs.Pieces.{all_bits, bits_of}
-use Rattle.rr_exec.proofs.Pieces.{bits_left, count_more, count_none, write_more, write_none}
-use Rattle.rr_machine.specs.declared.spots.Spot.{Spot}
-use Rattle.rr_machine.specs.Spots.{IsSpot, put_spots}
+use Rattle.rr_target.proofs.Places.{bits_left, count_more, count_none}
+use Rattle.rr_exec.proofs.Pieces.{write_more, write_none}
+use Rattle.rr_machine.specs.declared.guarded_pieces.GuardedPiece.{GuardedPiece}
+use Rattle.rr_machine.specs.GuardedPieces.{IsGuardedPiece, put_guarded_pieces}
 use Rattle.rr_machine.specs.Words.{Fits}
 use Rattle.rr_machine.proofs.NameLaws.{drop_drop, none_bits, target_fits}
-use Rattle.rr_machine.proofs.SpotLaws.{put_spots-push}
-use Rattle.rr_machine.proofs.spots.add_fixed.Goals as goal
+use Rattle.rr_machine.proofs.GuardedPieceLaws.{put_guarded_pieces-push}
+use Rattle.rr_machine.proofs.guarded_pieces.add_fixed.Goals as goal
 
 pub loop-left-init : goal.loop-left-init
 loop-left-init c =
@@ -20,9 +21,9 @@ loop-left-init c =
     record {
       left = omega (arith, l);
       next = omega (arith, count_none c.add_pieces.new.list.items, ap (λ (k : ℕ). length (all_bits (drop k c.add_pieces.new.list.items))) l);
-      spots = λ widths f a. a;
-      value = λ env vs e. write_none c.add_pieces.new.list.items (drop c.args.from vs) (put_spots c.args.b.now env c.args.list.now.items vs e)
-          ∙ ap (λ (k : ℕ). write (all_bits (drop k c.add_pieces.new.list.items)) (drop c.args.from vs) (put_spots c.args.b.now env c.args.list.now.items vs e)) (sym l);
+      guarded_pieces = λ widths f a. a;
+      value = λ env vs e. write_none c.add_pieces.new.list.items (drop c.args.from vs) (put_guarded_pieces c.args.b.now env c.args.list.now.items vs e)
+          ∙ ap (λ (k : ℕ). write (all_bits (drop k c.add_pieces.new.list.items)) (drop c.args.from vs) (put_guarded_pieces c.args.b.now env c.args.list.now.items vs e)) (sym l);
     }
 
 pub overflow_add-next : goal.overflow_add-next
@@ -43,25 +44,25 @@ loop-left-preserved c =
     let l : c.loop-left.left - 1 < length ps = omega (arith, h.left) in
     let j : c.loop-left.left ≡ c.loop-left.left - 1 + 1 = omega arith in
     let m = count_more ps (c.loop-left.left - 1) c.loop-left.left (length (all_bits (drop c.loop-left.left ps))) p p l c.index-piece.ensures j refl in
-    let spot : Spot = record { piece = p; when = c.constant.result; from = c.loop-left.next } in
+    let guarded_piece : GuardedPiece = record { piece = p; when = c.constant.result; from = c.loop-left.next } in
     let e = none_bits c.args.scope.now (plain c.args.target.now) c.no_values-none.result.values.items c.new-pieces.result.items (all_bits ps) c.no_values-none.ensures c.new-pieces.ensures.items c.in_ok-add_pieces.ensures in
     record {
       left = omega (arith, h.left);
       next = omega (arith, m, h.next);
-      spots = λ widths f a.
-          rw c.in_ok-push_spot.ensures
-          (All-push (IsSpot c.args.b.now widths) c.loop-left.list.items spot (h.spots widths f a)
+      guarded_pieces = λ widths f a.
+          rw c.in_ok-push_guarded_piece.ensures
+          (All-push (IsGuardedPiece c.args.b.now widths) c.loop-left.list.items guarded_piece (h.guarded_pieces widths f a)
           (record {
             piece = rw c.index-piece.ensures (All-get_or (Fits widths) ps (c.loop-left.left - 1) p l f);
             when = c.constant.ensures.wire;
             from = omega (arith, bits_left ps c.loop-left.left, ap length e, c.requires.few, h.next);
           }));
       value = λ env vs d.
-          let o : Environment = put_spots c.args.b.now env c.args.list.now.items vs d in
-          rw c.in_ok-push_spot.ensures
-          (put_spots-push c.args.b.now env c.loop-left.list.items spot vs d
-          ∙ ap (λ (t : Bool). cond t (write (bits_of p) (drop c.loop-left.next vs) (put_spots c.args.b.now env c.loop-left.list.items vs d)) (put_spots c.args.b.now env c.loop-left.list.items vs d)) (c.constant.ensures.value env)
-          ∙ ap (λ (us : List Bool). write (bits_of p) us (put_spots c.args.b.now env c.loop-left.list.items vs d)) (ap (λ (k : ℕ). drop k vs) h.next ∙ drop_drop c.args.from (length (all_bits (drop c.loop-left.left ps))) vs)
+          let o : Environment = put_guarded_pieces c.args.b.now env c.args.list.now.items vs d in
+          rw c.in_ok-push_guarded_piece.ensures
+          (put_guarded_pieces-push c.args.b.now env c.loop-left.list.items guarded_piece vs d
+          ∙ ap (λ (t : Bool). cond t (write (bits_of p) (drop c.loop-left.next vs) (put_guarded_pieces c.args.b.now env c.loop-left.list.items vs d)) (put_guarded_pieces c.args.b.now env c.loop-left.list.items vs d)) (c.constant.ensures.value env)
+          ∙ ap (λ (us : List Bool). write (bits_of p) us (put_guarded_pieces c.args.b.now env c.loop-left.list.items vs d)) (ap (λ (k : ℕ). drop k vs) h.next ∙ drop_drop c.args.from (length (all_bits (drop c.loop-left.left ps))) vs)
           ∙ write_more ps (c.loop-left.left - 1) c.loop-left.left (length (all_bits (drop c.loop-left.left ps))) p p (drop c.args.from vs) o _ _ l c.index-piece.ensures j refl (h.value env vs d) refl);
     }
 
@@ -69,13 +70,13 @@ pub returns-clause-value : goal.returns-clause-value
 returns-clause-value c = λ env vs e.
     let z : c.loop-left.left ≡ 0 = omega (arith, c.loop-left-test.false) in
     c.loop-left.invariant.value env vs e
-    ∙ ap (λ (bs : List (Option Bit)). write bs (drop c.args.from vs) (put_spots c.args.b.now env c.args.list.now.items vs e))
+    ∙ ap (λ (bs : List (Option Bit)). write bs (drop c.args.from vs) (put_guarded_pieces c.args.b.now env c.args.list.now.items vs e))
     (ap (λ (k : ℕ). all_bits (drop k c.add_pieces.new.list.items)) z
     ∙ none_bits c.args.scope.now (plain c.args.target.now) c.no_values-none.result.values.items c.new-pieces.result.items (all_bits c.add_pieces.new.list.items) c.no_values-none.ensures c.new-pieces.ensures.items c.in_ok-add_pieces.ensures)
 
-pub returns-clause-spots : goal.returns-clause-spots
-returns-clause-spots c = λ widths h a.
-    c.loop-left.invariant.spots widths
+pub returns-clause-guarded_pieces : goal.returns-clause-guarded_pieces
+returns-clause-guarded_pieces c = λ widths h a.
+    c.loop-left.invariant.guarded_pieces widths
     (target_fits c.args.scope.now widths nowhere (plain c.args.target.now) c.add_pieces.new.list.items h
     (none_bits c.args.scope.now (plain c.args.target.now) c.no_values-none.result.values.items c.new-pieces.result.items (all_bits c.add_pieces.new.list.items) c.no_values-none.ensures c.new-pieces.ensures.items c.in_ok-add_pieces.ensures)) a
 

@@ -20,28 +20,28 @@ use Rattle.rr_target.proofs.Runs.{covers_in, has_in, has_there, signal_run}
 use Rattle.rr_cycle.specs.Exec.{Environment, rest, write}
 use Rattle.rr_cycle.proofs.Writes.{write_outside}
 use Rattle.rr_machine.proofs.RunLaws.{same_if}
-use Rattle.rr_machine.specs.declared.spots.Spot.{Spot}
-use Rattle.rr_machine.specs.Spots.{AreSpots, IsSpot, put_spot, put_spots}
+use Rattle.rr_machine.specs.declared.guarded_pieces.GuardedPiece.{GuardedPiece}
+use Rattle.rr_machine.specs.GuardedPieces.{AreGuardedPieces, IsGuardedPiece, put_guarded_piece, put_guarded_pieces}
 use Rattle.rr_machine.specs.Words.{Fits}
 
-pub AreSpots-extends : (old new : Netlist) (widths : List ℕ) (ps : List Spot) → Extends old new → AreSpots old widths ps → AreSpots new widths ps
-AreSpots-extends old new widths ps e h k d l = let s = h k d l in record { piece = s.piece; when = e.wires _ s.when; from = s.from }
+pub AreGuardedPieces-extends : (old new : Netlist) (widths : List ℕ) (ps : List GuardedPiece) → Extends old new → AreGuardedPieces old widths ps → AreGuardedPieces new widths ps
+AreGuardedPieces-extends old new widths ps e h k d l = let s = h k d l in record { piece = s.piece; when = e.wires _ s.when; from = s.from }
 
-pub put_spots-extends : (old new : Netlist) (env : ℕ → Bool) (widths : List ℕ) (ps : List Spot) (vs : List Bool) (e : Environment) → Extends old new → AreSpots old widths ps → put_spots new env ps vs e ≡ put_spots old env ps vs e
-unfolding put_spots
-put_spots-extends old new env widths [] vs e x h = refl
-put_spots-extends old new env widths (p ∷ ps) vs e x h =
-    ap (λ (t : Bool). put_spots new env ps vs (cond t (write (bits_of p.piece) (drop p.from vs) e) e)) (x.values env p.when (All-head (IsSpot old widths) p ps h).when)
-    ∙ put_spots-extends old new env widths ps vs (put_spot old env p vs e) x (All-tail (IsSpot old widths) p ps h)
+pub put_guarded_pieces-extends : (old new : Netlist) (env : ℕ → Bool) (widths : List ℕ) (ps : List GuardedPiece) (vs : List Bool) (e : Environment) → Extends old new → AreGuardedPieces old widths ps → put_guarded_pieces new env ps vs e ≡ put_guarded_pieces old env ps vs e
+unfolding put_guarded_pieces
+put_guarded_pieces-extends old new env widths [] vs e x h = refl
+put_guarded_pieces-extends old new env widths (p ∷ ps) vs e x h =
+    ap (λ (t : Bool). put_guarded_pieces new env ps vs (cond t (write (bits_of p.piece) (drop p.from vs) e) e)) (x.values env p.when (All-head (IsGuardedPiece old widths) p ps h).when)
+    ∙ put_guarded_pieces-extends old new env widths ps vs (put_guarded_piece old env p vs e) x (All-tail (IsGuardedPiece old widths) p ps h)
 
-pub put_spots-append : (n : Netlist) (env : ℕ → Bool) (ps qs : List Spot) (vs : List Bool) (e : Environment) → put_spots n env (ps ++ qs) vs e ≡ put_spots n env qs vs (put_spots n env ps vs e)
-unfolding put_spots
-put_spots-append n env [] qs vs e = refl
-put_spots-append n env (p ∷ ps) qs vs e = put_spots-append n env ps qs vs (put_spot n env p vs e)
+pub put_guarded_pieces-append : (n : Netlist) (env : ℕ → Bool) (ps qs : List GuardedPiece) (vs : List Bool) (e : Environment) → put_guarded_pieces n env (ps ++ qs) vs e ≡ put_guarded_pieces n env qs vs (put_guarded_pieces n env ps vs e)
+unfolding put_guarded_pieces
+put_guarded_pieces-append n env [] qs vs e = refl
+put_guarded_pieces-append n env (p ∷ ps) qs vs e = put_guarded_pieces-append n env ps qs vs (put_guarded_piece n env p vs e)
 
-pub put_spots-push : (n : Netlist) (env : ℕ → Bool) (ps : List Spot) (p : Spot) (vs : List Bool) (e : Environment) → put_spots n env (ps ++ p ∷ []) vs e ≡ put_spot n env p vs (put_spots n env ps vs e)
-unfolding put_spots
-put_spots-push n env ps p vs e = put_spots-append n env ps (p ∷ []) vs e
+pub put_guarded_pieces-push : (n : Netlist) (env : ℕ → Bool) (ps : List GuardedPiece) (p : GuardedPiece) (vs : List Bool) (e : Environment) → put_guarded_pieces n env (ps ++ p ∷ []) vs e ≡ put_guarded_piece n env p vs (put_guarded_pieces n env ps vs e)
+unfolding put_guarded_pieces
+put_guarded_pieces-push n env ps p vs e = put_guarded_pieces-append n env ps (p ∷ []) vs e
 
 -- the lowest place is one of the first that are tried
 abbrev pub window : ℤ → ℕ → ℕ → Bool
@@ -99,24 +99,24 @@ window_all id range signed at count k vs e l = elim (cases_Bool (window at count
 
 -- the runs that are left, with one of them put
 
-put_cons : (n : Netlist) (env : ℕ → Bool) (ps : List Spot) (i : ℕ) (p d : Spot) (vs : List Bool) (e : Environment) → i < length ps → p ≡ get_or ps i d → put_spots n env (drop i ps) vs e ≡ put_spots n env (drop (i + 1) ps) vs (put_spot n env p vs e)
-unfolding put_spots
+put_cons : (n : Netlist) (env : ℕ → Bool) (ps : List GuardedPiece) (i : ℕ) (p d : GuardedPiece) (vs : List Bool) (e : Environment) → i < length ps → p ≡ get_or ps i d → put_guarded_pieces n env (drop i ps) vs e ≡ put_guarded_pieces n env (drop (i + 1) ps) vs (put_guarded_piece n env p vs e)
+unfolding put_guarded_pieces
 put_cons n env ps i p d vs e l q =
     let s : suc i ≡ i + 1 = omega arith in
-    ap (λ (xs : List Spot). put_spots n env xs vs e) (drop-cons ps i d l ∙ ap (λ (y : Spot). y ∷ drop (suc i) ps) (sym q)) ∙ ap (λ (k : ℕ). put_spots n env (drop k ps) vs (put_spot n env p vs e)) s
+    ap (λ (xs : List GuardedPiece). put_guarded_pieces n env xs vs e) (drop-cons ps i d l ∙ ap (λ (y : GuardedPiece). y ∷ drop (suc i) ps) (sym q)) ∙ ap (λ (k : ℕ). put_guarded_pieces n env (drop k ps) vs (put_guarded_piece n env p vs e)) s
 
-pub put_left : (n : Netlist) (env : ℕ → Bool) (g w : Bool) (ps : List Spot) (i : ℕ) (p d : Spot) (vs : List Bool) (e f : Environment) (r : Environment) → i < length ps → p ≡ get_or ps i d → w ≡ wire_value n env p.when →
-    f ≡ cond (g && w) (write (bits_of p.piece) (drop p.from vs) e) e → cond g (put_spots n env (drop i ps) vs e) e ≡ r → cond g (put_spots n env (drop (i + 1) ps) vs f) f ≡ r
+pub put_left : (n : Netlist) (env : ℕ → Bool) (g w : Bool) (ps : List GuardedPiece) (i : ℕ) (p d : GuardedPiece) (vs : List Bool) (e f : Environment) (r : Environment) → i < length ps → p ≡ get_or ps i d → w ≡ wire_value n env p.when →
+    f ≡ cond (g && w) (write (bits_of p.piece) (drop p.from vs) e) e → cond g (put_guarded_pieces n env (drop i ps) vs e) e ≡ r → cond g (put_guarded_pieces n env (drop (i + 1) ps) vs f) f ≡ r
 put_left n env true w ps i p d vs e f r l q h k z =
-    ap (λ (x : Environment). put_spots n env (drop (i + 1) ps) vs x) (k ∙ ap (λ (t : Bool). cond t (write (bits_of p.piece) (drop p.from vs) e) e) h) ∙ sym (put_cons n env ps i p d vs e l q) ∙ z
+    ap (λ (x : Environment). put_guarded_pieces n env (drop (i + 1) ps) vs x) (k ∙ ap (λ (t : Bool). cond t (write (bits_of p.piece) (drop p.from vs) e) e) h) ∙ sym (put_cons n env ps i p d vs e l q) ∙ z
 put_left n env false w ps i p d vs e f r l q h k z = k ∙ z
 
-pub put_done : (n : Netlist) (env : ℕ → Bool) (g : Bool) (ps : List Spot) (i : ℕ) (vs : List Bool) (e r : Environment) → length ps ≤ i → cond g (put_spots n env (drop i ps) vs e) e ≡ r → e ≡ r
-unfolding put_spots
-put_done n env g ps i vs e r l z = same_if g e (put_spots n env (drop i ps) vs e) (ap (λ (xs : List Spot). put_spots n env xs vs e) (sym (drop_all i ps l))) ∙ z
+pub put_done : (n : Netlist) (env : ℕ → Bool) (g : Bool) (ps : List GuardedPiece) (i : ℕ) (vs : List Bool) (e r : Environment) → length ps ≤ i → cond g (put_guarded_pieces n env (drop i ps) vs e) e ≡ r → e ≡ r
+unfolding put_guarded_pieces
+put_done n env g ps i vs e r l z = same_if g e (put_guarded_pieces n env (drop i ps) vs e) (ap (λ (xs : List GuardedPiece). put_guarded_pieces n env xs vs e) (sym (drop_all i ps l))) ∙ z
 
-abbrev pub no_spot : Spot
-no_spot = record { piece = record { signal = 0; width = 0; from = pos 0; count = 0 }; when = record { 0 = 0 }; from = 0 }
+abbrev pub no_guarded_piece : GuardedPiece
+no_guarded_piece = record { piece = record { signal = 0; width = 0; from = pos 0; count = 0 }; when = record { 0 = 0 }; from = 0 }
 
 -- the run of a signal at a place
 
@@ -141,6 +141,6 @@ unfolding bits_there write
 none_of_instance at zero vs e = refl
 none_of_instance at (suc n) vs e = none_of_instance (at +ℤ pos 1) n (rest vs) e
 
-pub no_spots : (n : Netlist) (env : ℕ → Bool) (ps : List Spot) (vs : List Bool) (e : Environment) → ps ≡ [] → put_spots n env ps vs e ≡ e
-unfolding put_spots
-no_spots n env ps vs e h = ap (λ (qs : List Spot). put_spots n env qs vs e) h
+pub no_guarded_pieces : (n : Netlist) (env : ℕ → Bool) (ps : List GuardedPiece) (vs : List Bool) (e : Environment) → ps ≡ [] → put_guarded_pieces n env ps vs e ≡ e
+unfolding put_guarded_pieces
+no_guarded_pieces n env ps vs e h = ap (λ (qs : List GuardedPiece). put_guarded_pieces n env qs vs e) h

@@ -1,6 +1,6 @@
 use Rattle.std.proofs.Common.{◌≡◌, ◌≤◌, drop, length}
 use Rattle.rr_target.specs.Pieces.{all_bits}
-use Rattle.rr_blast_steps.proofs.wiring.named_at.Given as goal
+use Rattle.rr_target.proofs.piece.named_bit.Given as goal
 
 abbrev pub invariant-loop-left : goal.invariant-loop-left
 invariant-loop-left l = record {

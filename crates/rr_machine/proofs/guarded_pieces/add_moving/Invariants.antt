@@ -6,19 +6,19 @@ use Rattle.rr_expr.specs.Scopes.{entity_range, range_width}
 use Rattle.rr_expr.specs.Selects.{lowest_place}
 use Rattle.rr_flat.specs.Targets.{bits_there}
 use Rattle.rr_cycle.specs.Exec.{Environment, write}
-use Rattle.rr_machine.specs.Spots.{AreSpots, put_spots}
-use Rattle.rr_machine.proofs.SpotLaws.{window}
-use Rattle.rr_machine.proofs.spots.add_moving.Given as goal
+use Rattle.rr_machine.specs.GuardedPieces.{AreGuardedPieces, put_guarded_pieces}
+use Rattle.rr_machine.proofs.GuardedPieceLaws.{window}
+use Rattle.rr_machine.proofs.guarded_pieces.add_moving.Given as goal
 
 abbrev pub invariant-loop-k : goal.invariant-loop-k
 invariant-loop-k l = record {
   extends : Extends l.fn.b l.b;
   low : 1 ≤ l.k;
-  spots : (widths : List ℕ) → l.run.signal < length widths → get_or widths l.run.signal 0 ≡ range_width l.run.range → AreSpots l.fn.b widths l.fn.list.items → AreSpots l.b widths l.list.items;
-  value : (signed : Bool) (widths : List ℕ) → l.run.signal < length widths → get_or widths l.run.signal 0 ≡ range_width l.run.range → AreSpots l.fn.b widths l.fn.list.items → (env : ℕ → Bool) (vs : List Bool) (e : Environment) →
-      put_spots l.b env l.list.items vs e
+  guarded_pieces : (widths : List ℕ) → l.run.signal < length widths → get_or widths l.run.signal 0 ≡ range_width l.run.range → AreGuardedPieces l.fn.b widths l.fn.list.items → AreGuardedPieces l.b widths l.list.items;
+  value : (signed : Bool) (widths : List ℕ) → l.run.signal < length widths → get_or widths l.run.signal 0 ≡ range_width l.run.range → AreGuardedPieces l.fn.b widths l.fn.list.items → (env : ℕ → Bool) (vs : List Bool) (e : Environment) →
+      put_guarded_pieces l.b env l.list.items vs e
       ≡ cond (window (lowest_place (entity_range (Signal l.run.signal l.run.range signed)) l.run.up (reading l.run.signed (wire_values l.fn.b env l.run.index.now)) l.run.count) l.run.count l.k)
       (write (bits_there (Signal l.run.signal l.run.range signed) (lowest_place (entity_range (Signal l.run.signal l.run.range signed)) l.run.up (reading l.run.signed (wire_values l.fn.b env l.run.index.now)) l.run.count) l.run.count)
-      (drop l.run.from vs) (put_spots l.fn.b env l.fn.list.items vs e))
-      (put_spots l.fn.b env l.fn.list.items vs e);
+      (drop l.run.from vs) (put_guarded_pieces l.fn.b env l.fn.list.items vs e))
+      (put_guarded_pieces l.fn.b env l.fn.list.items vs e);
 }

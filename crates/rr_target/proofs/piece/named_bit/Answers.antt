@@ -1,7 +1,6 @@
 use Rattle.std.proofs.Common.{◌≡◌, ◌+◌, ◌-◌, ◌<◌, ◌∙◌, arith, length, refl, get_or}
-use Rattle.rr_exec.proofs.Pieces.{bits_left, count_more, count_none, no_piece}
-use Rattle.rr_meaning.proofs.Placing.{piece_hit}
-use Rattle.rr_meaning.proofs.steps.bit_at.Goals as goal
+use Rattle.rr_target.proofs.Places.{bits_left, count_more, count_none, no_piece, piece_hit}
+use Rattle.rr_target.proofs.piece.named_bit.Goals as goal
 
 pub loop-left-init : goal.loop-left-init
 loop-left-init c = record { from = count_none c.args.pieces.now; below = omega arith; left = omega arith }

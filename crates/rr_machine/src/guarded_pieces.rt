@@ -1,4 +1,4 @@
-//! Runs of places that an assignment may write, on wires (IEEE 1364-2005 sections 5.2.1, 6.1 and 9.2).
+//! Pieces that an assignment may write, on wires (IEEE 1364-2005 sections 5.2.1, 6.1 and 9.2).
 ghost use Rattle.std.specs.Prelude.{◌≡◌, ◌≤◌, ◌<◌, ◌+◌, ◌++◌, ◌∷◌, [], ℕ, Bool, false, None, List, Option, pos, ◌+ℤ◌, IfOk, OnOk, cond, drop, get_or, length};
 ghost use Rattle.rr_circuit.specs.Values.{Extends, IsWire, AreWires, wire_value, wire_values};
 ghost use Rattle.rr_bits.specs.Words.{reading};
@@ -11,7 +11,7 @@ ghost use Rattle.rr_expr.specs.Values.{nowhere};
 ghost use Rattle.rr_flat.specs.Targets.{bits_there, target_bits};
 ghost use Rattle.rr_target.specs.Pieces.{bits_of};
 ghost use Rattle.rr_cycle.specs.Exec.{Environment, write};
-ghost use Rattle.rr_machine.specs.Spots.{AreSpots, put_spots};
+ghost use Rattle.rr_machine.specs.GuardedPieces.{AreGuardedPieces, put_guarded_pieces};
 ghost use Rattle.rr_machine.specs.Words.{AreWords, Fits, Holds, carried, widths_of};
 
 use crate::words::{bit_at, set_wire, wire_at};
@@ -22,10 +22,10 @@ use rr_target::{Piece, add_pieces, no_values};
 use rr_word_gates::names_place;
 use std::alloc::{AllocError, Global};
 
-/// A run of places that a target may name, the wire that says whether it does, and the place of a
-/// word from which its bits come.
+/// A piece that a target may name, the wire that says whether it does, and the place of a word from
+/// which its bits come.
 #[derive(Clone, Copy)]
-pub struct Spot {
+pub struct GuardedPiece {
     pub piece: Piece,
     pub when: Wire,
     pub from: u32,
@@ -33,7 +33,7 @@ pub struct Spot {
 
 // Writing
 
-/// The place of a word from which a run's place comes, where the run begins at `start`.
+/// The place of a word from which a piece's place comes, where the piece begins at `start`.
 fn source(from: u32, place: u32, start: i64) -> usize
     requires from { from ≤ 128 }
     requires reach { (j : ℕ) × ((j < 4294967296) × (start +ℤ pos j ≡ pos place)) }
@@ -42,31 +42,31 @@ fn source(from: u32, place: u32, start: i64) -> usize
     (from as i64 + (place as i64 - start)) as usize
 }
 
-/// The bits of a run take those of a word from a place up, where the guard is true.
+/// The bits of a piece take those of a word from a place up, where the guard is true.
 fn put_run(
     b: &mut Builder,
     words: &mut Vec<Vec<Wire>>,
-    spot: &Spot,
+    guarded_piece: &GuardedPiece,
     bits: &[Wire],
     guard: Wire,
 ) -> Result<(), AllocError>
     requires guard { IsWire b.old guard }
     requires bits { AreWires b.old bits.now }
     requires words { AreWords b.old words.old.items }
-    requires fits { Fits (widths_of words.old.items) spot.now.piece }
-    requires from { spot.now.from ≤ 128 }
+    requires fits { Fits (widths_of words.old.items) guarded_piece.now.piece }
+    requires from { guarded_piece.now.from ≤ 128 }
     ensures extends { Extends b.old b.new }
     ensures words { OnOk result (AreWords b.new words.new.items) }
     ensures widths { OnOk result (widths_of words.new.items ≡ widths_of words.old.items) }
     ensures value { OnOk result ((env : ℕ → Bool) → carried b.new env words.new.items
-        ≡ cond (wire_value b.old env guard) (write (bits_of spot.now.piece) (drop spot.now.from (wire_values b.old env bits.now)) (carried b.old env words.old.items)) (carried b.old env words.old.items)) }
+        ≡ cond (wire_value b.old env guard) (write (bits_of guarded_piece.now.piece) (drop guarded_piece.now.from (wire_values b.old env bits.now)) (carried b.old env words.old.items)) (carried b.old env words.old.items)) }
 {
-    let piece = spot.piece;
+    let piece = guarded_piece.piece;
     let (low, high) = piece.range();
     if low >= high {
         return Ok(());
     }
-    let first = source(spot.from, low, piece.from);
+    let first = source(guarded_piece.from, low, piece.from);
     for place in low..high {
         let bit = Bit {
             signal: piece.signal,
@@ -80,37 +80,40 @@ fn put_run(
     Ok(())
 }
 
-/// The bits of all runs take those of a word, where the guard is true.
+/// The bits of all pieces take those of a word, where the guard is true.
 pub fn put_all(
     b: &mut Builder,
     words: &mut Vec<Vec<Wire>>,
-    spots: &[Spot],
+    guarded_pieces: &[GuardedPiece],
     bits: &[Wire],
     guard: Wire,
 ) -> Result<(), AllocError>
     requires guard { IsWire b.old guard }
     requires bits { AreWires b.old bits.now }
     requires words { AreWords b.old words.old.items }
-    requires spots { AreSpots b.old (widths_of words.old.items) spots.now }
+    requires guarded_pieces { AreGuardedPieces b.old (widths_of words.old.items) guarded_pieces.now }
     ensures extends { Extends b.old b.new }
     ensures words { OnOk result (AreWords b.new words.new.items) }
     ensures widths { OnOk result (widths_of words.new.items ≡ widths_of words.old.items) }
     ensures value { OnOk result ((env : ℕ → Bool) → carried b.new env words.new.items
-        ≡ cond (wire_value b.old env guard) (put_spots b.old env spots.now (wire_values b.old env bits.now) (carried b.old env words.old.items)) (carried b.old env words.old.items)) }
+        ≡ cond (wire_value b.old env guard) (put_guarded_pieces b.old env guarded_pieces.now (wire_values b.old env bits.now) (carried b.old env words.old.items)) (carried b.old env words.old.items)) }
 {
-    for spot in spots.iter() {
-        let here = b.and(guard, spot.when)?;
-        put_run(b, words, spot, bits, here)?;
+    for guarded_piece in guarded_pieces.iter() {
+        let here = b.and(guard, guarded_piece.when)?;
+        put_run(b, words, guarded_piece, bits, here)?;
     }
     Ok(())
 }
 
 // Naming
 
-pub fn push_spot(list: &mut Vec<Spot>, spot: Spot) -> Result<(), AllocError>
-    ensures { OnOk result (list.new.items ≡ list.old.items ++ spot ∷ []) }
+pub fn push_guarded_piece(
+    list: &mut Vec<GuardedPiece>,
+    guarded_piece: GuardedPiece,
+) -> Result<(), AllocError>
+    ensures { OnOk result (list.new.items ≡ list.old.items ++ guarded_piece ∷ []) }
 {
-    list.push(spot)?;
+    list.push(guarded_piece)?;
     Ok(())
 }
 
@@ -118,7 +121,7 @@ pub fn push_spot(list: &mut Vec<Spot>, spot: Spot) -> Result<(), AllocError>
 pub fn add_fixed(
     alloc: Global,
     b: &Builder,
-    list: &mut Vec<Spot>,
+    list: &mut Vec<GuardedPiece>,
     target: &Expr,
     scope: &Scope,
     from: u32,
@@ -126,9 +129,9 @@ pub fn add_fixed(
     requires shaped { fault scope.now (plain target.now) false ≡ None }
     requires few { from + length (target_bits scope.now nowhere (plain target.now)) ≤ 128 }
     ensures next { IfOk result (λ r. r ≡ from + length (target_bits scope.now nowhere (plain target.now))) }
-    ensures spots { OnOk result ((widths : List ℕ) → Holds scope.now widths → AreSpots b.now widths list.old.items → AreSpots b.now widths list.new.items) }
+    ensures guarded_pieces { OnOk result ((widths : List ℕ) → Holds scope.now widths → AreGuardedPieces b.now widths list.old.items → AreGuardedPieces b.now widths list.new.items) }
     ensures value { OnOk result ((env : ℕ → Bool) (vs : List Bool) (e : Environment) →
-        put_spots b.now env list.new.items vs e ≡ write (target_bits scope.now nowhere (plain target.now)) (drop from vs) (put_spots b.now env list.old.items vs e)) }
+        put_guarded_pieces b.now env list.new.items vs e ≡ write (target_bits scope.now nowhere (plain target.now)) (drop from vs) (put_guarded_pieces b.now env list.old.items vs e)) }
 {
     let none = no_values(alloc);
     let mut pieces = Vec::new(alloc);
@@ -138,12 +141,12 @@ pub fn add_fixed(
     while left > 0 {
         left -= 1;
         let piece = pieces[left];
-        let spot = Spot {
+        let guarded_piece = GuardedPiece {
             piece,
             when: b.constant(true),
             from: next,
         };
-        push_spot(list, spot)?;
+        push_guarded_piece(list, guarded_piece)?;
         next += piece.count;
     }
     Ok(next)
@@ -187,8 +190,12 @@ pub struct Moving<'a> {
     pub from: u32,
 }
 
-/// The bits that a select names, a run for each place at which they may begin.
-pub fn add_moving(b: &mut Builder, list: &mut Vec<Spot>, run: &Moving) -> Result<(), AllocError>
+/// The bits that a select names, a piece for each place at which they may begin.
+pub fn add_moving(
+    b: &mut Builder,
+    list: &mut Vec<GuardedPiece>,
+    run: &Moving,
+) -> Result<(), AllocError>
     requires width { range_width run.now.range ≤ 128 }
     requires some { 1 ≤ run.now.count }
     requires count { run.now.count ≤ 128 }
@@ -197,11 +204,11 @@ pub fn add_moving(b: &mut Builder, list: &mut Vec<Spot>, run: &Moving) -> Result
     requires low { 1 ≤ length run.now.index.now }
     requires high { length run.now.index.now ≤ 128 }
     ensures extends { Extends b.old b.new }
-    ensures spots { OnOk result ((widths : List ℕ) → run.now.signal < length widths → get_or widths run.now.signal 0 ≡ range_width run.now.range → AreSpots b.old widths list.old.items → AreSpots b.new widths list.new.items) }
-    ensures value { OnOk result ((signed : Bool) (widths : List ℕ) → run.now.signal < length widths → get_or widths run.now.signal 0 ≡ range_width run.now.range → AreSpots b.old widths list.old.items → (env : ℕ → Bool) (vs : List Bool) (e : Environment) →
-        put_spots b.new env list.new.items vs e
+    ensures guarded_pieces { OnOk result ((widths : List ℕ) → run.now.signal < length widths → get_or widths run.now.signal 0 ≡ range_width run.now.range → AreGuardedPieces b.old widths list.old.items → AreGuardedPieces b.new widths list.new.items) }
+    ensures value { OnOk result ((signed : Bool) (widths : List ℕ) → run.now.signal < length widths → get_or widths run.now.signal 0 ≡ range_width run.now.range → AreGuardedPieces b.old widths list.old.items → (env : ℕ → Bool) (vs : List Bool) (e : Environment) →
+        put_guarded_pieces b.new env list.new.items vs e
         ≡ write (bits_there (entity.Signal run.now.signal run.now.range signed) (lowest_place (entity_range (entity.Signal run.now.signal run.now.range signed)) run.now.up (reading run.now.signed (wire_values b.old env run.now.index.now)) run.now.count) run.now.count)
-        (drop run.now.from vs) (put_spots b.old env list.old.items vs e)) }
+        (drop run.now.from vs) (put_guarded_pieces b.old env list.old.items vs e)) }
 {
     let width = width_of(run.range);
     let bounds = bounds_of(run.range);
@@ -215,28 +222,28 @@ pub fn add_moving(b: &mut Builder, list: &mut Vec<Spot>, run: &Moving) -> Result
             from: low,
             count: run.count,
         };
-        let spot = Spot {
+        let guarded_piece = GuardedPiece {
             piece,
             when,
             from: run.from,
         };
-        push_spot(list, spot)?;
+        push_guarded_piece(list, guarded_piece)?;
     }
     Ok(())
 }
 
 /// All bits of a signal of at most 128.
-pub fn whole_spots(
+pub fn whole_guarded_pieces(
     alloc: Global,
     b: &Builder,
     id: u32,
     words: &[Vec<Wire>],
-) -> Result<Vec<Spot>, AllocError>
+) -> Result<Vec<GuardedPiece>, AllocError>
     requires there { id < length words.now }
     requires narrow { get_or (widths_of words.now) id 0 ≤ 128 }
-    ensures spots { IfOk result (λ r. AreSpots b.now (widths_of words.now) r.items) }
+    ensures guarded_pieces { IfOk result (λ r. AreGuardedPieces b.now (widths_of words.now) r.items) }
     ensures value { IfOk result (λ r. (range : Option (ℕ × ℕ)) (signed : Bool) → get_or (widths_of words.now) id 0 ≡ range_width range → (env : ℕ → Bool) (vs : List Bool) (e : Environment) →
-        put_spots b.now env r.items vs e ≡ write (bits_there (entity.Signal id range signed) (pos 0) (range_width range)) vs e) }
+        put_guarded_pieces b.now env r.items vs e ≡ write (bits_there (entity.Signal id range signed) (pos 0) (range_width range)) vs e) }
 {
     let width = words[id as usize].len() as u32;
     let piece = Piece {
@@ -246,12 +253,12 @@ pub fn whole_spots(
         count: width,
     };
     let when = b.constant(true);
-    let spot = Spot {
+    let guarded_piece = GuardedPiece {
         piece,
         when,
         from: 0,
     };
     let mut list = Vec::new(alloc);
-    push_spot(&mut list, spot)?;
+    push_guarded_piece(&mut list, guarded_piece)?;
     Ok(list)
 }

@@ -10,12 +10,12 @@ use Rattle.rr_flat.specs.Targets.{bits_there}
 use Rattle.rr_cycle.specs.Exec.{Environment, write}
 use Rattle.rr_target.specs.declared.piece.Piece.{Piece}
 use Rattle.rr_target.specs.Pieces.{bits_of}
-use Rattle.rr_machine.specs.declared.spots.Spot.{Spot}
-use Rattle.rr_machine.specs.Spots.{IsSpot, put_spots}
+use Rattle.rr_machine.specs.declared.guarded_pieces.GuardedPiece.{GuardedPiece}
+use Rattle.rr_machine.specs.GuardedPieces.{IsGuardedPiece, put_guarded_pieces}
 use Rattle.rr_machine.specs.Words.{widths_of}
-use Rattle.rr_machine.proofs.SpotLaws.{no_spots, put_spots-push, signal_fits, signal_piece}
+use Rattle.rr_machine.proofs.GuardedPieceLaws.{no_guarded_pieces, put_guarded_pieces-push, signal_fits, signal_piece}
 use Rattle.rr_machine.proofs.WordLaws.{count_of, width_at}
-use Rattle.rr_machine.proofs.spots.whole_spots.Goals as goal
+use Rattle.rr_machine.proofs.guarded_pieces.whole_guarded_pieces.Goals as goal
 
 pub overflow_cast-width : goal.overflow_cast-width
 overflow_cast-width c =
@@ -23,14 +23,14 @@ overflow_cast-width c =
     let w : get_or (widths_of c.args.words.now) c.args.id 0 ≡ length v.items = width_at c.args.words.now c.args.id v c.requires.there ∙ sym (ap (λ (u : Vec Wire Global). length u.items) c.index-words-id.is) in
     omega (arith, w, c.len-width.ensures, c.requires.narrow, v.ok.0)
 
-pub returns-clause-spots : goal.returns-clause-spots
-returns-clause-spots c =
+pub returns-clause-guarded_pieces : goal.returns-clause-guarded_pieces
+returns-clause-guarded_pieces c =
     let v : Vec Wire Global = c.index-words-id.result in
     let w : get_or (widths_of c.args.words.now) c.args.id 0 ≡ length v.items = width_at c.args.words.now c.args.id v c.requires.there ∙ sym (ap (λ (u : Vec Wire Global). length u.items) c.index-words-id.is) in
     let e : c.len-width.result ≡ length v.items = omega (arith, c.len-width.ensures, v.ok.0) in
     let piece : Piece = record { signal = c.args.id; width = c.len-width.result; from = pos 0; count = c.len-width.result } in
-    rw c.in_ok-push_spot.ensures
-    (All-push (IsSpot c.args.b.now (widths_of c.args.words.now)) c.new-list.result.items (record { piece = piece; when = c.constant-when.result; from = 0 })
+    rw c.in_ok-push_guarded_piece.ensures
+    (All-push (IsGuardedPiece c.args.b.now (widths_of c.args.words.now)) c.new-list.result.items (record { piece = piece; when = c.constant-when.result; from = 0 })
     (λ k d l. absurd (omega (arith, l, ap length c.new-list.ensures.items)))
     (record {
       piece = signal_fits (widths_of c.args.words.now) piece (omega (arith, c.requires.there, count_of c.args.words.now)) (w ∙ sym e);
@@ -45,11 +45,11 @@ returns-clause-value c = λ range signed q env vs d.
     let e : c.len-width.result ≡ length v.items = omega (arith, c.len-width.ensures, v.ok.0) in
     let r : c.len-width.result ≡ range_width range = e ∙ sym w ∙ q in
     let piece : Piece = record { signal = c.args.id; width = c.len-width.result; from = pos 0; count = c.len-width.result } in
-    let spot : Spot = record { piece = piece; when = c.constant-when.result; from = 0 } in
-    let o : Environment = put_spots c.args.b.now env c.new-list.result.items vs d in
-    rw c.in_ok-push_spot.ensures
-    (put_spots-push c.args.b.now env c.new-list.result.items spot vs d
+    let guarded_piece : GuardedPiece = record { piece = piece; when = c.constant-when.result; from = 0 } in
+    let o : Environment = put_guarded_pieces c.args.b.now env c.new-list.result.items vs d in
+    rw c.in_ok-push_guarded_piece.ensures
+    (put_guarded_pieces-push c.args.b.now env c.new-list.result.items guarded_piece vs d
     ∙ ap (λ (t : Bool). cond t (write (bits_of piece) vs o) o) (c.constant-when.ensures.value env)
     ∙ ap₂ (λ (bs : List (Option Bit)) (u : Environment). write bs vs u)
     (signal_piece c.args.id range signed c.len-width.result (pos 0) c.len-width.result r ∙ ap (bits_there (Signal c.args.id range signed) (pos 0)) r)
-    (no_spots c.args.b.now env c.new-list.result.items vs d c.new-list.ensures.items))
+    (no_guarded_pieces c.args.b.now env c.new-list.result.items vs d c.new-list.ensures.items))

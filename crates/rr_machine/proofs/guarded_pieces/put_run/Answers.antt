@@ -10,21 +10,21 @@ use Rattle.rr_target.specs.Pieces.{bits_of}
 use Rattle.rr_machine.specs.Words.{carried, widths_of}
 use Rattle.rr_machine.proofs.RunLaws.{cast_from, first_in, part, part_all, part_empty, part_more, part_none, same_if, there_in}
 use Rattle.rr_machine.proofs.WordLaws.{AreWords-extends, carried-extends, put_guarded}
-use Rattle.rr_machine.proofs.spots.put_run.Goals as goal
+use Rattle.rr_machine.proofs.guarded_pieces.put_run.Goals as goal
 
 pub returns-then-low-high-clause-value : goal.returns-then-low-high-clause-value
 returns-then-low-high-clause-value c = λ env.
     let e : Environment = carried c.args.b.now env c.args.words.now.items in
     same_if (wire_value c.args.b.now env c.args.guard) e
-    (write (bits_of c.args.spot.now.piece) (drop c.args.spot.now.from (wire_values c.args.b.now env c.args.bits.now)) e)
-    (part_empty c.args.spot.now.piece c.range-low.result.0 c.range-low.result.1 (drop c.args.spot.now.from (wire_values c.args.b.now env c.args.bits.now)) e c.range-low.ensures.covered c.if-low-high.true)
+    (write (bits_of c.args.guarded_piece.now.piece) (drop c.args.guarded_piece.now.from (wire_values c.args.b.now env c.args.bits.now)) e)
+    (part_empty c.args.guarded_piece.now.piece c.range-low.result.0 c.range-low.result.1 (drop c.args.guarded_piece.now.from (wire_values c.args.b.now env c.args.bits.now)) e c.range-low.ensures.covered c.if-low-high.true)
 
 pub source-first-requires-clause-reach : goal.source-first-requires-clause-reach
 source-first-requires-clause-reach c =
-    let k : c.args.spot.now.piece.count < 4294967296 = omega arith in
+    let k : c.args.guarded_piece.now.piece.count < 4294967296 = omega arith in
     let m : c.range-low.result.0 < 4294967296 = omega (arith, c.range-low.ensures.within) in
-    let r = first_in c.args.spot.now.piece c.range-low.result.0 c.range-low.result.1 c.range-low.ensures.covered c.if-low-high.false k in
-    (r.0, (r.1.0, cast_from c.args.spot.now.piece.from r.0 c.range-low.result.0 r.1.0 m r.1.1))
+    let r = first_in c.args.guarded_piece.now.piece c.range-low.result.0 c.range-low.result.1 c.range-low.ensures.covered c.if-low-high.false k in
+    (r.0, (r.1.0, cast_from c.args.guarded_piece.now.piece.from r.0 c.range-low.result.0 r.1.0 m r.1.1))
 
 pub loop-place-init : goal.loop-place-init
 loop-place-init c = record {
@@ -34,15 +34,15 @@ loop-place-init c = record {
   widths = refl;
   value = λ env.
       let e : Environment = carried c.args.b.now env c.args.words.now.items in
-      same_if (wire_value c.args.b.now env c.args.guard) e _ (sym (part_none c.args.spot.now.piece.signal c.range-low.result.0 c.source-first.result (wire_values c.args.b.now env c.args.bits.now) e));
+      same_if (wire_value c.args.b.now env c.args.guard) e _ (sym (part_none c.args.guarded_piece.now.piece.signal c.range-low.result.0 c.source-first.result (wire_values c.args.b.now env c.args.bits.now) e));
 }
 
 pub overflow_add-first : goal.overflow_add-first
 overflow_add-first c =
-    let k : c.args.spot.now.piece.count < 4294967296 = omega arith in
+    let k : c.args.guarded_piece.now.piece.count < 4294967296 = omega arith in
     let m : c.range-low.result.0 < 4294967296 = omega (arith, c.range-low.ensures.within) in
-    let r = first_in c.args.spot.now.piece c.range-low.result.0 c.range-low.result.1 c.range-low.ensures.covered c.if-low-high.false k in
-    let f = c.source-first.ensures r.0 (cast_from c.args.spot.now.piece.from r.0 c.range-low.result.0 r.1.0 m r.1.1) in
+    let r = first_in c.args.guarded_piece.now.piece c.range-low.result.0 c.range-low.result.1 c.range-low.ensures.covered c.if-low-high.false k in
+    let f = c.source-first.ensures r.0 (cast_from c.args.guarded_piece.now.piece.from r.0 c.range-low.result.0 r.1.0 m r.1.1) in
     omega (arith, f, r.1.0, c.requires.from)
 
 pub bit_at-new-requires : goal.bit_at-new-requires
@@ -51,12 +51,12 @@ bit_at-new-requires c = AreWires-extends c.args.b.now c.loop-place.b c.args.bits
 pub wire_at-old-requires : goal.wire_at-old-requires
 wire_at-old-requires c =
     rw (c.as_slice.ensures.value, c.loop-place.invariant.widths)
-    (there_in (widths_of c.args.words.now.items) c.args.spot.now.piece c.range-low.result.0 c.range-low.result.1 c.loop-place.place c.range-low.ensures.covered c.requires.fits c.loop-place.invariant.low c.loop-place-test.true)
+    (there_in (widths_of c.args.words.now.items) c.args.guarded_piece.now.piece c.range-low.result.0 c.range-low.result.1 c.loop-place.place c.range-low.ensures.covered c.requires.fits c.loop-place.invariant.low c.loop-place-test.true)
 
 pub set_wire-requires : goal.set_wire-requires
 set_wire-requires c =
     rw (c.loop-place.invariant.widths)
-    (there_in (widths_of c.args.words.now.items) c.args.spot.now.piece c.range-low.result.0 c.range-low.result.1 c.loop-place.place c.range-low.ensures.covered c.requires.fits c.loop-place.invariant.low c.loop-place-test.true)
+    (there_in (widths_of c.args.words.now.items) c.args.guarded_piece.now.piece c.range-low.result.0 c.range-low.result.1 c.loop-place.place c.range-low.ensures.covered c.requires.fits c.loop-place.invariant.low c.loop-place-test.true)
 
 pub mux-requires-clause-no : goal.mux-requires-clause-no
 mux-requires-clause-no c = c.wire_at-old.ensures.wire c.loop-place.b (rw c.as_slice.ensures.value c.loop-place.invariant.words)
@@ -75,9 +75,9 @@ loop-place-preserved c =
       widths = c.set_wire.ensures.widths ∙ h.widths;
       value = λ env.
           let g : Bool = wire_value c.args.b.now env c.args.guard in
-          let p : Environment = part c.args.spot.now.piece.signal c.range-low.result.0 c.loop-place.place c.source-first.result (wire_values c.args.b.now env c.args.bits.now) (carried c.args.b.now env c.args.words.now.items) in
+          let p : Environment = part c.args.guarded_piece.now.piece.signal c.range-low.result.0 c.loop-place.place c.source-first.result (wire_values c.args.b.now env c.args.bits.now) (carried c.args.b.now env c.args.words.now.items) in
           let e : Environment = carried c.args.b.now env c.args.words.now.items in
-          let bit : Bit = record { signal = c.args.spot.now.piece.signal; place = c.loop-place.place } in
+          let bit : Bit = record { signal = c.args.guarded_piece.now.piece.signal; place = c.loop-place.place } in
           let v : Bool = get_or (wire_values c.args.b.now env c.args.bits.now) (c.source-first.result + (c.loop-place.place - c.range-low.result.0)) false in
           let w : wire_value c.mux.new.self env c.in_ok-wire.wire ≡ cond g v ((cond g p e) bit) =
           x.value env
@@ -88,18 +88,18 @@ loop-place-preserved c =
           c.set_wire.ensures.value c.mux.new.self env
           ∙ ap₂ (λ (b : Bool) (f : Environment). put bit b f) w (carried-extends c.loop-place.b c.mux.new.self env c.loop-place.words.items x.extends h.words ∙ h.value env)
           ∙ put_guarded g bit v p e
-          ∙ ap (λ (f : Environment). cond g f e) (part_more c.args.spot.now.piece.signal c.range-low.result.0 c.loop-place.place c.source-first.result (wire_values c.args.b.now env c.args.bits.now) e h.low);
+          ∙ ap (λ (f : Environment). cond g f e) (part_more c.args.guarded_piece.now.piece.signal c.range-low.result.0 c.loop-place.place c.source-first.result (wire_values c.args.b.now env c.args.bits.now) e h.low);
     }
 
 pub returns-clause-value : goal.returns-clause-value
 returns-clause-value c = λ env.
-    let k : c.args.spot.now.piece.count < 4294967296 = omega arith in
+    let k : c.args.guarded_piece.now.piece.count < 4294967296 = omega arith in
     let m : c.range-low.result.0 < 4294967296 = omega (arith, c.range-low.ensures.within) in
-    let r = first_in c.args.spot.now.piece c.range-low.result.0 c.range-low.result.1 c.range-low.ensures.covered c.if-low-high.false k in
-    let f = c.source-first.ensures r.0 (cast_from c.args.spot.now.piece.from r.0 c.range-low.result.0 r.1.0 m r.1.1) in
+    let r = first_in c.args.guarded_piece.now.piece c.range-low.result.0 c.range-low.result.1 c.range-low.ensures.covered c.if-low-high.false k in
+    let f = c.source-first.ensures r.0 (cast_from c.args.guarded_piece.now.piece.from r.0 c.range-low.result.0 r.1.0 m r.1.1) in
     let e : Environment = carried c.args.b.now env c.args.words.now.items in
     let z : c.loop-place.place ≡ c.range-low.result.1 = omega (arith, c.loop-place-test.false, c.loop-place.auto.place-end) in
     c.loop-place.invariant.value env
     ∙ ap (λ (f : Environment). cond (wire_value c.args.b.now env c.args.guard) f e)
-    (ap (λ (q : ℕ). part c.args.spot.now.piece.signal c.range-low.result.0 q c.source-first.result (wire_values c.args.b.now env c.args.bits.now) e) z
-    ∙ part_all c.args.spot.now.piece c.range-low.result.0 c.range-low.result.1 c.source-first.result c.args.spot.now.from (wire_values c.args.b.now env c.args.bits.now) e c.range-low.ensures.covered c.if-low-high.false r.0 r.1.1 f)
+    (ap (λ (q : ℕ). part c.args.guarded_piece.now.piece.signal c.range-low.result.0 q c.source-first.result (wire_values c.args.b.now env c.args.bits.now) e) z
+    ∙ part_all c.args.guarded_piece.now.piece c.range-low.result.0 c.range-low.result.1 c.source-first.result c.args.guarded_piece.now.from (wire_values c.args.b.now env c.args.bits.now) e c.range-low.ensures.covered c.if-low-high.false r.0 r.1.1 f)
