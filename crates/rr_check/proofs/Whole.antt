@@ -1,16 +1,16 @@
 -- verdicts on whole proofs
-use Rattle.std.proofs.Common.{◌≡◌, ◌⊎◌, inl, inr, ℕ, ◌+◌, ◌-◌, ◌<◌, ◌≤◌, List, [], ◌∷◌, length, slice_index_or, refl, sym, ◌∙◌, ap, subst, arith}
+use Rattle.std.proofs.Common.{◌≡◌, ◌⊎◌, inl, inr, ℕ, ◌-◌, ◌<◌, ◌≤◌, List, [], length, slice_index_or, refl, ◌∙◌, ap, subst, arith}
 use Rattle.std.specs.Prelude.{Contains, Result, Ok, Err, IfOk}
 use Rattle.std.specs.declared.alloc.AllocError.{AllocError}
 use Rattle.std.proofs.lemmas.List.{get_or_default}
 use Rattle.std.proofs.lemmas.Bool.{cases_lt}
 use Rattle.rr_cnf.specs.Clauses.{Literal, IsUnsatisfiable}
-use Rattle.rr_derive.specs.Derive.{Step, PassesAt, Derives, Refutes}
+use Rattle.rr_derive.specs.Derive.{Step, Derives}
 use Rattle.rr_derive.proofs.Soundness.{unsatisfiable}
 use Rattle.rr_check.specs.declared.verdict.Verdict.{Verdict}
 use Rattle.rr_check.specs.declared.verdict.Verdict.TheVariants.{Accepted, Line, NoEmptyClause}
 use Rattle.rr_check.specs.Verdicts.{IsLeastFailing, NoneIsEmpty, VerdictIs}
-use Rattle.rr_check.specs.Parts.{PassIn, HasEmptyIn, NoneEmptyIn, FailsIn, VerdictOn}
+use Rattle.rr_check.specs.Parts.{PassIn, HasEmptyIn, NoneEmptyIn, VerdictOn}
 
 module _ (cs : List (List Literal)) (lines : List Step) where
   no_step : Step

@@ -10,12 +10,11 @@ ghost use Rattle.rr_check.specs.Verdicts.{VerdictIs};
 
 mod laws;
 mod part;
-#[cfg(test)]
-mod tests;
 mod verdict;
 
 pub use laws::one_verdict;
-use part::{check_parts, parts_of};
+use part::check_parts;
+pub use part::{Part, parts_of};
 use rr_cnf::Formula;
 use rr_derive::Journal;
 use std::alloc::{AllocError, Global};

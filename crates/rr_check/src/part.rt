@@ -9,10 +9,10 @@ use rr_derive::{Journal, Line, Workspace, check_line};
 use std::alloc::{AllocError, Global};
 
 /// Lines that follow one another, counted from 0: from `start` on, and before `end`.
-#[derive(Clone, Copy)]
-pub(crate) struct Part {
-    pub(crate) start: u64,
-    pub(crate) end: u64,
+#[derive(Debug, Clone, Copy, PartialEq, Eq)]
+pub struct Part {
+    pub start: u64,
+    pub end: u64,
 }
 
 /// How much work the check of a line takes: a look at each hint. No clause speaks of it.
@@ -43,8 +43,8 @@ fn end_of(lines: &[Line], start: u64, share: u64) -> u64
     lines.len() as u64
 }
 
-/// The lines in at most `workers` parts of about equal work.
-pub(crate) fn parts_of(alloc: Global, lines: &[Line], workers: u32) -> Result<Vec<Part>, AllocError>
+/// The lines in at most `workers` parts that follow one another, of about equally many hints.
+pub fn parts_of(alloc: Global, lines: &[Line], workers: u32) -> Result<Vec<Part>, AllocError>
     requires { 1 ≤ workers }
     ensures count { IfOk result (λ parts. length parts.items ≤ workers) }
     ensures parts { IfOk result (λ parts. All (IsPartOf lines.now) parts.items) }

@@ -1,15 +1,17 @@
 -- clauses with the numbers of their places
-use Rattle.std.proofs.Common.{◌≡◌, inl, inr, ℕ, ◌+◌, ◌-◌, ◌<◌, List, [], ◌∷◌, ◌++◌, length, get_or, take, sym, ◌∙◌, ap, subst, arith}
+use Rattle.std.proofs.Common.{◌≡◌, ◌⊎◌, inl, inr, ℕ, ◌+◌, ◌-◌, ◌<◌, List, [], ◌∷◌, ◌++◌, length, get_or, take, sym, ◌∙◌, ap, subst, arith}
 use Rattle.std.specs.Prelude.{All, Some, None, slice_get}
 use Rattle.std.proofs.lemmas.List.{take_more, length-take-le, length-map, get_or-map}
-use Rattle.std.proofs.lemmas.List.Elements.{All-nil, All-cons}
+use Rattle.std.proofs.lemmas.List.Elements.{All-nil, All-cons, All-contains, Contains-get_or}
 use Rattle.std.proofs.lemmas.Option.{slice_get-get_or, get_or_from_slice_get}
 use Rattle.std.proofs.lemmas.Bool.{cases_lt}
 use Rattle.rr_cnf.specs.Clauses.{Clauses, Literal, IsWithin}
-use Rattle.rr_watch.specs.Watches.{Numbered, Named, AreHeld, numbered_from}
+use Rattle.rr_cnf.specs.Codes.{code_of}
+use Rattle.rr_watch.specs.WatchLists.{IsListed}
+use Rattle.rr_watch.specs.Watches.{IsPair, Numbered, Named, AreHeld, numbered_from}
 use Rattle.rr_watch.specs.Holdings.{Adds, all_numbered, held_at, numbered}
 use Rattle.rr_watch.specs.declared.propagator.Propagator.{Propagator}
-use Rattle.rr_watch.specs.Lists.{Whole}
+use Rattle.rr_watch.specs.Lists.{IsLong, Whole, first_of, list_at, second_of}
 use Rattle.rr_trail.proofs.EntryLaws.{All-from_contains}
 use Rattle.rr_watch.proofs.HandLaws.{numbered_length, numbered_push}
 use Rattle.rr_watch.specs.declared.hand.Source.TheVariants.{OfFormula}
@@ -68,6 +70,33 @@ one_clause p w k id c b e m =
 
 pub no_clause : (p : Propagator) (id : ℕ) (c : List Literal) → ((k : ℕ) → k < length p.hand.held → (held_at p.hand.held k).id ≡ id → ⊥) → Named (all_numbered p.hand.held) id c → ⊥
 no_clause p id c f m = let j = named_place p.hand.held id c m in f j.0 j.1.0 j.1.1
+
+-- a clause of two literals is in the lists of both
+module _ (p : Propagator) (w : Whole p) (l : Literal) where
+  listed_some : (k : ℕ) (m : Literal) → m ≡ l → IsListed (list_at p.lists (code_of m)).entries k → 0 < length (list_at p.lists (code_of l)).entries
+  listed_some k m e i = subst (λ x. 0 < length (list_at p.lists (code_of x)).entries) e (omega (arith, i.1.0.1))
+
+  both_watched : (k : ℕ) → IsPair l (held_at p.hand.held k).clause → IsLong p.trail.entries p.lists p.head p.late k (held_at p.hand.held k) → 0 < length (list_at p.lists (code_of l)).entries
+  both_watched k i g =
+      let h = held_at p.hand.held k in
+      let one = All-contains (λ m. (m ≡ l) ⊎ (m ≡ i.other)) h.clause (first_of h) i.no_third (Contains-get_or h.clause h.first _ g.placed.first) in
+      let two = All-contains (λ m. (m ≡ l) ⊎ (m ≡ i.other)) h.clause (second_of h) i.no_third (Contains-get_or h.clause h.second _ g.placed.second) in
+      elim one [
+        | inl e ↦ listed_some k (first_of h) e g.first_listed
+        | inr e ↦ elim two [
+          | inl f ↦ listed_some k (second_of h) f g.second_listed
+          | inr f ↦ absurd (g.differ (e ∙ sym f))
+        ]
+      ]
+
+  pub pair_watched : (id : ℕ) (c : List Literal) → Named (all_numbered p.hand.held) id c → IsPair l c → 0 < length (list_at p.lists (code_of l)).entries
+  pair_watched id c n i =
+      let k = named_place p.hand.held id c n in
+      let j = subst (IsPair l) (sym k.1.2) i in
+      elim (w.keeps k.0 k.1.0) [
+        | inl g ↦ both_watched k.0 j g
+        | inr s ↦ absurd (j.apart (s.alike l j.other j.has_one j.has_other))
+      ]
 
 -- the first clauses of a formula
 pub record Loaded (f : Clauses) (p : Propagator) (i : ℕ) : Type 0 where

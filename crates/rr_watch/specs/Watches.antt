@@ -24,6 +24,14 @@ abbrev pub numbered_from : ℕ → List (List Literal) → List Numbered
 numbered_from n [] = []
 numbered_from n (c ∷ cs) = record { id = n; clause = c } ∷ numbered_from (n + 1) cs
 
+-- the clause has this literal and one other, and no third
+pub record IsPair (l : Literal) (c : List Literal) : Type 0 where
+  pub other : Literal
+  pub apart : l ≡ other → ⊥
+  pub has_one : Contains c l
+  pub has_other : Contains c other
+  pub no_third : All (λ m. (m ≡ l) ⊎ (m ≡ other)) c
+
 -- clauses over the variables 1 to vars, and a trail with as many decisions as depth says
 pub record State : Type 0 where
   pub vars : ℕ

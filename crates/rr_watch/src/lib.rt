@@ -10,6 +10,3 @@ mod watch;
 mod watchers;
 
 pub use watch::{Propagated, Watch};
-
-#[cfg(test)]
-mod tests;

@@ -2,7 +2,7 @@
 ghost use Rattle.std.specs.Prelude.{◌≡◌, ℕ, ◌+◌, ◌<◌, ◌≤◌, ◌++◌, ◌∷◌, [], All, Contains, length, List, take, IfOk, IfSome, IfNone, MatchBool, MatchOption, OnErr, OnOk, Option, Some, None};
 ghost use Rattle.rr_cnf.specs.Clauses.{IsWithin, Literal, negated};
 ghost use Rattle.rr_trail.specs.Trails.{AreForced, Entry, Grown, IsTrail, Reason, decisions, entry, lits};
-ghost use Rattle.rr_watch.specs.Watches.{AreHeld, IsBack, MayAdd, Named, Numbered, PropagatedIs, numbered_from};
+ghost use Rattle.rr_watch.specs.Watches.{AreHeld, IsBack, IsPair, MayAdd, Named, Numbered, PropagatedIs, numbered_from};
 
 use crate::hand::Source;
 use crate::propagator::Propagator;
@@ -27,7 +27,7 @@ pub enum Propagated {
 /// it, so that several watches share one.
 #[derive(Drop)]
 pub struct Watch<'f> {
-    pub(crate) propagator: Propagator<'f>,
+    propagator: Propagator<'f>,
     /// Where a clause came last, as many literals of the trail have been seen by the clauses before it.
     ahead: Option<usize>,
 }
@@ -171,6 +171,15 @@ impl<'f> Watch<'f> {
         ensures forced { (k : ℕ) → k < length self.now.trail → (entry self.now.trail k).lit ≡ lit → IfSome result (Reason (Named self.now.clauses) self.now.trail k) }
     {
         self.propagator.trail.reason(lit)
+    }
+
+    /// The number of clauses that watch a literal. Where a clause has this literal and one other, and no
+    /// third, it is among them.
+    pub fn watchers(&self, lit: Lit) -> usize
+        requires { IsWithin self.now.vars lit }
+        ensures { (id : ℕ) (c : List Literal) → Named self.now.clauses id c → IsPair lit c → 0 < result }
+    {
+        self.propagator.lists.len(lit)
     }
 
     /// The clause with this id; `None` exactly where there is none.

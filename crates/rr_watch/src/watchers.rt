@@ -76,9 +76,9 @@ impl Watcher {
 /// Where the list of a literal lies in the table of all.
 #[derive(Clone, Copy)]
 pub(crate) struct Span {
-    pub(crate) start: u32,
+    start: u32,
     /// The number of clauses in the list.
-    pub(crate) len: u32,
+    len: u32,
     /// The number of clauses that it has room for.
     room: u32,
     /// The number of clauses that have the literal.
@@ -90,8 +90,8 @@ pub(crate) struct Span {
 #[derive(Drop)]
 pub(crate) struct WatchLists {
     /// The lists with their room, and where a list was before it moved.
-    pub(crate) entries: Vec<Watcher>,
-    pub(crate) spans: Vec<Span>,
+    entries: Vec<Watcher>,
+    spans: Vec<Span>,
 }
 
 impl Model for WatchLists {

@@ -1,9 +1,8 @@
-use Rattle.std.proofs.Common.{rules, ◌≡◌, ◌<◌, ◌*◌, ◌+◌, ◌∙◌, ◌/◌, ◌%◌, ℕ, min, subst, sym, ap, arith, length, slice_index_or, IfOk, take, drop}
+use Rattle.std.proofs.Common.{rules, ◌≡◌, ◌<◌, ◌*◌, ℕ, subst, sym, arith, length, slice_index_or, IfOk, take, drop}
 use Rattle.std.specs.Prelude.{Result, All}
 use Rattle.std.specs.declared.alloc.AllocError.{AllocError}
 use Rattle.rr_check.specs.declared.part.Part.{Part}
 use Rattle.rr_check.specs.declared.verdict.Verdict.{Verdict}
-use Rattle.rr_check.specs.Verdicts.{VerdictIs}
 use Rattle.rr_check.specs.Parts.{Covers, VerdictOn, AreFound, IsPartOf}
 use Rattle.rr_check.proofs.Joins.{are_found, FoundOn, on_part}
 use Rattle.rr_check.proofs.Whole.{verdict_where, exact_where, sound_where}

@@ -1,7 +1,7 @@
-use Rattle.std.proofs.Common.{refl, slice_index_or, ◌≡◌, ◌<◌, ◌≤◌, ◌∙◌, sym, ap, subst, arith, length}
+use Rattle.std.proofs.Common.{refl, slice_index_or, ◌≡◌, ◌<◌, ◌∙◌, sym, ap, subst, arith, length}
 use Rattle.std.proofs.lemmas.Bool.{eqb-true, eqb-false, false≢true}
 use Rattle.std.proofs.lemmas.List.{nil_from_length}
-use Rattle.rr_check.proofs.Checks.{Checked-none, Checked-bad, Checked-empty, Checked-other, Checked-accepted, Checked-without}
+use Rattle.rr_check.proofs.Checks.{Checked-bad, Checked-empty, Checked-other, Checked-accepted, Checked-without}
 use Rattle.rr_check.proofs.part.check_part.Goals as goal
 use Rattle.rr_check.proofs.part.check_part.Goals.{then-is_empty, else-is_empty}
 

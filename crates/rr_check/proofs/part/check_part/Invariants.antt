@@ -1,4 +1,4 @@
-use Rattle.std.proofs.Common.{◌≡◌, ◌≤◌, length}
+use Rattle.std.proofs.Common.{◌≡◌, ◌≤◌}
 use Rattle.rr_check.proofs.Checks.{Checked}
 use Rattle.rr_check.proofs.part.check_part.Given as goal
 

@@ -1,4 +1,4 @@
-use Rattle.std.proofs.Common.{rules, ◌≡◌, ◌+◌, ◌<◌, ◌≤◌, ◌∙◌, ◌∷◌, ap, subst, sym, arith, length, drop, slice_index_or}
+use Rattle.std.proofs.Common.{◌+◌, ◌<◌, ◌≤◌, ◌∙◌, subst, sym, arith, length, drop, slice_index_or}
 use Rattle.std.proofs.lemmas.List.{drop_more, drop_all}
 use Rattle.rr_check.proofs.Joins.{Gone, Gone-more, Gone-all}
 use Rattle.rr_check.proofs.part.check_parts.Goals as goal

@@ -1,4 +1,4 @@
-use Rattle.std.proofs.Common.{◌≡◌, ◌≤◌, ℕ, length, drop}
+use Rattle.std.proofs.Common.{◌≡◌, ℕ, drop}
 use Rattle.rr_check.specs.Parts.{Covers}
 use Rattle.rr_check.proofs.Joins.{Gone}
 use Rattle.rr_check.proofs.part.check_parts.Given as goal

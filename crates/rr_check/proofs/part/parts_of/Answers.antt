@@ -1,5 +1,4 @@
-use Rattle.std.proofs.Common.{rules, ◌≡◌, ◌∙◌, ◌≤◌, refl, sym, subst, arith, length}
-use Rattle.rr_check.specs.Parts.{Covers}
+use Rattle.std.proofs.Common.{rules, refl, length}
 use Rattle.rr_check.proofs.Joins.{covers-more, parts-more}
 use Rattle.rr_check.proofs.part.parts_of.Goals as goal
 
