@@ -7,11 +7,11 @@ use Rattle.std.proofs.lemmas.List.Sums.{sum_by-cons}
 use Rattle.rr_cnf.specs.Clauses.{Clauses}
 use Rattle.rr_derive.specs.Derive.{Derives, Step}
 use Rattle.rr_derive.specs.Lrat.{AreWritable}
-use Rattle.rr_rounds.specs.States.{Member, State, idle, member}
+use Rattle.rr_rounds.specs.States.{Ending, Member, State, idle, member}
 use Rattle.rr_rounds.specs.Joined.{in_order, joined}
 use Rattle.rr_rounds.specs.Rounds.{AreMoves, Event, learns, solves, refutes, IsRound, May, Move, Reached, begun, by_hand, after, moved, moved_all, moves_of, start}
-use Rattle.rr_members.specs.Groups.{Group, NoneEnded}
-use Rattle.rr_members.specs.Searched.{IsSpent, Played, begun as begun_rounds, next}
+use Rattle.rr_members.specs.Groups.{Group, IsFirst, NoneEnded}
+use Rattle.rr_members.specs.Searched.{HasEnded, IsSpent, Played, begun as begun_rounds, next}
 use Rattle.rr_rounds.proofs.Reaching.{member_moved, member_other}
 use Rattle.rr_members.proofs.Playing.{Reached-moves}
 use Rattle.rr_rounds.proofs.Joining.{joined_derives, lines_few, lines_fresh}
@@ -136,6 +136,17 @@ module _ (f : Clauses) (inputs count budget spent : ℕ) (g h : Group) (w : Goes
             let more = round_lines f inputs (min (budget - spent) 256) g.state h.state round_here none m (let a = w.size in omega (arith, a, l)) in
             more ∙ ap (λ k. k + min (budget - spent) 256) (w.lines m l) ∙ ap (λ k. spent + k) (sym many);
       }
+
+-- the last round of a search
+pub ends_in_budget : (f : Clauses) (inputs count budget spent : ℕ) (g h : Group) → Goes f inputs count budget spent g → (n : ℕ) → n ≡ min (budget - spent) 256 → IsRound g.formula g.inputs n g.state h.state
+    → (m : ℕ) (e : Ending) → IsFirst h.state m e → HasEnded f inputs count budget h.state m e
+ends_in_budget f inputs count budget spent g h w n many r m e first = record {
+  spent = spent;
+  old = g.state;
+  played = w.played;
+  round = round_here f inputs count budget spent g h w n many r;
+  first = first;
+}
 
 pub is_spent : (f : Clauses) (inputs count budget spent : ℕ) (g : Group) → 1 ≤ count → Goes f inputs count budget spent g → budget ≤ spent → (lines : List Step) → lines ≡ joined g.formula g.state → length g.formula.clauses + 1 + length (in_order g.state) < 2 ^ 62 → IsSpent f inputs count budget lines
 is_spent f inputs count budget spent g some w all lines is small =

@@ -1,5 +1,5 @@
 -- how a search by members ends
-use Rattle.std.specs.Prelude.{◌≡◌, ℕ, ◌+◌, ◌-◌, ◌*◌, ◌^◌, ◌<◌, ◌≤◌, min, List, length}
+use Rattle.std.specs.Prelude.{◌≡◌, ◌⊎◌, ℕ, ◌+◌, ◌-◌, ◌*◌, ◌^◌, ◌<◌, ◌≤◌, min, List, length}
 use Rattle.rr_cnf.specs.Clauses.{Clauses}
 use Rattle.rr_derive.specs.Derive.{Derives, Refutes, Step}
 use Rattle.rr_derive.specs.Fresh.{Fresh}
@@ -7,10 +7,10 @@ use Rattle.rr_derive.specs.Lrat.{AreWritable}
 use Rattle.rr_solver.specs.Searches.{IsModel, held_of}
 use Rattle.rr_solver.specs.declared.outcome.Outcome.{Outcome}
 use Rattle.rr_solver.specs.declared.outcome.Outcome.TheVariants.{Model as Solved, Refuted as Unsolvable, Spent}
-use Rattle.rr_rounds.specs.States.{State, handed, member, steps}
-use Rattle.rr_rounds.specs.Joined.{joined}
+use Rattle.rr_rounds.specs.States.{emptied, solved, Ending, State, handed, member, steps}
+use Rattle.rr_rounds.specs.Joined.{joined, joined_with}
 use Rattle.rr_rounds.specs.Rounds.{IsRound, start}
-use Rattle.rr_members.specs.Groups.{NoneEnded}
+use Rattle.rr_members.specs.Groups.{IsFirst, NoneEnded}
 
 -- rounds of 256 events, or of as many as the budget still allows, after which so many are spent
 pub data Played (f : Clauses) (inputs count budget : ℕ) : ℕ → State → Type 0 where
@@ -43,3 +43,22 @@ abbrev pub SearchedIs : Clauses → ℕ → ℕ → ℕ → Outcome → Type 0
 SearchedIs f inputs count budget (Solved bits) = IsModel f bits.items
 SearchedIs f inputs count budget (Unsolvable j) = Refutes f.clauses j.lines × AreWritable f j.lines
 SearchedIs f inputs count budget (Spent j) = IsSpent f inputs count budget j.lines
+
+-- a member has ended so in a round of at most as many events as the budget still allows, and none with a lower number
+pub record HasEnded (f : Clauses) (inputs count budget : ℕ) (last : State) (m : ℕ) (e : Ending) : Type 0 where
+  pub spent : ℕ
+  pub old : State
+  pub played : Played f inputs count budget spent old
+  pub round : IsRound f inputs (min (budget - spent) 256) old last
+  pub first : IsFirst last m e
+
+-- in a search by all members, or by the first one alone
+abbrev pub EndsSo : Clauses → ℕ → ℕ → ℕ → State → ℕ → Ending → Type 0
+EndsSo f inputs count budget last m e = HasEnded f inputs count budget last m e ⊎ HasEnded f inputs 1 budget last m e
+
+-- no member has learned more lines than it may: an assignment or a refutation is that of a member within its budget
+abbrev pub EndsInBudget : Clauses → ℕ → ℕ → ℕ → Outcome → Type 0
+EndsInBudget f inputs count budget (Solved bits) = (last : State) × ((m : ℕ) × EndsSo f inputs count budget last m (solved bits.items))
+EndsInBudget f inputs count budget (Unsolvable j) =
+    (last : State) × ((m : ℕ) × ((e : Step) × (EndsSo f inputs count budget last m (emptied e) × (j.lines ≡ joined_with f last m e))))
+EndsInBudget f inputs count budget (Spent j) = Unit {0}

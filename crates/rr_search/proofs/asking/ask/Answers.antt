@@ -15,7 +15,7 @@ returns-in_ok-choice-in-Model g c =
     let t = task_of c.args.job.now in
     let q = c.in_ok-circuit.ensures in
     let f = c.in_ok-formula.ensures in
-    let m = subst (SearchedIs c.in_ok-formula.formula c.circuit.inside.inputs t.members t.budget) c.in-Model.is c.in_ok-values.ensures in
+    let m = subst (SearchedIs c.in_ok-formula.formula c.circuit.inside.inputs t.members t.budget) c.in-Model.is c.in_ok-values.ensures.searched in
     mended_by t c.requires.task c.args.bound c.in_ok-circuit.circuit q.inputs q.outputs q.faithful c.in_ok-formula.formula f.formula f.inputs c.in-Model.values.items m c.in_ok-choice-in-Model.choice.picks.items
     (c.in_ok-choice-in-Model.ensures ∙ ap (λ bs. decode t.sites (take (total_bits t.sites) (drop 1 bs))) c.as_slice.ensures.value)
 
@@ -24,7 +24,7 @@ returns-in-Refuted g c =
     let t = task_of c.args.job.now in
     let q = c.in_ok-circuit.ensures in
     let f = c.in_ok-formula.ensures in
-    let r = subst (SearchedIs c.in_ok-formula.formula c.circuit.inside.inputs t.members t.budget) c.in-Refuted.is c.in_ok-values.ensures in
+    let r = subst (SearchedIs c.in_ok-formula.formula c.circuit.inside.inputs t.members t.budget) c.in-Refuted.is c.in_ok-values.ensures.searched in
     closed_by t c.requires.task c.args.bound c.in_ok-circuit.circuit q.inputs q.outputs q.faithful c.in_ok-formula.formula f.formula (few_names t.sites c.requires.listed) f.satisfiable c.in-Refuted.journal.lines r
 
 pub returns-in-Spent : goal.returns-in-Spent
@@ -32,5 +32,5 @@ returns-in-Spent g c =
     let t = task_of c.args.job.now in
     let q = c.in_ok-circuit.ensures in
     let f = c.in_ok-formula.ensures in
-    let r = subst (SearchedIs c.in_ok-formula.formula c.circuit.inside.inputs t.members t.budget) c.in-Spent.is c.in_ok-values.ensures in
+    let r = subst (SearchedIs c.in_ok-formula.formula c.circuit.inside.inputs t.members t.budget) c.in-Spent.is c.in_ok-values.ensures.searched in
     left_by t c.requires.task c.args.bound c.in_ok-circuit.circuit q.inputs q.outputs q.faithful c.in_ok-formula.formula f.formula c.circuit.inside.inputs (ap (λ x. x.netlist.inputs) c.circuit.view_is) c.in-Spent.journal.lines r
