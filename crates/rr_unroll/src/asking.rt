@@ -1,6 +1,7 @@
 //! The question.
 
 ghost use Rattle.std.specs.Prelude.{◌≡◌, ℕ, ◌≤◌, [], ◌∷◌, ◌++◌, Bool, false, List, IfOk, length, replicate};
+ghost use Rattle.rr_circuit.specs.Sweeps.{AreUsed};
 ghost use Rattle.rr_circuit.specs.Values.{output_values, given};
 ghost use Rattle.rr_count.specs.Counts.{is_at_most};
 ghost use Rattle.rr_choice.specs.Sites.{Site};
@@ -40,6 +41,7 @@ pub fn question<R: Threads + Sync>(
         ≡ judged_of transition.now bits (replicate transition.now.state_bits false) (plain_table table.now).inputs (plain_table table.now).expected
         ++ is_at_most bound (switched_of transition.now.switches bits) ∷ []) }
     ensures faithful { IfOk result (λ c. (j : Design) (sites : List Site) → Cycle j sites transition.now → Faithful c j sites (plain_table table.now) bound) }
+    ensures used { IfOk result AreUsed }
 {
     let circuits = fixed_copies(rt, alloc, transition, table.inputs.as_slice(), workers)?;
     let mut b = Builder::new(alloc, transition.choice_bits)?;

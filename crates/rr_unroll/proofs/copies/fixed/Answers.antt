@@ -37,4 +37,5 @@ returns c =
           ∙ ap (λ x. output_values x env) c.finish-circuit.ensures.result
           ∙ c.in_ok-outputs.ensures.value env
           ∙ ap₂ (λ x xs. output_values x (given xs)) (ap (λ (x : Transition). x.circuit) view) all;
+      used = c.in_ok-swept.ensures.used;
     }
