@@ -1,10 +1,9 @@
 -- the clause of the test that adds under decisions
-use Rattle.std.proofs.Common.{◌≡◌, ◌⊎◌, inl, inr, ℕ, ◌+◌, ◌<◌, Bool, true, false, List, [], ◌∷◌, ◌++◌, length, get_or, refl, sym, ◌∙◌, ap, subst, arith}
-use Rattle.std.specs.Prelude.{All, Contains, Option, Some, None}
+use Rattle.std.proofs.Common.{◌≡◌, ◌⊎◌, inl, inr, ℕ, ◌+◌, Bool, true, false, List, [], ◌∷◌, ◌++◌, refl, sym, ◌∙◌, ap, subst, arith}
+use Rattle.std.specs.Prelude.{Contains, None}
 use Rattle.std.proofs.lemmas.List.Elements.{All-nil, All-cons, Contains-push_cases}
 use Rattle.rr_cnf.specs.Clauses.{Literal, negated}
-use Rattle.rr_cnf.specs.Partial.{IsUnit}
-use Rattle.rr_trail.specs.Trails.{Entry, entry, lits}
+use Rattle.rr_trail.specs.Trails.{Entry, lits}
 use Rattle.rr_watch.specs.Watches.{State, Asserts, MayAdd}
 
 abbrev pub literal : ℕ → Literal

@@ -1,6 +1,6 @@
 //! Texts of proofs, and the check of their lines.
-use crate::helpers::shared;
-use rr_cnf::{Clause, Formula, Lit};
+use crate::helpers::{formula, none_fails, shared};
+use rr_cnf::Clause;
 use rr_derive::{Journal, ProofFault, Workspace, check_line, read_lrat, write_lrat};
 use std::alloc::Global;
 use std::test::Fail;
@@ -78,6 +78,7 @@ fn reads(alloc: Global, text: &[u8], expected: Result<usize, ProofFault>) -> boo
     read_lrat(alloc, text, 2, 3).map(|journal| journal.lines().len()) == expected
 }
 
+/// The place of the first of these texts that is read otherwise.
 fn first_misread(alloc: Global, texts: &[(&[u8], Result<usize, ProofFault>)]) -> Option<usize> {
     texts
         .iter()
@@ -85,35 +86,32 @@ fn first_misread(alloc: Global, texts: &[(&[u8], Result<usize, ProofFault>)]) ->
 }
 
 #[test]
-fn reads_texts(rt: HostRuntime) {
-    assert!(rt; first_misread(rt.alloc(), &TEXTS) == None);
+fn reads_texts(rt: HostRuntime) -> Result<(), Fail> {
+    none_fails(first_misread(rt.alloc(), &TEXTS))
 }
+
+const WRITTEN: &[u8] = b"3 -1 2 0 1 2 0\n7 0 0\n4611686018427387903 3 0 9 7 0\n";
 
 #[test]
 fn writes_what_it_reads(rt: HostRuntime) -> Result<(), Fail> {
-    let alloc = rt.alloc();
-    let text = b"3 -1 2 0 1 2 0\n7 0 0\n4611686018427387903 3 0 9 7 0\n";
-    let journal = read_lrat(alloc, text, 2, 3)?;
-    assert!(rt; write_lrat(alloc, &journal)?.as_slice() == text.as_slice());
-    let mut journal = Journal::new(alloc, 3);
-    assert!(rt;
-        journal.push(Clause::from_lits(alloc, &[])?, Vec::new(alloc))? == 3
-            && write_lrat(alloc, &journal)?.as_slice() == b"3 0 0\n".as_slice()
-    );
+    let journal = read_lrat(rt.alloc(), WRITTEN, 2, 3)?;
+    assert!(rt; write_lrat(rt.alloc(), &journal)?.as_slice() == WRITTEN);
     Ok(())
 }
 
-/// The formula whose two clauses are a variable and its negation.
-fn contradiction(alloc: Global) -> Result<Formula, Fail> {
-    let mut formula = Formula::new(alloc, 3);
-    formula.push(Clause::from_lits(alloc, &[Lit::new(1, false)])?)?;
-    formula.push(Clause::from_lits(alloc, &[Lit::new(1, true)])?)?;
-    Ok(formula)
+#[test]
+fn writes_what_is_pushed(rt: HostRuntime) -> Result<(), Fail> {
+    let alloc = rt.alloc();
+    let mut journal = Journal::new(alloc, 3);
+    let id = journal.push(Clause::from_lits(alloc, &[])?, Vec::new(alloc))?;
+    assert!(rt; id == 3 && write_lrat(alloc, &journal)?.as_slice() == b"3 0 0\n".as_slice());
+    Ok(())
 }
 
-/// The number of the first line that fails, from 1, or 0 where all pass.
+/// The number of the first line that fails, from 1, of a proof from a variable and its negation; 0 where
+/// all pass.
 fn first_failing(alloc: Global, text: &[u8]) -> Result<u64, Fail> {
-    let formula = contradiction(alloc)?;
+    let formula = formula(alloc, 3, "1 0 -1 0")?;
     if formula.len() != 2 || formula.vars() != 3 {
         return Err(Fail::from("the formula"));
     }
@@ -143,13 +141,19 @@ const LINES: [(&[u8], u64); 12] = [
     (b"3 2 2 -3 0 1 2 0\n4 2 0 3 0\n", 2),
 ];
 
+/// The place of the first of these proofs of which another line fails first.
+fn first_misjudged(alloc: Global, proofs: &[(&[u8], u64)]) -> Result<Option<usize>, Fail> {
+    for (place, (text, failing)) in proofs.iter().enumerate() {
+        if first_failing(alloc, text)? != *failing {
+            return Ok(Some(place));
+        }
+    }
+    Ok(None)
+}
+
 #[test]
 fn checks_lines(rt: HostRuntime) -> Result<(), Fail> {
-    let alloc = rt.alloc();
-    for (text, failing) in LINES.iter() {
-        assert!(rt; first_failing(alloc, text)? == *failing);
-    }
-    Ok(())
+    none_fails(first_misjudged(rt.alloc(), &LINES)?)
 }
 
 #[test]

@@ -1,19 +1,20 @@
-//! What several of the tests use: small formulas, and numbers that look random.
+//! What several of the tests use: formulas of texts, and numbers that look random.
 use rr_cnf::{Clause, Formula, Lit};
 use std::alloc::Global;
+use std::fmt::Debug;
 use std::test::Fail;
+
+/// The case that failed is the failure, if there is one.
+pub(crate) fn none_fails<T: Debug + Drop>(failing: Option<T>) -> Result<(), Fail> {
+    match failing {
+        None => Ok(()),
+        Some(case) => Err(Fail::from(case)),
+    }
+}
 
 /// The literal that a signed number of DIMACS names.
 pub(crate) fn lit(number: i32) -> Lit {
     Lit::new(u64::from(number.unsigned_abs()).max(1), number < 0)
-}
-
-pub(crate) fn clause(alloc: Global, numbers: &[i32]) -> Result<Clause, Fail> {
-    let mut lits = Vec::new(alloc);
-    for number in numbers {
-        lits.push(lit(*number))?;
-    }
-    Ok(Clause::from_lits(alloc, lits.as_slice())?)
 }
 
 pub(crate) fn push(formula: &mut Formula, clause: Clause) -> Result<(), Fail> {
@@ -24,25 +25,43 @@ pub(crate) fn push(formula: &mut Formula, clause: Clause) -> Result<(), Fail> {
     Ok(())
 }
 
-pub(crate) fn formula(alloc: Global, vars: u64, clauses: &[&[i32]]) -> Result<Formula, Fail> {
+/// The literals of these numbers.
+pub(crate) fn lits(alloc: Global, words: &str) -> Result<Vec<Lit>, Fail> {
+    let mut lits = Vec::new(alloc);
+    for word in words.split_whitespace() {
+        lits.push(lit(word.parse::<i32>()?))?;
+    }
+    Ok(lits)
+}
+
+pub(crate) fn naturals(alloc: Global, words: &str) -> Result<Vec<u64>, Fail> {
+    let mut naturals = Vec::new(alloc);
+    for word in words.split_whitespace() {
+        naturals.push(word.parse::<u64>()?)?;
+    }
+    Ok(naturals)
+}
+
+/// The formula over so many variables whose clauses are these, as in DIMACS: numbers, and 0 behind each
+/// clause.
+pub(crate) fn formula(alloc: Global, vars: u64, text: &str) -> Result<Formula, Fail> {
     let mut formula = Formula::new(alloc, vars);
-    for numbers in clauses {
-        push(&mut formula, clause(alloc, numbers)?)?;
+    let mut lits = Vec::new(alloc);
+    for word in text.split_whitespace() {
+        let number = word.parse::<i32>()?;
+        if number == 0 {
+            push(&mut formula, Clause::from_lits(alloc, lits.as_slice())?)?;
+            lits.clear();
+        } else {
+            lits.push(lit(number))?;
+        }
     }
     Ok(formula)
 }
 
 /// The clauses over three variables, which nothing satisfies.
-pub(crate) const EIGHT: [&[i32]; 8] = [
-    &[1, 2, 3],
-    &[1, 2, -3],
-    &[1, -2, 3],
-    &[1, -2, -3],
-    &[-1, 2, 3],
-    &[-1, 2, -3],
-    &[-1, -2, 3],
-    &[-1, -2, -3],
-];
+pub(crate) const EIGHT: &str =
+    "1 2 3 0 1 2 -3 0 1 -2 3 0 1 -2 -3 0 -1 2 3 0 -1 2 -3 0 -1 -2 3 0 -1 -2 -3 0";
 
 /// Whether the value may be used by several threads.
 pub(crate) fn shared<T: Send + Sync>(_value: &T) -> bool {

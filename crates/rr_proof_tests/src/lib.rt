@@ -12,6 +12,8 @@ mod derive;
 #[cfg(test)]
 mod helpers;
 #[cfg(test)]
+mod scripts;
+#[cfg(test)]
 mod solver;
 #[cfg(test)]
 mod watch;

@@ -3,7 +3,7 @@ ghost use Rattle.std.specs.Prelude.{◌≡◌, ◌≤◌, ◌+◌, ◌<◌, All,
 ghost use Rattle.rr_cnf.specs.Partial.{Determined};
 ghost use Rattle.rr_solver.specs.Outcomes.{AreLines};
 
-use crate::helpers::{EIGHT, Numbers, formula, lit, push, shared};
+use crate::helpers::{EIGHT, Numbers, formula, lits, naturals, none_fails, push, shared};
 use rr_cnf::{Clause, Formula, Lit};
 use rr_derive::{Journal, Workspace, check_line};
 use rr_solver::{Outcome, Solver, Stepped, solve};
@@ -106,47 +106,55 @@ pub(crate) fn end_of(
     Ok(Ending::Wrong)
 }
 
-/// Formulas by their variables and clauses, with a budget and how the search ends.
-const SMALL: [(u64, &[&[i32]], u32, Ending); 8] = [
-    (3, &EIGHT, 1, Ending::Spent(1)),
-    (3, &EIGHT, 1_000, Ending::Refuted(4)),
+/// Formulas by their variables and clauses, as in DIMACS, with a budget and how the search ends.
+const SMALL: [(u64, &str, u32, Ending); 8] = [
+    (3, EIGHT, 1, Ending::Spent(1)),
+    (3, EIGHT, 1_000, Ending::Refuted(4)),
     (
         42,
-        &[&[21, 22], &[21, -22], &[-21, 22], &[-21, -22]],
+        "21 22 0 21 -22 0 -21 22 0 -21 -22 0",
         100,
         Ending::Refuted(2),
     ),
-    (2, &[], 1, Ending::Model),
-    (2, &[&[1, 2], &[]], 1, Ending::Refuted(1)),
-    (2, &[&[1], &[-1, 2], &[-2, -2]], 1, Ending::Refuted(1)),
-    (3, &[&[1, -1], &[2, 2], &[-2, 3, 3]], 1, Ending::Model),
-    (0, &[], 1, Ending::Model),
+    (2, "", 1, Ending::Model),
+    (2, "1 2 0 0", 1, Ending::Refuted(1)),
+    (2, "1 0 -1 2 0 -2 -2 0", 1, Ending::Refuted(1)),
+    (3, "1 -1 0 2 2 0 -2 3 3 0", 1, Ending::Model),
+    (0, "", 1, Ending::Model),
 ];
+
+/// The first of these that ends otherwise, by its place, and how it ends.
+fn first_otherwise(
+    alloc: Global,
+    rows: &[(u64, &str, u32, Ending)],
+) -> Result<Option<(usize, Ending)>, Fail> {
+    for (place, (vars, clauses, budget, expected)) in rows.iter().enumerate() {
+        let ending = end(alloc, &formula(alloc, *vars, clauses)?, *budget)?;
+        if ending != *expected {
+            return Ok(Some((place, ending)));
+        }
+    }
+    Ok(None)
+}
 
 #[test]
 fn ends_on_small_formulas(rt: HostRuntime) -> Result<(), Fail> {
-    let alloc = rt.alloc();
-    for (vars, clauses, budget, expected) in SMALL.iter() {
-        let made = formula(alloc, *vars, clauses)?;
-        assert!(rt; end(alloc, &made, *budget)? == *expected);
-    }
-    Ok(())
+    none_fails(first_otherwise(rt.alloc(), &SMALL)?)
+}
+
+/// The number of literals of the first line, if a search by one line tells it.
+fn first_learned(alloc: Global, formula: &Formula) -> Result<Option<usize>, Fail> {
+    Ok(match search(alloc, formula, 1)? {
+        Outcome::Spent(journal) => journal.lines().first().map(|line| line.clause.lits().len()),
+        Outcome::Model(_) | Outcome::Refuted(_) => None,
+    })
 }
 
 /// The first clause that is learned has two literals.
 #[test]
 fn learns_from_eight_clauses(rt: HostRuntime) -> Result<(), Fail> {
-    let alloc = rt.alloc();
-    let eight = formula(alloc, 3, &EIGHT)?;
-    match search(alloc, &eight, 1)? {
-        Outcome::Spent(journal) => {
-            let lines = journal.lines();
-            assert!(rt;
-                lines.len() == 1 && lines.first().map(|line| line.clause.lits().len()) == Some(2)
-            );
-        }
-        _ => assert!(rt; false, "spent"),
-    }
+    let eight = formula(rt.alloc(), 3, EIGHT)?;
+    assert!(rt; first_learned(rt.alloc(), &eight)? == Some(2));
     Ok(())
 }
 
@@ -173,14 +181,20 @@ fn pigeons(alloc: Global, holes: u64) -> Result<Formula, Fail> {
     Ok(formula)
 }
 
+/// The first number of holes from 4 to 6 whose pigeons are not refuted.
+fn first_unrefuted(alloc: Global) -> Result<Option<u64>, Fail> {
+    for holes in 4..7 {
+        let ending = end(alloc, &pigeons(alloc, holes)?, 100_000)?;
+        if !matches!(ending, Ending::Refuted(_)) {
+            return Ok(Some(holes));
+        }
+    }
+    Ok(None)
+}
+
 #[test]
 fn refutes_pigeons(rt: HostRuntime) -> Result<(), Fail> {
-    let alloc = rt.alloc();
-    for holes in 4..7 {
-        let end = end(alloc, &pigeons(alloc, holes)?, 100_000)?;
-        assert!(rt; matches!(end, Ending::Refuted(_)), "refuted");
-    }
-    Ok(())
+    none_fails(first_unrefuted(rt.alloc())?)
 }
 
 /// Clauses of three literals.
@@ -198,10 +212,9 @@ fn random_formula(
     Ok(formula)
 }
 
-/// Each formula is satisfied by the values, or refuted by lines of which each passes.
-#[test]
-fn decides_random_formulas(rt: HostRuntime) -> Result<(), Fail> {
-    let alloc = rt.alloc();
+/// How many of 200 formulas are satisfied, where each is satisfied by values or refuted by lines that pass;
+/// `None` where one is not.
+fn satisfied(alloc: Global) -> Result<Option<u32>, Fail> {
     let mut numbers = Numbers::from_state(19);
     let mut models = 0u32;
     for _ in 0..200 {
@@ -209,10 +222,17 @@ fn decides_random_formulas(rt: HostRuntime) -> Result<(), Fail> {
         match end(alloc, &formula, 100_000)? {
             Ending::Model => models = models.saturating_add(1),
             Ending::Refuted(_) => {}
-            _ => assert!(rt; false, "decided"),
+            Ending::Spent(_) | Ending::Wrong => return Ok(None),
         }
     }
-    assert!(rt; 20 < models && models < 180, "of both kinds");
+    Ok(Some(models))
+}
+
+/// There are many of both kinds.
+#[test]
+fn decides_random_formulas(rt: HostRuntime) -> Result<(), Fail> {
+    let models = satisfied(rt.alloc())?.unwrap_or(0);
+    assert!(rt; 20 < models && models < 180);
     Ok(())
 }
 
@@ -224,7 +244,7 @@ fn begin(alloc: Global, formula: &Formula, member: u32) -> Result<Solver, Fail>
     Ok(Solver::new(alloc, formula, inputs, member)?)
 }
 
-fn step(solver: &mut Solver) -> Result<Stepped, Fail>
+fn searched(solver: &mut Solver) -> Result<Stepped, Fail>
     ensures { solver.new.formula ≡ solver.old.formula }
 {
     Ok(solver.conflict_step()?)
@@ -245,112 +265,172 @@ fn hand_over(alloc: Global, solver: &mut Solver, vars: u64, lits: &[Lit]) -> Res
     Ok(false)
 }
 
-#[test]
-fn takes_what_is_handed_over(rt: HostRuntime) -> Result<(), Fail> {
-    let alloc = rt.alloc();
-    let eight = formula(alloc, 3, &EIGHT)?;
-    let mut solver = begin(alloc, &eight, 1)?;
-    assert!(rt; shared(&solver), "shared");
-    assert!(rt; step(&mut solver)? == Stepped::Learned && solver.last_id() == 9);
-    let vars = eight.vars();
-    assert!(rt;
-        hand_over(alloc, &mut solver, vars, &[lit(1)])?,
-        "handed over"
-    );
-    assert!(rt;
-        solver.last_id() == 10
-            && step(&mut solver)? == Stepped::Learned
-            && step(&mut solver)? == Stepped::Refuted
-            && step(&mut solver)? == Stepped::Refuted
-    );
+/// Scripts by their names, each with a member, clauses over three variables, and steps. A step searches up
+/// to a clause that is `learned` or until it is `refuted`, or will `hand` over a clause, or says what the
+/// solver tells: the `last` id, the number of `lines`, the ids of the `first` and the `newest` one, and the
+/// `hints` of the first.
+const SCRIPTS: [(&str, u32, &str, &str); 2] = [
+    (
+        "a unit that is handed over",
+        1,
+        EIGHT,
+        "learned; last 9; hand 1; last 10; learned; refuted; refuted; lines 3; first 9; newest 12",
+    ),
+    (
+        "a false clause that is handed over",
+        2,
+        "1 2 3 0",
+        "hand; refuted; hints 2",
+    ),
+];
+
+/// Whether a solver tells this.
+fn tells(solver: &Solver, word: &str, numbers: &[u64]) -> bool {
     let lines = solver.journal().lines();
-    assert!(rt;
-        lines.len() == 3
-            && lines.first().map(|line| line.id) == Some(9)
-            && lines.last().map(|line| line.id) == Some(12)
-    );
-    Ok(())
+    let number = numbers.first().copied();
+    match word {
+        "last" => number == Some(solver.last_id()),
+        "lines" => number == Some(lines.len() as u64),
+        "first" => number == lines.first().map(|line| line.id),
+        "newest" => number == lines.last().map(|line| line.id),
+        "hints" => lines
+            .first()
+            .is_some_and(|line| line.hints.as_slice() == numbers),
+        _ => false,
+    }
+}
+
+/// Takes a step, and tells whether it goes as it says.
+fn goes(alloc: Global, solver: &mut Solver, vars: u64, step: &str) -> Result<bool, Fail>
+    requires { solver.old.formula.vars ≡ vars }
+    ensures { solver.new.formula ≡ solver.old.formula }
+{
+    let (word, rest) = step.split_once(' ').unwrap_or((step, ""));
+    match word {
+        "learned" => Ok(searched(solver)? == Stepped::Learned),
+        "refuted" => Ok(searched(solver)? == Stepped::Refuted),
+        "hand" => hand_over(alloc, solver, vars, lits(alloc, rest)?.as_slice()),
+        _ => Ok(tells(solver, word, naturals(alloc, rest)?.as_slice())),
+    }
+}
+
+/// The first step that does not go as it says.
+fn follow<'a>(
+    alloc: Global,
+    solver: &mut Solver,
+    vars: u64,
+    script: &'a str,
+) -> Result<Option<&'a str>, Fail>
+    requires { solver.old.formula.vars ≡ vars }
+{
+    for step in script.split("; ") {
+        if !goes(alloc, solver, vars, step)? {
+            return Ok(Some(step));
+        }
+    }
+    Ok(None)
+}
+
+/// The same for a member that searches these clauses.
+fn first_astray<'a>(
+    alloc: Global,
+    member: u32,
+    clauses: &str,
+    script: &'a str,
+) -> Result<Option<&'a str>, Fail> {
+    let formula = formula(alloc, 3, clauses)?;
+    let mut solver = begin(alloc, &formula, member)?;
+    follow(alloc, &mut solver, formula.vars(), script)
+}
+
+/// The name of the first script that goes astray, and its step.
+fn first_failing<'a>(
+    alloc: Global,
+    scripts: &'a [(&'a str, u32, &'a str, &'a str)],
+) -> Result<Option<(&'a str, &'a str)>, Fail> {
+    for (name, member, clauses, script) in scripts {
+        if let Some(step) = first_astray(alloc, *member, clauses, script)? {
+            return Ok(Some((*name, step)));
+        }
+    }
+    Ok(None)
 }
 
 #[test]
-fn ends_with_a_false_clause_handed_over(rt: HostRuntime) -> Result<(), Fail> {
-    let alloc = rt.alloc();
-    let free = formula(alloc, 3, &[&[1, 2, 3]])?;
-    let mut solver = begin(alloc, &free, 2)?;
-    let vars = free.vars();
-    assert!(rt; hand_over(alloc, &mut solver, vars, &[])?, "handed over");
-    assert!(rt; step(&mut solver)? == Stepped::Refuted);
-    let hints = solver
-        .journal()
-        .lines()
-        .first()
-        .map(|line| line.hints.as_slice() == [2u64].as_slice());
-    assert!(rt; hints == Some(true));
-    Ok(())
+fn follows_scripts(rt: HostRuntime) -> Result<(), Fail> {
+    none_fails(first_failing(rt.alloc(), &SCRIPTS)?)
+}
+
+/// How a member ends that restarts before each step.
+fn restarted(alloc: Global, formula: &Formula, member: u32) -> Result<Stepped, Fail> {
+    let mut solver = begin(alloc, formula, member)?;
+    let mut last = Stepped::Learned;
+    for _ in 0..5_000 {
+        solver.restart();
+        last = searched(&mut solver)?;
+        if last != Stepped::Learned {
+            break;
+        }
+    }
+    Ok(last)
+}
+
+/// The first member that does not refute the pigeons.
+fn first_wandering(alloc: Global, formula: &Formula) -> Result<Option<u32>, Fail> {
+    for member in 1..9 {
+        if restarted(alloc, formula, member)? != Stepped::Refuted {
+            return Ok(Some(member));
+        }
+    }
+    Ok(None)
 }
 
 #[test]
 fn goes_on_after_restarts(rt: HostRuntime) -> Result<(), Fail> {
-    let alloc = rt.alloc();
-    for member in 1..9 {
-        let five = pigeons(alloc, 5)?;
-        let mut solver = begin(alloc, &five, member)?;
-        let mut last = Stepped::Learned;
-        for _ in 0..5_000 {
-            solver.restart();
-            last = step(&mut solver)?;
-            if last != Stepped::Learned {
-                break;
-            }
-        }
-        assert!(rt; last == Stepped::Refuted);
-    }
-    Ok(())
+    let five = pigeons(rt.alloc(), 5)?;
+    none_fails(first_wandering(rt.alloc(), &five)?)
 }
 
 /// Each decision makes a clause false at once, so that the first line tells what was decided.
-const PAIRS: [&[i32]; 16] = [
-    &[1, 2],
-    &[1, -2],
-    &[-1, 2],
-    &[-1, -2],
-    &[3, 4],
-    &[3, -4],
-    &[-3, 4],
-    &[-3, -4],
-    &[5, 6],
-    &[5, -6],
-    &[-5, 6],
-    &[-5, -6],
-    &[7, 8],
-    &[7, -8],
-    &[-7, 8],
-    &[-7, -8],
-];
+const PAIRS: &str = "1 2 0 1 -2 0 -1 2 0 -1 -2 0 3 4 0 3 -4 0 -3 4 0 -3 -4 0 \
+5 6 0 5 -6 0 -5 6 0 -5 -6 0 7 8 0 7 -8 0 -7 8 0 -7 -8 0";
 
 /// The literal that a member decides first.
 fn first_decided(alloc: Global, formula: &Formula, member: u32) -> Result<Option<Lit>, Fail> {
     let mut solver = begin(alloc, formula, member)?;
-    step(&mut solver)?;
+    searched(&mut solver)?;
     let line = solver.journal().lines().first();
     let learned = line.and_then(|line| line.clause.lits().first().copied());
     Ok(learned.map(|lit| lit.negated()))
 }
 
-/// The eight members begin with eight different literals.
-#[test]
-fn members_begin_differently(rt: HostRuntime) -> Result<(), Fail> {
-    let alloc = rt.alloc();
-    let pairs = formula(alloc, 8, &PAIRS)?;
+/// The first of the eight members that decides nothing, or what one before it decides.
+fn first_alike(alloc: Global, formula: &Formula) -> Result<Option<u32>, Fail> {
     let mut decided: Vec<Lit> = Vec::new(alloc);
     for member in 1..9 {
-        match first_decided(alloc, &pairs, member)? {
-            None => assert!(rt; false, "a line"),
+        match first_decided(alloc, formula, member)? {
+            None => return Ok(Some(member)),
             Some(lit) => {
-                assert!(rt; !decided.contains(&lit), "another literal");
+                if decided.contains(&lit) {
+                    return Ok(Some(member));
+                }
                 decided.push(lit)?;
             }
         }
     }
+    Ok(None)
+}
+
+/// The eight members begin with eight different literals.
+#[test]
+fn members_begin_differently(rt: HostRuntime) -> Result<(), Fail> {
+    let pairs = formula(rt.alloc(), 8, PAIRS)?;
+    none_fails(first_alike(rt.alloc(), &pairs)?)
+}
+
+#[test]
+fn crosses_threads(rt: HostRuntime) -> Result<(), Fail> {
+    let eight = formula(rt.alloc(), 3, EIGHT)?;
+    assert!(rt; shared(&begin(rt.alloc(), &eight, 1)?));
     Ok(())
 }

@@ -1,27 +1,27 @@
-//! Propagation on small formulas, and against a body that scans.
+//! Propagation under decisions, and against a body that scans.
 ghost use Rattle.std.specs.Prelude.{◌≡◌, ◌+◌, ◌<◌, [], All, IfOk, length};
 
-use crate::helpers::{Numbers, clause, formula, lit, push, shared};
+use crate::helpers::{Numbers, lit, none_fails, push, shared};
 use rr_cnf::{Clause, Formula, Lit};
 use rr_watch::{Propagated, Watch};
 use std::alloc::Global;
 use std::test::Fail;
 
-fn value(watch: &Watch, lit: Lit) -> Option<bool> {
+pub(crate) fn value(watch: &Watch, lit: Lit) -> Option<bool> {
     if lit.var() <= watch.vars() {
         return watch.value(lit);
     }
     None
 }
 
-fn level(watch: &Watch, lit: Lit) -> u32 {
+pub(crate) fn level(watch: &Watch, lit: Lit) -> u32 {
     if lit.var() <= watch.vars() {
         return watch.level(lit);
     }
     u32::MAX
 }
 
-fn reason(watch: &Watch, lit: Lit) -> Option<u64> {
+pub(crate) fn reason(watch: &Watch, lit: Lit) -> Option<u64> {
     if lit.var() <= watch.vars() {
         return watch.reason(lit);
     }
@@ -29,7 +29,7 @@ fn reason(watch: &Watch, lit: Lit) -> Option<u64> {
 }
 
 /// Decides the literal, if it is open.
-fn decide(watch: &mut Watch, lit: Lit) -> bool
+pub(crate) fn decide(watch: &mut Watch, lit: Lit) -> bool
     ensures { watch.new.clauses ≡ watch.old.clauses }
 {
     if lit.var() <= watch.vars() && watch.value(lit).is_none() {
@@ -39,115 +39,15 @@ fn decide(watch: &mut Watch, lit: Lit) -> bool
     false
 }
 
-fn back(watch: &mut Watch, level: u32) {
+/// Goes back to the level, if there is one.
+pub(crate) fn back(watch: &mut Watch, level: u32) -> bool
+    ensures { watch.new.clauses ≡ watch.old.clauses }
+{
     if level <= watch.depth() {
         watch.back(level);
+        return true;
     }
-}
-
-#[test]
-fn finds_units_and_conflicts(rt: HostRuntime) -> Result<(), Fail> {
-    let alloc = rt.alloc();
-    let both = formula(alloc, 2, &[&[1, 2], &[1, -2]])?;
-    let mut watch = Watch::new(alloc, &both)?;
-    assert!(rt; watch.propagate() == Propagated::Quiet);
-    assert!(rt; decide(&mut watch, lit(-1)), "open");
-    let answer = watch.propagate();
-    let is_conflict = answer == Propagated::Conflict(1) || answer == Propagated::Conflict(2);
-    assert!(rt; is_conflict, "conflict");
-    assert!(rt; watch.propagate() == answer);
-    assert!(rt; shared(&watch), "shared");
-    Ok(())
-}
-
-#[test]
-fn forces_a_literal(rt: HostRuntime) -> Result<(), Fail> {
-    let alloc = rt.alloc();
-    let one = formula(alloc, 2, &[&[1, 2]])?;
-    let mut watch = Watch::new(alloc, &one)?;
-    assert!(rt; decide(&mut watch, lit(-1)), "open");
-    assert!(rt;
-        watch.propagate() == Propagated::Quiet
-            && value(&watch, lit(2)) == Some(true)
-            && value(&watch, lit(1)) == Some(false)
-            && watch.trail() == [lit(-1), lit(2)].as_slice()
-    );
-    assert!(rt;
-        (reason(&watch, lit(2)), reason(&watch, lit(-1))) == (Some(1), None)
-            && (level(&watch, lit(2)), watch.depth()) == (1, 1)
-    );
-    back(&mut watch, 0);
-    assert!(rt; value(&watch, lit(2)) == None);
-    Ok(())
-}
-
-#[test]
-fn holds_short_clauses(rt: HostRuntime) -> Result<(), Fail> {
-    let alloc = rt.alloc();
-    let twice = formula(alloc, 3, &[&[2, 2], &[-2, 3, 3], &[1, -1]])?;
-    let mut watch = Watch::new(alloc, &twice)?;
-    assert!(rt;
-        watch.propagate() == Propagated::Quiet
-            && watch.trail() == [lit(2), lit(3)].as_slice()
-            && level(&watch, lit(3)) == 0
-    );
-    assert!(rt;
-        !decide(&mut watch, lit(-3)) && decide(&mut watch, lit(1)),
-        "open"
-    );
-    assert!(rt; watch.propagate() == Propagated::Quiet);
-
-    let empty = formula(alloc, 3, &[&[1], &[]])?;
-    let mut watch = Watch::new(alloc, &empty)?;
-    assert!(rt;
-        watch.propagate() == Propagated::Conflict(2)
-            && watch.clause(2).map(|clause| clause.len()) == Some(0)
-    );
-    assert!(rt;
-        watch.clause(0).is_none() && watch.clause(3).is_none(),
-        "no clause"
-    );
-    Ok(())
-}
-
-#[test]
-fn goes_back_to_each_level(rt: HostRuntime) -> Result<(), Fail> {
-    let alloc = rt.alloc();
-    let chain = formula(alloc, 6, &[&[-1, 2], &[-3, 4], &[-1, -5, 6]])?;
-    let mut watch = Watch::new(alloc, &chain)?;
-    for number in [1, 3, 5] {
-        assert!(rt; decide(&mut watch, lit(number)), "open");
-        assert!(rt; watch.propagate() == Propagated::Quiet);
-    }
-    let whole = [lit(1), lit(2), lit(3), lit(4), lit(5), lit(6)];
-    assert!(rt; watch.trail() == whole.as_slice());
-    back(&mut watch, 2);
-    assert!(rt; watch.trail() == &whole[..4]);
-    back(&mut watch, 1);
-    assert!(rt; watch.trail() == &whole[..2]);
-    assert!(rt; decide(&mut watch, lit(5)), "open");
-    assert!(rt; watch.propagate() == Propagated::Quiet && level(&watch, lit(6)) == 2);
-    back(&mut watch, 0);
-    assert!(rt; watch.trail().len() == 0);
-    Ok(())
-}
-
-/// Two decisions without propagation between them, and back over the second.
-#[test]
-fn sees_again_what_a_decision_hid(rt: HostRuntime) -> Result<(), Fail> {
-    let alloc = rt.alloc();
-    let one = formula(alloc, 3, &[&[-1, 3]])?;
-    let mut watch = Watch::new(alloc, &one)?;
-    let both = decide(&mut watch, lit(1)) && decide(&mut watch, lit(2));
-    assert!(rt; both, "open");
-    assert!(rt; watch.propagate() == Propagated::Quiet && level(&watch, lit(3)) == 2);
-    back(&mut watch, 1);
-    assert!(rt;
-        value(&watch, lit(3)) == None
-            && watch.propagate() == Propagated::Quiet
-            && level(&watch, lit(3)) == 1
-    );
-    Ok(())
+    false
 }
 
 /// Two decisions, and then a clause that their literals and an open one make.
@@ -165,19 +65,24 @@ fn added(alloc: Global, none: &Formula) -> Result<Watch, Fail>
     Ok(watch)
 }
 
+/// Whether the clause forces its literal, is seen again after the way back, and forces another one.
+fn is_forced(watch: &mut Watch) -> bool {
+    let three = lit(3);
+    let is_forced = watch.propagate() == Propagated::Quiet
+        && reason(watch, three) == Some(9)
+        && level(watch, three) == 2;
+    back(watch, 1);
+    let is_open = watch.propagate() == Propagated::Quiet && value(watch, three) == None;
+    let is_decided = decide(watch, lit(-3));
+    let is_quiet = watch.propagate() == Propagated::Quiet;
+    is_forced && is_open && is_decided && is_quiet && value(watch, lit(2)) == Some(false)
+}
+
 #[test]
 fn adds_under_decisions(rt: HostRuntime) -> Result<(), Fail> {
     let none = Formula::new(rt.alloc(), 3);
     let mut watch = added(rt.alloc(), &none)?;
-    let three = lit(3);
-    assert!(rt;
-        watch.propagate() == Propagated::Quiet
-            && (reason(&watch, three), level(&watch, three)) == (Some(9), 2)
-    );
-    back(&mut watch, 1);
-    assert!(rt; watch.propagate() == Propagated::Quiet && value(&watch, three) == None);
-    assert!(rt; decide(&mut watch, lit(-3)), "open");
-    assert!(rt; watch.propagate() == Propagated::Quiet && value(&watch, lit(2)) == Some(false));
+    assert!(rt; shared(&watch) && is_forced(&mut watch));
     Ok(())
 }
 
@@ -306,7 +211,7 @@ fn agrees(alloc: Global, watch: &mut Watch) -> Result<bool, Fail>
 }
 
 /// Adds a clause, if nothing is decided.
-fn add(watch: &mut Watch, id: u64, clause: &Clause) -> Result<(), Fail>
+pub(crate) fn add(watch: &mut Watch, id: u64, clause: &Clause) -> Result<(), Fail>
     requires { All (λ n. n.id < id) watch.old.clauses }
     ensures { All (λ n. n.id < id + 1) watch.new.clauses }
 {
@@ -345,7 +250,7 @@ fn walk(alloc: Global, numbers: &mut Numbers, watch: &mut Watch, id: u64) -> Res
 }
 
 /// Holds the formula's clauses.
-fn begin(alloc: Global, formula: &Formula) -> Result<Watch, Fail>
+pub(crate) fn begin(alloc: Global, formula: &Formula) -> Result<Watch, Fail>
     ensures { IfOk result (λ w. All (λ n. n.id < length formula.now.clauses + 1) w.clauses) }
 {
     Ok(Watch::new(alloc, formula)?)
@@ -368,12 +273,18 @@ fn walks(alloc: Global, numbers: &mut Numbers) -> Result<bool, Fail> {
     agrees(alloc, &mut watch)
 }
 
+/// The first of so many walks that does not agree.
+fn first_differing(alloc: Global, count: u32) -> Result<Option<u32>, Fail> {
+    let mut numbers = Numbers::from_state(88_172_645_463_325_252);
+    for walk in 0..count {
+        if !walks(alloc, &mut numbers)? {
+            return Ok(Some(walk));
+        }
+    }
+    Ok(None)
+}
+
 #[test]
 fn agrees_with_scanning(rt: HostRuntime) -> Result<(), Fail> {
-    let alloc = rt.alloc();
-    let mut numbers = Numbers::from_state(88_172_645_463_325_252);
-    for _ in 0..300 {
-        assert!(rt; walks(alloc, &mut numbers)?, "agrees");
-    }
-    Ok(())
+    none_fails(first_differing(rt.alloc(), 300)?)
 }

@@ -1,4 +1,4 @@
-use Rattle.std.proofs.Common.{◌<◌, ◌+◌, length}
+use Rattle.std.proofs.Common.{◌<◌, ◌+◌}
 use Rattle.std.specs.Prelude.{All}
 use Rattle.rr_proof_tests.proofs.watch.walks.Given as goal
 
