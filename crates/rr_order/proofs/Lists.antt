@@ -1,7 +1,7 @@
 -- Lists of nodes that grow.
-use Rattle.std.proofs.Common.{◌≡◌, ℕ, zero, suc, ◌+◌, ◌≤◌, ◌<◌, ◌⊎◌, inl, inr, List, [], ◌∷◌, ◌++◌, length, get_or, set, take, map, refl, ap, sym, ◌∙◌, subst, arith, length-append, Option, Some, None}
+use Rattle.std.proofs.Common.{◌≡◌, ℕ, zero, suc, ◌+◌, ◌≤◌, ◌<◌, ◌⊎◌, inl, inr, List, [], ◌∷◌, ◌++◌, length, get_or, set, replicate, take, map, refl, ap, sym, ◌∙◌, subst, arith, length-append, Option, Some, None}
 use Rattle.std.proofs.lemmas.Bool.{cases_eq, cases_lt}
-use Rattle.std.proofs.lemmas.List.{get_or-set_other, get_or-set_same, length-set, get_or-map, length-map}
+use Rattle.std.proofs.lemmas.List.{get_or-set_other, get_or-set_same, get_or-replicate, get_or_past, length-replicate, length-set, get_or-map, length-map}
 use Rattle.std.specs.Prelude.{Vec}
 use Rattle.std.specs.declared.alloc.Global.{Global}
 use Rattle.rr_expr.specs.declared.types.Bit.{Bit}
@@ -217,3 +217,13 @@ row_valid ws row P R h f g = record {
   ];
   complete = λ x v r. h.complete x v (g x v r);
 }
+
+-- a list of zeros has a zero at each place, and past its end
+abbrev zeros : ℕ → List ℕ
+zeros n = replicate n 0
+
+pub none_marked : (n v : ℕ) → get_or (zeros n) v 0 ≡ zero
+none_marked n v = elim (cases_lt v n) [
+  | inl l ↦ get_or-replicate n v 0 0 l
+  | inr l ↦ get_or_past (zeros n) v 0 (omega (arith, length-replicate {A = ℕ} n 0))
+]
