@@ -9,7 +9,7 @@ of ROOM has is not built again. So two states of the code are timed in one run, 
 certificate for two counters of 4 bits with a fault each in 2,000 rows; the one of eight counters of 16 bits at the limit of work; and a chain of a million gates,
 whose formula is held and propagated. Times are of the processor, in user mode, from formula to answer; the best of three turns is told.
 """
-import os, re, resource, shutil, subprocess, sys
+import os, re, shutil, subprocess, sys, time
 
 top = os.path.dirname(os.path.dirname(os.path.abspath(__file__)))
 sys.path.insert(0, f"{top}/tools")
@@ -118,12 +118,24 @@ def dimacs(circuit, name):
         out.write(f"p cnf {count} {len(clauses)}\n" + "\n".join(clauses) + "\n")
 
 
+def peak(pid):
+    """The most kibibytes that a running process has held so far. (What the system tells at its end counts what its parent held.)"""
+    try:
+        with open(f"/proc/{pid}/status") as file:
+            return next((int(line.split()[1]) for line in file if line.startswith("VmHWM")), 0)
+    except OSError:
+        return 0
+
+
 def ran(words):
     """What a command printed, its user seconds and its mebibytes."""
     child = subprocess.Popen(words, stdout=subprocess.PIPE, stderr=subprocess.DEVNULL)
-    text = child.stdout.read().decode()
-    _, _, used = os.wait4(child.pid, 0)
-    return text, used.ru_utime, used.ru_maxrss // 1024
+    most, ended = 0, 0
+    while not ended:
+        most = max(most, peak(child.pid))
+        ended, _, used = os.wait4(child.pid, os.WNOHANG)
+        time.sleep(0.002)
+    return child.stdout.read().decode(), used.ru_utime, most // 1024
 
 
 def peers(cnf):
