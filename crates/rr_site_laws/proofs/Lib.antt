@@ -1,5 +1,6 @@
 pub mod Tests
 pub mod Known
+pub mod Clocked
 pub mod Blocks
 pub mod ScalarsIn
 pub mod Widths
