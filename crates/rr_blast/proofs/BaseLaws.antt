@@ -25,8 +25,6 @@ use Rattle.rr_transition.specs.Placed.{any_bit, placed, row_of}
 use Rattle.rr_registers.specs.Registers.{bits_of_signal}
 use Rattle.rr_machine.specs.Words.{IsThere}
 use Rattle.rr_blast_steps.proofs.BitLaws.{whole_there}
-use Rattle.rr_exec.proofs.Pieces.{number_place}
-use Rattle.rr_meaning.proofs.Rows.{not_given}
 use Rattle.rr_meaning.proofs.Scoping.{IsSound, wide}
 
 -- a bit is one of those that are given values, or has its old one
@@ -100,6 +98,12 @@ run_placed id k (suc n) cs vs e b = by (cases_eq id b.signal) (cases_eq k b.plac
 
 -- the numbers of a row
 
+number_place : (xs : List Bool) (i : ℕ) → has (number xs) i ≡ get_or xs i false
+number_place xs i = elim (cases_lt i (length xs)) [
+  | inl l ↦ sym (get_word (length xs) (number xs) i false l) ∙ ap (λ (ys : List Bool). get_or ys i false) (word_number xs)
+  | inr l ↦ has_above (number xs) (length xs) i (number-lt xs) l ∙ sym (get_or_past xs i false l)
+]
+
 row_place : (vs : List Bool) (w p : ℕ) → w ≤ 128 → p < w → get_or vs p false ≡ get_or (word 128 (number (take w vs))) p false
 row_place vs w p l m = sym (get_word 128 (number (take w vs)) p false (omega (arith, l, m)) ∙ number_place (take w vs) p ∙ get_or-take w vs p false m)
 
@@ -143,6 +147,14 @@ none_left clock (id ∷ ids) n h = by (is_clock clock id) (nat_eq id n) refl (no
     by c true e r = absurd (both_ways true (rw e at h) refl)
     by true false e r = r (rw e at h)
     by false false e r = rw e (r (rw e at h))
+
+not_given : (ids row : List ℕ) (b : Bit) → any_is ids b.signal ≡ false → given ids row b ≡ false
+unfolding given any_is
+not_given [] row b h = refl
+not_given (id ∷ ids) row b h = elim (cases_Bool (nat_eq id b.signal)) [
+  | inl t ↦ absurd (both_ways true (rw t at h) refl)
+  | inr t ↦ rw t (not_given ids (tail row) b (rw t at h))
+]
 
 -- the whole
 

@@ -14,7 +14,6 @@ use Rattle.rr_cycle.specs.Exec.{Environment, first, put, rest}
 use Rattle.rr_transition.specs.Placed.{placed}
 use Rattle.rr_machine.specs.Words.{carried, word_values}
 use Rattle.rr_machine.proofs.WordLaws.{values_at}
-use Rattle.rr_blast_steps.proofs.CopyLaws.{no_word}
 
 -- bits and values one after the other, the last first
 
@@ -49,6 +48,10 @@ placed_more n env bs ws e f g k j d x l m q h i =
     ∙ sym (placed_at bs (wire_values n env ws) e k d l)
 
 -- words of zeros
+
+no_word : (words : List (Vec Wire Global)) (k : ℕ) → k < length words → Vec Wire Global
+no_word [] k l = absurd (omega arith)
+no_word (v ∷ vs) k l = v
 
 pub zeros_carried : (n : Netlist) (env : ℕ → Bool) (z : Wire) (words : List (Vec Wire Global)) → wire_value n env z ≡ false → All (λ (v : Vec Wire Global). All (λ w. w ≡ z) v.items) words → carried n env words ≡ zeros
 unfolding carried word_values
