@@ -1,5 +1,5 @@
 //! Texts and calls with ample memory.
-use rr_cnf::{Clause, Formula, Lit, write_dimacs};
+use rr_cnf::{Clause, Formula, Lit, push_literal, write_dimacs};
 use std::alloc::Global;
 use std::test::Fail;
 
@@ -51,6 +51,14 @@ fn writes_the_texts(rt: HostRuntime) -> Result<(), Fail> {
     for (vars, clauses, text) in TEXTS.iter() {
         assert!(rt; has_text(alloc, *vars, clauses, text)?, "{text}");
     }
+    Ok(())
+}
+
+#[test]
+fn writes_a_literal(rt: HostRuntime) -> Result<(), Fail> {
+    let mut text = Vec::new(rt.alloc());
+    push_literal(&mut text, lit(-12))?;
+    assert!(rt; text.as_slice() == b"-12 ");
     Ok(())
 }
 

@@ -1,13 +1,12 @@
 //! The DIMACS text of a formula.
 ghost use Rattle.std.specs.Prelude.{◌≡◌, ◌++◌, OnOk, IfOk};
-ghost use Rattle.std.specs.Fmt.{decimal};
 ghost use Rattle.rr_cnf.specs.Clauses.{Clauses};
 ghost use Rattle.rr_cnf.specs.Dimacs.{NamesOneFormula, clause_text, dimacs, header, literal_text};
 
 use crate::clause::Clause;
 use crate::formula::Formula;
 use crate::lit::Lit;
-use itoa::Buffer;
+use rr_decimal::{digits, push_number};
 use std::alloc::{AllocError, Global};
 
 /// The text of the formula (DIMACS, "cnf"): the line `p cnf V C` with the numbers of variables and
@@ -33,10 +32,8 @@ fn push_header(text: &mut Vec<u8>, formula: &Formula) -> Result<(), AllocError>
     ensures { OnOk result (text.new.items ≡ text.old.items ++ header formula.now) }
 {
     text.extend_from_slice(b"p cnf ")?;
-    push_number(text, formula.vars())?;
-    text.extend_from_slice(b" ")?;
-    push_number(text, formula.len())?;
-    text.extend_from_slice(b"\n")
+    push_number(text, formula.vars(), b' ')?;
+    push_number(text, formula.len(), b'\n')
 }
 
 fn push_clause(text: &mut Vec<u8>, clause: &Clause) -> Result<(), AllocError>
@@ -48,21 +45,15 @@ fn push_clause(text: &mut Vec<u8>, clause: &Clause) -> Result<(), AllocError>
     text.extend_from_slice(b"0\n")
 }
 
-fn push_literal(text: &mut Vec<u8>, lit: Lit) -> Result<(), AllocError>
+/// Writes the literal at the end of the text as DIMACS and LRAT do: a minus sign where it is negated, the
+/// variable in decimal digits, and a blank.
+pub fn push_literal(text: &mut Vec<u8>, lit: Lit) -> Result<(), AllocError>
     ensures { OnOk result (text.new.items ≡ text.old.items ++ literal_text lit) }
 {
     if lit.is_negative() {
         text.extend_from_slice(b"-")?;
     }
-    push_number(text, lit.var())?;
-    text.extend_from_slice(b" ")
-}
-
-fn push_number(text: &mut Vec<u8>, number: u64) -> Result<(), AllocError>
-    ensures { OnOk result (text.new.items ≡ text.old.items ++ decimal number) }
-{
-    let mut buffer = Buffer::new();
-    text.extend_from_slice(buffer.format(number).as_bytes())
+    push_number(text, lit.var(), b' ')
 }
 
 /// The length of the text, so that its room is taken once. No clause speaks of it.
@@ -79,11 +70,4 @@ fn text_len(formula: &Formula) -> usize {
         len = len.saturating_add(2);
     }
     len
-}
-
-/// The number of decimal digits.
-fn digits(number: u64) -> usize {
-    number
-        .checked_ilog10()
-        .map_or(1, |log| (log as usize).saturating_add(1))
 }

@@ -1,6 +1,7 @@
 //! Literals.
 ghost use Rattle.std.specs.Prelude.{◌≡◌, ◌≤◌, ◌^◌, true};
 ghost use Rattle.rr_cnf.specs.Clauses.{negated};
+ghost use Rattle.rr_cnf.specs.Codes.{code_of};
 
 use std::marker::Model;
 
@@ -62,6 +63,13 @@ impl Lit {
         ensures { result ≡ self.negative }
     {
         self.code % 2 == 1
+    }
+
+    /// Twice the variable, and one more where it is negated: its place in tables by literal.
+    pub fn code(self) -> u64
+        ensures { result ≡ code_of self }
+    {
+        self.code
     }
 
     /// The literal that is true exactly where this one is false.

@@ -21,6 +21,16 @@ pub fn push_number(text: &mut Vec<u8>, number: u64, stop: u8) -> Result<(), Allo
     Ok(())
 }
 
+/// The number of decimal digits of a number, without leading zeros: as many bytes as it takes in a text.
+pub fn digits(number: u64) -> usize
+    ensures { result ≡ length (decimal number) }
+{
+    let Some(log) = number.checked_ilog10() else {
+        return 1;
+    };
+    log as usize + 1
+}
+
 /// The number below 2^64 whose decimal digits, without leading zeros, stand at the head of the text
 /// with the byte `stop` behind them, and what follows that byte; `None` exactly where there is none.
 /// `stop` is below `0` in ASCII, so no digit.

@@ -64,8 +64,9 @@ fn look(marks: &[u64], stamp: u64, clause: &[Lit]) -> Seen
     }
 }
 
-/// The place of the line with this id.
-fn position(lines: &[Line], id: u64) -> Option<usize>
+/// The place of the line with this id among lines with rising ids, from 0; `None` exactly where no line has
+/// it. It looks at as many lines as their number has binary digits.
+pub fn position(lines: &[Line], id: u64) -> Option<usize>
     requires { IsRising lines.now }
     ensures found { IfSome result (λ k. (k < length lines.now) × ((d : Step) → (slice_index_or lines.now k d).id ≡ id)) }
     ensures none { IfNone result ((k : ℕ) (d : Step) → k < length lines.now → (slice_index_or lines.now k d).id ≡ id → ⊥) }

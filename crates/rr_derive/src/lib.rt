@@ -10,7 +10,7 @@ mod line;
 mod read;
 mod write;
 
-pub use check::{Workspace, check_line};
+pub use check::{Workspace, check_line, position};
 pub use fresh::fresh_lines_are_few;
 pub use laws::refuted_means_unsatisfiable;
 pub use line::{Journal, Line};

@@ -198,23 +198,16 @@ fn entry_of(alloc: Global, text: &[u8]) -> Result<Entry<'_>, AllocError>
     }
 }
 
-/// The number of a literal: twice its variable, and one more where it is negated.
-fn code(lit: Lit) -> u64
-    ensures { result ≡ code_of lit }
-{
-    2 * lit.var() + u64::from(lit.is_negative())
-}
-
 /// Whether the clause has a literal and its negation.
 fn is_tautology(alloc: Global, clause: &[Lit]) -> Result<bool, AllocError>
     ensures { IfOk result (λ r. MatchBool r (HasBothSigns clause.now) (IsNoTautology clause.now)) }
 {
     let mut codes = BTreeSet::new(alloc);
     for lit in clause {
-        if codes.contains(&code(lit.negated())) {
+        if codes.contains(&lit.negated().code()) {
             return Ok(true);
         }
-        codes.insert(code(*lit))?;
+        codes.insert(lit.code())?;
     }
     Ok(false)
 }

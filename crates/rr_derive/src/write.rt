@@ -5,8 +5,8 @@ ghost use Rattle.rr_cnf.specs.Dimacs.{literal_text};
 ghost use Rattle.rr_derive.specs.Lrat.{lrat, positive, step_line};
 
 use crate::line::{Journal, Line};
-use rr_cnf::Lit;
-use rr_decimal::push_number;
+use rr_cnf::{Lit, push_literal};
+use rr_decimal::{digits, push_number};
 use std::alloc::{AllocError, Global};
 
 /// The text of the journal (LRAT): for each line its id, its literals, `0`, its hints and `0`, apart by
@@ -40,15 +40,6 @@ fn push_literals(text: &mut Vec<u8>, clause: &[Lit]) -> Result<(), AllocError>
     Ok(())
 }
 
-fn push_literal(text: &mut Vec<u8>, lit: Lit) -> Result<(), AllocError>
-    ensures { OnOk result (text.new.items ≡ text.old.items ++ literal_text lit) }
-{
-    if lit.is_negative() {
-        text.extend_from_slice(b"-")?;
-    }
-    push_number(text, lit.var(), b' ')
-}
-
 fn push_hints(text: &mut Vec<u8>, hints: &[u64]) -> Result<(), AllocError>
     ensures { OnOk result (text.new.items ≡ text.old.items ++ flat_map literal_text (map positive hints.now)) }
 {
@@ -71,11 +62,4 @@ fn text_len(journal: &Journal) -> usize {
         }
     }
     len
-}
-
-/// The number of decimal digits.
-fn digits(number: u64) -> usize {
-    number
-        .checked_ilog10()
-        .map_or(1, |log| (log as usize).saturating_add(1))
 }

@@ -1,6 +1,6 @@
 //! One member: its solver, the round of each of its lines, and where its handed clauses come from.
 ghost use Rattle.std.specs.Prelude.{◌≡◌, ◌==◌, ◌-◌, ℕ, IfNone, IfSome, ◌<◌, ◌≤◌, ◌++◌, ◌∷◌, [], All, IfOk, IsSome, OnOk, None, Some, true, false, length, slice_index_or};
-ghost use Rattle.rr_derive.specs.Derive.{IsRising, Step};
+ghost use Rattle.rr_derive.specs.Derive.{Step};
 ghost use Rattle.rr_cnf.specs.Clauses.{IsWithin};
 ghost use Rattle.rr_cnf.specs.Partial.{Determined};
 ghost use Rattle.rr_solver.specs.Searches.{IsModel, Same, line};
@@ -16,7 +16,7 @@ ghost use Rattle.rr_member.specs.Sharing.{Gives, Took};
 use crate::gate::Gate;
 use crate::sharing::Short;
 use rr_cnf::{Clause, Formula};
-use rr_derive::Line;
+use rr_derive::{Line, position};
 use rr_rounds::Place;
 use rr_solver::{Solver, Status, Stepped};
 use std::alloc::{AllocError, Global};
@@ -291,30 +291,6 @@ impl<'f> Seat<'f> {
         }
         Ok(())
     }
-}
-
-/// The place of the line with this id.
-fn position(lines: &[Line], id: u64) -> Option<usize>
-    requires { IsRising lines.now }
-    ensures found { IfSome result (λ k. (k < length lines.now) × ((d : Step) → (slice_index_or lines.now k d).id ≡ id)) }
-    ensures none { IfNone result ((k : ℕ) (d : Step) → k < length lines.now → (slice_index_or lines.now k d).id ≡ id → ⊥) }
-{
-    let mut low = 0;
-    let mut high = lines.len();
-    while low < high {
-        let middle = low + (high - low) / 2;
-        let line = &lines[middle];
-        let at = line.id;
-        if at == id {
-            return Some(middle);
-        }
-        if at < id {
-            low = middle + 1;
-        } else {
-            high = middle;
-        }
-    }
-    None
 }
 
 /// The place of the handed clause with this id.

@@ -71,7 +71,7 @@ impl Assignment {
     {
         let place = self.lits.len() as u32;
         self.lits.push_reserved(lit);
-        self.truths[code(lit)] = true;
+        self.truths[lit.code() as usize] = true;
         self.variables[lit.var() as usize] = Variable {
             level,
             place,
@@ -109,7 +109,7 @@ impl Assignment {
         requires { IsWithin self.now.vars lit }
         ensures { IsTrue result ↔ Contains (lits self.now.entries) lit }
     {
-        self.truths[code(lit)]
+        self.truths[lit.code() as usize]
     }
 
     /// What is known of the variable of an assigned literal.
@@ -130,13 +130,6 @@ fn clear(truths: &mut Vec<bool>, lits: &[Lit], from: usize)
     ensures { Cleared truths.old.items truths.new.items lits.now from (length lits.now) }
 {
     for place in from..lits.len() {
-        truths[code(lits[place])] = false;
+        truths[lits[place].code() as usize] = false;
     }
-}
-
-// The place of a literal in the table of what is true.
-fn code(lit: Lit) -> usize
-    ensures { result ≡ code_of lit }
-{
-    2 * lit.var() as usize + usize::from(lit.is_negative())
 }
