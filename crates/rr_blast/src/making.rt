@@ -4,6 +4,7 @@ ghost use Rattle.rr_circuit.specs.Sweeps.{AreUsed};
 ghost use Rattle.rr_flat.specs.View.{plain_flat};
 ghost use Rattle.rr_choice.specs.Choices.{total_bits};
 ghost use Rattle.rr_transition.specs.Cycles.{Cycle, Design, switch_places, widths_of};
+ghost use Rattle.rr_registers.specs.Registers.{registers_of};
 ghost use Rattle.rr_blast.specs.Circuits.{FitsArguments, bit_count};
 
 use crate::cycle::{cycle_circuit, row_bits};
@@ -61,6 +62,7 @@ pub fn transition(
     requires fits { (j : Design) × FitsArguments j (plain_flat flat.now) order.now.clock order.now.rising order.now.steps.items list.now }
     requires few { bit_count (plain_flat flat.now) order.now.clock list.now < 2 ^ 32 }
     ensures stands { IfOk result (λ t. (j : Design) → FitsArguments j (plain_flat flat.now) order.now.clock order.now.rising order.now.steps.items list.now → Cycle j list.now t) }
+    ensures registers { IfOk result (λ t. t.state_bits ≡ length (registers_of (plain_flat flat.now))) }
     ensures used { IfOk result (λ t. AreUsed t.circuit) }
 {
     let registers = register_bits(alloc, flat)?;

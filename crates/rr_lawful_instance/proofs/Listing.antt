@@ -24,7 +24,8 @@ use Rattle.rr_choice.specs.Sites as sites
 use Rattle.rr_choice.specs.Sites.{SiteKind, Site, guard_names}
 use Rattle.rr_instance_laws.specs.Truth.{IsScalar}
 use Rattle.rr_lawful_instance.specs.AreSites.{TargetStands, BlockFits, SideFits, AreSitesOf}
-use Rattle.rr_lawful_instance.specs.Listed.{has_edges, is_clocked, MayGuardIf, MayGuardIn, items_of, no_item, item_at, items_before, item_start, StandsIn, TargetFits, IsRight, KindIsRight, AreRight}
+use Rattle.rr_spots.specs.Spots.{has_edges, is_clocked}
+use Rattle.rr_lawful_instance.specs.Listed.{MayGuardIf, MayGuardIn, items_of, no_item, item_at, items_before, item_start, StandsIn, TargetFits, IsRight, KindIsRight, AreRight}
 use Rattle.rr_lawful_instance.proofs.Placed.{item_right, module_there, item_is}
 use Rattle.rr_lawful_instance.proofs.Origins.{SideFrom, BlockFrom, From, origins}
 

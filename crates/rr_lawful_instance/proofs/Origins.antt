@@ -22,7 +22,8 @@ use Rattle.rr_flat_instance.proofs.Grown.{EnterGrows, began, inside, entered, en
 use Rattle.rr_flat_instance.proofs.Lists.{Begins}
 use Rattle.rr_choice.specs.Sites.{Site}
 use Rattle.rr_instance_laws.specs.Tests.{IsGuardName, IsGuardNameIn}
-use Rattle.rr_lawful_instance.specs.Listed.{has_edges, is_clocked, items_of}
+use Rattle.rr_spots.specs.Spots.{has_edges, is_clocked}
+use Rattle.rr_lawful_instance.specs.Listed.{items_of}
 use Rattle.rr_lawful_instance.proofs.Lists.{by_element}
 
 -- one step for each of a list, of which each has a property

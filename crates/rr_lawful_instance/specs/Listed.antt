@@ -4,6 +4,7 @@ use Rattle.std.specs.Prelude.{ℕ, zero, suc, ◌+◌, ◌<◌, ◌≤◌, ◌�
 use Rattle.std.specs.List.{All, AllByRecursion}
 use Rattle.rr_syntax.specs.Items.{spell_item, spell_parameters, spell_ports, WellFormedSource, NumberedSource}
 use Rattle.rr_syntax.specs.Tree.{EventControl, Star, Edges, Levels, ModuleItem, Ports, Nets, Variables, Integers, Parameters, Assigns, Always, Instances, ModuleDeclaration, SourceText}
+use Rattle.rr_spots.specs.Spots.{is_clocked}
 use Rattle.rr_flat.specs.Signals.{Text}
 use Rattle.rr_flat.specs.Plain.{Flat}
 use Rattle.rr_walk.specs.Walk.{module_at}
@@ -12,22 +13,6 @@ use Rattle.rr_flat_instance.specs.Places.{HasWidth, owner_at}
 use Rattle.rr_choice.specs.Sites as sites
 use Rattle.rr_choice.specs.Sites.{SiteKind, Site, guard_names}
 use Rattle.rr_lawful_instance.specs.AreSites.{MayGuard, MayGuardElsewhere, TargetStands}
-
--- an `always` with edges
-abbrev pub has_edges : EventControl → Bool
-has_edges (Star brackets) = false
-has_edges (Edges list commas) = true
-has_edges (Levels list commas) = false
-
-abbrev pub is_clocked : ModuleItem → Bool
-is_clocked (Ports p) = false
-is_clocked (Nets signed range list) = false
-is_clocked (Variables signed range list) = false
-is_clocked (Integers list) = false
-is_clocked (Parameters p) = false
-is_clocked (Assigns pairs) = false
-is_clocked (Always events body token) = has_edges events
-is_clocked (Instances m token overrides list) = false
 
 -- a name that a guard may be in an item, in the instance of a scope
 abbrev pub MayGuardIf : Bool → Flat → Option Text → ℕ → Text → Type 0

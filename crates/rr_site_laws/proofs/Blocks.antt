@@ -12,7 +12,8 @@ use Rattle.rr_walk.specs.Walk.{flat_of}
 use Rattle.rr_flat_laws.specs.Blocks.{clocked_by, is_block_of}
 use Rattle.rr_flat_laws.proofs.Blocking.{blocks_of_design}
 use Rattle.rr_flat_laws.proofs.Texts.{in_flat}
-use Rattle.rr_lawful_instance.specs.Listed.{has_edges, items_of}
+use Rattle.rr_spots.specs.Spots.{has_edges}
+use Rattle.rr_lawful_instance.specs.Listed.{items_of}
 use Rattle.rr_lawful_instance.proofs.Lists.{by_element, holds_of}
 use Rattle.rr_scope_laws.proofs.Tops.{heads}
 use Rattle.rr_site_list.proofs.Members.{all_filter}

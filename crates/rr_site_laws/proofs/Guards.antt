@@ -27,7 +27,6 @@ use Rattle.rr_clock.specs.Places.{Place}
 use Rattle.rr_spots.specs.Spots.{has_edges}
 use Rattle.rr_guard.specs.Names.{scalars, firsts, assigned_at_edges, whole_name, is_text, is_now, is_later, writes_now, writes_later, may_guard, guard_names, is_before, first_names, names_at}
 use Rattle.rr_site_laws.proofs.Known.{Known}
-use Rattle.rr_site_laws.proofs.Clocked.{same_edges}
 use Rattle.rr_site_list.proofs.Members.{all_filter, all_weaken, all_take, all_map, all_flat, all_firsts}
 use Rattle.rr_site_laws.proofs.Tests.{none_in, some_in, parts_of_flat}
 use Rattle.rr_lawful_instance.proofs.Written.{targets_write}
@@ -87,7 +86,7 @@ module _ (ms : List ModuleDeclaration) (flat : Flat) (known : Known ms flat) (fr
         let x : ModuleItem = Always events (block_at flat.clocked k).body token in
         let c : Contains m.items x = there_in (block_at flat.clocked k).scope q.0 x b.1.1.1.0 in
         let each = parts_of_flat (λ a. is_now name a ≡ false) assigned_at_edges m.items (none_in (is_now name) (flat_map assigned_at_edges m.items) w) in
-        let body = item_now x events (block_at flat.clocked k).body token refl (same_edges events ∙ b.1.1.1.1) (holds_of (λ x. AllByRecursion (λ a. is_now name a ≡ false) (assigned_at_edges x)) m.items x each c) in
+        let body = item_now x events (block_at flat.clocked k).body token refl b.1.1.1.1 (holds_of (λ x. AllByRecursion (λ a. is_now name a ≡ false) (assigned_at_edges x)) m.items x each c) in
         let missed : is_now name a ≡ false = holds_of (λ a. is_now name a ≡ false) (assigned_by (block_at flat.clocked k).body) a body (n, inside, at) in
         let met : is_now name a ≡ true = and_from a.now (bytes_eq (part_name a.part) name) now ((bytes_eq-Decides (part_name a.part) name).1 (sym q.1)) in
         true≢false (sym met ∙ missed)
@@ -115,7 +114,7 @@ module _ (ms : List ModuleDeclaration) (flat : Flat) (known : Known ms flat) (fr
         by : (b : Bool) → has_edges events ≡ b → AllByRecursion (λ a. is_later name a ≡ true → IsRegister flat id) (if b then assigned_by body else [])
         by false e = tt
         by true e =
-            let k = known.blocks i there events body at (here (Always events body at) c) (sym (same_edges events) ∙ e) in
+            let k = known.blocks i there events body at (here (Always events body at) c) e in
             all_weaken (later_at (scope_at flat i) bit (IsRegister flat id)) (assigned_by body) later_of
             (targets_write false (scope_at flat i) bit (IsRegister flat id) body (block_later body k.0 k.1.0 k.1.1.0 k.1.1.1))
     item_later (Instances q at over list) c = tt

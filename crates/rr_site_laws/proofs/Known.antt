@@ -10,7 +10,8 @@ use Rattle.rr_walk.specs.Walk.{module_at}
 use Rattle.rr_flat.specs.Writers.{scope_at, block_at}
 use Rattle.rr_flat_instance.specs.Places.{owner_at, HasWidth}
 use Rattle.rr_instance_laws.specs.Truth.{IsScalar}
-use Rattle.rr_lawful_instance.specs.Listed.{has_edges, items_of}
+use Rattle.rr_spots.specs.Spots.{has_edges}
+use Rattle.rr_lawful_instance.specs.Listed.{items_of}
 use Rattle.rr_overwrite.specs.Overwrites.{Target, targets_of, may_overwrite, width_in}
 use Rattle.rr_listing.specs.Listing.{scope_of}
 use Rattle.rr_guard.specs.Names.{scalars}

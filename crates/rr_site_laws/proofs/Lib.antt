@@ -1,6 +1,5 @@
 pub mod Tests
 pub mod Known
-pub mod Clocked
 pub mod Blocks
 pub mod ScalarsIn
 pub mod Widths

@@ -19,7 +19,7 @@ use Rattle.rr_flat_instance.specs.Places.{owner_at, HasWidth}
 use Rattle.rr_instance.specs.Firsts.{first_token}
 use Rattle.rr_choice.specs.Sites as sites
 use Rattle.rr_choice.specs.Sites.{SiteKind, Site, guard_names}
-use Rattle.rr_lawful_instance.specs.Listed.{is_clocked as runs_at_edges, MayGuardIf, items_of, no_item, item_at, item_start, TargetFits, IsRight, KindIsRight}
+use Rattle.rr_lawful_instance.specs.Listed.{MayGuardIf, items_of, no_item, item_at, item_start, TargetFits, IsRight, KindIsRight}
 use Rattle.rr_lawful_instance.proofs.Lists.{both, by_element, holds_of}
 use Rattle.rr_lawful_instance.proofs.Origins.{From}
 use Rattle.rr_spots.specs.Spots.{Spot, Body, Test, Value, spots_of_item, is_clocked}
@@ -29,7 +29,6 @@ use Rattle.rr_clock.specs.Places.{Place}
 use Rattle.rr_overwrite.specs.Overwrites.{Target, targets_of, may_overwrite, width_in, overwrite_of}
 use Rattle.rr_listing.specs.Listing.{sites_at, item_sites, module_sites, scope_of, sites_of}
 use Rattle.rr_guard.specs.Names.{names_at}
-use Rattle.rr_site_laws.proofs.Clocked.{same_clocked}
 use Rattle.rr_site_laws.proofs.Known.{Known}
 use Rattle.rr_site_laws.proofs.Guards.{names_may}
 use Rattle.rr_site_laws.proofs.ItemStands.{StandsOf, item_stands}
@@ -82,8 +81,8 @@ module _ (source : SourceText) (flat : Flat) (word : Option Text) (formed : Well
       right at token kind l h e t = record {
         item = n;
         stands = record { there = inside; after = l; before = h };
-        names = λ i there o. All-from_recursion (MayGuardIf (runs_at_edges x) flat word i) (guard_names kind)
-            (subst (AllByRecursion (MayGuardIf (runs_at_edges x) flat word i)) (sym e) (subst (λ c. AllByRecursion (MayGuardIf c flat word i) (names at)) (same_clocked x) (names_may source.modules flat known from word p hc i there o (is_clocked x) at)));
+        names = λ i there o. All-from_recursion (MayGuardIf (is_clocked x) flat word i) (guard_names kind)
+            (subst (AllByRecursion (MayGuardIf (is_clocked x) flat word i)) (sym e) (names_may source.modules flat known from word p hc i there o (is_clocked x) at));
         target = t;
       }
 

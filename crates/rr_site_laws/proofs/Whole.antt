@@ -10,7 +10,8 @@ use Rattle.rr_flat_instance.specs.Owned.{IsDeclared, KindFits}
 use Rattle.rr_choice.specs.Sites as sites
 use Rattle.rr_choice.specs.Sites.{SiteKind, Site, guard_names}
 use Rattle.rr_instance_laws.specs.Truth.{IsScalar}
-use Rattle.rr_lawful_instance.specs.Listed.{is_clocked, item_at, MayGuardIf, IsRight, KindIsRight}
+use Rattle.rr_spots.specs.Spots.{is_clocked}
+use Rattle.rr_lawful_instance.specs.Listed.{item_at, MayGuardIf, IsRight, KindIsRight}
 use Rattle.rr_lawful_instance.proofs.Listing.{stands_within}
 use Rattle.rr_lawful_instance.proofs.Origins.{origins}
 use Rattle.rr_site_laws.specs.Laws.{SitesAreRight, SitesAreListed}

@@ -58,5 +58,6 @@ returns c =
             performs = performs;
           })
           j fits;
+      registers = a ∙ ap length c.in_ok-registers.ensures.value;
       used = c.in_ok-circuit.ensures.used;
     }
