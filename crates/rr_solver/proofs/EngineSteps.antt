@@ -12,8 +12,9 @@ use Rattle.rr_cnf.specs.Partial.{Determined, IsAssigned, IsFalse, IsQuiet, IsUni
 use Rattle.rr_derive.specs.Derive.{Leads, Passes, Proof, Step}
 use Rattle.rr_derive.specs.Fresh.{Handed, Hinted, NamesAtHand, hand_of}
 use Rattle.rr_trail.specs.Trails.{AreForced, Decision, Entry, Grown, IsTrail, entry, lits}
-use Rattle.rr_watch.specs.Watches.{AreHeld, IsBack, MayAdd, Named, Numbered, State, bare, numbered_from}
-use Rattle.rr_watch.proofs.NumberLaws.{numbered_below}
+use Rattle.rr_watch.specs.Watches.{AreHeld, IsBack, MayAdd, Named, State, bare}
+use Rattle.rr_watch_lists.specs.Numbers.{Numbered, numbered_from}
+use Rattle.rr_watch_lists.proofs.NumberLaws.{numbered_below}
 use Rattle.rr_trail.proofs.EntryLaws.{AreForced-more, holds_at, take_take, entry_old, entry_new, take_old, place_cases}
 use Rattle.rr_solver.specs.Analysis.{AreNamed, Greatest, Learns}
 use Rattle.rr_solver.specs.Searches.{Adds, HaveOwnIds, IsFreshAfter, IsLog, IsModel, IsNewId, NamesAll, PassesAfter, Same, Search, SteppedIs, given}

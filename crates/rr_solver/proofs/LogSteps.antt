@@ -9,7 +9,8 @@ use Rattle.std.proofs.lemmas.Option.{slice_get_within, slice_get-get_or, get_or_
 use Rattle.rr_cnf.specs.Clauses.{Literal, Clauses, IsWithin}
 use Rattle.rr_derive.specs.Derive.{Step}
 use Rattle.rr_derive.specs.Fresh.{Handed, NamesAtHand, hand_of}
-use Rattle.rr_watch.specs.Watches.{Numbered, bare, numbered_from}
+use Rattle.rr_watch.specs.Watches.{bare}
+use Rattle.rr_watch_lists.specs.Numbers.{Numbered, numbered_from}
 use Rattle.rr_solver.specs.Searches.{HaveOwnIds, IsFreshAfter, IsLog, IsModel, IsNewId, NamesAll, PassesAfter, before, line}
 use Rattle.rr_solver.specs.Engines.{IsHand, all_handed, handed_at}
 use Rattle.rr_solver.specs.declared.engine.Status.{Status}

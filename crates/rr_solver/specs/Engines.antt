@@ -5,7 +5,8 @@ use Rattle.rr_cnf.specs.Partial.{IsQuiet, Determined}
 use Rattle.rr_derive.specs.Derive.{Step, Proof}
 use Rattle.rr_derive.specs.Fresh.{Handed, NamesAtHand, hand_of}
 use Rattle.rr_trail.specs.Trails.{Entry, entry, lits}
-use Rattle.rr_watch.specs.Watches.{Named, Numbered, State, bare}
+use Rattle.rr_watch.specs.Watches.{Named, State, bare}
+use Rattle.rr_watch_lists.specs.Numbers.{Numbered}
 use Rattle.rr_solver.specs.Searches.{HaveOwnIds, Search, IsLog, given}
 use Rattle.rr_solver.specs.Workspaces.{IsReady}
 use Rattle.rr_solver.specs.declared.engine.Status.{Status}

@@ -6,7 +6,7 @@ use Rattle.std.proofs.lemmas.Bool.{cases_lt}
 use Rattle.rr_cnf.specs.Clauses.{Literal, negated}
 use Rattle.rr_cnf.specs.Codes.{code_of, same_code}
 use Rattle.rr_trail.specs.Trails.{Forces, Entry, entry, lits, Grown}
-use Rattle.rr_watch.specs.Holdings.{Held, all_numbered, held_at, numbered}
+use Rattle.rr_watch_lists.specs.Holdings.{Held, all_numbered, held_at, numbered}
 use Rattle.rr_watch.specs.Lists.{watching_at, Advances, Stays, KeepsPlace, IsForcedShort, AreForcedShort, Whole, IsServed, AreServed, IsNext, IsOther, IsPlaced}
 use Rattle.rr_watch.specs.declared.propagator.Propagator.{Propagator}
 use Rattle.rr_trail.proofs.EntryLaws.{place_of, holds_at, take_take}

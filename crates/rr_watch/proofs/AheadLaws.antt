@@ -8,9 +8,9 @@ use Rattle.std.proofs.lemmas.List.{length-map, length_push}
 use Rattle.std.proofs.lemmas.Bool.{cases_lt, true≢false}
 use Rattle.rr_cnf.specs.Clauses.{Literal, negated}
 use Rattle.rr_trail.specs.Trails.{Entry, Forces, Standing, entry, lits, Grown}
-use Rattle.rr_watch.specs.WatchLists.{WatchList}
-use Rattle.rr_watch.specs.Holdings.{Adds, Held, all_numbered, held_at, numbered}
-use Rattle.rr_watch.specs.declared.hand.Source.{Source}
+use Rattle.rr_watch_lists.specs.WatchLists.{WatchList}
+use Rattle.rr_watch_lists.specs.Holdings.{Adds, Held, all_numbered, held_at, numbered}
+use Rattle.rr_watch_lists.specs.declared.hand.Source.{Source}
 use Rattle.rr_watch.specs.declared.propagator.Propagator.{Propagator}
 use Rattle.rr_watch.specs.Lists.{AreAlike, IsReplacement, Excuse, HasSeen, IsAhead, IsAsserted, IsLong, IsPropagator, IsShort, KeepsSeen, Serves, Whole, first_of, newest, second_of}
 use Rattle.rr_trail.proofs.EntryLaws.{holds_at, place_of}

@@ -7,10 +7,11 @@ use Rattle.std.proofs.lemmas.Bool.{cases_eq}
 use Rattle.rr_cnf.specs.Clauses.{Literal}
 use Rattle.rr_cnf.specs.Codes.{code_of}
 use Rattle.rr_trail.specs.Trails.{Entry, Standing}
-use Rattle.rr_watch.specs.WatchLists.{WatchList, IsListed, nobody}
-use Rattle.rr_watch.specs.declared.watchers.Watcher.{Watcher}
-use Rattle.rr_watch.specs.Holdings.{Held, held_at}
-use Rattle.rr_watch.specs.Lists.{IsPropagator, IsServed, IsWatcher, Reblocked, first_of, list_at, second_of, watcher_at}
+use Rattle.rr_watch_lists.specs.WatchLists.{WatchList, IsListed, nobody}
+use Rattle.rr_watch_lists.specs.declared.watchers.Watcher.{Watcher}
+use Rattle.rr_watch_lists.specs.Holdings.{Held, held_at}
+use Rattle.rr_watch.specs.Lists.{IsPropagator, IsServed, IsWatcher, first_of, second_of}
+use Rattle.rr_watch_lists.specs.Lists.{Reblocked, list_at, watcher_at}
 
 module _ (ls new : List WatchList) (code at : ℕ) (i : Watcher) (r : Reblocked ls new code at i) (h : at < length (list_at ls code).entries) where
   abbrev old : List Watcher

@@ -1,11 +1,9 @@
-pub mod ListLaws
-pub mod SpanLaws
+pub mod WantLaws
 pub mod StateLaws
 pub mod StateSteps
 pub mod Choices
 pub mod AdvanceLaws
 pub mod PlaceLaws
-pub mod HandLaws
 pub mod NumberLaws
 pub mod AheadLaws
 pub mod BlockerLaws

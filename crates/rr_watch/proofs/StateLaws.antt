@@ -9,12 +9,14 @@ use Rattle.rr_cnf.specs.Codes.{code_of}
 use Rattle.rr_cnf.specs.Partial.{IsFalse, IsUnit, IsQuiet}
 use Rattle.rr_trail.specs.Trails.{Entry, Standing, entry, lits, IsTrail, AreForced, Forces, IsCutBack}
 use Rattle.rr_watch.specs.Watches.{Named, bare}
-use Rattle.rr_watch.specs.WatchLists.{WatchList, IsListed, nobody}
-use Rattle.rr_watch.specs.Holdings.{Held, all_numbered, held_at}
-use Rattle.rr_watch.specs.Lists.{watcher_at, Unlisted, literal_at, list_at, first_of, second_of, wanted, Excuse, Serves, IsLong, IsShort, IsSettled, IsPropagator, IsServed, IsOther, HasRoom}
+use Rattle.rr_watch_lists.specs.WatchLists.{WatchList, IsListed, nobody}
+use Rattle.rr_watch_lists.specs.Holdings.{Held, all_numbered, held_at}
+use Rattle.rr_watch.specs.Lists.{literal_at, first_of, second_of, wanted, Excuse, Serves, IsLong, IsShort, IsSettled, IsPropagator, IsServed, IsOther}
+use Rattle.rr_watch_lists.specs.Lists.{watcher_at, Unlisted, list_at, HasRoom}
 use Rattle.rr_trail.proofs.EntryLaws.{entry_old, entry_new, place_cases, place_of, holds_at, AreForced-push, AreForced-take}
 use Rattle.rr_trail.proofs.TableLaws.{negated-negated}
-use Rattle.rr_watch.proofs.ListLaws.{unlisted_old, unlisted_other, unlisted_length, bare_place, code_same}
+use Rattle.rr_watch.proofs.WantLaws.{bare_place, code_same}
+use Rattle.rr_watch_lists.proofs.ListLaws.{unlisted_old, unlisted_other, unlisted_length}
 
 pub negated_same : (a b : Literal) → negated a ≡ negated b → a ≡ b
 negated_same a b e = sym (negated-negated a) ∙ ap negated e ∙ negated-negated b

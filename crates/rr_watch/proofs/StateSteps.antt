@@ -10,13 +10,15 @@ use Rattle.rr_cnf.specs.Clauses.{Literal, negated, IsWithin}
 use Rattle.rr_cnf.specs.Codes.{code_of, same_code}
 use Rattle.rr_trail.specs.Trails.{Entry, Standing, entry, lits, AreForced, IsTrail}
 use Rattle.rr_watch.specs.Watches.{Named}
-use Rattle.rr_watch.specs.WatchLists.{WatchList, IsListed, blocker_of, is_brief, nobody}
-use Rattle.rr_watch.specs.declared.watchers.Watcher.{Watcher}
-use Rattle.rr_watch.specs.Holdings.{Held, all_numbered, held_at, numbered}
-use Rattle.rr_watch.specs.Lists.{IsWatcher, watcher_at, Unlisted, Listed, AreAlike, literal_at, list_at, first_of, second_of, has, wants, wanted, Serves, IsPlaced, IsLong, IsShort, IsSettled, IsPropagator, IsServed, IsOther, IsReplacement}
+use Rattle.rr_watch_lists.specs.WatchLists.{WatchList, IsListed, blocker_of, is_brief, nobody}
+use Rattle.rr_watch_lists.specs.declared.watchers.Watcher.{Watcher}
+use Rattle.rr_watch_lists.specs.Holdings.{Held, all_numbered, held_at, numbered}
+use Rattle.rr_watch.specs.Lists.{IsWatcher, AreAlike, literal_at, first_of, second_of, wants, wanted, Serves, IsPlaced, IsLong, IsShort, IsSettled, IsPropagator, IsServed, IsOther, IsReplacement}
+use Rattle.rr_watch_lists.specs.Lists.{watcher_at, Unlisted, Listed, list_at, has}
 use Rattle.rr_trail.proofs.EntryLaws.{holds_at, AreForced-more}
 use Rattle.rr_trail.proofs.LevelLaws.{IsTrail-none}
-use Rattle.rr_watch.proofs.ListLaws.{listed_more, listed_new, listed_cases, listed_length, unlisted_old, unlisted_other, unlisted_length, unlisted_count, removed_before, bit_le, wants_watched, wants_unwatched, wants_least, wants_few, has_bit, bit, wanted_set, wanted_push, held_old, held_new, held_same, held_other, numbered_set, numbered_push, ids_below, code_same}
+use Rattle.rr_watch.proofs.WantLaws.{wants_watched, wants_unwatched, wants_least, wants_few, wanted_set, wanted_push, ids_below, code_same}
+use Rattle.rr_watch_lists.proofs.ListLaws.{listed_more, listed_new, listed_cases, listed_length, unlisted_old, unlisted_other, unlisted_length, unlisted_count, removed_before, bit_le, has_bit, bit, held_old, held_new, held_same, held_other, numbered_set, numbered_push}
 
 member : (xs : List Literal) (i : ℕ) → i < length xs → Contains xs (literal_at xs i)
 member xs i b = Contains-get_or xs i _ b

@@ -1,14 +1,15 @@
--- clauses with their watched literals, and the lists of the clauses that watch each literal
-use Rattle.std.specs.Prelude.{◌≡◌, ℕ, ◌+◌, ◌-◌, ◌*◌, ◌<◌, ◌≤◌, ◌⊎◌, ◌==◌, ◌||◌, Bool, true, false, cond, List, [], ◌∷◌, ◌++◌, length, get_or, set, All, Contains, IfSome, Option, Some, None}
-use Rattle.std.specs.List.{list_any, sum_by, swap_remove}
+-- clauses with their watched literals, in the lists of the clauses that watch each literal
+use Rattle.std.specs.Prelude.{◌≡◌, ℕ, ◌+◌, ◌-◌, ◌*◌, ◌<◌, ◌≤◌, ◌⊎◌, ◌==◌, ◌||◌, true, false, cond, List, length, get_or, All, Contains, IfSome, Option, Some, None}
+use Rattle.std.specs.List.{sum_by}
 use Rattle.rr_cnf.specs.Clauses.{Literal, negated, IsWithin}
 use Rattle.rr_cnf.specs.Codes.{code_of}
 use Rattle.rr_cnf.specs.Partial.{IsFalse}
 use Rattle.rr_trail.specs.Trails.{Entry, entry, lits, Forces, Standing, IsTrail, AreForced, Grown}
 use Rattle.rr_watch.specs.Watches.{Named}
-use Rattle.rr_watch.specs.WatchLists.{WatchList, IsListed, blocker_of, is_brief, nobody}
-use Rattle.rr_watch.specs.declared.watchers.Watcher.{Watcher}
-use Rattle.rr_watch.specs.Holdings.{Held, held_at, all_numbered}
+use Rattle.rr_watch_lists.specs.WatchLists.{WatchList, IsListed, blocker_of, is_brief}
+use Rattle.rr_watch_lists.specs.declared.watchers.Watcher.{Watcher}
+use Rattle.rr_watch_lists.specs.Holdings.{Held, held_at, all_numbered}
+use Rattle.rr_watch_lists.specs.Lists.{list_at, watcher_at, has}
 use Rattle.rr_watch.specs.declared.propagator.Propagator.{Propagator}
 use Rattle.rr_watch.specs.declared.propagator.Step.{Step}
 use Rattle.rr_watch.specs.declared.propagator.Step.TheVariants.{Kept, Moved, False}
@@ -16,19 +17,12 @@ use Rattle.rr_watch.specs.declared.propagator.Step.TheVariants.{Kept, Moved, Fal
 abbrev pub literal_at : List Literal → ℕ → Literal
 literal_at c k = get_or c k (record { var = 0; negative = false })
 
-abbrev pub list_at : List WatchList → ℕ → WatchList
-list_at ls c = get_or ls c (record { entries = []; uses = 0 })
-
 -- the watched literals
 abbrev pub first_of : Held → Literal
 first_of h = literal_at h.clause h.first
 
 abbrev pub second_of : Held → Literal
 second_of h = literal_at h.clause h.second
-
--- the clause has the literal of this code
-abbrev pub has : List Literal → ℕ → Bool
-has c code = list_any (λ l. code_of l == code) c
 
 -- 1 where the clause has the literal of this code and does not watch it
 abbrev pub wants : ℕ → Held → ℕ
@@ -163,10 +157,6 @@ pub record IsWatching (p : Propagator) (place : Option ℕ) : Type 0 where
 abbrev pub IsServed : List Entry → List Literal → Type 0
 IsServed t c = (l : Literal) × (Contains c l × Contains (lits t) l)
 
--- the watcher at this place of the literal's list
-abbrev pub watcher_at : List WatchList → Literal → ℕ → Watcher
-watcher_at ls q at = get_or (list_at ls (code_of q)).entries at nobody
-
 -- the clause at this place of the literal's list
 abbrev pub watching_at : Propagator → Literal → ℕ → Held
 watching_at p q at = held_at p.hand.held (watcher_at p.lists q at).place
@@ -232,33 +222,6 @@ pub record IsBest (t : List Entry) (c : List Literal) (o : Option Literal) (p : 
 abbrev pub BestIs : List Entry → List Literal → Option Literal → Option ℕ → Type 0
 BestIs t c o None = (m : Literal) → Contains c m → IsApart m o → ⊥
 BestIs t c o (Some p) = IsBest t c o p
-
--- a clause taken off one list
-pub record Unlisted (ls new : List WatchList) (from at : ℕ) : Type 0 where
-  pub long : length new ≡ length ls
-  pub entries : (list_at new from).entries ≡ swap_remove (list_at ls from).entries at nobody
-  pub uses : (list_at new from).uses ≡ (list_at ls from).uses
-  pub others : (c : ℕ) → (c ≡ from → ⊥) → list_at new c ≡ list_at ls c
-
--- a clause put on one list
-pub record Listed (ls new : List WatchList) (to : ℕ) (w : Watcher) : Type 0 where
-  pub long : length new ≡ length ls
-  pub entries : (list_at new to).entries ≡ (list_at ls to).entries ++ w ∷ []
-  pub uses : (list_at new to).uses ≡ (list_at ls to).uses
-  pub others : (c : ℕ) → (c ≡ to → ⊥) → list_at new c ≡ list_at ls c
-
--- an entry of one list that is another one, for the same clause or another
-pub record Reblocked (ls new : List WatchList) (code at : ℕ) (w : Watcher) : Type 0 where
-  pub long : length new ≡ length ls
-  pub entries : (list_at new code).entries ≡ set (list_at ls code).entries at w
-  pub uses : (list_at new code).uses ≡ (list_at ls code).uses
-  pub others : (c : ℕ) → (c ≡ code → ⊥) → list_at new c ≡ list_at ls c
-
--- the lists have room for one clause more that has these literals
-pub record HasRoom (old new : List WatchList) (c : List Literal) : Type 0 where
-  pub long : length new ≡ length old
-  pub entries : (code : ℕ) → (list_at new code).entries ≡ (list_at old code).entries
-  pub uses : (code : ℕ) → (list_at old code).uses + cond (has c code) 1 0 ≤ (list_at new code).uses
 
 -- one clause more with these literals fits
 abbrev pub HasSpare : Propagator → List Literal → Type 0

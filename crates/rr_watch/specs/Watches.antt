@@ -1,15 +1,11 @@
 -- clauses under a trail
-use Rattle.std.specs.Prelude.{◌≡◌, ℕ, ◌+◌, ◌<◌, ◌⊎◌, List, [], ◌∷◌, length, get_or, map, All, Contains}
+use Rattle.std.specs.Prelude.{◌≡◌, ℕ, ◌<◌, ◌⊎◌, List, length, get_or, map, All, Contains}
 use Rattle.rr_cnf.specs.Clauses.{Literal, negated, IsWithin}
 use Rattle.rr_cnf.specs.Partial.{IsFalse, IsQuiet, IsUnit}
 use Rattle.rr_trail.specs.Trails.{Entry, IsCut, entry, lits}
+use Rattle.rr_watch_lists.specs.Numbers.{Numbered}
 use Rattle.rr_watch.specs.declared.watch.Propagated.{Propagated}
 use Rattle.rr_watch.specs.declared.watch.Propagated.TheVariants.{Quiet, Conflict}
-
--- a clause with the id that names it
-pub record Numbered : Type 0 where
-  pub id : ℕ
-  pub clause : List Literal
 
 -- the id names this clause
 abbrev pub Named : List Numbered → ℕ → List Literal → Type 0
@@ -18,11 +14,6 @@ Named clauses id c = Contains clauses (record { id = id; clause = c })
 -- the clauses alone
 abbrev pub bare : List Numbered → List (List Literal)
 bare clauses = map (λ n. n.clause) clauses
-
--- the clauses with the ids from n on
-abbrev pub numbered_from : ℕ → List (List Literal) → List Numbered
-numbered_from n [] = []
-numbered_from n (c ∷ cs) = record { id = n; clause = c } ∷ numbered_from (n + 1) cs
 
 -- the clause has this literal and one other, and no third
 pub record IsPair (l : Literal) (c : List Literal) : Type 0 where

@@ -4,16 +4,17 @@ ghost use Rattle.rr_cnf.specs.Clauses.{IsWithin, Literal, negated};
 ghost use Rattle.rr_cnf.specs.Codes.{code_of};
 ghost use Rattle.rr_cnf.specs.Partial.{IsQuiet};
 ghost use Rattle.rr_trail.specs.Trails.{Entry, Forces, IsCut, Standing, entry, lits};
-ghost use Rattle.rr_watch.specs.Lists.{Advances, AreAlike, AreServed, IsWatcher, watching_at, BestIs, IsAhead, IsApart, IsAsserted, IsConflict, IsNext, IsOther, IsPlaced, IsReplacement, IsReplacementIn, IsSettled, HasSpare, KeepsSeen, IsForcedShort, AreForcedShort, IsNew, KeepsPlace, RankIs, Serves, watcher_at, Stays, SteppedIs, Whole, first_of, has, list_at, list_len, literal_at, second_of, wanted};
-ghost use Rattle.rr_watch.specs.WatchLists.{blocker_of};
-ghost use Rattle.rr_watch.specs.Holdings.{Adds, Held, IsSource, all_numbered, coming, held_at, id_of};
-ghost use Rattle.rr_watch.specs.declared.hand.Watched.{Watched};
-ghost use Rattle.rr_watch.specs.Watches.{MayAdd, Named, Numbered, bare};
+ghost use Rattle.rr_watch.specs.Lists.{Advances, AreAlike, AreServed, IsWatcher, watching_at, BestIs, IsAhead, IsApart, IsAsserted, IsConflict, IsNext, IsOther, IsPlaced, IsReplacement, IsReplacementIn, IsSettled, HasSpare, KeepsSeen, IsForcedShort, AreForcedShort, IsNew, KeepsPlace, RankIs, Serves, Stays, SteppedIs, Whole, first_of, list_len, literal_at, second_of, wanted};
+ghost use Rattle.rr_watch_lists.specs.WatchLists.{blocker_of};
+ghost use Rattle.rr_watch_lists.specs.Holdings.{Adds, Held, IsSource, all_numbered, coming, held_at, id_of};
+ghost use Rattle.rr_watch_lists.specs.declared.hand.Watched.{Watched};
+ghost use Rattle.rr_watch_lists.specs.Lists.{has, list_at, watcher_at};
+ghost use Rattle.rr_watch_lists.specs.Numbers.{Numbered};
+ghost use Rattle.rr_watch.specs.Watches.{MayAdd, Named, bare};
 
-use crate::hand::{Hand, Source, Watched};
-use crate::watchers::{WatchLists, Watcher};
 use rr_cnf::{Formula, Lit};
 use rr_trail::Trail;
+use rr_watch_lists::{Hand, Source, WatchLists, Watched, Watcher};
 use std::alloc::{AllocError, Global};
 
 /// What became of a clause when a literal that it watched was seen to be false.

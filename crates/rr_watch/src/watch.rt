@@ -2,11 +2,12 @@
 ghost use Rattle.std.specs.Prelude.{◌≡◌, ℕ, ◌+◌, ◌<◌, ◌≤◌, ◌++◌, ◌∷◌, [], All, Contains, length, List, take, IfOk, IfSome, IfNone, MatchBool, MatchOption, OnErr, OnOk, Option, Some, None};
 ghost use Rattle.rr_cnf.specs.Clauses.{IsWithin, Literal, negated};
 ghost use Rattle.rr_trail.specs.Trails.{AreForced, Entry, Grown, IsTrail, Reason, decisions, entry, lits};
-ghost use Rattle.rr_watch.specs.Watches.{AreHeld, IsBack, IsPair, MayAdd, Named, Numbered, PropagatedIs, numbered_from};
+ghost use Rattle.rr_watch.specs.Watches.{AreHeld, IsBack, IsPair, MayAdd, Named, PropagatedIs};
+ghost use Rattle.rr_watch_lists.specs.Numbers.{Numbered, numbered_from};
 
-use crate::hand::Source;
 use crate::propagator::Propagator;
 use rr_cnf::{Clause, Formula, Lit};
+use rr_watch_lists::Source;
 use std::alloc::{AllocError, Global};
 use std::marker::Model;
 
@@ -35,7 +36,7 @@ pub struct Watch<'f> {
 impl<'f> Model for Watch<'f> {
     ghost use Rattle.rr_watch.specs.Watches.{State};
     ghost use Rattle.rr_watch.specs.Lists.{IsWatching};
-    ghost use Rattle.rr_watch.specs.Holdings.{all_numbered};
+    ghost use Rattle.rr_watch_lists.specs.Holdings.{all_numbered};
 
     ghost Value = { State };
 

@@ -1,7 +1,7 @@
 use Rattle.std.proofs.Common.{◌<◌, ◌+◌, sym, subst, arith, length}
 use Rattle.std.specs.Prelude.{All}
 use Rattle.rr_watch.specs.Watches.{State}
-use Rattle.rr_watch.proofs.NumberLaws.{numbered_below}
+use Rattle.rr_watch_lists.proofs.NumberLaws.{numbered_below}
 use Rattle.rr_proof_tests.proofs.watch.begin.Goals as goal
 
 pub returns : goal.returns

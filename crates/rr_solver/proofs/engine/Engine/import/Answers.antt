@@ -1,5 +1,6 @@
 use Rattle.std.proofs.Common.{◌≡◌, ◌∙◌, ◌++◌, ◌∷◌, [], ap, sym, subst, arith}
-use Rattle.rr_watch.specs.Watches.{bare, Numbered}
+use Rattle.rr_watch.specs.Watches.{bare}
+use Rattle.rr_watch_lists.specs.Numbers.{Numbered}
 use Rattle.rr_solver.specs.Engines.{AllStand, all_handed, question}
 use Rattle.rr_solver.proofs.EngineSteps.{AllStand-flat, Engine-import, question_hold, search_is}
 use Rattle.rr_solver.proofs.LogSteps.{all_handed_new}

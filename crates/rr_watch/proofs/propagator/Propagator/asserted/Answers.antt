@@ -5,7 +5,7 @@ use Rattle.std.proofs.lemmas.Bool.{eqb-false}
 use Rattle.rr_cnf.specs.Clauses.{Literal, negated}
 use Rattle.rr_cnf.specs.Codes.{code_of}
 use Rattle.rr_trail.specs.Trails.{lits}
-use Rattle.rr_watch.specs.Holdings.{held_at}
+use Rattle.rr_watch_lists.specs.Holdings.{held_at}
 use Rattle.rr_watch.specs.Lists.{AreAlike, first_of, literal_at, second_of}
 use Rattle.rr_watch.proofs.StateSteps.{literal_is}
 use Rattle.rr_watch.proofs.AheadLaws.{apart_few, asserted_at, no_other}

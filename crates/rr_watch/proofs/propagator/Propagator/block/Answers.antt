@@ -2,9 +2,10 @@ use Rattle.std.proofs.Common.{◌∙◌, ap, sym, subst}
 use Rattle.std.specs.Prelude.{Contains}
 use Rattle.std.proofs.lemmas.Bool.{false≢true}
 use Rattle.rr_cnf.specs.Codes.{code_of}
-use Rattle.rr_watch.specs.Holdings.{held_at}
-use Rattle.rr_watch.specs.WatchLists.{blocker_of}
-use Rattle.rr_watch.specs.Lists.{IsServed, IsWatcher, watcher_at}
+use Rattle.rr_watch_lists.specs.Holdings.{held_at}
+use Rattle.rr_watch_lists.specs.WatchLists.{blocker_of}
+use Rattle.rr_watch.specs.Lists.{IsServed, IsWatcher}
+use Rattle.rr_watch_lists.specs.Lists.{watcher_at}
 use Rattle.rr_watch.proofs.AdvanceLaws.{served_next}
 use Rattle.rr_watch.proofs.BlockerLaws.{State-block, reblocked_length, served_blocked}
 use Rattle.rr_watch.proofs.propagator.Propagator.block.Goals as goal

@@ -3,9 +3,9 @@ use Rattle.std.specs.Prelude.{Contains, Some}
 use Rattle.std.proofs.lemmas.List.{map_push}
 use Rattle.std.proofs.lemmas.List.Elements.{Contains-push}
 use Rattle.rr_trail.specs.Trails.{Entry, lits}
-use Rattle.rr_watch.specs.Holdings.{all_numbered, held_at}
+use Rattle.rr_watch_lists.specs.Holdings.{all_numbered, held_at}
 use Rattle.rr_watch.specs.Watches.{Named}
-use Rattle.rr_watch.proofs.ListLaws.{named_at}
+use Rattle.rr_watch.proofs.WantLaws.{named_at}
 use Rattle.rr_watch.proofs.StateLaws.{State-push, all_false, open_within}
 use Rattle.rr_watch.proofs.propagator.Propagator.enforce.Goals as goal
 

@@ -1,5 +1,5 @@
 use Rattle.std.proofs.Common.{◌-◌, ℕ, ◌<◌, ◌≤◌, length}
-use Rattle.rr_watch.specs.Holdings.{held_at}
+use Rattle.rr_watch_lists.specs.Holdings.{held_at}
 use Rattle.rr_watch.proofs.propagator.Propagator.find.Given as goal
 
 abbrev pub invariant-loop-low : goal.invariant-loop-low

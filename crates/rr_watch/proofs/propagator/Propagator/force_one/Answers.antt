@@ -5,10 +5,10 @@ use Rattle.std.proofs.lemmas.List.Elements.{Contains-get_or}
 use Rattle.rr_cnf.specs.Clauses.{Literal, negated}
 use Rattle.rr_trail.specs.Trails.{lits}
 use Rattle.rr_watch.specs.Watches.{Named}
-use Rattle.rr_watch.specs.Holdings.{all_numbered, held_at}
+use Rattle.rr_watch_lists.specs.Holdings.{all_numbered, held_at}
 use Rattle.rr_watch.specs.Lists.{AreAlike}
 use Rattle.rr_trail.proofs.EntryLaws.{All-from_contains}
-use Rattle.rr_watch.proofs.ListLaws.{named_at}
+use Rattle.rr_watch.proofs.WantLaws.{named_at}
 use Rattle.rr_watch.proofs.propagator.Propagator.force_one.Goals as goal
 
 pub enforce-requires-clause-forces : goal.enforce-requires-clause-forces

@@ -1,8 +1,9 @@
 use Rattle.std.proofs.Common.{◌≡◌, ◌∙◌, sym, subst, length, refl}
 use Rattle.std.proofs.lemmas.Bool.{eqb-true}
 use Rattle.rr_cnf.specs.Codes.{code_of}
-use Rattle.rr_watch.specs.Holdings.{Held, coming}
-use Rattle.rr_watch.specs.Lists.{Listed, first_of, second_of}
+use Rattle.rr_watch_lists.specs.Holdings.{Held, coming}
+use Rattle.rr_watch.specs.Lists.{first_of, second_of}
+use Rattle.rr_watch_lists.specs.Lists.{Listed}
 use Rattle.rr_watch.proofs.StateSteps.{State-hold, literal_is, seen_held}
 use Rattle.rr_watch.proofs.propagator.Propagator.hold.Goals as goal
 

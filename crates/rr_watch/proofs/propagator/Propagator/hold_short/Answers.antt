@@ -1,5 +1,5 @@
 use Rattle.std.proofs.Common.{◌≡◌, ◌⊎◌, ◌++◌, ◌∷◌, [], sym, subst, length}
-use Rattle.rr_watch.specs.Holdings.{Held, coming, held_at}
+use Rattle.rr_watch_lists.specs.Holdings.{Held, coming, held_at}
 use Rattle.rr_watch.specs.Lists.{IsLong, IsPropagator, IsShort}
 use Rattle.rr_watch.proofs.StateSteps.{State-short, seen_short}
 use Rattle.rr_watch.proofs.propagator.Propagator.hold_short.Goals as goal

@@ -3,7 +3,7 @@ use Rattle.std.specs.Prelude.{All, Contains}
 use Rattle.std.proofs.lemmas.List.Elements.{Contains-get_or}
 use Rattle.rr_cnf.specs.Clauses.{Literal, negated}
 use Rattle.rr_trail.specs.Trails.{Forces, lits}
-use Rattle.rr_watch.specs.Holdings.{held_at}
+use Rattle.rr_watch_lists.specs.Holdings.{held_at}
 use Rattle.rr_watch.specs.Lists.{IsPlaced, literal_at}
 use Rattle.rr_watch.proofs.StateSteps.{literal_is}
 use Rattle.rr_watch.proofs.AdvanceLaws.{other_bound, other_same}

@@ -1,7 +1,7 @@
 use Rattle.std.proofs.Common.{◌≡◌, ◌∙◌, ap, sym, subst}
 use Rattle.std.specs.Prelude.{Contains, Some}
 use Rattle.std.proofs.lemmas.List.Elements.{Contains-get_or}
-use Rattle.rr_watch.specs.Holdings.{held_at}
+use Rattle.rr_watch_lists.specs.Holdings.{held_at}
 use Rattle.rr_watch.specs.Lists.{IsReplacement, literal_at}
 use Rattle.rr_watch.proofs.StateSteps.{literal_is}
 use Rattle.rr_watch.proofs.propagator.Propagator.replace.Goals as goal

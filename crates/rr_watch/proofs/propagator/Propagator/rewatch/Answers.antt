@@ -1,8 +1,9 @@
 use Rattle.std.proofs.Common.{◌≡◌, ◌∙◌, ◌<◌, ap, sym, subst, length, refl}
 use Rattle.std.specs.Prelude.{Some}
 use Rattle.rr_cnf.specs.Codes.{code_of}
-use Rattle.rr_watch.specs.Holdings.{Held, held_at}
-use Rattle.rr_watch.specs.Lists.{IsOther, IsPlaced, IsReplacement, Listed, list_at, literal_at}
+use Rattle.rr_watch_lists.specs.Holdings.{Held, held_at}
+use Rattle.rr_watch.specs.Lists.{IsOther, IsPlaced, IsReplacement, literal_at}
+use Rattle.rr_watch_lists.specs.Lists.{Listed, list_at}
 use Rattle.rr_watch.proofs.StateSteps.{State-rewatch, rewatch_room, rewatch_numbered, rewatch_length, rewatch_served, literal_is}
 use Rattle.rr_watch.proofs.AdvanceLaws.{other_bound}
 use Rattle.rr_watch.proofs.propagator.Propagator.rewatch.Goals as goal

@@ -1,8 +1,8 @@
 use Rattle.std.proofs.Common.{◌∙◌, sym, subst, refl}
 use Rattle.std.specs.Prelude.{Contains}
 use Rattle.rr_trail.specs.Trails.{Forces, lits}
-use Rattle.rr_watch.specs.Holdings.{held_at}
-use Rattle.rr_watch.specs.WatchLists.{blocker_of}
+use Rattle.rr_watch_lists.specs.Holdings.{held_at}
+use Rattle.rr_watch_lists.specs.WatchLists.{blocker_of}
 use Rattle.rr_watch.specs.Lists.{IsServed, watching_at}
 use Rattle.rr_watch.proofs.AdvanceLaws.{served_next, two_force}
 use Rattle.rr_watch.proofs.propagator.Propagator.step.Goals as goal

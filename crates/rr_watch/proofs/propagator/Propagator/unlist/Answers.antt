@@ -1,5 +1,5 @@
 use Rattle.rr_cnf.specs.Codes.{code_of}
-use Rattle.rr_watch.proofs.ListLaws.{unlisted_count}
+use Rattle.rr_watch_lists.proofs.ListLaws.{unlisted_count}
 use Rattle.rr_watch.proofs.StateLaws.{State-unlist}
 use Rattle.rr_watch.proofs.StateSteps.{served_unlisted}
 use Rattle.rr_watch.proofs.propagator.Propagator.unlist.Goals as goal

@@ -2,9 +2,10 @@ use Rattle.std.proofs.Common.{sym, subst}
 use Rattle.std.proofs.lemmas.List.Elements.{All-contains, Contains-get_or}
 use Rattle.rr_cnf.specs.Clauses.{IsWithin}
 use Rattle.rr_cnf.specs.Codes.{code_of}
-use Rattle.rr_watch.specs.WatchLists.{blocker_of, nobody}
-use Rattle.rr_watch.specs.Holdings.{held_at}
-use Rattle.rr_watch.specs.Lists.{IsWatcher, list_at, watcher_at}
+use Rattle.rr_watch_lists.specs.WatchLists.{blocker_of, nobody}
+use Rattle.rr_watch_lists.specs.Holdings.{held_at}
+use Rattle.rr_watch.specs.Lists.{IsWatcher}
+use Rattle.rr_watch_lists.specs.Lists.{list_at, watcher_at}
 use Rattle.rr_watch.proofs.propagator.Propagator.watcher.Goals as goal
 
 pub returns-clause-watches : goal.returns-clause-watches

@@ -1,6 +1,6 @@
 use Rattle.std.proofs.Common.{◌∙◌, ◌+◌, ◌<◌, sym, subst, arith, length}
-use Rattle.rr_watch.specs.Holdings.{Adds}
-use Rattle.rr_watch.specs.declared.hand.Source.TheVariants.{OfFormula}
+use Rattle.rr_watch_lists.specs.Holdings.{Adds}
+use Rattle.rr_watch_lists.specs.declared.hand.Source.TheVariants.{OfFormula}
 use Rattle.rr_watch.proofs.NumberLaws.{Loaded, Loaded-more, loaded_below, loaded_source, not_missing}
 use Rattle.rr_watch.proofs.watch.Watch.new.Goals.{in-Some+in_ok-add, in_default}
 use Rattle.rr_watch.proofs.watch.Watch.new.Goals as goal

@@ -1,0 +1,4 @@
+pub mod ListLaws
+pub mod SpanLaws
+pub mod HandLaws
+pub mod NumberLaws

@@ -1,0 +1,5 @@
+pub mod WatchLists
+pub mod Lists
+pub mod Spans
+pub mod Numbers
+pub mod Holdings
