@@ -16,7 +16,7 @@ use Rattle.rr_watch.specs.Watches.{AreHeld, IsBack, MayAdd, Named, State, bare}
 use Rattle.rr_watch_lists.specs.Numbers.{Numbered, numbered_from}
 use Rattle.rr_watch_lists.proofs.NumberLaws.{numbered_below}
 use Rattle.rr_trail.proofs.EntryLaws.{AreForced-more, holds_at, take_take, entry_old, entry_new, take_old, place_cases}
-use Rattle.rr_solver.specs.Analysis.{AreNamed, Greatest, Learns}
+use Rattle.rr_analysis.specs.Analysis.{AreNamed, Greatest, Learns}
 use Rattle.rr_solver.specs.Searches.{Adds, HaveOwnIds, IsFreshAfter, IsLog, IsModel, IsNewId, NamesAll, PassesAfter, Same, Search, SteppedIs, given}
 use Rattle.rr_solver.specs.Engines.{Agrees, AllStand, IsEngine, IsHand, Moves, all_handed, question, search_of}
 use Rattle.rr_solver.specs.declared.engine.Engine.{Engine}

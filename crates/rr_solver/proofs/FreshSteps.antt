@@ -12,8 +12,8 @@ use Rattle.rr_derive.proofs.MarkLaws.{All-from_contains, negated-negated, Contai
 use Rattle.rr_derive.proofs.FreshLaws.{same_or_not}
 use Rattle.rr_trail.specs.Trails.{Entry, AreForced, Decision, IsTrail, entry, lits}
 use Rattle.rr_watch.specs.Watches.{MayAdd}
-use Rattle.rr_solver.specs.Analysis.{Kept, Greatest}
-use Rattle.rr_solver.proofs.Walk.{more_cases, up_to, here, place_before, at_before, not_before, one_place}
+use Rattle.rr_analysis.specs.Analysis.{Kept, Greatest}
+use Rattle.rr_analysis.proofs.Walk.{more_cases, up_to, here, place_before, at_before, not_before, one_place}
 
 pub contains_or_not : (ls : List Literal) (l : Literal) → Contains ls l ⊎ (Contains ls l → ⊥)
 contains_or_not [] l = inr (λ c. absurd (omega (arith, c.1)))

@@ -1,8 +1,5 @@
-pub mod Walk
 pub mod FreshSteps
 pub mod LogSteps
 pub mod EngineSteps
 pub mod Values
 pub mod Ends
-pub mod Waiting
-pub mod WalkSteps

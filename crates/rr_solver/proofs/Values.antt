@@ -10,7 +10,7 @@ use Rattle.rr_cnf.specs.Partial.{IsAssigned}
 use Rattle.rr_trail.specs.Trails.{Entry, IsTrail, lits}
 use Rattle.rr_solver.specs.Engines.{Agrees}
 use Rattle.rr_solver.specs.Searches.{given}
-use Rattle.rr_solver.proofs.Walk.{true_same}
+use Rattle.rr_analysis.proofs.Walk.{true_same}
 
 pub assigned_from : (held : List Literal) (v : ℕ) (r : Option Bool) (b : Bool) → is_some r ≡ not b → b ≡ false → MatchOption r ((Contains held (record { var = v; negative = true }) → ⊥) × (Contains held (record { var = v; negative = false }) → ⊥)) (λ x. MatchBool x (Contains held (record { var = v; negative = true })) (Contains held (record { var = v; negative = false }))) → IsAssigned held v
 assigned_from held v None true e f m = absurd (true≢false f)

@@ -1,6 +1,6 @@
 -- what a search keeps between its steps
 use Rattle.std.specs.Prelude.{◌≡◌, ℕ, ◌+◌, ◌<◌, ◌≤◌, Bool, true, List, [], length, get_or, take, map, All, Contains, None}
-use Rattle.rr_cnf.specs.Clauses.{Literal, Clauses, IsWithin, literal_true, negated}
+use Rattle.rr_cnf.specs.Clauses.{Literal, Clauses, IsWithin, literal_true}
 use Rattle.rr_cnf.specs.Partial.{IsQuiet, Determined}
 use Rattle.rr_derive.specs.Derive.{Step, Proof}
 use Rattle.rr_derive.specs.Fresh.{Handed, NamesAtHand, hand_of}
@@ -8,7 +8,7 @@ use Rattle.rr_trail.specs.Trails.{Entry, entry, lits}
 use Rattle.rr_watch.specs.Watches.{Named, State, bare}
 use Rattle.rr_watch_lists.specs.Numbers.{Numbered}
 use Rattle.rr_solver.specs.Searches.{HaveOwnIds, Search, IsLog, given}
-use Rattle.rr_solver.specs.Workspaces.{IsReady}
+use Rattle.rr_analysis.specs.Workspaces.{IsReady}
 use Rattle.rr_solver.specs.declared.engine.Status.{Status}
 use Rattle.rr_solver.specs.declared.engine.Status.TheVariants.{Running}
 use Rattle.rr_solver.specs.declared.engine.Engine.{Engine}
@@ -87,10 +87,3 @@ pub record Moves (old new : Engine) : Type 0 where
 -- the bits make the held literals true
 abbrev pub Agrees : List Bool → ℕ → List Literal → Type 0
 Agrees bits n held = (l : Literal) → IsWithin n l → Contains held l → literal_true (given bits) l ≡ true
-
--- neither the literal nor its negation is true
-pub record IsOpenInput (held : List Literal) (inputs : ℕ) (l : Literal) : Type 0 where
-  pub low : 1 ≤ l.var
-  pub high : l.var ≤ inputs
-  pub not_true : Contains held l → ⊥
-  pub not_false : Contains held (negated l) → ⊥

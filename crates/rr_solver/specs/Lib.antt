@@ -1,5 +1,3 @@
-pub mod Analysis
-pub mod Workspaces
 pub mod Searches
 pub mod Engines
 pub mod Outcomes

@@ -5,15 +5,13 @@ ghost use Rattle.rr_cnf.specs.Partial.{Determined, IsAssigned, IsFalse, IsQuiet}
 ghost use Rattle.rr_derive.specs.Derive.{Passes};
 ghost use Rattle.rr_trail.specs.Trails.{Entry, entry, lits};
 ghost use Rattle.rr_watch.specs.Watches.{IsBack, Named, PropagatedIs, bare};
-ghost use Rattle.rr_solver.specs.Analysis.{AreNamed, IsConflict, Learns};
+ghost use Rattle.rr_analysis.specs.Analysis.{AreNamed, IsConflict, Learns};
+ghost use Rattle.rr_analysis.specs.OpenInputs.{IsOpenInput};
 ghost use Rattle.rr_solver.specs.Searches.{IsNewId, Same, SteppedIs};
-ghost use Rattle.rr_solver.specs.Engines.{Agrees, IsOpenInput, Moves, Ready, Whole, search_of};
+ghost use Rattle.rr_solver.specs.Engines.{Agrees, Moves, Ready, Whole, search_of};
 
-use crate::analysis::{Learned, analyze};
-use crate::chains::Chains;
-use crate::order::Order;
 use crate::restarts::Restarts;
-use crate::workspace::Workspace;
+use rr_analysis::{Chains, Learned, Order, Workspace, analyze};
 use rr_cnf::{Clause, Formula, Lit};
 use rr_derive::Journal;
 use rr_watch::{Propagated, Watch};

@@ -4,14 +4,10 @@
 //! `rr_watch`'s propagation.
 #![tactic(auto)]
 
-mod analysis;
-mod chains;
 mod engine;
-mod order;
 mod outcome;
 mod restarts;
 mod solver;
-mod workspace;
 
 pub use engine::{Status, Stepped};
 pub use outcome::{Outcome, solve};

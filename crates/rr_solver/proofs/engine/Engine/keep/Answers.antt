@@ -1,5 +1,5 @@
 use Rattle.std.proofs.Common.{◌≡◌, ◌∙◌, ◌+◌, ◌++◌, ◌∷◌, [], ap, refl, subst, arith}
-use Rattle.rr_solver.proofs.WalkSteps.{ready_same}
+use Rattle.rr_analysis.proofs.WalkSteps.{ready_same}
 use Rattle.std.specs.Prelude.{All}
 use Rattle.rr_cnf.specs.Clauses.{IsWithin}
 use Rattle.rr_solver.specs.Engines.{IsEngine}

@@ -1,6 +1,6 @@
 use Rattle.std.proofs.Common.{refl}
 use Rattle.rr_watch.specs.Watches.{bare}
-use Rattle.rr_solver.proofs.WalkSteps.{ready_same}
+use Rattle.rr_analysis.proofs.WalkSteps.{ready_same}
 use Rattle.rr_solver.proofs.EngineSteps.{AllStand-grown, Engine-trail}
 use Rattle.rr_solver.proofs.engine.Engine.propagate.Goals as goal
 

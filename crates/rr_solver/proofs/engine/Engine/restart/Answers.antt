@@ -1,5 +1,5 @@
 use Rattle.std.proofs.Common.{length, sym, subst}
-use Rattle.rr_solver.proofs.WalkSteps.{ready_same}
+use Rattle.rr_analysis.proofs.WalkSteps.{ready_same}
 use Rattle.rr_watch.specs.Watches.{bare}
 use Rattle.rr_solver.specs.Engines.{AllStand}
 use Rattle.rr_solver.proofs.EngineSteps.{AllStand-take, Engine-trail}
