@@ -11,6 +11,7 @@ use Rattle.rr_derive.specs.Derive.{Step}
 use Rattle.rr_derive.specs.Fresh.{Handed, NamesAtHand, hand_of}
 use Rattle.rr_watch.specs.Watches.{bare}
 use Rattle.rr_watch_lists.specs.Numbers.{Numbered, numbered_from}
+use Rattle.rr_watch_lists.proofs.HandLaws.{numbered_at}
 use Rattle.rr_solver.specs.Searches.{HaveOwnIds, IsFreshAfter, IsLog, IsModel, IsNewId, NamesAll, PassesAfter, before, line}
 use Rattle.rr_solver.specs.Engines.{IsHand, all_handed, handed_at}
 use Rattle.rr_solver.specs.declared.engine.Status.{Status}
@@ -279,11 +280,6 @@ bare_numbered n (c ∷ cs) = ap (λ x. c ∷ x) (bare_numbered (n + 1) cs)
 pub length_numbered : (n : ℕ) (cs : List (List Literal)) → length (numbered_from n cs) ≡ length cs
 length_numbered n [] = refl
 length_numbered n (c ∷ cs) = ap suc (length_numbered (n + 1) cs)
-
-numbered_at : (n : ℕ) (cs : List (List Literal)) (k : ℕ) (d : Numbered) (e : List Literal) → k < length cs → get_or (numbered_from n cs) k d ≡ record { id = n + k; clause = get_or cs k e }
-numbered_at n [] k d e h = absurd (omega arith)
-numbered_at n (c ∷ cs) zero d e h = ap (λ i. record { id = i; clause = c }) (omega arith)
-numbered_at n (c ∷ cs) (suc k) d e h = numbered_at (n + 1) cs k d e (omega arith) ∙ ap (λ i. record { id = i; clause = get_or cs k e }) (omega arith)
 
 pub IsHand-start : (cs : List (List Literal)) → IsHand cs [] [] (numbered_from 1 cs)
 IsHand-start cs = record {

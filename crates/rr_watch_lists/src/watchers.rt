@@ -137,7 +137,7 @@ impl WatchLists {
         ensures err { OnErr result (HasRoom self.old self.new []) }
     {
         for lit in clause {
-            self.expect_one(code(*lit))?;
+            self.expect_one(lit.code() as usize)?;
         }
         Ok(())
     }
@@ -165,7 +165,7 @@ impl WatchLists {
         requires { code_of lit < length self.now }
         ensures { result ≡ length (list_at self.now (code_of lit)).entries }
     {
-        self.spans[code(lit)].len as usize
+        self.spans[lit.code() as usize].len as usize
     }
 
     /// One of them.
@@ -174,7 +174,7 @@ impl WatchLists {
         requires at { at < length (list_at self.now (code_of lit)).entries }
         ensures { result ≡ watcher_at self.now lit at }
     {
-        let span = self.spans[code(lit)];
+        let span = self.spans[lit.code() as usize];
         self.entries[span.start as usize + at]
     }
 
@@ -184,7 +184,7 @@ impl WatchLists {
         requires room { length (list_at self.old (code_of lit)).entries < (list_at self.old (code_of lit)).uses }
         ensures { Listed self.old self.new (code_of lit) watcher }
     {
-        let list = code(lit);
+        let list = lit.code() as usize;
         let span = self.spans[list];
         self.entries[span.start as usize + span.len as usize] = watcher;
         self.spans[list] = Span {
@@ -199,7 +199,7 @@ impl WatchLists {
         requires at { at < length (list_at self.old (code_of lit)).entries }
         ensures { Reblocked self.old self.new (code_of lit) at watcher }
     {
-        let list = code(lit);
+        let list = lit.code() as usize;
         let span = self.spans[list];
         self.entries[span.start as usize + at] = watcher;
     }
@@ -210,7 +210,7 @@ impl WatchLists {
         requires at { at < length (list_at self.old (code_of lit)).entries }
         ensures { Unlisted self.old self.new (code_of lit) at }
     {
-        let list = code(lit);
+        let list = lit.code() as usize;
         let span = self.spans[list];
         let start = span.start as usize;
         let len = span.len - 1;
@@ -252,13 +252,6 @@ fn moved(entries: &mut Vec<Watcher>, span: Span) -> Result<Span, AllocError>
     })
 }
 
-// The place of the list of a literal.
-fn code(lit: Lit) -> usize
-    ensures { result ≡ code_of lit }
-{
-    2 * lit.var() as usize + usize::from(lit.is_negative())
-}
-
 // By the code of a literal, the number of times that the clauses of the formula have it.
 fn rooms(alloc: Global, formula: &Formula) -> Result<Vec<u32>, AllocError>
     requires { formula.now.vars ≤ 1073741823 }
@@ -268,7 +261,7 @@ fn rooms(alloc: Global, formula: &Formula) -> Result<Vec<u32>, AllocError>
     for index in 0..formula.len() {
         if let Some(clause) = formula.clause(index + 1) {
             for lit in clause.lits() {
-                let at = code(*lit);
+                let at = lit.code() as usize;
                 rooms[at] = u32::saturating_add(rooms[at], 1);
             }
         }
