@@ -142,9 +142,10 @@ module _ (F : Flat) (clock : Option ℕ) (rising : Bool) (steps : List Step) (ss
   unfolding PerformsCycles
   bits_are m choice lc state row ls lr = m.performs choice state row lc ls (lr ∙ ap sum m.input_widths ∙ sym (row_length F.signals (row_inputs clock F.inputs)))
 
-  pub stands : IsMade → (j : Design) → FitsArguments j F clock rising steps ss → Cycle j ss t
+  -- the transition stands for the design, with these registers
+  pub stands : IsMade → (j : Design) → FitsArguments j F clock rising steps ss → (c : Cycle j ss t) × (c.registers ≡ registers)
   unfolding instance_flat
-  stands m j f = record {
+  stands m j f = (record {
     choice_bits = m.choice_bits;
     switches = m.switches;
     registers = registers;
@@ -164,7 +165,7 @@ module _ (F : Flat) (clock : Option ℕ) (rising : Bool) (steps : List Step) (ss
           written = λ k b w. written_stays m j f ps k b w;
           bits = bits_are m choice lc;
         });
-  }
+  }, refl)
 
 -- registers have wires
 

@@ -62,7 +62,7 @@ pub fn transition(
     requires fits { (j : Design) × FitsArguments j (plain_flat flat.now) order.now.clock order.now.rising order.now.steps.items list.now }
     requires few { bit_count (plain_flat flat.now) order.now.clock list.now < 2 ^ 32 }
     ensures stands { IfOk result (λ t. (j : Design) → FitsArguments j (plain_flat flat.now) order.now.clock order.now.rising order.now.steps.items list.now → Cycle j list.now t) }
-    ensures registers { IfOk result (λ t. t.state_bits ≡ length (registers_of (plain_flat flat.now))) }
+    ensures registers { IfOk result (λ t. (j : Design) → FitsArguments j (plain_flat flat.now) order.now.clock order.now.rising order.now.steps.items list.now → (c : Cycle j list.now t) × (c.registers ≡ registers_of (plain_flat flat.now))) }
     ensures used { IfOk result (λ t. AreUsed t.circuit) }
 {
     let registers = register_bits(alloc, flat)?;
