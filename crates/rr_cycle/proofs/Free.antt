@@ -1,5 +1,5 @@
 -- nothing writes an input of the top
-use Rattle.std.proofs.Common.{◌≡◌, ℕ, get_or, Bool, true, false, Option, Some, None, Ok, sym, arith, inl, inr, pos, subst}
+use Rattle.std.proofs.Common.{◌≡◌, ℕ, get_or, Bool, true, false, Option, Some, None, sym, arith, inl, inr, pos, subst}
 use Rattle.std.proofs.lemmas.Bool.{or_cases, and_parts, eqb-true}
 use Rattle.std.proofs.lemmas.List.Elements.{All-get_or}
 use Rattle.rr_syntax.specs.Tree.{Tree}
@@ -9,7 +9,7 @@ use Rattle.rr_expr.specs.declared.types.Entity.TheVariants.{Signal}
 use Rattle.rr_expr.specs.Scopes.{meant}
 use Rattle.rr_expr.specs.Values.{nowhere}
 use Rattle.rr_flat.specs.declared.signal.Port.TheVariants.{Input}
-use Rattle.rr_flat.specs.Signals.{Text, signal_at}
+use Rattle.rr_flat.specs.Signals.{signal_at}
 use Rattle.rr_flat.specs.Lawful.{RightTargets, MayDrive, MayAssign, DeclaredTarget, DriverTarget, BlockTargets}
 use Rattle.rr_flat.specs.Plain.{Side, Written, Whole, Block, Flat}
 use Rattle.rr_flat.specs.Reads.{assigned_by}

@@ -6,6 +6,7 @@ pub mod Orders
 pub mod Settling
 pub mod Sequence
 pub mod Free
+pub mod EmptyDesign
 pub mod Settled
 pub mod Ranked
 pub mod Applied

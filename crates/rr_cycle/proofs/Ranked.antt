@@ -4,12 +4,10 @@ use Rattle.std.proofs.Common.{◌≡◌, ℕ, zero, suc, ◌<◌, max, List, [],
 use mathlib.Core.Path.{fun_ext}
 use Rattle.std.proofs.lemmas.Bool.{both_ways, cases_Bool}
 use Rattle.std.proofs.lemmas.List.Elements.{recursion_from_All}
-use Rattle.rr_syntax.specs.Tree.{Block as Sequence}
 use Rattle.rr_expr.specs.declared.types.Bit.{Bit}
-use Rattle.rr_expr.specs.Values.{value}
 use Rattle.rr_flat.specs.Lawful.{Lawful}
 use Rattle.rr_flat.specs.Plain.{Flat}
-use Rattle.rr_flat.specs.Reads.{writes, assigned_by}
+use Rattle.rr_flat.specs.Reads.{assigned_by}
 use Rattle.rr_flat.specs.Writers.{scope_at, driver_at, block_at, driven, Writer, Driven, Clocked, Combinational, Writes, writes_now, writes_later, writes_at_all, wires, DriverNames, BitNames}
 use Rattle.rr_cycle.specs.Cycles.{driver_value, side_shape, IsInputBit, Settled, IsNext, Runs, ended, cycle, Run, zeros, outputs_of}
 use Rattle.rr_cycle.specs.Exec.{Environment}

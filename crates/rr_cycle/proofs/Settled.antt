@@ -1,13 +1,9 @@
 -- the laws of cycles
-use Rattle.std.proofs.Common.{◌≡◌, ℕ, List, [], ◌∷◌, Bool, true, Option, None, refl, arith, inl, inr, ◌∙◌}
+use Rattle.std.proofs.Common.{◌≡◌, ℕ, List, [], ◌∷◌, Bool, true, Option, None, ◌∙◌}
 use Rattle.rr_expr.specs.declared.types.Bit.{Bit}
 use Rattle.rr_flat.specs.declared.design.Step.{Step}
-use Rattle.rr_flat.specs.declared.design.Step.TheVariants.{Driver, Wire, Block}
-use Rattle.rr_flat.specs.Clocks.{OneClock}
-use Rattle.rr_flat.specs.Lawful.{Lawful, AssignedSomewhere}
-use Rattle.rr_flat.specs.Ordered.{Ordered, IsStep}
 use Rattle.rr_flat.specs.Plain.{Flat}
-use Rattle.rr_flat.specs.Writers.{Writer, Driven, Clocked, Combinational, Writes, BitNames}
+use Rattle.rr_flat.specs.Writers.{Clocked, Writes}
 use Rattle.rr_cycle.specs.Cycles.{Settled, IsNext, Runs, ended, cycle, Run, zeros, outputs_of}
 use Rattle.rr_flat.specs.Elaborated.{IsSound}
 use Rattle.rr_cycle.specs.Designs.{IsInOrder, IsLawful}
@@ -17,6 +13,7 @@ use Rattle.rr_cycle.proofs.Free.{free_inputs}
 use Rattle.rr_cycle.proofs.Sequence.{next_in_order, only_next}
 use Rattle.rr_cycle.proofs.Ranked.{one_settled, run_once}
 use Rattle.rr_cycle.proofs.Settling.{settled_by_steps}
+use Rattle.rr_cycle.proofs.EmptyDesign.{empty, lawful, ordered, sound}
 
 pub settles : (flat : Flat) (clock : Option ℕ) (rising : Bool) (steps : List Step) → IsSound flat → IsInOrder flat clock rising steps → (state : Environment) (row : List ℕ) →
     Settled flat clock state row (performed flat steps (base flat clock state row))
@@ -38,62 +35,6 @@ settled_by_registers flat clock state other row env s same = record {
 
 pub settled_only : (flat : Flat) → IsLawful flat → (clock : Option ℕ) (state : Environment) (row : List ℕ) (e f : Environment) → Settled flat clock state row e → Settled flat clock state row f → e ≡ f
 settled_only flat l clock state row e f h k = one_settled flat l.0 l.1 clock state row e f h k
-
--- A design without a part
-
-abbrev empty : Flat
-empty = record { top = 0; signals = []; scopes = [] ∷ []; drivers = []; clocked = []; combinational = []; walk = []; inputs = []; outputs = []; owners = 0 ∷ []; reached = 0 ∷ [] }
-
-sound : IsSound empty
-sound = record { drivers = tt; inputs = tt }
-
-one_clock : OneClock empty None None true
-one_clock = record { chosen = refl; direction = refl; all = tt }
-
-nothing_written : (x : Writer) (b : Bit) → Writes empty x b → ⊥
-unfolding Writes
-nothing_written (Driven k i) b w = absurd (omega (arith, w.0))
-nothing_written (Clocked k) b w = absurd (omega (arith, w.0))
-nothing_written (Combinational k) b w = absurd (omega (arith, w.0))
-
-nothing_named : (b c : Bit) → BitNames empty b c → ⊥
-nothing_named b c (inl n) = nothing_written (Driven n.0 n.1.0) b n.1.1.0
-nothing_named b c (inr n) = nothing_written (Combinational n.0) b n.1.0
-
-nothing_assigned : (id : ℕ) (now : Bool) → AssignedSomewhere empty id now → ⊥
-nothing_assigned id now (inl a) = absurd (omega (arith, a.1.0))
-nothing_assigned id now (inr a) = absurd (omega (arith, a.1.0))
-
-lawful : Lawful empty None
-lawful = record {
-  named = tt;
-  targets = record { drivers = λ k l. absurd (omega (arith, l)); clocked = λ k l. absurd (omega (arith, l)); combinational = λ k l. absurd (omega (arith, l)) };
-  labels = record { clocked = λ k l. absurd (omega (arith, l)); combinational = λ k l. absurd (omega (arith, l)) };
-  clock = None;
-  rising = true;
-  one_clock = one_clock;
-  unread = tt;
-  one_writer = λ x y b w v. absurd (nothing_written x b w);
-  kinds = record { combinational = λ k l. absurd (omega (arith, l)); one = λ id a b. nothing_assigned id true a };
-  no_race = λ j k l m id a i n range signed h e f. absurd (omega (arith, l));
-  no_latches = λ k l. absurd (omega (arith, l));
-  ranks = (λ b. 0, λ b c n. absurd (nothing_named b c n));
-}
-
-no_step : (s : Step) → IsStep empty s → ⊥
-unfolding IsStep
-no_step (Driver k) h = absurd (omega (arith, h.0))
-no_step (Wire k i) h = absurd (omega (arith, h.0))
-no_step (Block k) h = absurd (omega (arith, h))
-
-ordered : Ordered empty None None true []
-ordered = record {
-  one_clock = one_clock;
-  each = λ i l. absurd (omega (arith, l));
-  all = λ s h. absurd (no_step s h);
-  once = λ i j l m e. absurd (omega (arith, l));
-  after = λ i j l m b w n. absurd (omega (arith, l));
-}
 
 pub settled_met : (flat : Flat) × ((clock : Option ℕ) × ((rising : Bool) × ((steps : List Step) × (IsSound flat × IsInOrder flat clock rising steps))))
 settled_met = (empty, (None, (true, ([], (sound, (None, (lawful, ordered)))))))
