@@ -7,9 +7,11 @@ use Rattle.std.proofs.lemmas.List.FromFn.{length-map-range_with_len}
 use Rattle.std.proofs.lemmas.List.Sums.{sum_by-cons}
 use Rattle.rr_circuit.specs.Values.{output_values, given as given_bits}
 use Rattle.rr_syntax.specs.declared.site.Site.{Site as ArenaSite}
+use Rattle.rr_syntax.specs.Tree.{SourceText}
 use Rattle.rr_expr.specs.declared.types.Bit.{Bit}
 use Rattle.rr_flat.specs.declared.design.Step.{Step}
 use Rattle.rr_flat.specs.Inputs.{row_inputs}
+use Rattle.rr_flat.specs.Lawful.{Lawful}
 use Rattle.rr_flat.specs.Ordered.{IsStep, Ordered}
 use Rattle.rr_flat.specs.Plain.{Flat, Block}
 use Rattle.rr_flat.specs.Signals.{Signal, Text, signal_at}
@@ -25,6 +27,7 @@ use Rattle.rr_choice.specs.Choices.{decode, site_bits, total_bits}
 use Rattle.rr_choice.specs.Sites.{Site}
 use Rattle.rr_choice.specs.View.{plain_site, plain_sites}
 use Rattle.rr_lawful_instance.specs.Laws.{IsRepairable}
+use Rattle.rr_lawful_instance.specs.Listed.{AreRight}
 use Rattle.rr_lawful_instance.proofs.Cycles.{bases_stay, stays_lawful}
 use Rattle.rr_lawful_instance.proofs.Listing.{listed}
 use Rattle.rr_lawful_instance.proofs.Whole.{writers}
@@ -166,6 +169,11 @@ module _ (F : Flat) (clock : Option ℕ) (rising : Bool) (steps : List Step) (ss
           bits = bits_are m choice lc;
         });
   }, refl)
+
+-- a design that is lawful in this order, with its sites as they are listed for it, fits
+pub design_fits : (source : SourceText) (top word : Option Text) (F : Flat) (clock : Option ℕ) (rising : Bool) (steps : List Step) (ss : List Site) →
+    flat_of source top ≡ Ok F → Lawful F word → Ordered F word clock rising steps → AreRight source F word ss → (j : Design) × FitsArguments j F clock rising steps ss
+design_fits source top word F clock rising steps ss d l o r = (record { source = source; top = top; word = word }, record { design = d; lawful = l; ordered = o; right = r })
 
 -- registers have wires
 

@@ -2,3 +2,4 @@ pub mod PlacedLaws
 pub mod BaseLaws
 pub mod CycleLaws
 pub mod FitLaws
+pub mod FewBits

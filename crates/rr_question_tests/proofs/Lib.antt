@@ -1,2 +1,0 @@
-pub mod FewBits
-pub mod Fitting

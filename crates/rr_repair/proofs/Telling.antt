@@ -46,7 +46,7 @@ use Rattle.rr_report.specs.Views.{stop_from, StopsWhere}
 use Rattle.rr_search.specs.declared.answer.Answer.{Answer as SearchAnswer}
 use Rattle.rr_search.specs.declared.answer.Answer.TheVariants as found
 use Rattle.rr_search.specs.Answers as search
-use Rattle.rr_search.specs.Answers.{Task, IsTask, IsOf}
+use Rattle.rr_search.specs.Answers.{Task, IsOf}
 use Rattle.rr_search.specs.Least.{Least}
 use Rattle.rr_unroll.specs.Faithful.{Faithful}
 use Rattle.rr_answers.specs.Certified.{certificate}
@@ -178,9 +178,6 @@ module _ (w : PlainRequest) (design table : List ℕ) (tokens : List Lexeme) (so
     }
 
 -- what is asked of the search
-
-pub task_stands : (t : Task) (j : Design) → Cycle j t.sites t.transition → 1 ≤ t.members → t.members ≤ 8 → 1 ≤ t.budget → IsTask t
-task_stands t j y some most budget = record { bits = y.choice_bits; switches = y.switches; some = some; most = most; budget = budget }
 
 pub task_of_design : (t : Task) (j : Design) → Cycle j t.sites t.transition → (flat : Flat) → flat_of j.source j.top ≡ Ok flat → (clock : Option ℕ) (bytes : List ℕ) → table_of (ports_of flat clock) bytes ≡ Ok t.table → IsOf t j
 task_of_design t j y flat e clock bytes r = record { stands = y; fits = tables_stand j t.sites t.transition y flat e clock bytes t.table r }

@@ -1,3 +1,4 @@
 pub mod Chain
 pub mod Answering
 pub mod Proposals
+pub mod Tasks

@@ -1,5 +1,5 @@
 use Rattle.std.proofs.Common.{arith}
-use Rattle.rr_least_tests.proofs.Fitting.{task_stands}
+use Rattle.rr_search.proofs.Tasks.{task_stands}
 use Rattle.rr_least_tests.proofs.made.fewest.Goals as goal
 
 pub least-requires-clause-task : goal.least-requires-clause-task

@@ -1,4 +1,4 @@
-use Rattle.rr_least_tests.proofs.FewBits.{few_bits}
+use Rattle.rr_blast.proofs.FewBits.{few_bits}
 use Rattle.rr_least_tests.proofs.made.transition_of.Goals as goal
 
 pub bits-requires : goal.bits-requires

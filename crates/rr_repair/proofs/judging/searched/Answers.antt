@@ -8,7 +8,8 @@ use Rattle.rr_flat.specs.View.{plain_flat}
 use Rattle.rr_report.specs.Views.{plain_answer}
 use Rattle.rr_repair.specs.Repairs.{design_of}
 use Rattle.rr_repair.specs.Views.{plain_request}
-use Rattle.rr_repair.proofs.Telling.{counted_told, task_of_design, task_stands}
+use Rattle.rr_search.proofs.Tasks.{task_stands}
+use Rattle.rr_repair.proofs.Telling.{counted_told, task_of_design}
 use Rattle.rr_repair.proofs.judging.searched.Goals as goal
 
 -- src/judging.rt
