@@ -148,27 +148,30 @@ module _ (F : Flat) (clock : Option ℕ) (rising : Bool) (steps : List Step) (ss
   -- the transition stands for the design, with these registers
   pub stands : IsMade → (j : Design) → FitsArguments j F clock rising steps ss → (c : Cycle j ss t) × (c.registers ≡ registers)
   unfolding instance_flat
-  stands m j f = (record {
-    choice_bits = m.choice_bits;
-    switches = m.switches;
-    registers = registers;
-    state_bits = m.state_bits;
-    instances = λ choice lc.
-        let ps : List Pick = decode ss choice in
-        let law = stays_lawful j.source j.top F j.word clock rising steps ss ps f.design f.lawful f.ordered f.right in
-        cycles_from_steps (instance_design ss ps j) clock rising steps t registers choice
-        (record {
-          flat = instance_flat ss ps F;
-          design = law.0;
-          lawful = law.1;
-          ordered = law.2;
-          input_widths = m.input_widths;
-          output_widths = m.output_widths;
-          narrow = m.narrow;
-          written = λ k b w. written_stays m j f ps k b w;
-          bits = bits_are m choice lc;
-        });
-  }, refl)
+  stands m j f = (
+    record {
+      choice_bits = m.choice_bits;
+      switches = m.switches;
+      registers = registers;
+      state_bits = m.state_bits;
+      instances = λ choice lc.
+          let ps : List Pick = decode ss choice in
+          let law = stays_lawful j.source j.top F j.word clock rising steps ss ps f.design f.lawful f.ordered f.right in
+          cycles_from_steps (instance_design ss ps j) clock rising steps t registers choice
+          (record {
+            flat = instance_flat ss ps F;
+            design = law.0;
+            lawful = law.1;
+            ordered = law.2;
+            input_widths = m.input_widths;
+            output_widths = m.output_widths;
+            narrow = m.narrow;
+            written = λ k b w. written_stays m j f ps k b w;
+            bits = bits_are m choice lc;
+          });
+    },
+    refl,
+  )
 
 -- a design that is lawful in this order, with its sites as they are listed for it, fits
 pub design_fits : (source : SourceText) (top word : Option Text) (F : Flat) (clock : Option ℕ) (rising : Bool) (steps : List Step) (ss : List Site) →

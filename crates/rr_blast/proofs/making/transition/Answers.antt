@@ -45,18 +45,18 @@ returns c =
     subst (λ (s : List Step). PerformsCycles F c.args.order.now.clock s c.args.list.now c.in_ok-registers.registers.items c.in_ok-circuit.circuit) c.as_slice-2.ensures.value
     (subst (λ (bs : List Bit). PerformsCycles F c.args.order.now.clock c.as_slice-2.result.now c.args.list.now bs c.in_ok-circuit.circuit) c.as_slice-3.ensures.value c.in_ok-circuit.ensures.performs) in
     let over = λ (j : Design) (fits : FitsArguments j F c.args.order.now.clock c.args.order.now.rising c.args.order.now.steps.items c.args.list.now).
-        stands F c.args.order.now.clock c.args.order.now.rising c.args.order.now.steps.items c.args.list.now c.in_ok-registers.registers.items c.result
-        (record {
-          narrow = narrow_of c.args.flat.now f;
-          kept = c.in_ok-registers.ensures.all;
-          choice_bits = c.bits.ensures;
-          state_bits = a;
-          switches = c.in_ok-switches.ensures;
-          input_widths = c.in_ok-input_widths.ensures ∙ ap (widths_of F) (c.as_slice-5.ensures.value ∙ c.in_ok-ids.ensures.value);
-          output_widths = c.in_ok-output_widths.ensures ∙ ap (widths_of F) (c.as_slice-6.ensures.value ∙ ap (λ (d : Design). d.outputs) c.flat.view_is);
-          performs = performs;
-        })
-        j fits in
+    stands F c.args.order.now.clock c.args.order.now.rising c.args.order.now.steps.items c.args.list.now c.in_ok-registers.registers.items c.result
+    (record {
+      narrow = narrow_of c.args.flat.now f;
+      kept = c.in_ok-registers.ensures.all;
+      choice_bits = c.bits.ensures;
+      state_bits = a;
+      switches = c.in_ok-switches.ensures;
+      input_widths = c.in_ok-input_widths.ensures ∙ ap (widths_of F) (c.as_slice-5.ensures.value ∙ c.in_ok-ids.ensures.value);
+      output_widths = c.in_ok-output_widths.ensures ∙ ap (widths_of F) (c.as_slice-6.ensures.value ∙ ap (λ (d : Design). d.outputs) c.flat.view_is);
+      performs = performs;
+    })
+    j fits in
     record {
       stands = λ j fits. (over j fits).0;
       registers = λ j fits. ((over j fits).0, (over j fits).1 ∙ c.in_ok-registers.ensures.value);
