@@ -26,6 +26,7 @@ use Rattle.rr_choice.specs.declared.pick.Pick.{Pick}
 use Rattle.rr_choice.specs.Choices.{decode, site_bits, total_bits}
 use Rattle.rr_choice.specs.Sites.{Site}
 use Rattle.rr_choice.specs.View.{plain_site, plain_sites}
+use Rattle.rr_walk.specs.Walk.{flat_of}
 use Rattle.rr_lawful_instance.specs.Laws.{IsRepairable}
 use Rattle.rr_lawful_instance.specs.Listed.{AreRight}
 use Rattle.rr_lawful_instance.proofs.Cycles.{bases_stay, stays_lawful}

@@ -5,9 +5,10 @@ use Rattle.rr_flat.specs.declared.design.Step.{Step}
 use Rattle.rr_flat.specs.Inputs.{row_inputs}
 use Rattle.rr_flat.specs.View.{Design, plain_flat}
 use Rattle.rr_meaning.proofs.Scoping.{IsSound}
-use Rattle.rr_transition.specs.Cycles.{widths_of}
+use Rattle.rr_transition.specs.Cycles.{Design as Sourced, widths_of}
+use Rattle.rr_transition.specs.Transitions.{Transition}
 use Rattle.rr_registers.specs.Registers.{registers_of}
-use Rattle.rr_blast.specs.Circuits.{PerformsCycles}
+use Rattle.rr_blast.specs.Circuits.{FitsArguments, PerformsCycles}
 use Rattle.rr_blast.specs.Rows.{bits_of_row}
 use Rattle.rr_blast.proofs.BaseLaws.{narrow_of}
 use Rattle.rr_blast.proofs.FitLaws.{bases_of, register_wires, row_length, stands, switches_inside}
@@ -44,8 +45,17 @@ returns c =
     let performs : PerformsCycles F c.args.order.now.clock c.args.order.now.steps.items c.args.list.now c.in_ok-registers.registers.items c.in_ok-circuit.circuit =
     subst (λ (s : List Step). PerformsCycles F c.args.order.now.clock s c.args.list.now c.in_ok-registers.registers.items c.in_ok-circuit.circuit) c.as_slice-2.ensures.value
     (subst (λ (bs : List Bit). PerformsCycles F c.args.order.now.clock c.as_slice-2.result.now c.args.list.now bs c.in_ok-circuit.circuit) c.as_slice-3.ensures.value c.in_ok-circuit.ensures.performs) in
-    let over = λ (j : Design) (fits : FitsArguments j F c.args.order.now.clock c.args.order.now.rising c.args.order.now.steps.items c.args.list.now).
-    stands F c.args.order.now.clock c.args.order.now.rising c.args.order.now.steps.items c.args.list.now c.in_ok-registers.registers.items c.result
+    let made : Transition = record {
+      circuit = c.in_ok-circuit.circuit;
+      choice_bits = c.bits.result;
+      state_bits = c.len.result;
+      input_bits = c.len-2.result;
+      switches = c.in_ok-switches.switches.items;
+      input_widths = c.in_ok-input_widths.input_widths.items;
+      output_widths = c.in_ok-output_widths.output_widths.items;
+    } in
+    let over = λ (j : Sourced) (fits : FitsArguments j F c.args.order.now.clock c.args.order.now.rising c.args.order.now.steps.items c.args.list.now).
+    stands F c.args.order.now.clock c.args.order.now.rising c.args.order.now.steps.items c.args.list.now c.in_ok-registers.registers.items made
     (record {
       narrow = narrow_of c.args.flat.now f;
       kept = c.in_ok-registers.ensures.all;
