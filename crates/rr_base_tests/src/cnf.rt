@@ -58,7 +58,7 @@ fn writes_the_texts(rt: HostRuntime) -> Result<(), Fail> {
 fn writes_a_literal(rt: HostRuntime) -> Result<(), Fail> {
     let mut text = Vec::new(rt.alloc());
     push_literal(&mut text, lit(-12))?;
-    assert!(rt; text.as_slice() == b"-12 ");
+    assert!(rt; text.as_slice() == b"-12 ".as_slice());
     Ok(())
 }
 
