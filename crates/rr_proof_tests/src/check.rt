@@ -2,8 +2,9 @@
 use crate::helpers::{formula, none_fails};
 use rr_check::{Part, Verdict, first_bad, parts_of};
 use rr_cnf::Formula;
+use rr_decimal::push_number;
 use rr_derive::read_lrat;
-use std::alloc::Global;
+use std::alloc::{AllocError, Global};
 use std::test::Fail;
 use std::thread::Threads;
 
@@ -12,13 +13,13 @@ fn verdict_on<R: Threads + Sync>(
     rt: &R,
     alloc: Global,
     formula: &Formula,
-    text: &str,
+    text: &[u8],
     workers: u32,
 ) -> Result<Verdict, Fail> {
     if formula.len() != 2 {
         return Err(Fail::from("the formula"));
     }
-    let journal = read_lrat(alloc, text.as_bytes(), formula.len(), formula.vars())?;
+    let journal = read_lrat(alloc, text, formula.len(), formula.vars())?;
     Ok(first_bad(rt, alloc, formula, &journal, workers.clamp(1, 64))?)
 }
 
@@ -26,7 +27,7 @@ fn verdict_on<R: Threads + Sync>(
 fn verdict<R: Threads + Sync>(
     rt: &R,
     alloc: Global,
-    text: &str,
+    text: &[u8],
     workers: u32,
 ) -> Result<Verdict, Fail> {
     verdict_on(rt, alloc, &formula(alloc, 1, "1 0 -1 0")?, text, workers)
@@ -36,7 +37,7 @@ fn verdict<R: Threads + Sync>(
 fn first_misjudging<R: Threads + Sync>(
     rt: &R,
     alloc: Global,
-    text: &str,
+    text: &[u8],
     expected: Verdict,
     workers: &[u32],
 ) -> Result<Option<u32>, Fail> {
@@ -67,7 +68,8 @@ fn first_misjudged<'a, R: Threads + Sync>(
     proofs: &'a [(&'a str, Verdict)],
 ) -> Result<Option<(&'a str, u32)>, Fail> {
     for (text, expected) in proofs {
-        if let Some(workers) = first_misjudging(rt, alloc, text, *expected, &[1, 2, 4, 64])? {
+        let bytes = text.as_bytes();
+        if let Some(workers) = first_misjudging(rt, alloc, bytes, *expected, &[1, 2, 4, 64])? {
             return Ok(Some((*text, workers)));
         }
     }
@@ -82,14 +84,20 @@ fn judges_small_proofs(rt: HostRuntime) -> Result<(), Fail> {
 /// Numbers of workers for long proofs.
 const WORKERS: [u32; 7] = [1, 2, 3, 4, 7, 40, 64];
 
+/// A unit that passes, and one that fails, behind their ids.
+const PASSING: &[u8] = b"1 0 1 0\n";
+
+const FAILING: &[u8] = b"1 0 2 0\n";
+
 /// A proof of 40 units, which pass but for those with these two ids, and a last line.
-fn long_proof(alloc: Global, one: u64, other: u64, last: &str) -> Result<String, Fail> {
-    let mut text = String::new(alloc);
+fn long_proof(alloc: Global, one: u64, other: u64, last: &[u8]) -> Result<Vec<u8>, AllocError> {
+    let mut text = Vec::new(alloc);
     for id in 3..43u64 {
-        let hint = if id == one || id == other { 2 } else { 1 };
-        text.push_str(&format!(in alloc; "{id} 1 0 {hint} 0\n")?)?;
+        push_number(&mut text, id, b' ')?;
+        let is_bad = id == one || id == other;
+        text.extend_from_slice(if is_bad { FAILING } else { PASSING })?;
     }
-    text.push_str(last)?;
+    text.extend_from_slice(last)?;
     Ok(text)
 }
 
@@ -98,12 +106,15 @@ fn first_misjudging_long<R: Threads + Sync>(
     rt: &R,
     alloc: Global,
     bad: (u64, u64),
-    last: &str,
+    last: &[u8],
     expected: Verdict,
 ) -> Result<Option<u32>, Fail> {
     let text = long_proof(alloc, bad.0, bad.1, last)?;
     first_misjudging(rt, alloc, &text, expected, &WORKERS)
 }
+
+/// The empty clause behind them.
+const EMPTY: &[u8] = b"43 0 1 2 0\n";
 
 /// Ids of lines of a long proof.
 const BAD: [u64; 8] = [3, 7, 8, 16, 20, 27, 33, 42];
@@ -116,13 +127,7 @@ fn first_overlooked<R: Threads + Sync>(
 ) -> Result<Option<(u64, u32)>, Fail> {
     for bad in lines {
         let expected = Verdict::Line(bad.saturating_sub(2));
-        if let Some(workers) = first_misjudging_long(
-            rt,
-            alloc,
-            (*bad, 42),
-            "43 0 1 2 0\n",
-            expected,
-        )? {
+        if let Some(workers) = first_misjudging_long(rt, alloc, (*bad, 42), EMPTY, expected)? {
             return Ok(Some((*bad, workers)));
         }
     }
@@ -137,8 +142,8 @@ fn finds_the_least_in_each_part(rt: HostRuntime) -> Result<(), Fail> {
 #[test]
 fn looks_for_the_empty_clause(rt: HostRuntime) -> Result<(), Fail> {
     let alloc = rt.alloc();
-    let with = first_misjudging_long(&rt, alloc, (0, 0), "43 0 1 2 0\n", Verdict::Accepted)?;
-    let without = first_misjudging_long(&rt, alloc, (0, 0), "", Verdict::NoEmptyClause)?;
+    let with = first_misjudging_long(&rt, alloc, (0, 0), EMPTY, Verdict::Accepted)?;
+    let without = first_misjudging_long(&rt, alloc, (0, 0), b"", Verdict::NoEmptyClause)?;
     none_fails(with.or(without))
 }
 
@@ -171,6 +176,6 @@ fn cuts_by_hints(rt: HostRuntime) -> Result<(), Fail> {
 fn holds_many_variables(rt: HostRuntime) -> Result<(), Fail> {
     let alloc = rt.alloc();
     let units = formula(alloc, 1_048_577, "1048577 0 -1048577 0")?;
-    assert!(rt; verdict_on(&rt, alloc, &units, "3 0 1 2 0\n", 2)? == Verdict::Accepted);
+    assert!(rt; verdict_on(&rt, alloc, &units, b"3 0 1 2 0\n", 2)? == Verdict::Accepted);
     Ok(())
 }

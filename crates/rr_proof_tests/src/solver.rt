@@ -18,11 +18,6 @@ fn all_inputs(formula: &Formula) -> u64
     formula.vars()
 }
 
-fn search(alloc: Global, formula: &Formula, budget: u32) -> Result<Outcome, Fail> {
-    let inputs = all_inputs(formula);
-    Ok(solve(alloc, formula, inputs, budget)?)
-}
-
 /// Whether every line passes the hint check.
 fn all_pass(alloc: Global, formula: &Formula, journal: &Journal) -> Result<bool, Fail>
     requires { AreLines formula.now journal.now.lines }
@@ -142,22 +137,6 @@ fn ends_on_small_formulas(rt: HostRuntime) -> Result<(), Fail> {
     none_fails(first_otherwise(rt.alloc(), &SMALL)?)
 }
 
-/// The number of literals of the first line, if a search by one line tells it.
-fn first_learned(alloc: Global, formula: &Formula) -> Result<Option<usize>, Fail> {
-    Ok(match search(alloc, formula, 1)? {
-        Outcome::Spent(journal) => journal.lines().first().map(|line| line.clause.lits().len()),
-        Outcome::Model(_) | Outcome::Refuted(_) => None,
-    })
-}
-
-/// The first clause that is learned has two literals.
-#[test]
-fn learns_from_eight_clauses(rt: HostRuntime) -> Result<(), Fail> {
-    let eight = formula(rt.alloc(), 3, EIGHT)?;
-    assert!(rt; first_learned(rt.alloc(), &eight)? == Some(2));
-    Ok(())
-}
-
 /// One pigeon more than holes: each pigeon has a hole, and no two have the same.
 fn pigeons(alloc: Global, holes: u64) -> Result<Formula, Fail> {
     let holes = holes.min(20);
@@ -268,13 +247,13 @@ fn hand_over(alloc: Global, solver: &mut Solver, vars: u64, lits: &[Lit]) -> Res
 /// Scripts by their names, each with a member, clauses over three variables, and steps. A step searches up
 /// to a clause that is `learned` or until it is `refuted`, or will `hand` over a clause, or says what the
 /// solver tells: the `last` id, the number of `lines`, the ids of the `first` and the `newest` one, and the
-/// `hints` of the first.
+/// `hints` and the number of `literals` of the first.
 const SCRIPTS: [(&str, u32, &str, &str); 2] = [
     (
         "a unit that is handed over",
         1,
         EIGHT,
-        "learned; last 9; hand 1; last 10; learned; refuted; refuted; lines 3; first 9; newest 12",
+        "learned; literals 2; last 9; hand 1; last 10; learned; refuted; refuted; lines 3; first 9; newest 12",
     ),
     (
         "a false clause that is handed over",
@@ -293,6 +272,7 @@ fn tells(solver: &Solver, word: &str, numbers: &[u64]) -> bool {
         "lines" => number == Some(lines.len() as u64),
         "first" => number == lines.first().map(|line| line.id),
         "newest" => number == lines.last().map(|line| line.id),
+        "literals" => number == lines.first().map(|line| line.clause.lits().len() as u64),
         "hints" => lines
             .first()
             .is_some_and(|line| line.hints.as_slice() == numbers),
@@ -388,6 +368,7 @@ fn first_wandering(alloc: Global, formula: &Formula) -> Result<Option<u32>, Fail
 #[test]
 fn goes_on_after_restarts(rt: HostRuntime) -> Result<(), Fail> {
     let five = pigeons(rt.alloc(), 5)?;
+    assert!(rt; shared(&begin(rt.alloc(), &five, 1)?));
     none_fails(first_wandering(rt.alloc(), &five)?)
 }
 
@@ -426,11 +407,4 @@ fn first_alike(alloc: Global, formula: &Formula) -> Result<Option<u32>, Fail> {
 fn members_begin_differently(rt: HostRuntime) -> Result<(), Fail> {
     let pairs = formula(rt.alloc(), 8, PAIRS)?;
     none_fails(first_alike(rt.alloc(), &pairs)?)
-}
-
-#[test]
-fn crosses_threads(rt: HostRuntime) -> Result<(), Fail> {
-    let eight = formula(rt.alloc(), 3, EIGHT)?;
-    assert!(rt; shared(&begin(rt.alloc(), &eight, 1)?));
-    Ok(())
 }
