@@ -263,19 +263,20 @@ const SCRIPTS: [(&str, u32, &str, &str); 2] = [
     ),
 ];
 
-/// Whether a solver tells this.
+/// Whether a solver that has learned a line tells this.
 fn tells(solver: &Solver, word: &str, numbers: &[u64]) -> bool {
     let lines = solver.journal().lines();
-    let number = numbers.first().copied();
+    let number = numbers.first().copied().unwrap_or(0);
+    let (Some(first), Some(newest)) = (lines.first(), lines.last()) else {
+        return false;
+    };
     match word {
-        "last" => number == Some(solver.last_id()),
-        "lines" => number == Some(lines.len() as u64),
-        "first" => number == lines.first().map(|line| line.id),
-        "newest" => number == lines.last().map(|line| line.id),
-        "literals" => number == lines.first().map(|line| line.clause.lits().len() as u64),
-        "hints" => lines
-            .first()
-            .is_some_and(|line| line.hints.as_slice() == numbers),
+        "last" => solver.last_id() == number,
+        "lines" => lines.len() as u64 == number,
+        "first" => first.id == number,
+        "newest" => newest.id == number,
+        "literals" => first.clause.lits().len() as u64 == number,
+        "hints" => first.hints.as_slice() == numbers,
         _ => false,
     }
 }
@@ -380,9 +381,10 @@ const PAIRS: &str = "1 2 0 1 -2 0 -1 2 0 -1 -2 0 3 4 0 3 -4 0 -3 4 0 -3 -4 0 \
 fn first_decided(alloc: Global, formula: &Formula, member: u32) -> Result<Option<Lit>, Fail> {
     let mut solver = begin(alloc, formula, member)?;
     searched(&mut solver)?;
-    let line = solver.journal().lines().first();
-    let learned = line.and_then(|line| line.clause.lits().first().copied());
-    Ok(learned.map(|lit| lit.negated()))
+    let Some(line) = solver.journal().lines().first() else {
+        return Ok(None);
+    };
+    Ok(line.clause.lits().first().map(|lit| lit.negated()))
 }
 
 /// The first of the eight members that decides nothing, or what one before it decides.
