@@ -25,21 +25,22 @@ pub(crate) fn push(formula: &mut Formula, clause: Clause) -> Result<(), Fail> {
     Ok(())
 }
 
-/// The literals of these numbers.
-pub(crate) fn lits(alloc: Global, words: &str) -> Result<Vec<Lit>, Fail> {
-    let mut lits = Vec::new(alloc);
+/// The numbers of a text.
+pub(crate) fn numbers_of(alloc: Global, words: &str) -> Result<Vec<i32>, Fail> {
+    let mut numbers = Vec::new(alloc);
     for word in words.split_whitespace() {
-        lits.push(lit(word.parse::<i32>()?))?;
+        numbers.push(word.parse::<i32>()?)?;
     }
-    Ok(lits)
+    Ok(numbers)
 }
 
-pub(crate) fn naturals(alloc: Global, words: &str) -> Result<Vec<u64>, Fail> {
-    let mut naturals = Vec::new(alloc);
-    for word in words.split_whitespace() {
-        naturals.push(word.parse::<u64>()?)?;
+/// The literals of these numbers.
+pub(crate) fn lits(alloc: Global, numbers: &[i32]) -> Result<Vec<Lit>, Fail> {
+    let mut lits = Vec::new(alloc);
+    for number in numbers {
+        lits.push(lit(*number))?;
     }
-    Ok(naturals)
+    Ok(lits)
 }
 
 /// The formula over so many variables whose clauses are these, as in DIMACS: numbers, and 0 behind each

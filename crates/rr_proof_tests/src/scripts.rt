@@ -1,7 +1,7 @@
 //! Propagation on small formulas, by scripts: what is done to a watch, and what it tells then.
 ghost use Rattle.std.specs.Prelude.{◌≡◌, ◌+◌, ◌<◌, All};
 
-use crate::helpers::{EIGHT, formula, lit, none_fails};
+use crate::helpers::{EIGHT, formula, lit, lits, none_fails, numbers_of};
 use crate::watch::{add, back, begin, decide, level, reason, value};
 use rr_cnf::{Clause, Lit};
 use rr_watch::{Propagated, Watch};
@@ -76,22 +76,6 @@ const SCRIPTS: [(&str, u64, &str, &str); 10] = [
         "watchers 1 2 2; watchers 3 5 2; watchers 6 9 2; watchers 10 10 2; watchers 11 11 0; decide -6; decide -7; quiet; watchers 6 9 2; decide -3; decide -4; decide -5; conflict 2; watchers 1 2 2; watchers 3 5 2; watchers 6 9 2; watchers 10 10 2; watchers 11 11 0; back 0; quiet; watchers 1 2 2; watchers 3 5 2; watchers 6 9 2; watchers 10 10 2; watchers 11 11 0",
     ),
 ];
-
-fn numbers(alloc: Global, words: &str) -> Result<Vec<i32>, Fail> {
-    let mut numbers = Vec::new(alloc);
-    for word in words.split_whitespace() {
-        numbers.push(word.parse::<i32>()?)?;
-    }
-    Ok(numbers)
-}
-
-fn lits(alloc: Global, numbers: &[i32]) -> Result<Vec<Lit>, Fail> {
-    let mut lits = Vec::new(alloc);
-    for number in numbers {
-        lits.push(lit(*number))?;
-    }
-    Ok(lits)
-}
 
 /// The number at this place, or 0.
 fn at(numbers: &[i32], place: usize) -> i32 {
@@ -177,7 +161,7 @@ fn goes(alloc: Global, watch: &mut Watch, id: u64, step: &str) -> Result<bool, F
     ensures { All (λ n. n.id < id + 1) watch.new.clauses }
 {
     let (word, rest) = step.split_once(' ').unwrap_or((step, ""));
-    let numbers = numbers(alloc, rest)?;
+    let numbers = numbers_of(alloc, rest)?;
     takes(alloc, watch, id, word, numbers.as_slice())
 }
 

@@ -3,7 +3,7 @@ ghost use Rattle.std.specs.Prelude.{◌≡◌, ◌≤◌, ◌+◌, ◌<◌, All,
 ghost use Rattle.rr_cnf.specs.Partial.{Determined};
 ghost use Rattle.rr_solver.specs.Outcomes.{AreLines};
 
-use crate::helpers::{EIGHT, Numbers, formula, lits, naturals, none_fails, push, shared};
+use crate::helpers::{EIGHT, Numbers, formula, lits, none_fails, numbers_of, push, shared};
 use rr_cnf::{Clause, Formula, Lit};
 use rr_derive::{Journal, Workspace, check_line};
 use rr_solver::{Outcome, Solver, Stepped, solve};
@@ -247,7 +247,7 @@ fn hand_over(alloc: Global, solver: &mut Solver, vars: u64, lits: &[Lit]) -> Res
 /// Scripts by their names, each with a member, clauses over three variables, and steps. A step searches up
 /// to a clause that is `learned` or until it is `refuted`, or will `hand` over a clause, or says what the
 /// solver tells: the `last` id, the number of `lines`, the ids of the `first` and the `newest` one, and the
-/// `hints` and the number of `literals` of the first.
+/// only `hint` and the number of `literals` of the first.
 const SCRIPTS: [(&str, u32, &str, &str); 2] = [
     (
         "a unit that is handed over",
@@ -259,14 +259,14 @@ const SCRIPTS: [(&str, u32, &str, &str); 2] = [
         "a false clause that is handed over",
         2,
         "1 2 3 0",
-        "hand; refuted; hints 2",
+        "hand; refuted; hint 2",
     ),
 ];
 
 /// Whether a solver that has learned a line tells this.
-fn tells(solver: &Solver, word: &str, numbers: &[u64]) -> bool {
+fn tells(solver: &Solver, word: &str, numbers: &[i32]) -> bool {
     let lines = solver.journal().lines();
-    let number = numbers.first().copied().unwrap_or(0);
+    let number = u64::from(numbers.first().copied().unwrap_or(0).unsigned_abs());
     let (Some(first), Some(newest)) = (lines.first(), lines.last()) else {
         return false;
     };
@@ -276,7 +276,7 @@ fn tells(solver: &Solver, word: &str, numbers: &[u64]) -> bool {
         "first" => first.id == number,
         "newest" => newest.id == number,
         "literals" => first.clause.lits().len() as u64 == number,
-        "hints" => first.hints.as_slice() == numbers,
+        "hint" => first.hints.as_slice() == [number].as_slice(),
         _ => false,
     }
 }
@@ -287,11 +287,12 @@ fn goes(alloc: Global, solver: &mut Solver, vars: u64, step: &str) -> Result<boo
     ensures { solver.new.formula ≡ solver.old.formula }
 {
     let (word, rest) = step.split_once(' ').unwrap_or((step, ""));
+    let numbers = numbers_of(alloc, rest)?;
     match word {
         "learned" => Ok(searched(solver)? == Stepped::Learned),
         "refuted" => Ok(searched(solver)? == Stepped::Refuted),
-        "hand" => hand_over(alloc, solver, vars, lits(alloc, rest)?.as_slice()),
-        _ => Ok(tells(solver, word, naturals(alloc, rest)?.as_slice())),
+        "hand" => hand_over(alloc, solver, vars, lits(alloc, &numbers)?.as_slice()),
+        _ => Ok(tells(solver, word, &numbers)),
     }
 }
 
