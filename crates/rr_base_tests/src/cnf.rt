@@ -59,6 +59,7 @@ fn writes_a_literal(rt: HostRuntime) -> Result<(), Fail> {
     let mut text = Vec::new(rt.alloc());
     push_literal(&mut text, lit(-12))?;
     assert!(rt; text.as_slice() == b"-12 ".as_slice());
+    assert!(rt; lit(-12).code() == 25);
     Ok(())
 }
 

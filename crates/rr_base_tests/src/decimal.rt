@@ -1,5 +1,5 @@
 //! Numbers at the heads of texts.
-use rr_decimal::{number_then, push_number};
+use rr_decimal::{digits, number_then, push_number};
 use std::test::Fail;
 
 /// Texts with the number that stands at their head before a blank, and the length of the rest.
@@ -37,5 +37,6 @@ fn writes_numbers(rt: HostRuntime) -> Result<(), Fail> {
     push_number(&mut text, 0, b' ')?;
     push_number(&mut text, u64::MAX, b'\n')?;
     assert!(rt; text.as_slice() == b"0 18446744073709551615\n".as_slice());
+    assert!(rt; digits(0) == 1 && digits(u64::MAX) == 20);
     Ok(())
 }

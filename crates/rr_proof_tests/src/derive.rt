@@ -1,7 +1,7 @@
 //! Texts of proofs, and the check of their lines.
 use crate::helpers::{formula, none_fails, shared};
 use rr_cnf::Clause;
-use rr_derive::{Journal, ProofFault, Workspace, check_line, read_lrat, write_lrat};
+use rr_derive::{Journal, ProofFault, Workspace, check_line, position, read_lrat, write_lrat};
 use std::alloc::Global;
 use std::test::Fail;
 
@@ -95,6 +95,7 @@ const WRITTEN: &[u8] = b"3 -1 2 0 1 2 0\n7 0 0\n4611686018427387903 3 0 9 7 0\n"
 #[test]
 fn writes_what_it_reads(rt: HostRuntime) -> Result<(), Fail> {
     let journal = read_lrat(rt.alloc(), WRITTEN, 2, 3)?;
+    assert!(rt; position(journal.lines(), 7) == Some(1));
     assert!(rt; write_lrat(rt.alloc(), &journal)?.as_slice() == WRITTEN);
     Ok(())
 }

@@ -17,9 +17,11 @@ pub struct Watched {
 }
 
 impl Watched {
-    /// Of its places the one beside this one.
+    /// Of its places the one beside this one: the second where this is the first, and else the first.
     pub fn beside(self, place: u32) -> u32
-        ensures { result ≡ self.first ⊎ result ≡ self.second }
+        ensures one { result ≡ self.first ⊎ result ≡ self.second }
+        ensures second { place ≡ self.first → result ≡ self.second }
+        ensures first { (place ≡ self.first → ⊥) → result ≡ self.first }
     {
         if place == self.first {
             self.second
