@@ -9,7 +9,7 @@ use std::test::Fail;
 use std::thread::Threads;
 
 /// The verdict on a proof from a formula of two clauses, with 1 to 64 workers.
-fn verdict_on<R: Threads + Sync>(
+fn verdict<R: Threads + Sync>(
     rt: &R,
     alloc: Global,
     formula: &Formula,
@@ -23,128 +23,83 @@ fn verdict_on<R: Threads + Sync>(
     Ok(first_bad(rt, alloc, formula, &journal, workers.clamp(1, 64))?)
 }
 
-/// The verdict on a proof from a variable and its negation.
-fn verdict<R: Threads + Sync>(
-    rt: &R,
-    alloc: Global,
-    text: &[u8],
-    workers: u32,
-) -> Result<Verdict, Fail> {
-    verdict_on(rt, alloc, &formula(alloc, 1, "1 0 -1 0")?, text, workers)
-}
+/// Numbers of workers for each proof.
+const WORKERS: [u32; 7] = [1, 2, 3, 4, 7, 40, 64];
 
-/// The first of these numbers of workers with another verdict.
+/// The first of these numbers of workers with another verdict on a proof from a variable and its negation.
 fn first_misjudging<R: Threads + Sync>(
     rt: &R,
     alloc: Global,
     text: &[u8],
     expected: Verdict,
-    workers: &[u32],
 ) -> Result<Option<u32>, Fail> {
-    for count in workers {
-        if verdict(rt, alloc, text, *count)? != expected {
-            return Ok(Some(*count));
+    let contradiction = formula(alloc, 1, "1 0 -1 0")?;
+    for workers in WORKERS.iter() {
+        if verdict(rt, alloc, &contradiction, text, *workers)? != expected {
+            return Ok(Some(*workers));
         }
     }
     Ok(None)
 }
-
-/// Proofs from the contradiction: none, one, without the empty clause, with a hint that names nothing,
-/// with one that names the line itself, with a line that fails, and with a clause deleted.
-const SMALL: [(&str, Verdict); 7] = [
-    ("", Verdict::NoEmptyClause),
-    ("3 0 1 2 0\n", Verdict::Accepted),
-    ("3 1 0 1 0\n", Verdict::NoEmptyClause),
-    ("3 0 9 0\n", Verdict::Line(1)),
-    ("3 0 3 0\n", Verdict::Line(1)),
-    ("3 1 0 1 0\n4 0 1 0\n5 0 2 0\n", Verdict::Line(2)),
-    ("3 d 1 0\n4 0 1 2 0\n", Verdict::Accepted),
-];
-
-/// The first of these proofs with another verdict, and the number of workers.
-fn first_misjudged<'a, R: Threads + Sync>(
-    rt: &R,
-    alloc: Global,
-    proofs: &'a [(&'a str, Verdict)],
-) -> Result<Option<(&'a str, u32)>, Fail> {
-    for (text, expected) in proofs {
-        let bytes = text.as_bytes();
-        if let Some(workers) = first_misjudging(rt, alloc, bytes, *expected, &[1, 2, 4, 64])? {
-            return Ok(Some((*text, workers)));
-        }
-    }
-    Ok(None)
-}
-
-#[test]
-fn judges_small_proofs(rt: HostRuntime) -> Result<(), Fail> {
-    none_fails(first_misjudged(&rt, rt.alloc(), &SMALL)?)
-}
-
-/// Numbers of workers for long proofs.
-const WORKERS: [u32; 7] = [1, 2, 3, 4, 7, 40, 64];
 
 /// A unit that passes, and one that fails, behind their ids.
 const PASSING: &[u8] = b"1 0 1 0\n";
 
 const FAILING: &[u8] = b"1 0 2 0\n";
 
-/// A proof of 40 units, which pass but for those with these two ids, and a last line.
-fn long_proof(alloc: Global, one: u64, other: u64, last: &[u8]) -> Result<Vec<u8>, AllocError> {
+/// A proof of so many units, with ids from 3 on, which pass but for those with these two ids, and what
+/// stands behind them.
+fn proof(alloc: Global, units: u64, bad: (u64, u64), last: &str) -> Result<Vec<u8>, AllocError> {
     let mut text = Vec::new(alloc);
-    for id in 3..43u64 {
+    for id in 3..units.saturating_add(3) {
         push_number(&mut text, id, b' ')?;
-        let is_bad = id == one || id == other;
+        let is_bad = id == bad.0 || id == bad.1;
         text.extend_from_slice(if is_bad { FAILING } else { PASSING })?;
     }
-    text.extend_from_slice(last)?;
+    text.extend_from_slice(last.as_bytes())?;
     Ok(text)
 }
 
-/// The first number of workers that misjudges a long proof where these lines fail.
-fn first_misjudging_long<R: Threads + Sync>(
-    rt: &R,
-    alloc: Global,
-    bad: (u64, u64),
-    last: &[u8],
-    expected: Verdict,
-) -> Result<Option<u32>, Fail> {
-    let text = long_proof(alloc, bad.0, bad.1, last)?;
-    first_misjudging(rt, alloc, &text, expected, &WORKERS)
-}
+/// The empty clause behind 40 units.
+const EMPTY: &str = "43 0 1 2 0\n";
 
-/// The empty clause behind them.
-const EMPTY: &[u8] = b"43 0 1 2 0\n";
+/// Proofs from the contradiction with their verdicts. Seven without units: none, one, without the empty
+/// clause, with a hint that names nothing, with one that names the line itself, with a line that fails, and
+/// with a clause deleted. Then long ones, of which no part or some two fail.
+const PROOFS: [(u64, (u64, u64), &str, Verdict); 17] = [
+    (0, (0, 0), "", Verdict::NoEmptyClause),
+    (0, (0, 0), "3 0 1 2 0\n", Verdict::Accepted),
+    (0, (0, 0), "3 1 0 1 0\n", Verdict::NoEmptyClause),
+    (0, (0, 0), "3 0 9 0\n", Verdict::Line(1)),
+    (0, (0, 0), "3 0 3 0\n", Verdict::Line(1)),
+    (0, (0, 0), "3 1 0 1 0\n4 0 1 0\n5 0 2 0\n", Verdict::Line(2)),
+    (0, (0, 0), "3 d 1 0\n4 0 1 2 0\n", Verdict::Accepted),
+    (40, (0, 0), EMPTY, Verdict::Accepted),
+    (40, (0, 0), "", Verdict::NoEmptyClause),
+    (40, (3, 42), EMPTY, Verdict::Line(1)),
+    (40, (7, 42), EMPTY, Verdict::Line(5)),
+    (40, (8, 42), EMPTY, Verdict::Line(6)),
+    (40, (16, 42), EMPTY, Verdict::Line(14)),
+    (40, (20, 42), EMPTY, Verdict::Line(18)),
+    (40, (27, 42), EMPTY, Verdict::Line(25)),
+    (40, (33, 42), EMPTY, Verdict::Line(31)),
+    (40, (42, 42), EMPTY, Verdict::Line(40)),
+];
 
-/// Ids of lines of a long proof.
-const BAD: [u64; 8] = [3, 7, 8, 16, 20, 27, 33, 42];
-
-/// The first of these lines that is not found to fail first, and the number of workers.
-fn first_overlooked<R: Threads + Sync>(
-    rt: &R,
-    alloc: Global,
-    lines: &[u64],
-) -> Result<Option<(u64, u32)>, Fail> {
-    for bad in lines {
-        let expected = Verdict::Line(bad.saturating_sub(2));
-        if let Some(workers) = first_misjudging_long(rt, alloc, (*bad, 42), EMPTY, expected)? {
-            return Ok(Some((*bad, workers)));
+/// The place of the first of these proofs with another verdict, and the number of workers.
+fn first_misjudged<R: Threads + Sync>(rt: &R, alloc: Global) -> Result<Option<(usize, u32)>, Fail> {
+    for (place, (units, bad, last, expected)) in PROOFS.iter().enumerate() {
+        let text = proof(alloc, *units, *bad, last)?;
+        if let Some(workers) = first_misjudging(rt, alloc, &text, *expected)? {
+            return Ok(Some((place, workers)));
         }
     }
     Ok(None)
 }
 
 #[test]
-fn finds_the_least_in_each_part(rt: HostRuntime) -> Result<(), Fail> {
-    none_fails(first_overlooked(&rt, rt.alloc(), &BAD)?)
-}
-
-#[test]
-fn looks_for_the_empty_clause(rt: HostRuntime) -> Result<(), Fail> {
-    let alloc = rt.alloc();
-    let with = first_misjudging_long(&rt, alloc, (0, 0), EMPTY, Verdict::Accepted)?;
-    let without = first_misjudging_long(&rt, alloc, (0, 0), b"", Verdict::NoEmptyClause)?;
-    none_fails(with.or(without))
+fn judges_proofs(rt: HostRuntime) -> Result<(), Fail> {
+    none_fails(first_misjudged(&rt, rt.alloc())?)
 }
 
 /// A line of nineteen hints, and ten of one.
@@ -176,6 +131,6 @@ fn cuts_by_hints(rt: HostRuntime) -> Result<(), Fail> {
 fn holds_many_variables(rt: HostRuntime) -> Result<(), Fail> {
     let alloc = rt.alloc();
     let units = formula(alloc, 1_048_577, "1048577 0 -1048577 0")?;
-    assert!(rt; verdict_on(&rt, alloc, &units, b"3 0 1 2 0\n", 2)? == Verdict::Accepted);
+    assert!(rt; verdict(&rt, alloc, &units, b"3 0 1 2 0\n", 2)? == Verdict::Accepted);
     Ok(())
 }

@@ -25,7 +25,6 @@ fn word(alloc: Global, builder: &Builder, from: u32, count: u32) -> Result<Vec<W
 }
 
 /// What is asked of words x and y.
-#[derive(Clone, Copy)]
 enum Question {
     /// Whether x * y and y * x differ.
     Differing,
@@ -62,7 +61,7 @@ fn absorbing(alloc: Global, mut builder: Builder, x: &[Wire], y: &[Wire]) -> Res
 }
 
 /// The circuit of a question, on words of this width.
-fn circuit(alloc: Global, question: Question, width: u32) -> Result<Circuit, Fail>
+fn circuit(alloc: Global, question: &Question, width: u32) -> Result<Circuit, Fail>
     requires { width ≤ 32 }
     ensures { IfOk result (λ c. c.netlist.inputs ≡ 2 * width) }
 {
@@ -83,7 +82,7 @@ fn end(alloc: Global, circuit: &Circuit) -> Result<Ending, Fail> {
 
 /// The first width to 5 at which this is answered otherwise: that x * y and y * x differ is refuted, and x and y
 /// are found for which x * y is x.
-fn first_otherwise(alloc: Global, question: Question) -> Result<Option<u32>, Fail> {
+fn first_otherwise(alloc: Global, question: &Question) -> Result<Option<u32>, Fail> {
     for width in 1..6 {
         let ending = end(alloc, &circuit(alloc, question, width)?)?;
         let is_right = match question {
@@ -99,6 +98,6 @@ fn first_otherwise(alloc: Global, question: Question) -> Result<Option<u32>, Fai
 
 #[test]
 fn ends_on_circuits(rt: HostRuntime) -> Result<(), Fail> {
-    none_fails(first_otherwise(rt.alloc(), Question::Differing)?)?;
-    none_fails(first_otherwise(rt.alloc(), Question::Absorbing)?)
+    none_fails(first_otherwise(rt.alloc(), &Question::Differing)?)?;
+    none_fails(first_otherwise(rt.alloc(), &Question::Absorbing)?)
 }

@@ -1,9 +1,9 @@
 //! Propagation on small formulas, by scripts: what is done to a watch, and what it tells then.
-ghost use Rattle.std.specs.Prelude.{◌≡◌, ◌+◌, ◌<◌, All};
+ghost use Rattle.std.specs.Prelude.{◌≡◌, ◌+◌, ◌<◌, [], All, IfOk};
 
-use crate::helpers::{EIGHT, formula, lit, lits, none_fails, numbers_of};
-use crate::watch::{add, back, begin, decide, level, reason, value};
-use rr_cnf::{Clause, Lit};
+use crate::helpers::{EIGHT, formula, lit, lits, none_fails, numbers_of, shared};
+use crate::watch::{add, back, begin, decide};
+use rr_cnf::{Clause, Formula, Lit};
 use rr_watch::{Propagated, Watch};
 use std::alloc::Global;
 use std::test::Fail;
@@ -90,9 +90,7 @@ fn conflicts(watch: &mut Watch, ids: &[i32]) -> bool
     let again = watch.propagate();
     match answer {
         Propagated::Quiet => false,
-        Propagated::Conflict(id) => {
-            again == answer && ids.iter().any(|one| u64::from(one.unsigned_abs()) == id)
-        }
+        Propagated::Conflict(id) => { again == answer && ids.contains(&(id.min(1_000) as i32)) }
     }
 }
 
@@ -115,15 +113,21 @@ fn tells(alloc: Global, watch: &Watch, word: &str, numbers: &[i32]) -> Result<bo
     let id = u64::from(at(numbers, 0).unsigned_abs());
     let second = u64::from(at(numbers, 1).unsigned_abs());
     let third = u64::from(at(numbers, 2).unsigned_abs());
+    if one.var() > watch.vars() {
+        return Ok(false);
+    }
     Ok(match word {
-        "true" => value(watch, one) == Some(true),
-        "false" => value(watch, one) == Some(false),
-        "open" => value(watch, one).is_none(),
-        "level" => u64::from(level(watch, one)) == second,
-        "reason" => reason(watch, one).unwrap_or(0) == second,
+        "true" => watch.value(one) == Some(true),
+        "false" => watch.value(one) == Some(false),
+        "open" => watch.value(one).is_none(),
+        "level" => u64::from(watch.level(one)) == second,
+        "reason" => watch.reason(one).unwrap_or(0) == second,
         "depth" => u64::from(watch.depth()) == id,
         "trail" => watch.trail() == lits(alloc, numbers)?.as_slice(),
-        "clause" => watch.clause(id).map(|clause| clause.len() as u64) == Some(second),
+        "clause" => match watch.clause(id) {
+            Some(clause) => clause.len() as u64 == second,
+            None => false,
+        },
         "none" => watch.clause(id).is_none(),
         "watchers" => watchers(watch, id, second) == third,
         _ => false,
@@ -215,4 +219,30 @@ fn first_failing<'a>(
 #[test]
 fn follows_scripts(rt: HostRuntime) -> Result<(), Fail> {
     none_fails(first_failing(rt.alloc(), &SCRIPTS)?)
+}
+
+/// Two decisions, and then a clause that their literals and an open one make.
+fn added(alloc: Global, none: &Formula) -> Result<Watch, Fail>
+    requires { none.now ≡ record { vars = 3; clauses = [] } }
+    ensures { IfOk result (λ w. All (λ n. n.id < 10) w.clauses) }
+{
+    let mut watch = Watch::new(alloc, none)?;
+    let one = Lit::new(1, false);
+    let two = Lit::new(2, false);
+    watch.decide(one);
+    watch.decide(two);
+    let lits = [one.negated(), two.negated(), Lit::new(3, false)];
+    let learned = Clause::from_lits(alloc, &lits)?;
+    watch.add(9, &learned)?;
+    Ok(watch)
+}
+
+/// The clause forces its literal, is seen again after the way back, and forces another one.
+#[test]
+fn adds_under_decisions(rt: HostRuntime) -> Result<(), Fail> {
+    let none = Formula::new(rt.alloc(), 3);
+    let mut watch = added(rt.alloc(), &none)?;
+    assert!(rt; shared(&watch));
+    let script = "quiet; reason 3 9; level 3 2; back 1; quiet; open 3; decide -3; quiet; false 2";
+    none_fails(follow(rt.alloc(), &mut watch, 10, script)?)
 }

@@ -18,27 +18,22 @@ fn all_inputs(formula: &Formula) -> u64
     formula.vars()
 }
 
-/// Whether every line passes the hint check.
-fn all_pass(alloc: Global, formula: &Formula, journal: &Journal) -> Result<bool, Fail>
+/// Whether some line is the empty clause, where each passes the hint check; else `None`.
+fn has_empty(alloc: Global, formula: &Formula, journal: &Journal) -> Result<Option<bool>, Fail>
     requires { AreLines formula.now journal.now.lines }
 {
     if formula.vars() >= 1 << 40 {
-        return Ok(false);
+        return Ok(None);
     }
     let mut work = Workspace::for_vars(alloc, formula.vars())?;
-    for index in 0..journal.lines().len() {
+    let mut has_empty = false;
+    for (index, line) in journal.lines().iter().enumerate() {
         if !check_line(&mut work, formula, journal, index as u64) {
-            return Ok(false);
+            return Ok(None);
         }
+        has_empty |= line.clause.lits().is_empty();
     }
-    Ok(true)
-}
-
-fn has_empty(journal: &Journal) -> bool {
-    journal
-        .lines()
-        .iter()
-        .any(|line| line.clause.lits().is_empty())
+    Ok(Some(has_empty))
 }
 
 /// Whether each clause has a true literal.
@@ -58,7 +53,7 @@ fn satisfies(formula: &Formula, bits: &[bool]) -> bool {
 }
 
 /// How the search ends, with the number of lines; the answer is checked.
-#[derive(Debug, Clone, Copy, PartialEq, Eq)]
+#[derive(Debug, Clone, Copy, PartialEq)]
 pub(crate) enum Ending {
     Model,
     Refuted(usize),
@@ -88,12 +83,12 @@ pub(crate) fn end_of(
             }
         }
         Outcome::Refuted(journal) => {
-            if all_pass(alloc, formula, &journal)? && has_empty(&journal) {
+            if has_empty(alloc, formula, &journal)? == Some(true) {
                 return Ok(Ending::Refuted(journal.lines().len()));
             }
         }
         Outcome::Spent(journal) => {
-            if all_pass(alloc, formula, &journal)? && !has_empty(&journal) {
+            if has_empty(alloc, formula, &journal)? == Some(false) {
                 return Ok(Ending::Spent(journal.lines().len()));
             }
         }
@@ -160,20 +155,16 @@ fn pigeons(alloc: Global, holes: u64) -> Result<Formula, Fail> {
     Ok(formula)
 }
 
-/// The first number of holes from 4 to 6 whose pigeons are not refuted.
-fn first_unrefuted(alloc: Global) -> Result<Option<u64>, Fail> {
-    for holes in 4..7 {
-        let ending = end(alloc, &pigeons(alloc, holes)?, 100_000)?;
-        if !matches!(ending, Ending::Refuted(_)) {
-            return Ok(Some(holes));
-        }
-    }
-    Ok(None)
-}
-
 #[test]
 fn refutes_pigeons(rt: HostRuntime) -> Result<(), Fail> {
-    none_fails(first_unrefuted(rt.alloc())?)
+    let alloc = rt.alloc();
+    for holes in 4..7u64 {
+        let ending = end(alloc, &pigeons(alloc, holes)?, 100_000)?;
+        if !matches!(ending, Ending::Refuted(_)) {
+            return Err(Fail::from(holes));
+        }
+    }
+    Ok(())
 }
 
 /// Clauses of three literals.
@@ -357,21 +348,18 @@ fn restarted(alloc: Global, formula: &Formula, member: u32) -> Result<Stepped, F
     Ok(last)
 }
 
-/// The first member that does not refute the pigeons.
-fn first_wandering(alloc: Global, formula: &Formula) -> Result<Option<u32>, Fail> {
-    for member in 1..9 {
-        if restarted(alloc, formula, member)? != Stepped::Refuted {
-            return Ok(Some(member));
-        }
-    }
-    Ok(None)
-}
-
+/// Each member refutes the pigeons.
 #[test]
 fn goes_on_after_restarts(rt: HostRuntime) -> Result<(), Fail> {
-    let five = pigeons(rt.alloc(), 5)?;
-    assert!(rt; shared(&begin(rt.alloc(), &five, 1)?));
-    none_fails(first_wandering(rt.alloc(), &five)?)
+    let alloc = rt.alloc();
+    let five = pigeons(alloc, 5)?;
+    assert!(rt; shared(&begin(alloc, &five, 1)?));
+    for member in 1..9u32 {
+        if restarted(alloc, &five, member)? != Stepped::Refuted {
+            return Err(Fail::from(member));
+        }
+    }
+    Ok(())
 }
 
 /// Each decision makes a clause false at once, so that the first line tells what was decided.
@@ -385,7 +373,10 @@ fn first_decided(alloc: Global, formula: &Formula, member: u32) -> Result<Option
     let Some(line) = solver.journal().lines().first() else {
         return Ok(None);
     };
-    Ok(line.clause.lits().first().map(|lit| lit.negated()))
+    match line.clause.lits().first() {
+        None => Ok(None),
+        Some(lit) => Ok(Some(lit.negated())),
+    }
 }
 
 /// The first of the eight members that decides nothing, or what one before it decides.

@@ -1,7 +1,7 @@
 use Rattle.std.proofs.Common.{ap}
 use Rattle.rr_watch.specs.Watches.{State}
 use Rattle.rr_proof_tests.proofs.TestLaws.{third_may}
-use Rattle.rr_proof_tests.proofs.watch.added.Goals as goal
+use Rattle.rr_proof_tests.proofs.scripts.added.Goals as goal
 
 pub add-requires-clause-may : goal.add-requires-clause-may
 add-requires-clause-may c =
