@@ -148,7 +148,7 @@ fn counter_from_bits(rt: HostRuntime) -> Result<(), Fail> {
         false, false, false, true, true, false, false, false,
     ];
     let (choice, count) = decoded(rt.alloc(), &list, &bits)?;
-    assert_eq!(rt; count, 1);
+    assert!(rt; count == 1);
     let guarded = Pick {
         on: false,
         value: 0,
@@ -157,7 +157,7 @@ fn counter_from_bits(rt: HostRuntime) -> Result<(), Fail> {
     };
     assert!(rt; choice.picks.get(1) == Some(&guarded));
     assert!(rt; choice.picks.get(3) == Some(&on(1, 0, 0)));
-    assert_eq!(rt; list.first_at(28), 2);
+    assert!(rt; list.first_at(28) == 2);
     assert!(rt; matches!(find(&list, &choice, 38, None), Some(found) if found.pick.on));
     assert!(rt; matches!(find(&list, &choice, 27, Some(2)), None));
     Ok(())

@@ -97,9 +97,9 @@ fn changes_of<R: Threads + Sync>(rt: &R, alloc: Global, seed: u64) -> Result<Opt
 
 #[test]
 fn made_inputs_have_as_many_changes_as_faults(rt: HostRuntime) -> Result<(), Fail> {
-    assert_eq!(rt; changes_of(&rt, rt.alloc(), 0)?, Some(1));
-    assert_eq!(rt; changes_of(&rt, rt.alloc(), 1)?, Some(2));
-    assert_eq!(rt; changes_of(&rt, rt.alloc(), 2)?, Some(3));
+    assert!(rt; changes_of(&rt, rt.alloc(), 0)? == Some(1));
+    assert!(rt; changes_of(&rt, rt.alloc(), 1)? == Some(2));
+    assert!(rt; changes_of(&rt, rt.alloc(), 2)? == Some(3));
     Ok(())
 }
 

@@ -59,7 +59,7 @@ fn eight_clauses_by_one_member(rt: HostRuntime) -> Result<(), Fail> {
     let inputs = all_inputs(&formula);
     match solve(&rt, rt.alloc(), &formula, inputs, 1, 1, &OpenGate)? {
         Outcome::Spent(journal) => {
-            assert_eq!(rt; journal.lines().len(), 1);
+            assert!(rt; journal.lines().len() == 1);
         }
         _ => assert!(rt; false),
     }
@@ -105,11 +105,8 @@ fn a_search_gives_its_values_by_value(rt: HostRuntime) -> Result<(), Fail> {
     push(alloc, &mut formula, &[-1, 2])?;
     let inputs = all_inputs(&formula);
     let mut solver = Solver::new(alloc, &formula, inputs, 1)?;
-    assert_eq!(rt; solver.conflict_step()?, Stepped::Model);
-    assert_eq!(rt;
-        solver.into_assignment().as_slice(),
-        [false, true, true].as_slice()
-    );
+    assert!(rt; solver.conflict_step()? == Stepped::Model);
+    assert!(rt; solver.into_assignment().as_slice() == [false, true, true].as_slice());
     Ok(())
 }
 
@@ -224,7 +221,7 @@ fn a_spent_budget_of_many_rounds(rt: HostRuntime) -> Result<(), Fail> {
     let inputs = all_inputs(&formula);
     match solve(&rt, rt.alloc(), &formula, inputs, 2, 700, &OpenGate)? {
         Outcome::Spent(journal) => {
-            assert_eq!(rt; journal.lines().len(), 1400);
+            assert!(rt; journal.lines().len() == 1400);
             assert!(rt; all_pass(rt.alloc(), &formula, &journal)?);
         }
         _ => assert!(rt; false),

@@ -75,7 +75,7 @@ fn bits_are_written_again(rt: HostRuntime) -> Result<(), Fail> {
         false, true,
     ];
     let again = written_again(rt.alloc(), sites, &bits)?;
-    assert_eq!(rt; again.as_slice(), &bits[..]);
+    assert!(rt; again.as_slice() == bits.as_slice());
     Ok(())
 }
 
@@ -92,6 +92,6 @@ fn a_form_past_the_last(rt: HostRuntime) -> Result<(), Fail> {
     let again = written_again(rt.alloc(), sites, &bits)?;
     bits[5] = false;
     bits[6] = false;
-    assert_eq!(rt; again.as_slice(), &bits[..]);
+    assert!(rt; again.as_slice() == bits.as_slice());
     Ok(())
 }

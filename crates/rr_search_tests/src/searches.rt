@@ -154,20 +154,20 @@ fn fewest<R: Threads + Sync>(
 #[test]
 fn nothing_is_to_be_changed(rt: HostRuntime) -> Result<(), Fail> {
     let alloc = rt.alloc();
-    assert_eq!(rt; fewest(&rt, alloc, &[0, 0], 1)?, Some(0));
-    assert_eq!(rt; fewest(&rt, alloc, &[], 2)?, Some(0));
+    assert!(rt; fewest(&rt, alloc, &[0, 0], 1)? == Some(0));
+    assert!(rt; fewest(&rt, alloc, &[], 2)? == Some(0));
     Ok(())
 }
 
 #[test]
 fn fewest_changes_of_two(rt: HostRuntime) -> Result<(), Fail> {
     let alloc = rt.alloc();
-    assert_eq!(rt; fewest(&rt, alloc, &[0, 1], 1)?, Some(1));
-    assert_eq!(rt; fewest(&rt, alloc, &[0, 1], 2)?, Some(1));
-    assert_eq!(rt; fewest(&rt, alloc, &[0, 1], 4)?, Some(1));
-    assert_eq!(rt; fewest(&rt, alloc, &[1, 0], 1)?, Some(2));
-    assert_eq!(rt; fewest(&rt, alloc, &[1, 0], 2)?, Some(2));
-    assert_eq!(rt; fewest(&rt, alloc, &[1, 0], 4)?, Some(2));
+    assert!(rt; fewest(&rt, alloc, &[0, 1], 1)? == Some(1));
+    assert!(rt; fewest(&rt, alloc, &[0, 1], 2)? == Some(1));
+    assert!(rt; fewest(&rt, alloc, &[0, 1], 4)? == Some(1));
+    assert!(rt; fewest(&rt, alloc, &[1, 0], 1)? == Some(2));
+    assert!(rt; fewest(&rt, alloc, &[1, 0], 2)? == Some(2));
+    assert!(rt; fewest(&rt, alloc, &[1, 0], 4)? == Some(2));
     Ok(())
 }
 
@@ -299,11 +299,11 @@ fn lines_left(answer: &Option<Answer>) -> Option<usize> {
 fn a_spent_budget(rt: HostRuntime) -> Result<(), Fail> {
     let table = always_one(rt.alloc())?;
     let one = of_three(&rt, rt.alloc(), &table, 1, 1)?;
-    assert_eq!(rt; lines_left(&one), Some(1));
+    assert!(rt; lines_left(&one) == Some(1));
     let two = of_three(&rt, rt.alloc(), &table, 1, 2)?;
-    assert_eq!(rt; lines_left(&two), Some(2));
+    assert!(rt; lines_left(&two) == Some(2));
     let four = of_three(&rt, rt.alloc(), &table, 1, 4)?;
-    assert_eq!(rt; lines_left(&four), Some(4));
+    assert!(rt; lines_left(&four) == Some(4));
     Ok(())
 }
 

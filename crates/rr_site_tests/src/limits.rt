@@ -45,8 +45,8 @@ fn counted(alloc: Global, design: &str) -> Option<(usize, u64)> {
 fn most_sites(rt: HostRuntime) -> Result<(), Fail> {
     let alloc = rt.alloc();
     let most = design_of(alloc, "a")?;
-    assert_eq!(rt; counted(alloc, most.as_str()), Some((1024, 0)));
+    assert!(rt; counted(alloc, most.as_str()) == Some((1024, 0)));
     let more = design_of(alloc, "1'b1")?;
-    assert_eq!(rt; counted(alloc, more.as_str()), Some((0, 1025)));
+    assert!(rt; counted(alloc, more.as_str()) == Some((0, 1025)));
     Ok(())
 }

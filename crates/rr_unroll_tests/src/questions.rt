@@ -86,7 +86,7 @@ fn every_choice_is_judged(rt: HostRuntime) -> Result<(), Fail> {
             let mut want = Vec::new(alloc);
             want.extend_from_slice(verdicts)?;
             want.push(*cost <= bound)?;
-            assert_eq!(rt; values(alloc, &circuit, &bits)?, want, "{number} {bound}");
+            assert!(rt; values(alloc, &circuit, &bits)? == want, "{number} {bound}");
         }
     }
     Ok(())
@@ -99,9 +99,8 @@ fn one_choice_matches_where_each_row_does(rt: HostRuntime) -> Result<(), Fail> {
     let rows = reset_rows(alloc)?;
     for (number, (verdicts, _)) in VERDICTS.iter().enumerate() {
         let bits = [number & 1 == 1, number & 2 == 2, number & 4 == 4];
-        assert_eq!(rt;
-            matches(alloc, &transition, &rows, &bits)?,
-            *verdicts == [true; 5],
+        assert!(rt;
+            matches(alloc, &transition, &rows, &bits)? == (*verdicts == [true; 5]),
             "{number}"
         );
     }
@@ -134,14 +133,14 @@ fn unknown_bits_ask_nothing(rt: HostRuntime) -> Result<(), Fail> {
     };
     let right = table(alloc, &[(1, UNKNOWN), (2, UNKNOWN), (9, last)])?;
     let (all, outputs) = answers(&rt, alloc, &right, 0)?;
-    assert_eq!(rt; (all, outputs.as_slice()), (true, &[T, T, T, T][..]));
+    assert!(rt; all && outputs.as_slice() == [T, T, T, T].as_slice());
     let other = Cell {
         value: 8,
         known: 11,
     };
     let wrong = table(alloc, &[(1, UNKNOWN), (2, UNKNOWN), (9, other)])?;
     let (all, outputs) = answers(&rt, alloc, &wrong, 0)?;
-    assert_eq!(rt; (all, outputs.as_slice()), (false, &[F, T, T, T][..]));
+    assert!(rt; !all && outputs.as_slice() == [F, T, T, T].as_slice());
     Ok(())
 }
 
@@ -154,8 +153,8 @@ fn tables_without_rows_or_known_bits_ask_for_the_cost_alone(rt: HostRuntime) -> 
         table(alloc, &[(1, UNKNOWN), (0, UNKNOWN)])?,
     ] {
         let circuit = question(&rt, alloc, &transition, &rows, 1, 2)?;
-        assert_eq!(rt; values(alloc, &circuit, &[T, F, T])?.as_slice(), &[T][..]);
-        assert_eq!(rt; values(alloc, &circuit, &[T, T, F])?.as_slice(), &[F][..]);
+        assert!(rt; values(alloc, &circuit, &[T, F, T])?.as_slice() == [T].as_slice());
+        assert!(rt; values(alloc, &circuit, &[T, T, F])?.as_slice() == [F].as_slice());
         assert!(rt; matches(alloc, &transition, &rows, &[T, T, F])?);
     }
     Ok(())
@@ -168,10 +167,7 @@ fn unknown_rows_move_the_state(rt: HostRuntime) -> Result<(), Fail> {
     let transition = inverted_reset(alloc)?;
     let rows = table(alloc, &[(1, bit(0)), (1, UNKNOWN), (1, bit(0))])?;
     let circuit = question(&rt, alloc, &transition, &rows, 0, 2)?;
-    assert_eq!(rt;
-        values(alloc, &circuit, &[F, F, F])?.as_slice(),
-        &[T, T, T][..]
-    );
+    assert!(rt; values(alloc, &circuit, &[F, F, F])?.as_slice() == [T, T, T].as_slice());
     assert!(rt; matches(alloc, &transition, &rows, &[F, F, F])?);
     Ok(())
 }
@@ -190,7 +186,7 @@ fn many_rows_are_asked(rt: HostRuntime) -> Result<(), Fail> {
     assert!(rt; matches(alloc, &transition, &rows, &[F, F, F])?);
     assert!(rt; !matches(alloc, &transition, &rows, &[T, F, F])?);
     let circuit = question(&rt, alloc, &transition, &rows, 0, 2)?;
-    assert_eq!(rt; circuit.outputs.len(), 65_537);
+    assert!(rt; circuit.outputs.len() == 65_537);
     let outputs = values(alloc, &circuit, &[F, F, F])?;
     assert!(rt; outputs.iter().all(|output| *output));
     Ok(())
@@ -205,7 +201,7 @@ fn the_question_is_the_same_for_every_number_of_workers(rt: HostRuntime) -> Resu
     let text = write_aag(alloc, &alone)?;
     for workers in 2..9 {
         let circuit = question(&rt, alloc, &transition, &rows, 1, workers)?;
-        assert_eq!(rt; write_aag(alloc, &circuit)?.as_slice(), text.as_slice());
+        assert!(rt; write_aag(alloc, &circuit)?.as_slice() == text.as_slice());
     }
     Ok(())
 }
@@ -224,8 +220,8 @@ fn a_fixed_cycle_has_the_values_of_its_row(rt: HostRuntime) -> Result<(), Fail> 
     let alloc = rt.alloc();
     let transition = wires(alloc)?;
     let circuit = row_fixed(alloc, &transition, &[T, F, F, T])?;
-    assert_eq!(rt; circuit.gates.len(), 0);
-    assert_eq!(rt; values(alloc, &circuit, &[])?.as_slice(), &[T, F, F, T][..]);
+    assert!(rt; circuit.gates.is_empty());
+    assert!(rt; values(alloc, &circuit, &[])?.as_slice() == [T, F, F, T].as_slice());
     Ok(())
 }
 
@@ -245,9 +241,8 @@ fn a_fixed_cycle_has_no_gate_for_what_its_row_tells(rt: HostRuntime) -> Result<(
             number & 8 == 8,
         ];
         let all = [bits[0], bits[1], bits[2], bits[3], F];
-        assert_eq!(rt;
-            values(alloc, &circuit, &bits)?,
-            values(alloc, &transition.circuit, &all)?,
+        assert!(rt;
+            values(alloc, &circuit, &bits)? == values(alloc, &transition.circuit, &all)?,
             "{number}"
         );
     }

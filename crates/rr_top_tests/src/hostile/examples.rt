@@ -112,9 +112,8 @@ fn examples_end_as_shown(rt: HostRuntime) -> Result<(), Fail> {
             "{}",
             case.notes
         );
-        assert_eq!(rt;
-            shelf.held("c.lrat").is_some(),
-            case.certified,
+        assert!(rt;
+            shelf.held("c.lrat").is_some() == case.certified,
             "{}",
             case.notes
         );
@@ -138,11 +137,11 @@ fn repaired<R: Threads + Sync>(
 fn a_literal_without_a_size_is_replaced(rt: HostRuntime) -> Result<(), Fail> {
     let found = repaired(&rt, rt.alloc(), UNSIZED, COUNTER_TABLE)?;
     let (front, back) = MENDED_UNSIZED;
-    assert_eq!(rt; found.status, 0);
+    assert!(rt; found.status == 0);
     assert!(rt; found.notes.as_slice().starts_with(b"repaired 1\n"));
     assert!(rt; found.out.as_slice().starts_with(front.as_bytes()));
     assert!(rt; found.out.as_slice().ends_with(back.as_bytes()));
-    assert_eq!(rt; found.out.len(), front.len() + 7 + back.len());
+    assert!(rt; found.out.len() == front.len() + 7 + back.len());
     Ok(())
 }
 
@@ -176,7 +175,7 @@ fn a_transmitter_runs_and_is_repaired(rt: HostRuntime) -> Result<(), Fail> {
     let found = command(&rt, alloc, &mut shelf, line, NO_FAILS)?;
     assert!(rt; leaves(&found, 0, TRANSMITTER_RUN, ""));
     let found = command(&rt, alloc, &mut shelf, REPAIR, NO_FAILS)?;
-    assert_eq!(rt; found.status, 0);
+    assert!(rt; found.status == 0);
     assert!(rt; found.notes.as_slice().starts_with(b"repaired 1\n"));
     let line = "rtl_repair check c.aag c.lrat";
     let found = command(&rt, alloc, &mut shelf, line, NO_FAILS)?;
