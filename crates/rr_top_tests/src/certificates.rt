@@ -1,5 +1,6 @@
 //! The command `check`, run over shelves in memory.
 use crate::repairs::{list, words_of};
+use crate::shelves::{NO_FAILS, command};
 use rr_edge::{MemoryShelf, MemorySink};
 use rr_top::run;
 use std::process::Abort;
@@ -311,33 +312,21 @@ fn bad_additions_in_each_part(rt: HostRuntime) {
 #[test]
 fn refused_allocation_prints_no_verdict(rt: HostRuntime) {
     let alloc = rt.alloc();
-    let mut words: Vec<String> = Vec::new(alloc);
-    for word in ["rtl_repair", "check", "c.aag", "c.lrat"] {
-        let Ok(text) = String::from_str(alloc, word) else {
-            return;
-        };
-        if words.push(text).is_err() {
-            return;
-        }
-    }
     let mut shelf = MemoryShelf::new(alloc, Vec::new(alloc));
-    if shelf.place("c.aag", FIRST.circuit.as_bytes()).is_err() {
+    if shelf.place("c.aag", FIRST.circuit.as_bytes()).is_err()
+        || shelf.place("c.lrat", FIRST.proof.as_bytes()).is_err()
+    {
         return;
     }
-    if shelf.place("c.lrat", FIRST.proof.as_bytes()).is_err() {
-        return;
-    }
-    let Ok(mut out) = MemorySink::new(alloc, 1000, Vec::new(alloc)) else {
+    let line = "rtl_repair check c.aag c.lrat";
+    let Ok(found) = command(&rt, alloc, &mut shelf, line, NO_FAILS) else {
         return;
     };
-    let Ok(mut notes) = MemorySink::new(alloc, 1000, Vec::new(alloc)) else {
-        return;
-    };
-    let status = run(&rt, alloc, &words, &mut shelf, &mut out, &mut notes);
-    assert!(rt; status == 0 || status == 5);
-    if status == 0 {
-        assert!(rt; out.written() == FIRST.out.as_bytes() && notes.written().is_empty());
+    let (out, notes) = (found.out.as_slice(), found.notes.as_slice());
+    assert!(rt; found.status == 0 || found.status == 5);
+    if found.status == 0 {
+        assert!(rt; out == FIRST.out.as_bytes() && notes.is_empty());
     } else {
-        assert!(rt; out.written().is_empty() && notes.written() == b"out of memory\n".as_slice());
+        assert!(rt; out.is_empty() && notes == b"out of memory\n".as_slice());
     }
 }

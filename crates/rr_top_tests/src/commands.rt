@@ -3,4 +3,3 @@
 
 mod designs;
 mod rounds;
-mod shelves;

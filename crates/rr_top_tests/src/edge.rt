@@ -1,11 +1,8 @@
 //! Shelves and sinks, in memory and over real files.
+use crate::repairs::list;
 use rr_edge::{FileShelf, MemoryShelf, MemorySink, OutSink, Shelf, ShelfFault, Sink};
 use std::fs::{self, File};
 use std::process::Abort;
-
-fn list<R: Abort + AllocGlobal>(rt: &R, number: u64) -> Vec<u64> {
-    vec![in rt.alloc(); number].expect(rt, "room")
-}
 
 #[test]
 fn memory_shelf_holds_what_is_written(rt: HostRuntime) {

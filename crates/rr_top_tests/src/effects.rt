@@ -1,7 +1,8 @@
 //! Reads, and answers that are carried out, with each call failing in turn or lacking memory.
 ghost use Rattle.rr_edge.specs.Shelf.{Reads, Writes, Counts};
 
-use crate::repairs::{NONE, list, words_of};
+use crate::repairs::{list, words_of};
+use crate::shelves::NONE;
 use rr_edge::{MemoryShelf, MemorySink, Shelf, ShelfFault};
 use rr_effects::{Read, deliver, fetch, put_report};
 use rr_report::{File, Found, Piece, Text, status};

@@ -7,4 +7,3 @@ mod faults;
 mod files;
 mod limits;
 mod made;
-mod shelves;

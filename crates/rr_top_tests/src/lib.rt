@@ -27,4 +27,6 @@ mod reports;
 #[cfg(test)]
 mod runs;
 #[cfg(test)]
+mod shelves;
+#[cfg(test)]
 mod words;

@@ -1,5 +1,6 @@
 //! The command `sites`: lists of designs, the greatest number of sites, refusals, and calls that fail.
-use crate::repairs::{Case, NONE, check, list, words_of};
+use crate::repairs::{Case, check, list, words_of};
+use crate::shelves::NONE;
 use rr_edge::{MemoryShelf, MemorySink};
 use rr_top::run;
 use std::alloc::{AllocError, Global};

@@ -1,6 +1,7 @@
 //! The command `make`: the summary, the certificate, which `check` accepts, and calls that fail. No file
 //! is there to be read.
-use crate::repairs::{NONE, list, words_of};
+use crate::repairs::{list, words_of};
+use crate::shelves::NONE;
 use rr_edge::{MemoryShelf, MemorySink};
 use rr_top::run;
 use std::process::Abort;

@@ -1,5 +1,6 @@
 //! The command `repair`: designs that are repaired, kept or beyond repair, with their certificates; refusals,
 //! and calls that fail.
+use crate::shelves::{self, NO_FAILS, NONE, command, shelf_of};
 use rr_edge::{MemoryShelf, MemorySink};
 use rr_top::run;
 use std::process::Abort;
@@ -21,9 +22,6 @@ pub(crate) struct Case {
     pub(crate) notes: &'static str,
     pub(crate) certified: usize,
 }
-
-/// No call has this number.
-pub(crate) const NONE: u64 = 99;
 
 /// A mask that has to be 1.
 const FIRST: Case = Case {
@@ -68,14 +66,7 @@ pub(crate) fn list<R: Abort + AllocGlobal>(rt: &R, number: u64) -> Vec<u64> {
 }
 
 pub(crate) fn words_of<R: Abort + AllocGlobal>(rt: &R, line: &str) -> Vec<String> {
-    let alloc = rt.alloc();
-    let mut words: Vec<String> = Vec::new(alloc);
-    for word in line.split_whitespace() {
-        words
-            .push(String::from_str(alloc, word).expect(rt, "room"))
-            .expect(rt, "room");
-    }
-    words
+    shelves::words_of(rt.alloc(), line).expect(rt, "room")
 }
 
 pub(crate) fn check<R: Abort + AllocGlobal + Threads + Sync>(rt: &R, case: &Case) {
@@ -560,36 +551,18 @@ fn limits_of_rows_are_kept(rt: HostRuntime) {
 #[test]
 fn refused_allocation_prints_nothing(rt: HostRuntime) {
     let alloc = rt.alloc();
-    let mut words: Vec<String> = Vec::new(alloc);
-    for word in ["rtl_repair", "repair", "d.v", "t.csv", "c"] {
-        let Ok(text) = String::from_str(alloc, word) else {
-            return;
-        };
-        if words.push(text).is_err() {
-            return;
-        }
-    }
-    let mut shelf = MemoryShelf::new(alloc, Vec::new(alloc));
-    if shelf.place("d.v", FIRST.design.as_bytes()).is_err() {
-        return;
-    }
-    if shelf.place("t.csv", FIRST.table.as_bytes()).is_err() {
-        return;
-    }
-    let Ok(mut out) = MemorySink::new(alloc, 1000, Vec::new(alloc)) else {
+    let Ok(mut shelf) = shelf_of(alloc, NONE, FIRST.design, FIRST.table) else {
         return;
     };
-    let Ok(mut notes) = MemorySink::new(alloc, 1000, Vec::new(alloc)) else {
+    let Ok(found) = command(&rt, alloc, &mut shelf, FIRST.words, NO_FAILS) else {
         return;
     };
-    let status = run(&rt, alloc, &words, &mut shelf, &mut out, &mut notes);
-    assert!(rt; status == 0 || status == 5);
-    if status == 0 {
-        assert!(rt;
-            out.written() == FIRST.out.as_bytes() && notes.written() == FIRST.notes.as_bytes()
-        );
+    let (out, notes) = (found.out.as_slice(), found.notes.as_slice());
+    assert!(rt; found.status == 0 || found.status == 5);
+    if found.status == 0 {
+        assert!(rt; out == FIRST.out.as_bytes() && notes == FIRST.notes.as_bytes());
     } else {
-        assert!(rt; out.written().is_empty() && notes.written() == b"out of memory\n".as_slice());
+        assert!(rt; out.is_empty() && notes == b"out of memory\n".as_slice());
     }
 }
 

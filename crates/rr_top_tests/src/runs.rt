@@ -1,5 +1,6 @@
 //! The command `run`: runs of designs, refusals of designs by both commands, and calls that fail.
-use crate::repairs::{Case, NONE, check};
+use crate::repairs::{Case, check};
+use crate::shelves::NONE;
 use std::process::Abort;
 use std::thread::Threads;
 

@@ -3,7 +3,7 @@ use crate::commands::designs::{
     COUNTER, COUNTER_TABLE, RESETS, RESETS_TABLE, TRANSMITTER, TRANSMITTER_TABLE, TWO, TWO_TABLE,
     WIRE, WIRE_TABLE,
 };
-use crate::commands::shelves::{command, leaves, shelf_of};
+use crate::shelves::{Fails, NO_FAILS, NONE, command, leaves, shelf_of};
 use std::alloc::Global;
 use std::test::Fail;
 use std::thread::Threads;
@@ -17,9 +17,21 @@ fn certifies<R: Threads + Sync>(
     status: u8,
     notes: &str,
 ) -> Result<bool, Fail> {
-    let mut shelf = shelf_of(alloc, design, table)?;
-    let found = command(rt, alloc, &mut shelf, "rtl_repair repair d.v t.csv c", 9999)?;
-    let verdict = command(rt, alloc, &mut shelf, "rtl_repair check c.aag c.lrat", 9999)?;
+    let mut shelf = shelf_of(alloc, NONE, design, table)?;
+    let found = command(
+        rt,
+        alloc,
+        &mut shelf,
+        "rtl_repair repair d.v t.csv c",
+        NO_FAILS,
+    )?;
+    let verdict = command(
+        rt,
+        alloc,
+        &mut shelf,
+        "rtl_repair check c.aag c.lrat",
+        NO_FAILS,
+    )?;
     Ok(
         found.status == status
             && found.notes.as_slice().starts_with(notes.as_bytes())
@@ -64,8 +76,8 @@ fn agree<R: Threads + Sync>(
         "rtl_repair repair d.v t.csv c --members 4",
         "rtl_repair repair d.v t.csv c --members 8",
     ] {
-        let mut shelf = shelf_of(alloc, design, table)?;
-        let found = command(rt, alloc, &mut shelf, line, 9999)?;
+        let mut shelf = shelf_of(alloc, NONE, design, table)?;
+        let found = command(rt, alloc, &mut shelf, line, NO_FAILS)?;
         if found.status != 0 || !found.notes.as_slice().starts_with(notes.as_bytes()) {
             return Ok(false);
         }
@@ -86,9 +98,13 @@ fn any_number_of_members_finds_the_same_cost(rt: HostRuntime) -> Result<(), Fail
 #[test]
 fn a_small_room(rt: HostRuntime) -> Result<(), Fail> {
     let alloc = rt.alloc();
-    let mut shelf = shelf_of(alloc, COUNTER, COUNTER_TABLE)?;
+    let mut shelf = shelf_of(alloc, NONE, COUNTER, COUNTER_TABLE)?;
     let line = "rtl_repair repair d.v t.csv c";
-    let found = command(&rt, alloc, &mut shelf, line, 100)?;
+    let small = Fails {
+        room: 100,
+        ..NO_FAILS
+    };
+    let found = command(&rt, alloc, &mut shelf, line, small)?;
     let front =
         "module counter(input clk, input rst, output reg [3:0] q);\n  always @(posedge clk)\n    if (rst) q <= ";
     assert!(rt; leaves(&found, 4, front, "fault out\n"));
@@ -102,13 +118,13 @@ fn a_small_room(rt: HostRuntime) -> Result<(), Fail> {
 #[test]
 fn a_spent_budget(rt: HostRuntime) -> Result<(), Fail> {
     let alloc = rt.alloc();
-    let mut shelf = shelf_of(alloc, RESETS, RESETS_TABLE)?;
+    let mut shelf = shelf_of(alloc, NONE, RESETS, RESETS_TABLE)?;
     let line = "rtl_repair repair d.v t.csv c --budget 1 --members 1";
-    let found = command(&rt, alloc, &mut shelf, line, 9999)?;
+    let found = command(&rt, alloc, &mut shelf, line, NO_FAILS)?;
     assert!(rt; leaves(&found, 2, "", "budget spent 1 bound 1\n"));
     assert!(rt; shelf.held("c.lrat").is_some());
     let check = "rtl_repair check c.aag c.lrat";
-    let verdict = command(&rt, alloc, &mut shelf, check, 9999)?;
+    let verdict = command(&rt, alloc, &mut shelf, check, NO_FAILS)?;
     assert!(rt; leaves(&verdict, 1, "no empty clause\n", ""));
     Ok(())
 }
@@ -116,16 +132,16 @@ fn a_spent_budget(rt: HostRuntime) -> Result<(), Fail> {
 #[test]
 fn what_is_printed_runs_as_expected(rt: HostRuntime) -> Result<(), Fail> {
     let alloc = rt.alloc();
-    let mut shelf = shelf_of(alloc, COUNTER, COUNTER_TABLE)?;
+    let mut shelf = shelf_of(alloc, NONE, COUNTER, COUNTER_TABLE)?;
     let found = command(
         &rt,
         alloc,
         &mut shelf,
         "rtl_repair repair d.v t.csv c",
-        9999,
+        NO_FAILS,
     )?;
     shelf.place("r.v", found.out.as_slice())?;
-    let again = command(&rt, alloc, &mut shelf, "rtl_repair run r.v t.csv", 9999)?;
+    let again = command(&rt, alloc, &mut shelf, "rtl_repair run r.v t.csv", NO_FAILS)?;
     assert!(rt; leaves(&again, 0, COUNTER_TABLE, ""));
     Ok(())
 }

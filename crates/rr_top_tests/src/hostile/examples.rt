@@ -5,7 +5,7 @@ use crate::hostile::designs::{
     MISSING, MISSING_TABLE, SWAP, TRANSMITTER, TRANSMITTER_RUN, TRANSMITTER_TABLE, TWO, TWO_TABLE,
     UNSIZED, WIRE,
 };
-use crate::hostile::shelves::{Left, NO_FAILS, NONE, command, leaves, shelf_of};
+use crate::shelves::{Left, NO_FAILS, NONE, command, leaves, shelf_of};
 use std::alloc::Global;
 use std::test::Fail;
 use std::thread::Threads;
@@ -129,7 +129,7 @@ fn repaired<R: Threads + Sync>(
     table: &str,
 ) -> Result<Left, Fail> {
     let mut shelf = shelf_of(alloc, NONE, design, table)?;
-    command(rt, alloc, &mut shelf, REPAIR, NO_FAILS)
+    Ok(command(rt, alloc, &mut shelf, REPAIR, NO_FAILS)?)
 }
 
 // The upper digits of a literal without a size are cut by its target, so they are free.

@@ -1,6 +1,6 @@
 //! Each call of a repair failing in turn: what is printed, what is told, and which files are whole.
 use crate::hostile::designs::{COUNTER, COUNTER_TABLE, MENDED_COUNTER};
-use crate::hostile::shelves::{Fails, NO_FAILS, NONE, command, leaves, shelf_of};
+use crate::shelves::{Fails, NO_FAILS, NONE, command, leaves, shelf_of};
 use rr_edge::MemoryShelf;
 use std::test::Fail;
 

@@ -1,6 +1,6 @@
 //! Designs and tables at their limits and one beyond, made as texts.
 use crate::hostile::made::{Made, rows};
-use crate::hostile::shelves::{NO_FAILS, NONE, command, leaves, shelf_of};
+use crate::shelves::{NO_FAILS, NONE, command, leaves, shelf_of};
 use std::alloc::Global;
 use std::test::Fail;
 use std::thread::Threads;

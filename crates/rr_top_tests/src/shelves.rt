@@ -2,15 +2,16 @@
 use rr_edge::{MemoryShelf, MemorySink};
 use rr_top::run;
 use std::alloc::{AllocError, Global};
-use std::test::Fail;
 use std::thread::Threads;
 
-/// Which calls fail, from 0 on, of the shelf, of standard output and of standard error.
+/// Which calls fail, from 0 on, of the shelf, of standard output and of standard error, and how many bytes
+/// have room on standard output.
 #[derive(Clone, Copy)]
 pub(crate) struct Fails {
     pub(crate) shelf: u64,
     pub(crate) out: u64,
     pub(crate) notes: u64,
+    pub(crate) room: u64,
 }
 
 /// No call has this number.
@@ -20,6 +21,7 @@ pub(crate) const NO_FAILS: Fails = Fails {
     shelf: NONE,
     out: NONE,
     notes: NONE,
+    room: 99_999,
 };
 
 /// What a command leaves behind.
@@ -30,13 +32,6 @@ pub(crate) struct Left {
     pub(crate) notes: Vec<u8>,
 }
 
-/// The list of one number.
-fn list(alloc: Global, number: u64) -> Result<Vec<u64>, AllocError> {
-    let mut numbers = Vec::new(alloc);
-    numbers.push(number)?;
-    Ok(numbers)
-}
-
 /// A shelf with a design `d.v` and a table `t.csv`, of which the call with this number fails.
 pub(crate) fn shelf_of(
     alloc: Global,
@@ -44,14 +39,14 @@ pub(crate) fn shelf_of(
     design: &str,
     table: &str,
 ) -> Result<MemoryShelf, AllocError> {
-    let mut shelf = MemoryShelf::new(alloc, list(alloc, fails)?);
+    let mut shelf = MemoryShelf::new(alloc, vec![in alloc; fails]?);
     shelf.place("d.v", design.as_bytes())?;
     shelf.place("t.csv", table.as_bytes())?;
     Ok(shelf)
 }
 
 /// The words of a line.
-fn words_of(alloc: Global, line: &str) -> Result<Vec<String>, AllocError> {
+pub(crate) fn words_of(alloc: Global, line: &str) -> Result<Vec<String>, AllocError> {
     let mut words: Vec<String> = Vec::new(alloc);
     for word in line.split_whitespace() {
         words.push(String::from_str(alloc, word)?)?;
@@ -66,10 +61,10 @@ pub(crate) fn command<R: Threads + Sync>(
     shelf: &mut MemoryShelf,
     line: &str,
     fails: Fails,
-) -> Result<Left, Fail> {
+) -> Result<Left, AllocError> {
     let words = words_of(alloc, line)?;
-    let mut out = MemorySink::new(alloc, 99_999, list(alloc, fails.out)?)?;
-    let mut notes = MemorySink::new(alloc, 999, list(alloc, fails.notes)?)?;
+    let mut out = MemorySink::new(alloc, fails.room, vec![in alloc; fails.out]?)?;
+    let mut notes = MemorySink::new(alloc, 999, vec![in alloc; fails.notes]?)?;
     let status = run(rt, alloc, words.as_slice(), shelf, &mut out, &mut notes);
     Ok(Left {
         status,
