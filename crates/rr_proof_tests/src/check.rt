@@ -114,15 +114,18 @@ const EVEN: &[u8] = b"3 1 0 1 0\n4 1 0 1 0\n";
 
 const SINGLE: [Part; 2] = [Part { start: 0, end: 1 }, Part { start: 1, end: 2 }];
 
+/// The parts of a proof from two clauses over one variable, for so many workers.
+fn parts(alloc: Global, text: &[u8], workers: u32) -> Result<Vec<Part>, Fail> {
+    let journal = read_lrat(alloc, text, 2, 1)?;
+    Ok(parts_of(alloc, journal.lines(), workers.max(1))?)
+}
+
 /// A long line is worth many short ones: with two workers it has a part of its own. With more workers than
 /// lines each line has one.
 #[test]
 fn cuts_by_hints(rt: HostRuntime) -> Result<(), Fail> {
-    let alloc = rt.alloc();
-    let uneven = read_lrat(alloc, UNEVEN, 2, 1)?;
-    let even = read_lrat(alloc, EVEN, 2, 1)?;
-    assert!(rt; parts_of(alloc, uneven.lines(), 2)?.as_slice() == HALVES.as_slice());
-    assert!(rt; parts_of(alloc, even.lines(), 8)?.as_slice() == SINGLE.as_slice());
+    assert!(rt; parts(rt.alloc(), UNEVEN, 2)?.as_slice() == HALVES.as_slice());
+    assert!(rt; parts(rt.alloc(), EVEN, 8)?.as_slice() == SINGLE.as_slice());
     Ok(())
 }
 

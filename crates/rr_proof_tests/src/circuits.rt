@@ -32,32 +32,34 @@ enum Question {
     Absorbing,
 }
 
-fn differing(alloc: Global, mut builder: Builder, x: &[Wire], y: &[Wire]) -> Result<Circuit, Fail>
-    requires x { AreWires builder x.now }
-    requires y { AreWires builder y.now }
+/// The outputs of a question, which all have to be true.
+fn outputs(
+    alloc: Global,
+    builder: &mut Builder,
+    question: &Question,
+    x: &[Wire],
+    y: &[Wire],
+) -> Result<Vec<Wire>, Fail>
+    requires x { AreWires builder.old x.now }
+    requires y { AreWires builder.old y.now }
     requires widths { length x.now ≡ length y.now }
     requires width { length x.now ≤ 32 }
-    ensures { IfOk result (λ c. c.netlist.inputs ≡ builder.inputs) }
+    ensures inputs { builder.new.inputs ≡ builder.old.inputs }
+    ensures wires { IfOk result (λ r. AreWires builder.new r.items) }
 {
-    let one = mul(alloc, &mut builder, x, y)?;
-    let other = mul(alloc, &mut builder, y, x)?;
-    let same = equal(&mut builder, &one, &other)?;
-    let differ = builder.not(same);
-    Ok(builder.finish(vec![in alloc; differ]?))
-}
-
-fn absorbing(alloc: Global, mut builder: Builder, x: &[Wire], y: &[Wire]) -> Result<Circuit, Fail>
-    requires x { AreWires builder x.now }
-    requires y { AreWires builder y.now }
-    requires widths { length x.now ≡ length y.now }
-    requires width { length x.now ≤ 32 }
-    ensures { IfOk result (λ c. c.netlist.inputs ≡ builder.inputs) }
-{
-    let product = mul(alloc, &mut builder, x, y)?;
-    let absorbed = equal(&mut builder, &product, x)?;
-    let same = equal(&mut builder, x, y)?;
-    let differ = builder.not(same);
-    Ok(builder.finish(vec![in alloc; absorbed, differ]?))
+    let product = mul(alloc, builder, x, y)?;
+    match question {
+        Question::Differing => {
+            let other = mul(alloc, builder, y, x)?;
+            let same = equal(builder, &product, &other)?;
+            Ok(vec![in alloc; builder.not(same)]?)
+        }
+        Question::Absorbing => {
+            let absorbed = equal(builder, &product, x)?;
+            let same = equal(builder, x, y)?;
+            Ok(vec![in alloc; absorbed, builder.not(same)]?)
+        }
+    }
 }
 
 /// The circuit of a question, on words of this width.
@@ -65,13 +67,11 @@ fn circuit(alloc: Global, question: &Question, width: u32) -> Result<Circuit, Fa
     requires { width ≤ 32 }
     ensures { IfOk result (λ c. c.netlist.inputs ≡ 2 * width) }
 {
-    let builder = Builder::new(alloc, 2 * width)?;
+    let mut builder = Builder::new(alloc, 2 * width)?;
     let x = word(alloc, &builder, 0, width)?;
     let y = word(alloc, &builder, width, width)?;
-    match question {
-        Question::Differing => differing(alloc, builder, &x, &y),
-        Question::Absorbing => absorbing(alloc, builder, &x, &y),
-    }
+    let outputs = outputs(alloc, &mut builder, question, &x, &y)?;
+    Ok(builder.finish(outputs))
 }
 
 /// How the search on the inputs of a circuit ends.

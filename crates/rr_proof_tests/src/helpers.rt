@@ -1,4 +1,7 @@
 //! What several of the tests use: formulas of texts, and numbers that look random.
+ghost use Rattle.std.specs.Prelude.{◌≡◌, All, true};
+ghost use Rattle.rr_cnf.specs.Clauses.{IsWithin};
+
 use rr_cnf::{Clause, Formula, Lit};
 use std::alloc::Global;
 use std::fmt::Debug;
@@ -17,9 +20,16 @@ pub(crate) fn lit(number: i32) -> Lit {
     Lit::new(u64::from(number.unsigned_abs()).max(1), number < 0)
 }
 
+/// Whether the literals are of variables up to the last.
+pub(crate) fn are_within(lits: &[Lit], last: u64) -> bool
+    ensures { result ≡ true → All (IsWithin last) lits.now }
+{
+    lits.iter().all(|lit| lit.var() <= last)
+}
+
+/// Adds the clause, if its variables are the formula's.
 pub(crate) fn push(formula: &mut Formula, clause: Clause) -> Result<(), Fail> {
-    let vars = formula.vars();
-    if clause.lits().iter().all(|lit| lit.var() <= vars) {
+    if are_within(clause.lits(), formula.vars()) {
         formula.push(clause)?;
     }
     Ok(())

@@ -3,7 +3,9 @@ ghost use Rattle.std.specs.Prelude.{◌≡◌, ◌≤◌, ◌+◌, ◌<◌, All,
 ghost use Rattle.rr_cnf.specs.Partial.{Determined};
 ghost use Rattle.rr_solver.specs.Outcomes.{AreLines};
 
-use crate::helpers::{EIGHT, Numbers, formula, lits, none_fails, numbers_of, push, shared};
+use crate::helpers::{
+    EIGHT, Numbers, are_within, formula, lits, none_fails, numbers_of, push, shared,
+};
 use rr_cnf::{Clause, Formula, Lit};
 use rr_derive::{Journal, Workspace, check_line};
 use rr_solver::{Outcome, Solver, Stepped, solve};
@@ -53,7 +55,7 @@ fn satisfies(formula: &Formula, bits: &[bool]) -> bool {
 }
 
 /// How the search ends, with the number of lines; the answer is checked.
-#[derive(Debug, Clone, Copy, PartialEq)]
+#[derive(Clone, Copy, PartialEq)]
 pub(crate) enum Ending {
     Model,
     Refuted(usize),
@@ -113,15 +115,14 @@ const SMALL: [(u64, &str, u32, Ending); 8] = [
     (0, "", 1, Ending::Model),
 ];
 
-/// The first of these that ends otherwise, by its place, and how it ends.
+/// The place of the first of these that ends otherwise.
 fn first_otherwise(
     alloc: Global,
     rows: &[(u64, &str, u32, Ending)],
-) -> Result<Option<(usize, Ending)>, Fail> {
+) -> Result<Option<usize>, Fail> {
     for (place, (vars, clauses, budget, expected)) in rows.iter().enumerate() {
-        let ending = end(alloc, &formula(alloc, *vars, clauses)?, *budget)?;
-        if ending != *expected {
-            return Ok(Some((place, ending)));
+        if end(alloc, &formula(alloc, *vars, clauses)?, *budget)? != *expected {
+            return Ok(Some(place));
         }
     }
     Ok(None)
@@ -132,23 +133,28 @@ fn ends_on_small_formulas(rt: HostRuntime) -> Result<(), Fail> {
     none_fails(first_otherwise(rt.alloc(), &SMALL)?)
 }
 
-/// One pigeon more than holes: each pigeon has a hole, and no two have the same.
+/// The literal that a pigeon, from 0 to 7, has a hole, from 0 to 7, or has it not.
+fn seat(pigeon: u64, hole: u64, negative: bool) -> Lit {
+    let place = pigeon.wrapping_mul(8).wrapping_add(hole);
+    Lit::new(place.min(63) + 1, negative)
+}
+
+/// One pigeon more than holes, of which there are at most 7: each pigeon has a hole, and no two have the
+/// same.
 fn pigeons(alloc: Global, holes: u64) -> Result<Formula, Fail> {
-    let holes = holes.min(20);
-    let mut formula = Formula::new(alloc, (holes + 1) * holes);
-    for pigeon in 0..holes + 1 {
+    let mut formula = Formula::new(alloc, 64);
+    for pigeon in 0..holes.min(7) + 1 {
         let mut lits = Vec::new(alloc);
         for hole in 0..holes {
-            lits.push(Lit::new(pigeon * holes + hole + 1, false))?;
+            lits.push(seat(pigeon, hole, false))?;
         }
         push(&mut formula, Clause::from_lits(alloc, lits.as_slice())?)?;
     }
     for hole in 0..holes {
-        for pigeon in 0..holes + 1 {
+        for pigeon in 0..holes.min(7) + 1 {
             for other in 0..pigeon {
-                let one = Lit::new(pigeon * holes + hole + 1, true);
-                let two = Lit::new(other * holes + hole + 1, true);
-                push(&mut formula, Clause::from_lits(alloc, &[one, two])?)?;
+                let pair = [seat(pigeon, hole, true), seat(other, hole, true)];
+                push(&mut formula, Clause::from_lits(alloc, &pair)?)?;
             }
         }
     }
@@ -228,7 +234,7 @@ fn hand_over(alloc: Global, solver: &mut Solver, vars: u64, lits: &[Lit]) -> Res
     solver.restart();
     let id = solver.last_id();
     let clause = Clause::from_lits(alloc, lits)?;
-    if id < 1 << 40 && clause.lits().iter().all(|lit| lit.var() <= vars) {
+    if id < 1 << 40 && are_within(clause.lits(), vars) {
         solver.import(id + 1, &clause)?;
         return Ok(true);
     }
@@ -337,15 +343,14 @@ fn follows_scripts(rt: HostRuntime) -> Result<(), Fail> {
 /// How a member ends that restarts before each step.
 fn restarted(alloc: Global, formula: &Formula, member: u32) -> Result<Stepped, Fail> {
     let mut solver = begin(alloc, formula, member)?;
-    let mut last = Stepped::Learned;
     for _ in 0..5_000 {
         solver.restart();
-        last = searched(&mut solver)?;
-        if last != Stepped::Learned {
-            break;
+        let step = searched(&mut solver)?;
+        if step != Stepped::Learned {
+            return Ok(step);
         }
     }
-    Ok(last)
+    Ok(Stepped::Learned)
 }
 
 /// Each member refutes the pigeons.

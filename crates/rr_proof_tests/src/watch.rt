@@ -1,7 +1,7 @@
 //! Propagation against a body that scans.
 ghost use Rattle.std.specs.Prelude.{◌≡◌, ◌+◌, ◌<◌, All, IfOk, length};
 
-use crate::helpers::{Numbers, push};
+use crate::helpers::{Numbers, are_within, push};
 use rr_cnf::{Clause, Formula, Lit};
 use rr_watch::{Propagated, Watch};
 use std::alloc::Global;
@@ -170,8 +170,7 @@ pub(crate) fn add(watch: &mut Watch, id: u64, clause: &Clause) -> Result<(), Fai
     requires { All (λ n. n.id < id) watch.old.clauses }
     ensures { All (λ n. n.id < id + 1) watch.new.clauses }
 {
-    let vars = watch.vars();
-    if watch.depth() == 0 && clause.lits().iter().all(|lit| lit.var() <= vars) {
+    if watch.depth() == 0 && are_within(clause.lits(), watch.vars()) {
         watch.add(id, clause)?;
     }
     Ok(())
