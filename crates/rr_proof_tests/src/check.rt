@@ -26,16 +26,16 @@ fn verdict<R: Threads + Sync>(
 /// Numbers of workers for each proof.
 const WORKERS: [u32; 7] = [1, 2, 3, 4, 7, 40, 64];
 
-/// The first of these numbers of workers with another verdict on a proof from a variable and its negation.
+/// The first of these numbers of workers with another verdict on a proof.
 fn first_misjudging<R: Threads + Sync>(
     rt: &R,
     alloc: Global,
+    formula: &Formula,
     text: &[u8],
     expected: Verdict,
 ) -> Result<Option<u32>, Fail> {
-    let contradiction = formula(alloc, 1, "1 0 -1 0")?;
     for workers in WORKERS.iter() {
-        if verdict(rt, alloc, &contradiction, text, *workers)? != expected {
+        if verdict(rt, alloc, formula, text, *workers)? != expected {
             return Ok(Some(*workers));
         }
     }
@@ -87,10 +87,14 @@ const PROOFS: [(u64, (u64, u64), &str, Verdict); 17] = [
 ];
 
 /// The place of the first of these proofs with another verdict, and the number of workers.
-fn first_misjudged<R: Threads + Sync>(rt: &R, alloc: Global) -> Result<Option<(usize, u32)>, Fail> {
+fn first_misjudged<R: Threads + Sync>(
+    rt: &R,
+    alloc: Global,
+    formula: &Formula,
+) -> Result<Option<(usize, u32)>, Fail> {
     for (place, (units, bad, last, expected)) in PROOFS.iter().enumerate() {
         let text = proof(alloc, *units, *bad, last)?;
-        if let Some(workers) = first_misjudging(rt, alloc, &text, *expected)? {
+        if let Some(workers) = first_misjudging(rt, alloc, formula, &text, *expected)? {
             return Ok(Some((place, workers)));
         }
     }
@@ -99,7 +103,8 @@ fn first_misjudged<R: Threads + Sync>(rt: &R, alloc: Global) -> Result<Option<(u
 
 #[test]
 fn judges_proofs(rt: HostRuntime) -> Result<(), Fail> {
-    none_fails(first_misjudged(&rt, rt.alloc())?)
+    let contradiction = formula(rt.alloc(), 1, "1 0 -1 0")?;
+    none_fails(first_misjudged(&rt, rt.alloc(), &contradiction)?)
 }
 
 /// A line of nineteen hints, and ten of one.
@@ -114,18 +119,20 @@ const EVEN: &[u8] = b"3 1 0 1 0\n4 1 0 1 0\n";
 
 const SINGLE: [Part; 2] = [Part { start: 0, end: 1 }, Part { start: 1, end: 2 }];
 
-/// The parts of a proof from two clauses over one variable, for so many workers.
-fn parts(alloc: Global, text: &[u8], workers: u32) -> Result<Vec<Part>, Fail> {
+/// Whether a proof from two clauses over one variable has these parts for so many workers.
+fn has_parts(alloc: Global, text: &[u8], workers: u32, expected: &[Part]) -> Result<bool, Fail> {
     let journal = read_lrat(alloc, text, 2, 1)?;
-    Ok(parts_of(alloc, journal.lines(), workers.max(1))?)
+    let parts = parts_of(alloc, journal.lines(), workers.max(1))?;
+    Ok(parts.as_slice() == expected)
 }
 
 /// A long line is worth many short ones: with two workers it has a part of its own. With more workers than
 /// lines each line has one.
 #[test]
 fn cuts_by_hints(rt: HostRuntime) -> Result<(), Fail> {
-    assert!(rt; parts(rt.alloc(), UNEVEN, 2)?.as_slice() == HALVES.as_slice());
-    assert!(rt; parts(rt.alloc(), EVEN, 8)?.as_slice() == SINGLE.as_slice());
+    let has_halves = has_parts(rt.alloc(), UNEVEN, 2, &HALVES)?;
+    let has_single = has_parts(rt.alloc(), EVEN, 8, &SINGLE)?;
+    assert!(rt; has_halves && has_single);
     Ok(())
 }
 

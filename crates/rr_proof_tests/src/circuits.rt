@@ -62,15 +62,30 @@ fn outputs(
     }
 }
 
+/// The same, where the words are the inputs.
+fn asked(
+    alloc: Global,
+    builder: &mut Builder,
+    question: &Question,
+    width: u32,
+) -> Result<Vec<Wire>, Fail>
+    requires inputs { builder.old.inputs ≡ 2 * width }
+    requires width { width ≤ 32 }
+    ensures inputs { builder.new.inputs ≡ builder.old.inputs }
+    ensures wires { IfOk result (λ r. AreWires builder.new r.items) }
+{
+    let x = word(alloc, builder, 0, width)?;
+    let y = word(alloc, builder, width, width)?;
+    outputs(alloc, builder, question, &x, &y)
+}
+
 /// The circuit of a question, on words of this width.
 fn circuit(alloc: Global, question: &Question, width: u32) -> Result<Circuit, Fail>
     requires { width ≤ 32 }
     ensures { IfOk result (λ c. c.netlist.inputs ≡ 2 * width) }
 {
     let mut builder = Builder::new(alloc, 2 * width)?;
-    let x = word(alloc, &builder, 0, width)?;
-    let y = word(alloc, &builder, width, width)?;
-    let outputs = outputs(alloc, &mut builder, question, &x, &y)?;
+    let outputs = asked(alloc, &mut builder, question, width)?;
     Ok(builder.finish(outputs))
 }
 

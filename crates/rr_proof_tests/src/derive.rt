@@ -1,7 +1,7 @@
 //! Texts of proofs, and the check of their lines.
-use crate::helpers::{formula, none_fails, shared};
-use rr_cnf::Clause;
-use rr_derive::{Journal, ProofFault, Workspace, check_line, position, read_lrat, write_lrat};
+use crate::helpers::{first_failing_line, formula, none_fails};
+use rr_cnf::{Clause, Formula};
+use rr_derive::{Journal, ProofFault, position, read_lrat, write_lrat};
 use std::alloc::Global;
 use std::test::Fail;
 
@@ -77,10 +77,7 @@ const TEXTS: [(&[u8], Result<usize, ProofFault>); 61] = [
 /// The place of the first of these texts that is read otherwise.
 fn first_misread(alloc: Global, texts: &[(&[u8], Result<usize, ProofFault>)]) -> Option<usize> {
     for (place, (text, expected)) in texts.iter().enumerate() {
-        let read = match read_lrat(alloc, text, 2, 3) {
-            Ok(journal) => Ok(journal.lines().len()),
-            Err(fault) => Err(fault),
-        };
+        let read = read_lrat(alloc, text, 2, 3).map(|journal| journal.lines().len());
         if read != *expected {
             return Some(place);
         }
@@ -98,36 +95,29 @@ const WRITTEN: &[u8] = b"3 -1 2 0 1 2 0\n7 0 0\n4611686018427387903 3 0 9 7 0\n"
 #[test]
 fn writes_what_it_reads(rt: HostRuntime) -> Result<(), Fail> {
     let journal = read_lrat(rt.alloc(), WRITTEN, 2, 3)?;
-    assert!(rt; position(journal.lines(), 7) == Some(1));
-    assert!(rt; write_lrat(rt.alloc(), &journal)?.as_slice() == WRITTEN);
+    let place = position(journal.lines(), 7);
+    let text = write_lrat(rt.alloc(), &journal)?;
+    assert!(rt; place == Some(1) && text.as_slice() == WRITTEN);
     Ok(())
 }
 
 #[test]
 fn writes_what_is_pushed(rt: HostRuntime) -> Result<(), Fail> {
-    let alloc = rt.alloc();
-    let mut journal = Journal::new(alloc, 3);
-    let id = journal.push(Clause::from_lits(alloc, &[])?, Vec::new(alloc))?;
-    assert!(rt; id == 3 && write_lrat(alloc, &journal)?.as_slice() == b"3 0 0\n".as_slice());
-    assert!(rt; shared(&journal) && shared(&Workspace::for_vars(alloc, 3)?));
+    let empty = Clause::from_lits(rt.alloc(), &[])?;
+    let mut journal = Journal::new(rt.alloc(), 3);
+    let id = journal.push(empty, Vec::new(rt.alloc()))?;
+    let text = write_lrat(rt.alloc(), &journal)?;
+    assert!(rt; id == 3 && text.as_slice() == b"3 0 0\n".as_slice());
     Ok(())
 }
 
-/// The number of the first line that fails, from 1, of a proof from a variable and its negation; 0 where
-/// all pass.
-fn first_failing(alloc: Global, text: &[u8]) -> Result<u64, Fail> {
-    let formula = formula(alloc, 3, "1 0 -1 0")?;
-    if formula.len() != 2 || formula.vars() != 3 {
-        return Err(Fail::from("the formula"));
+/// The number of the first line of this proof that fails, from 1; 0 where all pass.
+fn judged(alloc: Global, formula: &Formula, text: &[u8]) -> Result<u64, Fail> {
+    if formula.len() > 1_000 {
+        return Err(Fail::from("too many clauses"));
     }
     let journal = read_lrat(alloc, text, formula.len(), formula.vars())?;
-    let mut work = Workspace::for_vars(alloc, formula.vars())?;
-    for index in 0..journal.lines().len() as u64 {
-        if !check_line(&mut work, &formula, &journal, index) {
-            return Ok(index + 1);
-        }
-    }
-    Ok(0)
+    first_failing_line(alloc, formula, &journal)
 }
 
 /// Proofs from the contradiction, with the number of the first line that fails, or 0.
@@ -147,9 +137,9 @@ const LINES: [(&[u8], u64); 12] = [
 ];
 
 /// The place of the first of these proofs of which another line fails first.
-fn first_misjudged(alloc: Global, proofs: &[(&[u8], u64)]) -> Result<Option<usize>, Fail> {
-    for (place, (text, failing)) in proofs.iter().enumerate() {
-        if first_failing(alloc, text)? != *failing {
+fn first_misjudged(alloc: Global, formula: &Formula) -> Result<Option<usize>, Fail> {
+    for (place, (text, failing)) in LINES.iter().enumerate() {
+        if judged(alloc, formula, text)? != *failing {
             return Ok(Some(place));
         }
     }
@@ -158,5 +148,6 @@ fn first_misjudged(alloc: Global, proofs: &[(&[u8], u64)]) -> Result<Option<usiz
 
 #[test]
 fn checks_lines(rt: HostRuntime) -> Result<(), Fail> {
-    none_fails(first_misjudged(rt.alloc(), &LINES)?)
+    let contradiction = formula(rt.alloc(), 3, "1 0 -1 0")?;
+    none_fails(first_misjudged(rt.alloc(), &contradiction)?)
 }

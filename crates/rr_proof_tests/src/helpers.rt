@@ -1,8 +1,9 @@
 //! What several of the tests use: formulas of texts, and numbers that look random.
-ghost use Rattle.std.specs.Prelude.{◌≡◌, All, true};
+ghost use Rattle.std.specs.Prelude.{◌≡◌, ◌<◌, All, length, true};
 ghost use Rattle.rr_cnf.specs.Clauses.{IsWithin};
 
 use rr_cnf::{Clause, Formula, Lit};
+use rr_derive::{Journal, Workspace, check_line};
 use std::alloc::Global;
 use std::fmt::Debug;
 use std::test::Fail;
@@ -44,29 +45,28 @@ pub(crate) fn numbers_of(alloc: Global, words: &str) -> Result<Vec<i32>, Fail> {
     Ok(numbers)
 }
 
-/// The literals of these numbers.
-pub(crate) fn lits(alloc: Global, numbers: &[i32]) -> Result<Vec<Lit>, Fail> {
+/// The clause of the literals of these numbers.
+pub(crate) fn clause(alloc: Global, numbers: &[i32]) -> Result<Clause, Fail> {
     let mut lits = Vec::new(alloc);
     for number in numbers {
         lits.push(lit(*number))?;
     }
-    Ok(lits)
+    Ok(Clause::from_lits(alloc, &lits)?)
 }
 
-/// The formula over so many variables whose clauses are these, as in DIMACS: numbers, and 0 behind each
-/// clause.
+/// Adds clauses as DIMACS has them: numbers, and 0 behind each clause.
+fn push_all(alloc: Global, formula: &mut Formula, text: &str) -> Result<(), Fail> {
+    for words in text.split_terminator(" 0") {
+        let numbers = numbers_of(alloc, words)?;
+        push(formula, clause(alloc, &numbers)?)?;
+    }
+    Ok(())
+}
+
+/// The formula over so many variables whose clauses are these.
 pub(crate) fn formula(alloc: Global, vars: u64, text: &str) -> Result<Formula, Fail> {
     let mut formula = Formula::new(alloc, vars);
-    let mut lits = Vec::new(alloc);
-    for word in text.split_whitespace() {
-        let number = word.parse::<i32>()?;
-        if number == 0 {
-            push(&mut formula, Clause::from_lits(alloc, lits.as_slice())?)?;
-            lits.clear();
-        } else {
-            lits.push(lit(number))?;
-        }
-    }
+    push_all(alloc, &mut formula, text)?;
     Ok(formula)
 }
 
@@ -74,8 +74,29 @@ pub(crate) fn formula(alloc: Global, vars: u64, text: &str) -> Result<Formula, F
 pub(crate) const EIGHT: &str =
     "1 2 3 0 1 2 -3 0 1 -2 3 0 1 -2 -3 0 -1 2 3 0 -1 2 -3 0 -1 -2 3 0 -1 -2 -3 0";
 
-/// Whether the value may be used by several threads.
-pub(crate) fn shared<T: Send + Sync>(_value: &T) -> bool {
+/// The number of the first line that fails the hint check, from 1; 0 where all pass.
+pub(crate) fn first_failing_line(
+    alloc: Global,
+    formula: &Formula,
+    journal: &Journal,
+) -> Result<u64, Fail>
+    requires ids { All (λ s. length formula.now.clauses < s.id) journal.now.lines }
+    requires within { All (λ s. All (IsWithin formula.now.vars) s.clause) journal.now.lines }
+{
+    if formula.vars() >= 1 << 40 {
+        return Err(Fail::from("too many variables"));
+    }
+    let mut work = Workspace::for_vars(alloc, formula.vars())?;
+    for index in 0..journal.lines().len() as u64 {
+        if !check_line(&mut work, formula, journal, index) {
+            return Ok(index + 1);
+        }
+    }
+    Ok(0)
+}
+
+/// Whether values of the type may be used by several threads.
+pub(crate) fn are_shared<T: Send + Sync>() -> bool {
     true
 }
 

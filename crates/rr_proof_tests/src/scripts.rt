@@ -1,7 +1,7 @@
 //! Propagation on small formulas, by scripts: what is done to a watch, and what it tells then.
-ghost use Rattle.std.specs.Prelude.{◌≡◌, ◌+◌, ◌<◌, [], All, IfOk};
+ghost use Rattle.std.specs.Prelude.{◌≡◌, ◌+◌, ◌<◌, All};
 
-use crate::helpers::{EIGHT, formula, lit, lits, none_fails, numbers_of, shared};
+use crate::helpers::{EIGHT, clause, formula, lit, none_fails, numbers_of};
 use crate::watch::{add, back, begin, decide};
 use rr_cnf::{Clause, Formula, Lit};
 use rr_watch::{Propagated, Watch};
@@ -10,11 +10,11 @@ use std::test::Fail;
 
 /// Scripts by their names, each with so many variables, clauses as in DIMACS, and steps. A step does
 /// something (`add` a clause, `decide` a literal, go `back` to a level, propagate till it is `quiet`, or to
-/// a `conflict` in one of these clauses), or says what the watch tells: the value of a literal (`true`,
-/// `false`, `open`), its `level` or `reason` (0 is none), the `depth`, the `trail`, how many literals a
-/// `clause` has or that there is `none`, and in how many lists of `watchers` of the literals of the
-/// variables from one to another clauses stand.
-const SCRIPTS: [(&str, u64, &str, &str); 10] = [
+/// a `conflict` in one of these clauses, `learn` a clause under two decisions), or says what the watch
+/// tells: the value of a literal (`true`, `false`, `open`), its `level` or `reason` (0 is none), the
+/// `depth`, the `trail`, how many literals a `clause` has or that there is `none`, and in how many lists of
+/// `watchers` of the literals of the variables from one to another clauses stand.
+const SCRIPTS: [(&str, u64, &str, &str); 11] = [
     (
         "units and conflicts",
         2,
@@ -64,6 +64,12 @@ const SCRIPTS: [(&str, u64, &str, &str); 10] = [
         "add 1; quiet; add -1 2; decide 3; quiet; true 2; level 2 1; back 0; open 2; quiet; true 2; level 2 0",
     ),
     (
+        "a learned clause forces its literal, is seen again after the way back, and forces another one",
+        3,
+        "",
+        "learn; quiet; reason 3 1; level 3 2; back 1; quiet; open 3; decide -3; quiet; false 2",
+    ),
+    (
         "two lists for each of eight clauses",
         3,
         EIGHT,
@@ -90,7 +96,9 @@ fn conflicts(watch: &mut Watch, ids: &[i32]) -> bool
     let again = watch.propagate();
     match answer {
         Propagated::Quiet => false,
-        Propagated::Conflict(id) => { again == answer && ids.contains(&(id.min(1_000) as i32)) }
+        Propagated::Conflict(id) => {
+            again == answer && ids.iter().any(|one| u64::from(one.unsigned_abs()) == id)
+        }
     }
 }
 
@@ -107,31 +115,67 @@ fn watchers(watch: &Watch, first: u64, last: u64) -> u64 {
     count
 }
 
+/// Whether these are the literals of the trail.
+fn is_trail(watch: &Watch, numbers: &[i32]) -> bool {
+    let trail = watch.trail();
+    for (one, number) in trail.iter().zip(numbers) {
+        if *one != lit(*number) {
+            return false;
+        }
+    }
+    trail.len() == numbers.len()
+}
+
 /// Whether a watch tells this.
-fn tells(alloc: Global, watch: &Watch, word: &str, numbers: &[i32]) -> Result<bool, Fail> {
+fn tells(watch: &Watch, word: &str, numbers: &[i32]) -> bool {
     let one = lit(at(numbers, 0));
     let id = u64::from(at(numbers, 0).unsigned_abs());
     let second = u64::from(at(numbers, 1).unsigned_abs());
     let third = u64::from(at(numbers, 2).unsigned_abs());
     if one.var() > watch.vars() {
-        return Ok(false);
+        return false;
     }
-    Ok(match word {
+    match word {
         "true" => watch.value(one) == Some(true),
         "false" => watch.value(one) == Some(false),
         "open" => watch.value(one).is_none(),
         "level" => u64::from(watch.level(one)) == second,
         "reason" => watch.reason(one).unwrap_or(0) == second,
         "depth" => u64::from(watch.depth()) == id,
-        "trail" => watch.trail() == lits(alloc, numbers)?.as_slice(),
-        "clause" => match watch.clause(id) {
-            Some(clause) => clause.len() as u64 == second,
-            None => false,
-        },
+        "trail" => is_trail(watch, numbers),
+        "clause" => watch.clause(id).map(|clause| clause.len() as u64) == Some(second),
         "none" => watch.clause(id).is_none(),
         "watchers" => watchers(watch, id, second) == third,
         _ => false,
-    })
+    }
+}
+
+/// Adds a clause of these literals, if nothing is decided.
+fn add_lits(alloc: Global, watch: &mut Watch, id: u64, numbers: &[i32]) -> Result<bool, Fail>
+    requires { All (λ n. n.id < id) watch.old.clauses }
+    ensures { All (λ n. n.id < id + 1) watch.new.clauses }
+{
+    let clause = clause(alloc, numbers)?;
+    add(watch, id, &clause)
+}
+
+/// Decides the first two of three variables, where nothing is true yet, and adds the clause that their
+/// negations make with the third, as a search does that learned it.
+fn learn(alloc: Global, watch: &mut Watch, id: u64) -> Result<bool, Fail>
+    requires { All (λ n. n.id < id) watch.old.clauses }
+    ensures { All (λ n. n.id < id + 1) watch.new.clauses }
+{
+    if watch.vars() < 3 || watch.depth() != 0 || !watch.trail().is_empty() {
+        return Ok(false);
+    }
+    let one = Lit::new(1, false);
+    let two = Lit::new(2, false);
+    let lits = [one.negated(), two.negated(), Lit::new(3, false)];
+    let learned = Clause::from_lits(alloc, &lits)?;
+    watch.decide(one);
+    watch.decide(two);
+    watch.add(id, &learned)?;
+    Ok(true)
 }
 
 /// Takes a step, with an id for a clause, and tells whether it goes as it says.
@@ -146,16 +190,13 @@ fn takes(
     ensures { All (λ n. n.id < id + 1) watch.new.clauses }
 {
     match word {
-        "add" => {
-            let lits = lits(alloc, numbers)?;
-            add(watch, id, &Clause::from_lits(alloc, lits.as_slice())?)?;
-            Ok(true)
-        }
+        "add" => add_lits(alloc, watch, id, numbers),
+        "learn" => learn(alloc, watch, id),
         "decide" => Ok(decide(watch, lit(at(numbers, 0)))),
         "back" => Ok(back(watch, at(numbers, 0).unsigned_abs())),
         "quiet" => Ok(watch.propagate() == Propagated::Quiet),
         "conflict" => Ok(conflicts(watch, numbers)),
-        _ => tells(alloc, watch, word, numbers),
+        _ => Ok(tells(watch, word, numbers)),
     }
 }
 
@@ -191,15 +232,13 @@ fn follow<'a>(
 /// The same on a watch that holds these clauses.
 fn first_astray<'a>(
     alloc: Global,
-    vars: u64,
-    clauses: &str,
+    formula: &Formula,
     script: &'a str,
 ) -> Result<Option<&'a str>, Fail> {
-    let formula = formula(alloc, vars, clauses)?;
     if formula.len() > 60 {
         return Ok(Some(script));
     }
-    let mut watch = begin(alloc, &formula)?;
+    let mut watch = begin(alloc, formula)?;
     follow(alloc, &mut watch, formula.len() + 1, script)
 }
 
@@ -209,7 +248,8 @@ fn first_failing<'a>(
     scripts: &'a [(&'a str, u64, &'a str, &'a str)],
 ) -> Result<Option<(&'a str, &'a str)>, Fail> {
     for (name, vars, clauses, script) in scripts {
-        if let Some(step) = first_astray(alloc, *vars, clauses, script)? {
+        let formula = formula(alloc, *vars, clauses)?;
+        if let Some(step) = first_astray(alloc, &formula, script)? {
             return Ok(Some((*name, step)));
         }
     }
@@ -219,30 +259,4 @@ fn first_failing<'a>(
 #[test]
 fn follows_scripts(rt: HostRuntime) -> Result<(), Fail> {
     none_fails(first_failing(rt.alloc(), &SCRIPTS)?)
-}
-
-/// Two decisions, and then a clause that their literals and an open one make.
-fn added(alloc: Global, none: &Formula) -> Result<Watch, Fail>
-    requires { none.now ≡ record { vars = 3; clauses = [] } }
-    ensures { IfOk result (λ w. All (λ n. n.id < 10) w.clauses) }
-{
-    let mut watch = Watch::new(alloc, none)?;
-    let one = Lit::new(1, false);
-    let two = Lit::new(2, false);
-    watch.decide(one);
-    watch.decide(two);
-    let lits = [one.negated(), two.negated(), Lit::new(3, false)];
-    let learned = Clause::from_lits(alloc, &lits)?;
-    watch.add(9, &learned)?;
-    Ok(watch)
-}
-
-/// The clause forces its literal, is seen again after the way back, and forces another one.
-#[test]
-fn adds_under_decisions(rt: HostRuntime) -> Result<(), Fail> {
-    let none = Formula::new(rt.alloc(), 3);
-    let mut watch = added(rt.alloc(), &none)?;
-    assert!(rt; shared(&watch));
-    let script = "quiet; reason 3 9; level 3 2; back 1; quiet; open 3; decide -3; quiet; false 2";
-    none_fails(follow(rt.alloc(), &mut watch, 10, script)?)
 }

@@ -1,14 +1,16 @@
 //! Small formulas to their ends, each answer checked: values against the clauses, lines one by one.
-ghost use Rattle.std.specs.Prelude.{◌≡◌, ◌≤◌, ◌+◌, ◌<◌, All, IfOk, length};
+ghost use Rattle.std.specs.Prelude.{◌≡◌, ◌≤◌};
 ghost use Rattle.rr_cnf.specs.Partial.{Determined};
 ghost use Rattle.rr_solver.specs.Outcomes.{AreLines};
 
 use crate::helpers::{
-    EIGHT, Numbers, are_within, formula, lits, none_fails, numbers_of, push, shared,
+    EIGHT, Numbers, are_shared, are_within, clause, first_failing_line, formula, none_fails,
+    numbers_of, push,
 };
 use rr_cnf::{Clause, Formula, Lit};
-use rr_derive::{Journal, Workspace, check_line};
+use rr_derive::{Journal, Workspace};
 use rr_solver::{Outcome, Solver, Stepped, solve};
+use rr_watch::Watch;
 use std::alloc::Global;
 use std::test::Fail;
 
@@ -20,22 +22,19 @@ fn all_inputs(formula: &Formula) -> u64
     formula.vars()
 }
 
-/// Whether some line is the empty clause, where each passes the hint check; else `None`.
-fn has_empty(alloc: Global, formula: &Formula, journal: &Journal) -> Result<Option<bool>, Fail>
+/// The number of lines, where each passes the hint check, and some line is the empty clause or none is.
+fn lines_of(
+    alloc: Global,
+    formula: &Formula,
+    journal: &Journal,
+    is_refuted: bool,
+) -> Result<Option<usize>, Fail>
     requires { AreLines formula.now journal.now.lines }
 {
-    if formula.vars() >= 1 << 40 {
-        return Ok(None);
-    }
-    let mut work = Workspace::for_vars(alloc, formula.vars())?;
-    let mut has_empty = false;
-    for (index, line) in journal.lines().iter().enumerate() {
-        if !check_line(&mut work, formula, journal, index as u64) {
-            return Ok(None);
-        }
-        has_empty |= line.clause.lits().is_empty();
-    }
-    Ok(Some(has_empty))
+    let lines = journal.lines();
+    let has_empty = lines.iter().any(|line| line.clause.lits().is_empty());
+    let passes = first_failing_line(alloc, formula, journal)? == 0 && has_empty == is_refuted;
+    Ok(passes.then_some(lines.len()))
 }
 
 /// Whether each clause has a true literal.
@@ -85,13 +84,13 @@ pub(crate) fn end_of(
             }
         }
         Outcome::Refuted(journal) => {
-            if has_empty(alloc, formula, &journal)? == Some(true) {
-                return Ok(Ending::Refuted(journal.lines().len()));
+            if let Some(lines) = lines_of(alloc, formula, &journal, true)? {
+                return Ok(Ending::Refuted(lines));
             }
         }
         Outcome::Spent(journal) => {
-            if has_empty(alloc, formula, &journal)? == Some(false) {
-                return Ok(Ending::Spent(journal.lines().len()));
+            if let Some(lines) = lines_of(alloc, formula, &journal, false)? {
+                return Ok(Ending::Spent(lines));
             }
         }
     }
@@ -139,25 +138,33 @@ fn seat(pigeon: u64, hole: u64, negative: bool) -> Lit {
     Lit::new(place.min(63) + 1, negative)
 }
 
-/// One pigeon more than holes, of which there are at most 7: each pigeon has a hole, and no two have the
-/// same.
-fn pigeons(alloc: Global, holes: u64) -> Result<Formula, Fail> {
-    let mut formula = Formula::new(alloc, 64);
-    for pigeon in 0..holes.min(7) + 1 {
-        let mut lits = Vec::new(alloc);
-        for hole in 0..holes {
-            lits.push(seat(pigeon, hole, false))?;
-        }
-        push(&mut formula, Clause::from_lits(alloc, lits.as_slice())?)?;
-    }
+/// A pigeon has one of the holes.
+fn has_hole(alloc: Global, pigeon: u64, holes: u64) -> Result<Clause, Fail> {
+    let mut lits = Vec::new(alloc);
     for hole in 0..holes {
-        for pigeon in 0..holes.min(7) + 1 {
+        lits.push(seat(pigeon, hole, false))?;
+    }
+    Ok(Clause::from_lits(alloc, &lits)?)
+}
+
+/// Each pigeon has a hole, and no two have the same.
+fn push_pigeons(alloc: Global, formula: &mut Formula, holes: u64) -> Result<(), Fail> {
+    for pigeon in 0..holes.saturating_add(1) {
+        push(formula, has_hole(alloc, pigeon, holes)?)?;
+        for hole in 0..holes {
             for other in 0..pigeon {
                 let pair = [seat(pigeon, hole, true), seat(other, hole, true)];
-                push(&mut formula, Clause::from_lits(alloc, &pair)?)?;
+                push(formula, Clause::from_lits(alloc, &pair)?)?;
             }
         }
     }
+    Ok(())
+}
+
+/// One pigeon more than holes, of which there are at most 7.
+fn pigeons(alloc: Global, holes: u64) -> Result<Formula, Fail> {
+    let mut formula = Formula::new(alloc, 64);
+    push_pigeons(alloc, &mut formula, holes.min(7))?;
     Ok(formula)
 }
 
@@ -212,28 +219,26 @@ fn decides_random_formulas(rt: HostRuntime) -> Result<(), Fail> {
     Ok(())
 }
 
-/// A solver that decides all variables.
-fn begin(alloc: Global, formula: &Formula, member: u32) -> Result<Solver, Fail>
-    ensures { IfOk result (λ s. s.formula ≡ formula.now) }
-{
-    let inputs = all_inputs(formula);
-    Ok(Solver::new(alloc, formula, inputs, member)?)
-}
-
 fn searched(solver: &mut Solver) -> Result<Stepped, Fail>
     ensures { solver.new.formula ≡ solver.old.formula }
 {
     Ok(solver.conflict_step()?)
 }
 
-/// Hands over a clause under the next id, after a restart.
-fn hand_over(alloc: Global, solver: &mut Solver, vars: u64, lits: &[Lit]) -> Result<bool, Fail>
+fn searches_to(solver: &mut Solver, expected: Stepped) -> Result<bool, Fail>
+    ensures { solver.new.formula ≡ solver.old.formula }
+{
+    Ok(searched(solver)? == expected)
+}
+
+/// Hands over a clause of these literals under the next id, after a restart.
+fn hand_over(alloc: Global, solver: &mut Solver, vars: u64, numbers: &[i32]) -> Result<bool, Fail>
     requires { solver.old.formula.vars ≡ vars }
     ensures { solver.new.formula ≡ solver.old.formula }
 {
     solver.restart();
     let id = solver.last_id();
-    let clause = Clause::from_lits(alloc, lits)?;
+    let clause = clause(alloc, numbers)?;
     if id < 1 << 40 && are_within(clause.lits(), vars) {
         solver.import(id + 1, &clause)?;
         return Ok(true);
@@ -241,10 +246,25 @@ fn hand_over(alloc: Global, solver: &mut Solver, vars: u64, lits: &[Lit]) -> Res
     Ok(false)
 }
 
+/// Searches until all is decided, with a restart before each step, and tells whether that refutes.
+fn refutes_by_restarts(solver: &mut Solver) -> Result<bool, Fail>
+    ensures { solver.new.formula ≡ solver.old.formula }
+{
+    for _ in 0..5_000 {
+        solver.restart();
+        match searched(solver)? {
+            Stepped::Learned => {}
+            Stepped::Refuted => return Ok(true),
+            Stepped::Model => return Ok(false),
+        }
+    }
+    Ok(false)
+}
+
 /// Scripts by their names, each with a member, clauses over three variables, and steps. A step searches up
-/// to a clause that is `learned` or until it is `refuted`, or will `hand` over a clause, or says what the
-/// solver tells: the `last` id, the number of `lines`, the ids of the `first` and the `newest` one, and the
-/// only `hint` and the number of `literals` of the first.
+/// to a clause that is `learned` or until it is `refuted`, at once or by `restarts`, or will `hand` over a
+/// clause, or says what the solver tells: the `last` id, the number of `lines`, the ids of the `first` and
+/// the `newest` one, and the only `hint` and the number of `literals` of the first.
 const SCRIPTS: [(&str, u32, &str, &str); 2] = [
     (
         "a unit that is handed over",
@@ -279,57 +299,79 @@ fn tells(solver: &Solver, word: &str, numbers: &[i32]) -> bool {
 }
 
 /// Takes a step, and tells whether it goes as it says.
+fn takes(
+    alloc: Global,
+    solver: &mut Solver,
+    vars: u64,
+    word: &str,
+    numbers: &[i32],
+) -> Result<bool, Fail>
+    requires { solver.old.formula.vars ≡ vars }
+    ensures { solver.new.formula ≡ solver.old.formula }
+{
+    match word {
+        "learned" => searches_to(solver, Stepped::Learned),
+        "refuted" => searches_to(solver, Stepped::Refuted),
+        "restarts" => refutes_by_restarts(solver),
+        "hand" => hand_over(alloc, solver, vars, numbers),
+        _ => Ok(tells(solver, word, numbers)),
+    }
+}
+
+/// The same of the text of a step.
 fn goes(alloc: Global, solver: &mut Solver, vars: u64, step: &str) -> Result<bool, Fail>
     requires { solver.old.formula.vars ≡ vars }
     ensures { solver.new.formula ≡ solver.old.formula }
 {
     let (word, rest) = step.split_once(' ').unwrap_or((step, ""));
     let numbers = numbers_of(alloc, rest)?;
-    match word {
-        "learned" => Ok(searched(solver)? == Stepped::Learned),
-        "refuted" => Ok(searched(solver)? == Stepped::Refuted),
-        "hand" => hand_over(alloc, solver, vars, lits(alloc, &numbers)?.as_slice()),
-        _ => Ok(tells(solver, word, &numbers)),
-    }
+    takes(alloc, solver, vars, word, &numbers)
 }
 
-/// The first step that does not go as it says.
-fn follow<'a>(
+/// The literal that a solver decided first, by the line that it learned first.
+fn first_decided(solver: &Solver) -> Option<Lit> {
+    let line = solver.journal().lines().first()?;
+    line.clause.lits().first().map(|lit| lit.negated())
+}
+
+/// The number of the first step that does not go as it says, or the literal that was decided first.
+fn follow(
     alloc: Global,
     solver: &mut Solver,
     vars: u64,
-    script: &'a str,
-) -> Result<Option<&'a str>, Fail>
+    script: &str,
+) -> Result<(Option<usize>, Option<Lit>), Fail>
     requires { solver.old.formula.vars ≡ vars }
 {
-    for step in script.split("; ") {
+    for (place, step) in script.split("; ").enumerate() {
         if !goes(alloc, solver, vars, step)? {
-            return Ok(Some(step));
+            return Ok((Some(place), None));
         }
     }
-    Ok(None)
+    Ok((None, first_decided(solver)))
 }
 
-/// The same for a member that searches these clauses.
-fn first_astray<'a>(
+/// The same of a member that decides all variables.
+fn follow_by(
     alloc: Global,
+    formula: &Formula,
     member: u32,
-    clauses: &str,
-    script: &'a str,
-) -> Result<Option<&'a str>, Fail> {
-    let formula = formula(alloc, 3, clauses)?;
-    let mut solver = begin(alloc, &formula, member)?;
+    script: &str,
+) -> Result<(Option<usize>, Option<Lit>), Fail> {
+    let inputs = all_inputs(formula);
+    let mut solver = Solver::new(alloc, formula, inputs, member)?;
     follow(alloc, &mut solver, formula.vars(), script)
 }
 
-/// The name of the first script that goes astray, and its step.
+/// The name of the first script that goes astray, and the number of its step.
 fn first_failing<'a>(
     alloc: Global,
     scripts: &'a [(&'a str, u32, &'a str, &'a str)],
-) -> Result<Option<(&'a str, &'a str)>, Fail> {
+) -> Result<Option<(&'a str, usize)>, Fail> {
     for (name, member, clauses, script) in scripts {
-        if let Some(step) = first_astray(alloc, *member, clauses, script)? {
-            return Ok(Some((*name, step)));
+        let formula = formula(alloc, 3, clauses)?;
+        if let (Some(place), _) = follow_by(alloc, &formula, *member, script)? {
+            return Ok(Some((*name, place)));
         }
     }
     Ok(None)
@@ -340,27 +382,13 @@ fn follows_scripts(rt: HostRuntime) -> Result<(), Fail> {
     none_fails(first_failing(rt.alloc(), &SCRIPTS)?)
 }
 
-/// How a member ends that restarts before each step.
-fn restarted(alloc: Global, formula: &Formula, member: u32) -> Result<Stepped, Fail> {
-    let mut solver = begin(alloc, formula, member)?;
-    for _ in 0..5_000 {
-        solver.restart();
-        let step = searched(&mut solver)?;
-        if step != Stepped::Learned {
-            return Ok(step);
-        }
-    }
-    Ok(Stepped::Learned)
-}
-
 /// Each member refutes the pigeons.
 #[test]
 fn goes_on_after_restarts(rt: HostRuntime) -> Result<(), Fail> {
     let alloc = rt.alloc();
     let five = pigeons(alloc, 5)?;
-    assert!(rt; shared(&begin(alloc, &five, 1)?));
     for member in 1..9u32 {
-        if restarted(alloc, &five, member)? != Stepped::Refuted {
+        if let (Some(_), _) = follow_by(alloc, &five, member, "restarts")? {
             return Err(Fail::from(member));
         }
     }
@@ -371,31 +399,13 @@ fn goes_on_after_restarts(rt: HostRuntime) -> Result<(), Fail> {
 const PAIRS: &str = "1 2 0 1 -2 0 -1 2 0 -1 -2 0 3 4 0 3 -4 0 -3 4 0 -3 -4 0 \
 5 6 0 5 -6 0 -5 6 0 -5 -6 0 7 8 0 7 -8 0 -7 8 0 -7 -8 0";
 
-/// The literal that a member decides first.
-fn first_decided(alloc: Global, formula: &Formula, member: u32) -> Result<Option<Lit>, Fail> {
-    let mut solver = begin(alloc, formula, member)?;
-    searched(&mut solver)?;
-    let Some(line) = solver.journal().lines().first() else {
-        return Ok(None);
-    };
-    match line.clause.lits().first() {
-        None => Ok(None),
-        Some(lit) => Ok(Some(lit.negated())),
-    }
-}
-
 /// The first of the eight members that decides nothing, or what one before it decides.
 fn first_alike(alloc: Global, formula: &Formula) -> Result<Option<u32>, Fail> {
     let mut decided: Vec<Lit> = Vec::new(alloc);
     for member in 1..9 {
-        match first_decided(alloc, formula, member)? {
-            None => return Ok(Some(member)),
-            Some(lit) => {
-                if decided.contains(&lit) {
-                    return Ok(Some(member));
-                }
-                decided.push(lit)?;
-            }
+        match follow_by(alloc, formula, member, "learned")? {
+            (None, Some(lit)) if !decided.contains(&lit) => decided.push(lit)?,
+            _ => return Ok(Some(member)),
         }
     }
     Ok(None)
@@ -406,4 +416,11 @@ fn first_alike(alloc: Global, formula: &Formula) -> Result<Option<u32>, Fail> {
 fn members_begin_differently(rt: HostRuntime) -> Result<(), Fail> {
     let pairs = formula(rt.alloc(), 8, PAIRS)?;
     none_fails(first_alike(rt.alloc(), &pairs)?)
+}
+
+#[test]
+fn values_may_go_to_other_threads(rt: HostRuntime) -> Result<(), Fail> {
+    assert!(rt; are_shared::<Watch>() && are_shared::<Solver>());
+    assert!(rt; are_shared::<Journal>() && are_shared::<Workspace>());
+    Ok(())
 }

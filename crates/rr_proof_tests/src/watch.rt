@@ -1,5 +1,5 @@
 //! Propagation against a body that scans.
-ghost use Rattle.std.specs.Prelude.{◌≡◌, ◌+◌, ◌<◌, All, IfOk, length};
+ghost use Rattle.std.specs.Prelude.{◌≡◌, ◌≤◌, ◌+◌, ◌<◌, All, IfOk, length};
 
 use crate::helpers::{Numbers, are_within, push};
 use rr_cnf::{Clause, Formula, Lit};
@@ -133,12 +133,7 @@ fn scan(alloc: Global, watch: &Watch) -> Result<Scanned, Fail> {
 }
 
 fn is_false(watch: &Watch, clause: &[Lit]) -> bool {
-    for lit in clause {
-        if value(watch, *lit) != Some(false) {
-            return false;
-        }
-    }
-    true
+    clause.iter().all(|lit| value(watch, *lit) == Some(false))
 }
 
 fn same_values(watch: &Watch, scanned: &Scanned) -> bool {
@@ -165,15 +160,16 @@ fn agrees(alloc: Global, watch: &mut Watch) -> Result<bool, Fail>
     }
 }
 
-/// Adds a clause, if nothing is decided.
-pub(crate) fn add(watch: &mut Watch, id: u64, clause: &Clause) -> Result<(), Fail>
+/// Adds a clause, if nothing is decided and its variables are those of the watch.
+pub(crate) fn add(watch: &mut Watch, id: u64, clause: &Clause) -> Result<bool, Fail>
     requires { All (λ n. n.id < id) watch.old.clauses }
     ensures { All (λ n. n.id < id + 1) watch.new.clauses }
 {
     if watch.depth() == 0 && are_within(clause.lits(), watch.vars()) {
         watch.add(id, clause)?;
+        return Ok(true);
     }
-    Ok(())
+    Ok(false)
 }
 
 /// One step of a walk: a clause, a decision, a way back or propagation.
@@ -210,7 +206,25 @@ pub(crate) fn begin(alloc: Global, formula: &Formula) -> Result<Watch, Fail>
     Ok(Watch::new(alloc, formula)?)
 }
 
-/// Whether each step of a walk over a random formula agrees with scanning.
+/// Whether each of twenty steps agrees with scanning, with ids from the first one on.
+fn agrees_in_steps(
+    alloc: Global,
+    numbers: &mut Numbers,
+    watch: &mut Watch,
+    first: u64,
+) -> Result<bool, Fail>
+    requires ids { All (λ n. n.id < first) watch.old.clauses }
+    requires small { first ≤ 100 }
+{
+    for step in 0..20 {
+        if !walk(alloc, numbers, watch, first + step)? {
+            return Ok(false);
+        }
+    }
+    agrees(alloc, watch)
+}
+
+/// The same on a random formula.
 fn walks(alloc: Global, numbers: &mut Numbers) -> Result<bool, Fail> {
     let vars = numbers.below(20).min(19) + 3;
     let formula = random_formula(alloc, numbers, vars)?;
@@ -218,13 +232,7 @@ fn walks(alloc: Global, numbers: &mut Numbers) -> Result<bool, Fail> {
         return Ok(false);
     }
     let mut watch = begin(alloc, &formula)?;
-    let first = formula.len() + 1;
-    for step in 0..20 {
-        if !walk(alloc, numbers, &mut watch, first + step)? {
-            return Ok(false);
-        }
-    }
-    agrees(alloc, &mut watch)
+    agrees_in_steps(alloc, numbers, &mut watch, formula.len() + 1)
 }
 
 /// Walks over 300 random formulas.
