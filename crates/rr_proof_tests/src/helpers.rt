@@ -1,4 +1,4 @@
-//! What several of the tests use: formulas of texts, and numbers that look random.
+//! What several of the tests use: formulas of texts, the check of all lines, and numbers that look random.
 ghost use Rattle.std.specs.Prelude.{◌≡◌, ◌<◌, All, length, true};
 ghost use Rattle.rr_cnf.specs.Clauses.{IsWithin};
 

@@ -138,8 +138,8 @@ fn seat(pigeon: u64, hole: u64, negative: bool) -> Lit {
     Lit::new(place.min(63) + 1, negative)
 }
 
-/// A pigeon has one of the holes.
-fn has_hole(alloc: Global, pigeon: u64, holes: u64) -> Result<Clause, Fail> {
+/// The clause that a pigeon has one of the holes.
+fn some_hole(alloc: Global, pigeon: u64, holes: u64) -> Result<Clause, Fail> {
     let mut lits = Vec::new(alloc);
     for hole in 0..holes {
         lits.push(seat(pigeon, hole, false))?;
@@ -147,10 +147,10 @@ fn has_hole(alloc: Global, pigeon: u64, holes: u64) -> Result<Clause, Fail> {
     Ok(Clause::from_lits(alloc, &lits)?)
 }
 
-/// Each pigeon has a hole, and no two have the same.
+/// Adds that each pigeon has a hole, and no two have the same.
 fn push_pigeons(alloc: Global, formula: &mut Formula, holes: u64) -> Result<(), Fail> {
     for pigeon in 0..holes.saturating_add(1) {
-        push(formula, has_hole(alloc, pigeon, holes)?)?;
+        push(formula, some_hole(alloc, pigeon, holes)?)?;
         for hole in 0..holes {
             for other in 0..pigeon {
                 let pair = [seat(pigeon, hole, true), seat(other, hole, true)];
@@ -334,7 +334,8 @@ fn first_decided(solver: &Solver) -> Option<Lit> {
     line.clause.lits().first().map(|lit| lit.negated())
 }
 
-/// The number of the first step that does not go as it says, or the literal that was decided first.
+/// The number of the first step that does not go as it says, from 0, or the literal that was decided first,
+/// where a line was learned.
 fn follow(
     alloc: Global,
     solver: &mut Solver,
@@ -351,7 +352,7 @@ fn follow(
     Ok((None, first_decided(solver)))
 }
 
-/// The same of a member that decides all variables.
+/// The same by a member that decides all variables.
 fn follow_by(
     alloc: Global,
     formula: &Formula,

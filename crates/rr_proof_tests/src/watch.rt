@@ -160,7 +160,7 @@ fn agrees(alloc: Global, watch: &mut Watch) -> Result<bool, Fail>
     }
 }
 
-/// Adds a clause, if nothing is decided and its variables are those of the watch.
+/// Adds a clause, if nothing is decided and its variables are those of the watch, and tells whether it did.
 pub(crate) fn add(watch: &mut Watch, id: u64, clause: &Clause) -> Result<bool, Fail>
     requires { All (λ n. n.id < id) watch.old.clauses }
     ensures { All (λ n. n.id < id + 1) watch.new.clauses }
