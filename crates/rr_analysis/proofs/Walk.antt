@@ -12,7 +12,7 @@ use Rattle.rr_derive.proofs.MarkLaws.{All-from_contains, negated-negated, Contai
 use Rattle.rr_trail.specs.Trails.{Entry, Forces, IsTrail, entry, lits}
 use Rattle.rr_watch.specs.Watches.{Named, State}
 use Rattle.rr_trail.proofs.EntryLaws.{lit_at, holds_at, place_of}
-use Rattle.rr_analysis.specs.Analysis.{AreNamed, IsMarked, Marked, Kept, Greatest, Learns}
+use Rattle.rr_analysis.specs.Analysis.{AreNamed, IsDerived, IsMarked, Marked, KeptBy, Greatest, Learns}
 
 -- the marks of a clause, literal by literal
 pub Marked-none : (s : List Bool) → Marked s [] s
@@ -105,17 +105,16 @@ pub record Gives (t : List Entry) (k : ℕ) (c : List Literal) (seen : List Bool
   pub negations : (l : Literal) → Contains c l → Contains x (negated l)
 
 -- the walk so far
-pub record Walk (named : ℕ → List Literal → Type 0) (t : List Entry) (d : ℕ) (k : ℕ) (c : List Literal) (seen : List Bool) (hints : List ℕ) (level : ℕ) : Type 0 where
+pub record Walk (named : ℕ → List Literal → Type 0) (t : List Entry) (why : Entry → Type 0) (k : ℕ) (c : List Literal) (seen : List Bool) (hints : List ℕ) : Type 0 where
   pub inside : k ≤ length t
   pub leads : (x : List Literal) → Gives t k c seen x → Leads named x (reverse hints)
   pub hinted : (x : List Literal) → Gives t k c seen x → (l : Literal) → Contains (lits t) l → IsMarked seen l.var → Hinted named x (reverse hints) (negated l)
   pub names : AreNamed named (reverse hints)
-  pub kept : (m : Literal) → Contains c m → Kept t d k m
+  pub kept : (m : Literal) → Contains c m → KeptBy t why k m
   pub marked : (m : Literal) → Contains c m → IsMarked seen m.var
-  pub greatest : Greatest t d c level
 
-module _ (named : ℕ → List Literal → Type 0) (t : List Entry) (d : ℕ) where
-  pub Walk-start : (id : ℕ) (c : List Literal) (old seen : List Bool) → named id c → IsFalse (lits t) c → ((v : ℕ) → IsMarked old v → ⊥) → Marked old c seen → IsTrail t d → Walk named t d (length t) [] seen (id ∷ []) 0
+module _ (named : ℕ → List Literal → Type 0) (t : List Entry) (d : ℕ) (why : Entry → Type 0) where
+  pub Walk-start : (id : ℕ) (c : List Literal) (old seen : List Bool) → named id c → IsFalse (lits t) c → ((v : ℕ) → IsMarked old v → ⊥) → Marked old c seen → IsTrail t d → Walk named t why (length t) [] seen (id ∷ [])
   Walk-start id c old seen n f none m tr = record {
     inside = omega arith;
     leads = λ x g. (c, (n, inl (All-from_contains (λ l. Contains x (negated l)) c (λ l k. g.has (negated l) (whole (negated l) (false_in l k)) (m.all l k)))));
@@ -127,7 +126,6 @@ module _ (named : ℕ → List Literal → Type 0) (t : List Entry) (d : ℕ) wh
     names = All-cons (λ h. (y : List Literal) × named h y) id [] (c, n) (All-nil (λ h. (y : List Literal) × named h y));
     kept = λ l k. absurd (omega (arith, k.1));
     marked = λ l k. absurd (omega (arith, k.1));
-    greatest = record { bound = λ l k. absurd (omega (arith, k.1)); is = inl refl };
   }
     where
       false_in : (l : Literal) → Contains c l → Contains (lits t) (negated l)
@@ -136,15 +134,15 @@ module _ (named : ℕ → List Literal → Type 0) (t : List Entry) (d : ℕ) wh
       whole : (l : Literal) → Contains (lits t) l → Contains (lits (take (length t) t)) l
       whole l = subst (λ u. Contains (lits u) l) (sym (take_all (length t) t (omega arith)))
 
-  module _ (tr : IsTrail t d) (k : ℕ) (c : List Literal) (seen : List Bool) (hints : List ℕ) (level : ℕ) (w : Walk named t d (k + 1) c seen hints level) where
+  module _ (tr : IsTrail t d) (k : ℕ) (c : List Literal) (seen : List Bool) (hints : List ℕ) (w : Walk named t why (k + 1) c seen hints) where
     at : k < length t
     at = omega (arith, w.inside)
 
-    lower : (m : Literal) → Kept t d (k + 1) m → Kept t d k m
-    lower m q = record { place = q.place; low = omega (arith, q.low); inside = q.inside; is = q.is; level = q.level; why = q.why }
+    lower : (m : Literal) → KeptBy t why (k + 1) m → KeptBy t why k m
+    lower m q = record { place = q.place; low = omega (arith, q.low); inside = q.inside; is = q.is; known = q.known }
 
     -- the literal was not marked
-    pub Walk-skip : (IsMarked seen (entry t k).lit.var → ⊥) → Walk named t d k c seen hints level
+    pub Walk-skip : (IsMarked seen (entry t k).lit.var → ⊥) → Walk named t why k c seen hints
     Walk-skip n = record {
       inside = omega (arith, w.inside);
       leads = λ x g. w.leads x (up x g);
@@ -152,7 +150,6 @@ module _ (named : ℕ → List Literal → Type 0) (t : List Entry) (d : ℕ) wh
       names = w.names;
       kept = λ m h. lower m (w.kept m h);
       marked = w.marked;
-      greatest = w.greatest;
     }
       where
         up : (x : List Literal) → Gives t k c seen x → Gives t (k + 1) c seen x
@@ -163,18 +160,17 @@ module _ (named : ℕ → List Literal → Type 0) (t : List Entry) (d : ℕ) wh
         }
 
     -- its negation goes into the clause
-    pub Walk-keep : (more : ℕ) → IsMarked seen (entry t k).lit.var → (1 ≤ (entry t k).level) × (((entry t k).level < d) ⊎ ((entry t k).reason ≡ None)) → Greatest t d (c ++ negated (entry t k).lit ∷ []) more → Walk named t d k (c ++ negated (entry t k).lit ∷ []) seen hints more
-    Walk-keep more s why gr = record {
+    pub Walk-keep : IsMarked seen (entry t k).lit.var → why (entry t k) → Walk named t why k (c ++ negated (entry t k).lit ∷ []) seen hints
+    Walk-keep s for = record {
       inside = omega (arith, w.inside);
       leads = λ x g. w.leads x (up x g);
       hinted = λ x g. w.hinted x (up x g);
       names = w.names;
       kept = λ m h. elim (Contains-push_cases c (negated (entry t k).lit) m h) [
         | inl a ↦ lower m (w.kept m a)
-        | inr e ↦ record { place = k; low = omega arith; inside = at; is = sym (negated-negated (entry t k).lit) ∙ ap negated e; level = why.0; why = why.1 }
+        | inr e ↦ record { place = k; low = omega arith; inside = at; is = sym (negated-negated (entry t k).lit) ∙ ap negated e; known = for }
       ];
       marked = λ m h. elim (Contains-push_cases c (negated (entry t k).lit) m h) [ inl a ↦ w.marked m a | inr e ↦ subst (λ y. IsMarked seen y.var) e s ];
-      greatest = gr;
     }
       where
         up : (x : List Literal) → Gives t k (c ++ negated (entry t k).lit ∷ []) seen x → Gives t (k + 1) c seen x
@@ -194,7 +190,7 @@ module _ (named : ℕ → List Literal → Type 0) (t : List Entry) (d : ℕ) wh
         }
 
     -- its reason is resolved with
-    pub Walk-resolve : (id : ℕ) (r : List Literal) (next : List Bool) → IsMarked seen (entry t k).lit.var → named id r → Forces (lits (take k t)) r (entry t k).lit → Marked seen r next → Walk named t d k c next (hints ++ id ∷ []) level
+    pub Walk-resolve : (id : ℕ) (r : List Literal) (next : List Bool) → IsMarked seen (entry t k).lit.var → named id r → Forces (lits (take k t)) r (entry t k).lit → Marked seen r next → Walk named t why k c next (hints ++ id ∷ [])
     Walk-resolve id r next s n f m = record {
       inside = omega (arith, w.inside);
       leads = λ x g. subst (Leads named x) (sym turned) (r, (n, inr ((entry t k).lit, (unit x g, w.leads (x ++ (entry t k).lit ∷ []) (up x g)))));
@@ -216,7 +212,6 @@ module _ (named : ℕ → List Literal → Type 0) (t : List Entry) (d : ℕ) wh
       names = subst (AreNamed named) (sym turned) (All-cons (λ h. (y : List Literal) × named h y) id (reverse hints) (r, n) w.names);
       kept = λ q h. lower q (w.kept q h);
       marked = λ q h. m.kept q.var (w.marked q h);
-      greatest = w.greatest;
     }
       where
         turned : reverse (hints ++ id ∷ []) ≡ id ∷ reverse hints
@@ -253,28 +248,52 @@ module _ (named : ℕ → List Literal → Type 0) (t : List Entry) (d : ℕ) wh
         }
 
 -- the end of the walk
-pub Learns-walk : (s : State) (c : List Literal) (seen : List Bool) (hints : List ℕ) (level : ℕ) → IsTrail s.trail s.depth → All (IsWithin s.vars) (lits s.trail) → Walk (Named s.clauses) s.trail s.depth 0 c seen hints level → Learns s c (reverse hints) level
-Learns-walk s c seen hints level tr within w = record {
-  passes = (All-from_contains (λ l. Contains c (negated l) → ⊥) c (λ l h k. apart l h k), w.leads (map negated c) gives);
-  hinted = λ l h. subst (Hinted (Named s.clauses) (map negated c) (reverse hints)) (negated-negated l) (w.hinted (map negated c) gives (negated l) (true_one l h) (w.marked l h));
-  named = w.names;
-  kept = w.kept;
-  greatest = w.greatest;
-  within = All-from_contains (IsWithin s.vars) c (λ l h. All-contains (IsWithin s.vars) (lits s.trail) (negated l) within (true_one l h));
-}
-  where
-    true_one : (l : Literal) → Contains c l → Contains (lits s.trail) (negated l)
-    true_one l h = let q = w.kept l h in subst (Contains (lits s.trail)) q.is (holds_at s.trail q.place q.inside)
+module _ (s : State) (why : Entry → Type 0) (c : List Literal) (seen : List Bool) (hints : List ℕ) (tr : IsTrail s.trail s.depth) (within : All (IsWithin s.vars) (lits s.trail)) (w : Walk (Named s.clauses) s.trail why 0 c seen hints) where
+  true_one : (l : Literal) → Contains c l → Contains (lits s.trail) (negated l)
+  true_one l h = let q = w.kept l h in subst (Contains (lits s.trail)) q.is (holds_at s.trail q.place q.inside)
 
-    apart : (l : Literal) → Contains c l → Contains c (negated l) → ⊥
-    apart l h k = negated-apart (negated l) (true_same s.trail s.depth tr (negated (negated l)) (negated l) (true_one (negated l) k) (true_one l h) refl)
+  apart : (l : Literal) → Contains c l → Contains c (negated l) → ⊥
+  apart l h k = negated-apart (negated l) (true_same s.trail s.depth tr (negated (negated l)) (negated l) (true_one (negated l) k) (true_one l h) refl)
 
-    gives : Gives s.trail 0 c seen (map negated c)
-    gives = record {
-      only = λ l h. inr (Contains-negated c l h);
-      has = λ l h q. absurd (omega (arith, h.1));
-      negations = λ l h. Contains-map_negated c (negated l) (subst (Contains c) (sym (negated-negated l)) h);
+  gives : Gives s.trail 0 c seen (map negated c)
+  gives = record {
+    only = λ l h. inr (Contains-negated c l h);
+    has = λ l h q. absurd (omega (arith, h.1));
+    negations = λ l h. Contains-map_negated c (negated l) (subst (Contains c) (sym (negated-negated l)) h);
+  }
+
+  pub Derived-walk : IsDerived s c (reverse hints)
+  Derived-walk = record {
+    passes = (All-from_contains (λ l. Contains c (negated l) → ⊥) c (λ l h k. apart l h k), w.leads (map negated c) gives);
+    named = w.names;
+    within = All-from_contains (IsWithin s.vars) c (λ l h. All-contains (IsWithin s.vars) (lits s.trail) (negated l) within (true_one l h));
+  }
+
+  pub hinted_all : (l : Literal) → Contains c l → Hinted (Named s.clauses) (map negated c) (reverse hints) l
+  hinted_all l h = subst (Hinted (Named s.clauses) (map negated c) (reverse hints)) (negated-negated l) (w.hinted (map negated c) gives (negated l) (true_one l h) (w.marked l h))
+
+-- of a literal that a free search keeps nothing is asked
+abbrev pub Anything : Entry → Type 0
+Anything e = e ≡ e
+
+-- what a decided literal, or one below the last level, tells of itself
+abbrev pub StaysAt : ℕ → Entry → Type 0
+StaysAt d e = (1 ≤ e.level) × ((e.level < d) ⊎ (e.reason ≡ None))
+
+pub Learns-walk : (s : State) (c : List Literal) (seen : List Bool) (hints : List ℕ) (level : ℕ) → IsTrail s.trail s.depth → All (IsWithin s.vars) (lits s.trail) → Walk (Named s.clauses) s.trail (StaysAt s.depth) 0 c seen hints → Greatest s.trail s.depth c level → Learns s c (reverse hints) level
+Learns-walk s c seen hints level tr within w g =
+    let d = Derived-walk s (StaysAt s.depth) c seen hints tr within w in
+    record {
+      passes = d.passes;
+      hinted = hinted_all s (StaysAt s.depth) c seen hints tr within w;
+      named = d.named;
+      kept = λ m h. let q = w.kept m h in record { place = q.place; low = q.low; inside = q.inside; is = q.is; level = q.known.0; why = q.known.1 };
+      greatest = g;
+      within = d.within;
     }
+
+pub Greatest-none : (t : List Entry) (d : ℕ) → Greatest t d [] 0
+Greatest-none t d = record { bound = λ m h. absurd (omega (arith, h.1)); is = inl refl }
 
 -- the greatest level, when a literal of the trail joins
 module _ (t : List Entry) (d : ℕ) (tr : IsTrail t d) (c : List Literal) (level : ℕ) (g : Greatest t d c level) (k : ℕ) (h : k < length t) where
@@ -315,10 +334,10 @@ pub var_at : (t : List Entry) (ls : List Literal) (n k : ℕ) → ls ≡ lits t 
 var_at t ls n k e h w = let z = All-contains (IsWithin n) (lits t) (entry t k).lit (subst (All (IsWithin n)) e w) (holds_at t k h) in z.1
 
 -- over places of which none is marked
-pub Walk-over : (named : ℕ → List Literal → Type 0) (t : List Entry) (d : ℕ) → IsTrail t d → (c : List Literal) (seen : List Bool) (hints : List ℕ) (level : ℕ) (n k : ℕ) → Walk named t d (k + n) c seen hints level → ((j : ℕ) → k ≤ j → j < k + n → IsMarked seen (entry t j).lit.var → ⊥) → Walk named t d k c seen hints level
-Walk-over named t d tr c seen hints level zero k w none = subst (λ i. Walk named t d i c seen hints level) (omega arith) w
-Walk-over named t d tr c seen hints level (suc n) k w none =
+pub Walk-over : (named : ℕ → List Literal → Type 0) (t : List Entry) (d : ℕ) (why : Entry → Type 0) → IsTrail t d → (c : List Literal) (seen : List Bool) (hints : List ℕ) (n k : ℕ) → Walk named t why (k + n) c seen hints → ((j : ℕ) → k ≤ j → j < k + n → IsMarked seen (entry t j).lit.var → ⊥) → Walk named t why k c seen hints
+Walk-over named t d why tr c seen hints zero k w none = subst (λ i. Walk named t why i c seen hints) (omega arith) w
+Walk-over named t d why tr c seen hints (suc n) k w none =
     let e : k + suc n ≡ k + n + 1 = omega arith in
-    Walk-over named t d tr c seen hints level n k
-    (Walk-skip named t d tr (k + n) c seen hints level (subst (λ i. Walk named t d i c seen hints level) e w) (none (k + n) (omega arith) (omega arith)))
+    Walk-over named t d why tr c seen hints n k
+    (Walk-skip named t d why tr (k + n) c seen hints (subst (λ i. Walk named t why i c seen hints) e w) (none (k + n) (omega arith) (omega arith)))
     (λ j a b. none j a (omega arith))

@@ -8,7 +8,7 @@ use Rattle.rr_derive.proofs.MarkLaws.{All-from_contains}
 use Rattle.rr_trail.specs.Trails.{Entry, IsTrail, Reason, entry, lits}
 use Rattle.rr_watch.specs.Watches.{Named, State}
 use Rattle.rr_trail.proofs.EntryLaws.{length_lits, lit_at, place_of}
-use Rattle.rr_analysis.specs.Analysis.{Greatest, IsMarked}
+use Rattle.rr_analysis.specs.Analysis.{IsMarked}
 use Rattle.rr_analysis.specs.Workspaces.{HaveOwnVars, IsBegun, IsReady, KeepsWalk, Met, PopsLast, StandsBelow, Waits, Work, var_at}
 use Rattle.rr_analysis.proofs.Walk.{Walk, Walk-keep, Walk-over, Walk-resolve, Walk-start, one_place, place_before}
 use Rattle.rr_analysis.proofs.Waiting.{Waits-none, Waits-pop, none_between, popped}
@@ -24,34 +24,34 @@ own_vars t d tr j k a b e =
     one_place t d tr j k x y (sym (var_is t j x) ∙ e ∙ var_is t k y)
 
 -- where the walk stands
-pub record Stand (s : State) (c : List Literal) (hints : List ℕ) (level : ℕ) (w : Work) : Type 0 where
+pub record Stand (s : State) (why : Entry → Type 0) (c : List Literal) (hints : List ℕ) (w : Work) : Type 0 where
   pub long : length w.seen ≡ s.vars + 1
-  pub walk : Walk (Named s.clauses) s.trail s.depth w.top c w.seen hints level
+  pub walk : Walk (Named s.clauses) s.trail why w.top c w.seen hints
   pub waits : Waits (lits s.trail) w.top w.seen w.waiting
 
-module _ (s : State) (tr : IsTrail s.trail s.depth) where
+module _ (s : State) (why : Entry → Type 0) (tr : IsTrail s.trail s.depth) where
   long_lits : length (lits s.trail) ≡ length s.trail
   long_lits = length_lits s.trail
 
-  pub ready_of : (c : List Literal) (hints : List ℕ) (level : ℕ) (w : Work) → Stand s c hints level w → IsReady s.vars w
-  ready_of c hints level w a = a.long
+  pub ready_of : (c : List Literal) (hints : List ℕ) (w : Work) → Stand s why c hints w → IsReady s.vars w
+  ready_of c hints w a = a.long
 
   stands_at : (k : ℕ) (w : Work) (l : Literal) (j : ℕ) → j < k → k ≤ length s.trail → (entry s.trail j).lit ≡ negated l → StandsBelow (lits s.trail) k w.seen l.var
   stands_at k w l j a h e = inr (j, (a, var_is s.trail j (omega arith) ∙ ap (λ (x : Literal). x.var) e))
 
   -- the false clause is met
   module _ (id : ℕ) (c : List Literal) (named : Named s.clauses id c) (false_now : IsFalse (lits s.trail) c) (old mid new : Work) (ready : IsReady s.vars old) (begun : IsBegun (length (lits s.trail)) old mid) (keeps : KeepsWalk mid new) (met : Met (lits s.trail) mid c new) where
-    pub Stand-start : Stand s [] (id ∷ []) 0 new
+    pub Stand-start : Stand s why [] (id ∷ []) new
     Stand-start = record {
       long = keeps.long ∙ begun.long ∙ ready;
-      walk = subst (λ k. Walk (Named s.clauses) s.trail s.depth k [] new.seen (id ∷ []) 0) (sym (keeps.top ∙ begun.top ∙ long_lits)) (Walk-start (Named s.clauses) s.trail s.depth id c mid.seen new.seen named false_now begun.none met.marked tr);
+      walk = subst (λ k. Walk (Named s.clauses) s.trail why k [] new.seen (id ∷ [])) (sym (keeps.top ∙ begun.top ∙ long_lits)) (Walk-start (Named s.clauses) s.trail s.depth why id c mid.seen new.seen named false_now begun.none met.marked tr);
       waits = subst (λ k. Waits (lits s.trail) k new.seen new.waiting) (sym (keeps.top ∙ begun.top)) (met.waits (length (lits s.trail)) (omega arith) (own_vars s.trail s.depth tr)
           (All-from_contains (λ l. StandsBelow (lits s.trail) (length (lits s.trail)) mid.seen l.var) c (λ l m. let p = place_of s.trail (negated l) (All-contains (λ x. Contains (lits s.trail) (negated x)) c l false_now m) in stands_at (length (lits s.trail)) mid l p.0 (omega (arith, p.1.0, long_lits)) (omega (arith, long_lits)) p.1.1))
           (subst (Waits (lits s.trail) (length (lits s.trail)) mid.seen) (sym begun.waiting) (Waits-none (lits s.trail) (length (lits s.trail)) mid.seen begun.none)));
     }
 
   -- the last place that waits is walked to
-  module _ (c : List Literal) (hints : List ℕ) (level : ℕ) (old : Work) (a : Stand s c hints level old) (p : ℕ) (mid : Work) (pops : PopsLast old p mid) where
+  module _ (c : List Literal) (hints : List ℕ) (old : Work) (a : Stand s why c hints old) (p : ℕ) (mid : Work) (pops : PopsLast old p mid) where
     pub inside : p < length s.trail
     inside = let x = (popped old mid p pops (lits s.trail) old.top a.waits).0 in let y = a.walk.inside in omega arith
 
@@ -61,27 +61,27 @@ module _ (s : State) (tr : IsTrail s.trail s.depth) where
     pub marked : IsMarked mid.seen (entry s.trail p).lit.var
     marked = subst (λ m. IsMarked m (entry s.trail p).lit.var) (sym pops.seen) (subst (IsMarked old.seen) (var_is s.trail p inside) (popped old mid p pops (lits s.trail) old.top a.waits).1)
 
-    walk_to : Walk (Named s.clauses) s.trail s.depth (p + 1) c mid.seen hints level
+    walk_to : Walk (Named s.clauses) s.trail why (p + 1) c mid.seen hints
     walk_to =
         let low = (popped old mid p pops (lits s.trail) old.top a.waits).0 in
         let e : old.top ≡ p + 1 + (old.top - (p + 1)) = omega (arith, low) in
-        subst (λ m. Walk (Named s.clauses) s.trail s.depth (p + 1) c m hints level) (sym pops.seen)
-        (Walk-over (Named s.clauses) s.trail s.depth tr c old.seen hints level (old.top - (p + 1)) (p + 1) (subst (λ k. Walk (Named s.clauses) s.trail s.depth k c old.seen hints level) e a.walk)
+        subst (λ m. Walk (Named s.clauses) s.trail why (p + 1) c m hints) (sym pops.seen)
+        (Walk-over (Named s.clauses) s.trail s.depth why tr c old.seen hints (old.top - (p + 1)) (p + 1) (subst (λ k. Walk (Named s.clauses) s.trail why k c old.seen hints) e a.walk)
         (λ j b h m. none_between old mid p pops (lits s.trail) old.top a.waits j (omega (arith, b)) (omega (arith, h, low)) (subst (IsMarked old.seen) (sym (var_is s.trail j (let i = a.walk.inside in omega (arith, h, low, i)))) m)))
 
     -- its negation is kept
-    pub Stand-keep : (more : ℕ) → (1 ≤ (entry s.trail p).level) × (((entry s.trail p).level < s.depth) ⊎ ((entry s.trail p).reason ≡ None)) → Greatest s.trail s.depth (c ++ negated (entry s.trail p).lit ∷ []) more → Stand s (c ++ negated (entry s.trail p).lit ∷ []) hints more mid
-    Stand-keep more why g = record {
+    pub Stand-keep : why (entry s.trail p) → Stand s why (c ++ negated (entry s.trail p).lit ∷ []) hints mid
+    Stand-keep for = record {
       long = ap length pops.seen ∙ a.long;
-      walk = subst (λ k. Walk (Named s.clauses) s.trail s.depth k (c ++ negated (entry s.trail p).lit ∷ []) mid.seen hints more) (sym pops.top) (Walk-keep (Named s.clauses) s.trail s.depth tr p c mid.seen hints level walk_to more marked why g);
+      walk = subst (λ k. Walk (Named s.clauses) s.trail why k (c ++ negated (entry s.trail p).lit ∷ []) mid.seen hints) (sym pops.top) (Walk-keep (Named s.clauses) s.trail s.depth why tr p c mid.seen hints walk_to marked for);
       waits = subst (λ k. Waits (lits s.trail) k mid.seen mid.waiting) (sym pops.top) (Waits-pop old mid p pops (lits s.trail) old.top a.waits);
     }
 
     -- its reason is resolved with
-    pub Stand-resolve : (id : ℕ) (r : Reason (Named s.clauses) s.trail p id) (new : Work) → KeepsWalk mid new → Met (lits s.trail) mid r.clause new → Stand s c (hints ++ id ∷ []) level new
+    pub Stand-resolve : (id : ℕ) (r : Reason (Named s.clauses) s.trail p id) (new : Work) → KeepsWalk mid new → Met (lits s.trail) mid r.clause new → Stand s why c (hints ++ id ∷ []) new
     Stand-resolve id r new keeps met = record {
       long = keeps.long ∙ ap length pops.seen ∙ a.long;
-      walk = subst (λ k. Walk (Named s.clauses) s.trail s.depth k c new.seen (hints ++ id ∷ []) level) (sym (keeps.top ∙ pops.top)) (Walk-resolve (Named s.clauses) s.trail s.depth tr p c mid.seen hints level walk_to id r.clause new.seen marked r.name r.forces met.marked);
+      walk = subst (λ k. Walk (Named s.clauses) s.trail why k c new.seen (hints ++ id ∷ [])) (sym (keeps.top ∙ pops.top)) (Walk-resolve (Named s.clauses) s.trail s.depth why tr p c mid.seen hints walk_to id r.clause new.seen marked r.name r.forces met.marked);
       waits = subst (λ k. Waits (lits s.trail) k new.seen new.waiting) (sym (keeps.top ∙ pops.top)) (met.waits p (omega (arith, inside, long_lits)) (own_vars s.trail s.depth tr)
           (All-from_contains (λ l. StandsBelow (lits s.trail) p mid.seen l.var) r.clause (λ l m. elim (All-contains (λ y. (y ≡ (entry s.trail p).lit) ⊎ Contains (lits (take p s.trail)) (negated y)) r.clause l r.forces.others m) [
             | inl e ↦ inl (subst (IsMarked mid.seen) (ap (λ (x : Literal). x.var) (sym e)) marked)
@@ -91,8 +91,8 @@ module _ (s : State) (tr : IsTrail s.trail s.depth) where
     }
 
   -- nothing waits
-  pub Walk-end : (c : List Literal) (hints : List ℕ) (level : ℕ) (w : Work) → Stand s c hints level w → w.waiting ≡ [] → Walk (Named s.clauses) s.trail s.depth 0 c w.seen hints level
-  Walk-end c hints level w a none = Walk-over (Named s.clauses) s.trail s.depth tr c w.seen hints level w.top 0 (subst (λ k. Walk (Named s.clauses) s.trail s.depth k c w.seen hints level) (omega arith) a.walk)
+  pub Walk-end : (c : List Literal) (hints : List ℕ) (w : Work) → Stand s why c hints w → w.waiting ≡ [] → Walk (Named s.clauses) s.trail why 0 c w.seen hints
+  Walk-end c hints w a none = Walk-over (Named s.clauses) s.trail s.depth why tr c w.seen hints w.top 0 (subst (λ k. Walk (Named s.clauses) s.trail why k c w.seen hints) (omega arith) a.walk)
       (λ j b h m.
       let i = a.walk.inside in
       let e = a.waits.each j (omega arith) (subst (IsMarked w.seen) (sym (var_is s.trail j (omega arith))) m) in

@@ -27,6 +27,14 @@ pub record Kept (t : List Entry) (depth : ℕ) (from : ℕ) (m : Literal) : Type
   pub level : 1 ≤ (entry t place).level
   pub why : ((entry t place).level < depth) ⊎ ((entry t place).reason ≡ None)
 
+-- the literal is the negation of one on the trail, at this place or above, of which this is known
+pub record KeptBy (t : List Entry) (why : Entry → Type 0) (from : ℕ) (m : Literal) : Type 0 where
+  pub place : ℕ
+  pub low : from ≤ place
+  pub inside : place < length t
+  pub is : (entry t place).lit ≡ negated m
+  pub known : why (entry t place)
+
 -- the level is the greatest of the clause's literals below the last level
 pub record Greatest (t : List Entry) (depth : ℕ) (clause : List Literal) (level : ℕ) : Type 0 where
   pub bound : (m : Literal) → Contains clause m → (j : ℕ) → j < length t → (entry t j).lit ≡ negated m → (entry t j).level < depth → (entry t j).level ≤ level
@@ -34,6 +42,12 @@ pub record Greatest (t : List Entry) (depth : ℕ) (clause : List Literal) (leve
 
 abbrev pub AreNamed : (ℕ → List Literal → Type 0) → List ℕ → Type 0
 AreNamed named hints = All (λ h. (c : List Literal) × named h c) hints
+
+-- a clause that passes the hint check, whose hints name clauses
+pub record IsDerived (s : State) (clause : List Literal) (hints : List ℕ) : Type 0 where
+  pub passes : Passes (Named s.clauses) clause hints
+  pub named : AreNamed (Named s.clauses) hints
+  pub within : All (IsWithin s.vars) clause
 
 -- what is learned: a clause that passes the hint check, whose hints name clauses and whose literals stand
 -- in hinted ones, and the level to go back to
@@ -49,6 +63,10 @@ pub record Learns (s : State) (clause : List Literal) (hints : List ℕ) (level 
 pub record Resolves (t : List Entry) (depth : ℕ) (l : Literal) (r : Option ℕ) : Type 0 where
   pub some : (id : ℕ) → r ≡ Some id → (k : ℕ) → k < length t → (entry t k).lit.var ≡ l.var → (entry t k).reason ≡ Some id
   pub none : r ≡ None → (k : ℕ) → k < length t → (entry t k).lit.var ≡ l.var → (1 ≤ (entry t k).level) × (((entry t k).level < depth) ⊎ ((entry t k).reason ≡ None))
+
+-- the reason to resolve a literal of the trail with
+pub record ResolvesBy (t : List Entry) (l : Literal) (r : Option ℕ) : Type 0 where
+  pub some : (id : ℕ) → r ≡ Some id → (k : ℕ) → k < length t → (entry t k).lit.var ≡ l.var → (entry t k).reason ≡ Some id
 
 -- the id names a clause whose literals are all false
 abbrev pub IsConflict : State → ℕ → Type 0

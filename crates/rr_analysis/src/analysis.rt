@@ -25,7 +25,7 @@ pub struct Learned {
 }
 
 // Marks the variables of the clause with this id.
-fn meet_named(watch: &Watch<'_>, work: &mut Workspace, id: u64) -> Result<(), AllocError>
+pub(crate) fn meet_named(watch: &Watch<'_>, work: &mut Workspace, id: u64) -> Result<(), AllocError>
     requires room { watch.now.vars < length work.old.seen }
     requires named { (c : List Literal) × Named watch.now.clauses id c }
     ensures keeps { KeepsWalk work.old work.new }
@@ -106,6 +106,7 @@ pub fn analyze(
     }
     order.decay();
     hints.reverse();
+    hints.shrink_to_fit();
     Ok(Learned {
         clause: Clause::from_lits(alloc, clause.as_slice())?,
         hints,

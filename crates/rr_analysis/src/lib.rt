@@ -6,10 +6,12 @@
 
 mod analysis;
 mod chains;
+mod free;
 mod order;
 mod workspace;
 
 pub use analysis::{Learned, analyze};
 pub use chains::Chains;
+pub use free::analyze_freely;
 pub use order::Order;
 pub use workspace::Workspace;

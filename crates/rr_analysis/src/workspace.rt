@@ -143,6 +143,11 @@ impl Workspace {
         Ok(())
     }
 
+    /// The last place that waits, which goes on waiting. No contract says which it is.
+    pub(crate) fn peek(&self) -> Option<usize> {
+        self.waiting.peek().copied()
+    }
+
     /// The last place that waits.
     pub(crate) fn pop(&mut self) -> Option<usize>
         ensures some { IfSome result (λ p. PopsLast self.old p self.new) }

@@ -3,3 +3,4 @@ pub mod Worked
 pub mod Numbering
 pub mod Rounding
 pub mod Searching
+pub mod Freely

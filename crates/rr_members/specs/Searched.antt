@@ -7,7 +7,7 @@ use Rattle.rr_derive.specs.Lrat.{AreWritable}
 use Rattle.rr_solver.specs.Searches.{IsModel, held_of}
 use Rattle.rr_solver.specs.declared.outcome.Outcome.{Outcome}
 use Rattle.rr_solver.specs.declared.outcome.Outcome.TheVariants.{Model as Solved, Refuted as Unsolvable, Spent}
-use Rattle.rr_rounds.specs.States.{emptied, solved, Ending, State, handed, member, steps}
+use Rattle.rr_rounds.specs.States.{emptied, Ending, State, handed, member, steps}
 use Rattle.rr_rounds.specs.Joined.{joined, joined_with}
 use Rattle.rr_rounds.specs.Rounds.{IsRound, start}
 use Rattle.rr_members.specs.Groups.{IsFirst, NoneEnded}
@@ -32,11 +32,11 @@ pub record IsSpent (f : Clauses) (inputs count budget : ℕ) (lines : List Step)
   pub few : budget ≤ inputs * 3 ^ inputs
   pub lawful : AreWritable f lines
 
--- a satisfying assignment, or a refutation
-abbrev pub IsEnd : Clauses → Outcome → Type 0
-IsEnd f (Solved bits) = IsModel f bits.items
-IsEnd f (Unsolvable j) = Refutes f.clauses j.lines × AreWritable f j.lines
-IsEnd f (Spent j) = ⊥
+-- a satisfying assignment, or a refutation of at most so many lines
+abbrev pub IsFreeEnd : Clauses → ℕ → Outcome → Type 0
+IsFreeEnd f budget (Solved bits) = IsModel f bits.items
+IsFreeEnd f budget (Unsolvable j) = Refutes f.clauses j.lines × AreWritable f j.lines × (length j.lines ≤ budget)
+IsFreeEnd f budget (Spent j) = ⊥
 
 -- a satisfying assignment, a refutation, or the budget spent
 abbrev pub SearchedIs : Clauses → ℕ → ℕ → ℕ → Outcome → Type 0
@@ -52,13 +52,10 @@ pub record HasEnded (f : Clauses) (inputs count budget : ℕ) (last : State) (m 
   pub round : IsRound f inputs (min (budget - spent) 256) old last
   pub first : IsFirst last m e
 
--- in a search by all members, or by the first one alone
-abbrev pub EndsSo : Clauses → ℕ → ℕ → ℕ → State → ℕ → Ending → Type 0
-EndsSo f inputs count budget last m e = HasEnded f inputs count budget last m e ⊎ HasEnded f inputs 1 budget last m e
-
--- no member has learned more lines than it may: an assignment or a refutation is that of a member within its budget
+-- no more lines were learned than may be: a refutation is that of a member within its budget, or has at most so many lines
 abbrev pub EndsInBudget : Clauses → ℕ → ℕ → ℕ → Outcome → Type 0
-EndsInBudget f inputs count budget (Solved bits) = (last : State) × ((m : ℕ) × EndsSo f inputs count budget last m (solved bits.items))
+EndsInBudget f inputs count budget (Solved bits) = Unit {0}
 EndsInBudget f inputs count budget (Unsolvable j) =
-    (last : State) × ((m : ℕ) × ((e : Step) × (EndsSo f inputs count budget last m (emptied e) × (j.lines ≡ joined_with f last m e))))
+    ((last : State) × ((m : ℕ) × ((e : Step) × (HasEnded f inputs count budget last m (emptied e) × (j.lines ≡ joined_with f last m e)))))
+    ⊎ (length j.lines ≤ budget)
 EndsInBudget f inputs count budget (Spent j) = Unit {0}

@@ -153,7 +153,7 @@ fn searched<'b, R: Threads + Sync>(
         budget: request.budget,
         members: request.members,
     };
-    let proposed = proposals(rt, alloc, &cycle, rows, list)?;
+    let proposed = proposals(rt, alloc, &cycle, rows, list, request.budget)?;
     let answer = least(rt, alloc, &job, proposed.as_slice())?;
     let tested = proposed.len().min(u32::MAX as usize) as u32;
     let found = told(alloc, bytes, design, &job, request, tested, &answer)?;

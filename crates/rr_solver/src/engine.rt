@@ -67,7 +67,7 @@ pub(crate) struct Engine<'f> {
 const MOST_VARS: u64 = 4_294_967_294;
 
 /// An input that has no value, if there is one.
-fn open_input(watch: &Watch<'_>, order: &mut Order, inputs: u64) -> Option<Lit>
+pub fn open_input(watch: &Watch<'_>, order: &mut Order, inputs: u64) -> Option<Lit>
     requires few { inputs ≤ watch.now.vars }
     requires room { watch.now.vars < 2 ^ 62 }
     ensures { MatchOption result ((v : ℕ) → 1 ≤ v → v ≤ inputs → IsAssigned (lits watch.now.trail) v) (IsOpenInput (lits watch.now.trail) inputs) }
@@ -85,7 +85,7 @@ fn open_input(watch: &Watch<'_>, order: &mut Order, inputs: u64) -> Option<Lit>
 }
 
 /// The values of the variables, by their numbers.
-fn bits_of(alloc: Global, watch: &Watch<'_>) -> Result<Vec<bool>, AllocError>
+pub fn bits_of(alloc: Global, watch: &Watch<'_>) -> Result<Vec<bool>, AllocError>
     requires room { watch.now.vars < 2 ^ 62 }
     ensures long { IfOk result (λ v. length v.items ≡ watch.now.vars + 1) }
     ensures agrees { IfOk result (λ v. Agrees v.items watch.now.vars (lits watch.now.trail)) }
@@ -114,7 +114,7 @@ fn is_true(watch: &Watch<'_>, var: u64) -> bool
 }
 
 /// Tells the order which literals will lose their values on the way back to a level.
-fn release(watch: &Watch<'_>, order: &mut Order, level: u32) {
+pub fn release(watch: &Watch<'_>, order: &mut Order, level: u32) {
     let trail = watch.trail();
     let mut place = trail.len();
     while place > 0 {

@@ -9,6 +9,7 @@ mod outcome;
 mod restarts;
 mod solver;
 
-pub use engine::{Status, Stepped};
+pub use engine::{Status, Stepped, bits_of, open_input, release};
 pub use outcome::{Outcome, solve};
+pub use restarts::Restarts;
 pub use solver::Solver;

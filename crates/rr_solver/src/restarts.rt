@@ -3,7 +3,7 @@
 
 /// The number of lines until the next restart. It follows the sequence 1 1 2 1 1 2 4 1 1 2 ..
 #[derive(Debug, Clone, Copy)]
-pub(crate) struct Restarts {
+pub struct Restarts {
     left: u32,
     /// The sequence goes on by these two numbers (Knuth).
     turn: u32,
@@ -14,7 +14,8 @@ pub(crate) struct Restarts {
 const UNIT: u32 = 32;
 
 impl Restarts {
-    pub(crate) fn new() -> Restarts {
+    /// The first restart is due after some lines.
+    pub fn new() -> Restarts {
         Restarts {
             left: UNIT,
             turn: 1,
@@ -23,7 +24,7 @@ impl Restarts {
     }
 
     /// Counts a line, and answers whether the search is to begin anew.
-    pub(crate) fn is_due(&mut self) -> bool {
+    pub fn is_due(&mut self) -> bool {
         if self.left > 0 {
             self.left -= 1;
             return false;

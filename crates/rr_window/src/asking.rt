@@ -4,7 +4,6 @@ ghost use Rattle.rr_choice.specs.Choices.{IsChoice, total_bits};
 ghost use Rattle.rr_window.specs.Replies.{IsReply};
 
 use rr_choice::{Choice, SiteList, decode};
-use rr_members::{OpenGate, solve};
 use rr_solver::Outcome;
 use rr_trace::Table;
 use rr_transition::Transition;
@@ -13,11 +12,8 @@ use rr_unroll::question;
 use std::alloc::{AllocError, Global};
 use std::thread::Threads;
 
-/// How many lines each member may learn for one question over a window.
-const BUDGET: u32 = 1_000;
-
-/// How many members search over a window.
-const MEMBERS: u32 = 4;
+/// How many threads make the circuit of a question.
+const WORKERS: u32 = 4;
 
 /// The outcome of a question over a window.
 #[derive(Drop)]
@@ -48,7 +44,8 @@ fn chosen(
     Ok(choice)
 }
 
-/// Asks whether at most `bound` changes mend the rows of a table.
+/// Asks whether at most `bound` changes mend the rows of a table, by a search of at most `budget` lines that
+/// need not be fresh: what is asked here is only to be proposed.
 pub(crate) fn ask<R: Threads + Sync>(
     rt: &R,
     alloc: Global,
@@ -56,14 +53,14 @@ pub(crate) fn ask<R: Threads + Sync>(
     table: &Table,
     list: &SiteList<'_>,
     bound: u32,
+    budget: u32,
 ) -> Result<Reply, AllocError>
     requires bits { transition.now.choice_bits ≡ total_bits list.now }
     ensures { IfOk result (IsReply list.now) }
 {
-    let circuit = question(rt, alloc, transition, table, bound, MEMBERS)?;
+    let circuit = question(rt, alloc, transition, table, bound, WORKERS)?;
     let formula = formula_of(alloc, &circuit)?;
-    let inputs = circuit.inputs;
-    match solve(rt, alloc, &formula, inputs, MEMBERS, BUDGET, &OpenGate)? {
+    match rr_free::search(alloc, &formula, budget)? {
         Outcome::Model(values) => {
             let choice = chosen(alloc, list, transition.choice_bits, values.as_slice())?;
             Ok(Reply::Mended(choice))

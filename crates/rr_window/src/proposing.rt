@@ -16,6 +16,12 @@ use std::thread::Threads;
 /// The most changes that a window is asked for.
 const MOST: u32 = 8;
 
+/// How many lines may be learned for one question over a window.
+const BUDGET: u32 = 1_000;
+
+/// How many gates a table's circuit may have for the whole table to be asked.
+const MOST_GATES: usize = 300_000;
+
 /// How many rows of a window end at the first miss.
 const REACHES: [usize; 4] = [2, 4, 8, 16];
 
@@ -49,6 +55,7 @@ fn find<R: Threads + Sync>(
     list: &SiteList<'_>,
     from: usize,
     len: usize,
+    budget: u32,
 ) -> Result<Option<Choice>, AllocError>
     requires bits { transition.now.choice_bits ≡ total_bits list.now }
     ensures { IfOk result (λ r. IfSome r (λ c. IsChoice list.now c.picks.items)) }
@@ -57,7 +64,7 @@ fn find<R: Threads + Sync>(
     let there = begun(alloc, transition, start.as_slice())?;
     let rows = cut(alloc, table, from, len)?;
     for bound in 0..MOST {
-        match ask(rt, alloc, &there, &rows, list, bound + 1)? {
+        match ask(rt, alloc, &there, &rows, list, bound + 1, budget)? {
             Reply::Mended(choice) => return Ok(Some(choice)),
             Reply::Refuted => {}
             Reply::Open => return Ok(None),
@@ -82,7 +89,7 @@ pub fn propose<R: Threads + Sync>(
     ensures { IfOk result (λ r. All (λ c. IsChoice list.now c.picks.items) r.items) }
 {
     let mut found = Vec::new(alloc);
-    if let Some(choice) = find(rt, alloc, transition, table, list, from, len)? {
+    if let Some(choice) = find(rt, alloc, transition, table, list, from, len, BUDGET)? {
         found.push(choice)?;
     }
     Ok(found)
@@ -104,16 +111,24 @@ fn mends(
     Ok(mended)
 }
 
+/// Whether the circuit of a whole table is small enough to be asked. No contract speaks of it.
+fn is_small(transition: &Transition, table: &Table) -> bool {
+    let gates = transition.circuit.gates.len();
+    gates.saturating_mul(table.inputs.len()) <= MOST_GATES
+}
+
 /// The choices that are found for windows around the first row that the design as it is misses, the
 /// smallest first, up to one that mends the whole table: each window has 2, 4, 8 or 16 rows that end at
-/// the miss, and one row less than that after it. Each is a choice among the sites; there is none where
-/// no row is missed.
+/// the miss, and one row less than that after it. Where none of them mends it and its circuit is small, the last window is the
+/// whole table, each of whose questions may learn `budget` lines. Each is a choice among the sites; there is none
+/// where no row is missed.
 pub fn proposals<R: Threads + Sync>(
     rt: &R,
     alloc: Global,
     transition: &Transition,
     table: &Table,
     list: &SiteList<'_>,
+    budget: u32,
 ) -> Result<Vec<Choice>, AllocError>
     requires bits { transition.now.choice_bits ≡ total_bits list.now }
     ensures { IfOk result (λ r. All (λ c. IsChoice list.now c.picks.items) r.items) }
@@ -125,12 +140,18 @@ pub fn proposals<R: Threads + Sync>(
     for reach in REACHES.iter() {
         let from = miss.saturating_add(1).saturating_sub(*reach);
         let len = miss.saturating_add(*reach) - from;
-        if let Some(choice) = find(rt, alloc, transition, table, list, from, len)? {
+        if let Some(choice) = find(rt, alloc, transition, table, list, from, len, BUDGET)? {
             let whole = mends(alloc, transition, table, list, &choice)?;
             found.push(choice)?;
             if whole {
                 return Ok(found);
             }
+        }
+    }
+    if is_small(transition, table) {
+        let rows = table.inputs.len();
+        if let Some(choice) = find(rt, alloc, transition, table, list, 0, rows, budget)? {
+            found.push(choice)?;
         }
     }
     Ok(found)
