@@ -6,10 +6,10 @@ usage: tools/time_faults.py [PROGRAM ..]
 PROGRAM is crates/rtl_repair/out/rtl_repair where none is given, which `rt run` and `rt ci` build; of several, as two states of the code, each makes
 every repair. A design is made faulty in its first 2 to 6 places. `run` of the first program gives the outputs of the design without
 faults for random inputs, of which 100, 60 or 30 % of the cells are kept as known. Then each program repairs it with its default budget, within LIMIT seconds. Each line has
-the design, its faults and known cells, and of each program the status, the least number of changes or the bound that was left open, the seconds by the clock, and those of the other solvers on
-the formula of its certificate (which asks for one change less), with what the repair took in times of theirs. The rows are the same for a seed.
+the design, its faults and known cells, and of each program the status, the least number of changes or the bound that was left open, the seconds on all processors, and those of the other solvers on
+the formula of its certificate (which asks for one change less), with what the repair took in times of theirs: all of its questions, with their making, beside one of them. The inputs are the same in each run.
 """
-import os, random, re, shutil, subprocess, sys, tempfile, time
+import os, random, re, shutil, subprocess, sys, tempfile
 
 top = os.path.dirname(os.path.dirname(os.path.abspath(__file__)))
 LIMIT = 120
@@ -150,13 +150,13 @@ def table(program, room, design, inputs, rows, known, draw):
 
 
 def seconds(words, folder):
-    """The status and the seconds of a command by the clock; None where it did not end in time."""
-    begun = time.monotonic()
-    try:
-        done = subprocess.run(words, cwd=folder, capture_output=True, text=True, timeout=LIMIT)
-    except subprocess.TimeoutExpired:
-        return None, float(LIMIT), ""
-    return done.returncode, time.monotonic() - begun, done.stderr
+    """The status of a command, its seconds on all processors, and what it told; None as the status where it did not end in time."""
+    with open(f"{folder}/told", "w+") as told:
+        child = subprocess.Popen(["timeout", str(LIMIT), *words], cwd=folder, stdin=subprocess.DEVNULL, stdout=subprocess.DEVNULL, stderr=told)
+        _, status, used = os.wait4(child.pid, 0)
+        told.seek(0)
+        code = os.waitstatus_to_exitcode(status)
+        return None if code == 124 else code, used.ru_utime + used.ru_stime, told.read()
 
 
 def peers(room, ours):
