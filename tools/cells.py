@@ -26,15 +26,24 @@ def records(text):
     return [dict(zip(names, row)) for row in rows[1:]]
 
 
-def misses(table, printed):
-    """The cells of a table that a printed run does not have, as row and column name."""
+def differing(table, printed):
+    """The cells of a table that a printed run does not have: for each the row from 1, the column's name, the cell as the table has
+    it, what the run gives, and the known bits that differ. None where the two do not have as many rows."""
     wanted, given = records(table), records(printed)
     if len(wanted) != len(given):
-        return ["another number of rows"]
+        return None
     found = []
     for number, (row, outputs) in enumerate(zip(wanted, given), 1):
         for name in outputs:
             known, value = digits(row[name]) if name in row else (0, 0)
             if (int(outputs[name]) ^ value) & known:
-                found.append(f"row {number} {name}")
+                found.append((number, name, row[name].strip(), int(outputs[name]), (int(outputs[name]) ^ value) & known))
     return found
+
+
+def misses(table, printed):
+    """The cells of a table that a printed run does not have, as row and column name."""
+    found = differing(table, printed)
+    if found is None:
+        return ["another number of rows"]
+    return [f"row {number} {name}" for number, name, *_ in found]

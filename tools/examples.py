@@ -6,9 +6,11 @@ usage: tools/examples.py [PROGRAM]
 
 PROGRAM is ./rtl_repair where it is not given. For each folder of examples/ with a design and a table: `run` prints run.csv,
 `sites` prints sites.txt, `repair` prints repaired.v and reports report.txt, `check` accepts the certificate, and the repaired
-source, run again, gives each known cell of the table. The last line counts; the status is 0 where all is as it should be.
+source, run again, gives each known cell of the table. tools/misses.py and tools/waves.py find the design's misses and none of the repaired one's.
+The last line counts; the status is 0 where all is as it should be.
 """
 import os, subprocess, sys, tempfile
+from xml.dom import minidom
 
 from cells import misses
 
@@ -46,10 +48,31 @@ def judge(folder):
             file.write(repaired[1])
         again = run(folder, "run", f"{room}/repaired.v", "table.csv")
         check("the repaired design", (again[0], misses(text(f"{folder}/table.csv"), again[1])), (0, []))
+        due = misses(text(f"{folder}/table.csv"), text(f"{folder}/run.csv"))
+        check("misses.py", told(folder, "design.v"), ([it.split()[1:] for it in due], 1 if due else 0))
+        check("misses.py on the repaired design", told(folder, f"{room}/repaired.v"), ([], 0))
+        drawn = tool("waves.py", folder, "design.v", f"{room}/waves")[0]
+        parsed = minidom.parse(f"{room}/waves.svg").documentElement.tagName if os.path.exists(f"{room}/waves.svg") else None
+        check("waves.py", (drawn, parsed, os.path.exists(f"{room}/waves.vcd")), (1 if due else 0, "svg", True))
     return wrong
 
 
+def tool(name, folder, design, *words):
+    """The status and the standard output of a tool on a design and the folder's table."""
+    call = [sys.executable, f"{top}/tools/{name}", design, "table.csv", *words, "--program", program]
+    done = subprocess.run(call, cwd=folder, stdout=subprocess.PIPE, text=True)
+    return done.returncode, done.stdout
+
+
+def told(folder, design):
+    """The rows and ports that misses.py tells, and its status."""
+    status, lines = tool("misses.py", folder, design, "--all")
+    return [it.split()[1:3] for it in lines.splitlines() if it.startswith("row ")], status
+
+
 def main():
+    # (without words the program only writes its usage; before that it is built, which tells its progress)
+    subprocess.run([program], stdout=subprocess.DEVNULL)
     passed = failed = 0
     for name in sorted(os.listdir(f"{top}/examples")):
         folder = f"{top}/examples/{name}"
