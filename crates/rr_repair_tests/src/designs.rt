@@ -34,3 +34,9 @@ pub(crate) const INSTANCES: &str =
     "module inc(input [3:0] a, output [3:0] y);\n  assign y = a + 4'd2;\nendmodule\nmodule m(input [3:0] a, output [3:0] y);\n  wire [3:0] t;\n  inc u0(.a(a), .y(t));\n  inc u1(.a(t), .y(y));\nendmodule\n";
 
 pub(crate) const INSTANCES_TABLE: &str = "a,y\n0,2\n5,7\n";
+
+pub(crate) const MIXED: &str =
+    "module m(input clk, input rst, input go, output reg [3:0] q, output reg [3:0] s);\n  always @(posedge clk)\n    if (rst) begin q <= 4'd1; s <= 4'd0; end\n    else begin\n      if (go) q <= (q << 1) ^ 4'd8;\n      else q <= q + 4'd4;\n      s <= s + (q ^ 4'd7);\n    end\nendmodule\n";
+
+pub(crate) const MIXED_TABLE: &str =
+    "rst,go,q,s\n1,1,x,x\n0,0,x,x\n0,1,x,x\n0,0,5,7\n0,1,x,x\n0,1,13,6\n0,1,x,x\n0,1,15,6\n";
