@@ -1,5 +1,5 @@
 #!/usr/bin/env python3
-"""Times the search on four circuits, beside `minisat` and `cadical` on the same formulas, and prints a table. It is no part of the gate.
+"""Times the free search and that of one member on four circuits, beside `minisat` and `cadical` on the same formulas, and prints a table. It is no part of the gate.
 
 usage: tools/time_search.py ROOM PROGRAM [CHECKOUT ..]
 
@@ -15,7 +15,7 @@ top = os.path.dirname(os.path.dirname(os.path.abspath(__file__)))
 sys.path.insert(0, f"{top}/tools")
 from time_repair import counters  # noqa: E402
 
-LINE = "search: rr_edge rr_cnf rr_circuit rr_tseitin rr_derive rr_watch rr_solver\n"
+LINE = "search: rr_edge rr_cnf rr_circuit rr_tseitin rr_derive rr_watch rr_solver rr_free\n"
 TURNS = 3
 
 
@@ -159,7 +159,7 @@ def main():
     question(program, room, "two", *counters(2, 4, 2000, 2))
     question(program, room, "limit", *counters(8, 16, 2016, 2))
     print("| circuit | code | answer | user seconds | MiB | | others |\n|---|---|---|---|---|---|---|")
-    for circuit, words in (("product", ["ask", "1000000"]), ("two", ["ask", "1000000"]), ("limit", ["ask", "1000000"]), ("chain", ["spread"])):
+    for circuit, words in [*((it, [way, "1000000"]) for it in ("product", "two", "limit") for way in ("free", "ask")), ("chain", ["spread"])]:
         dimacs(f"{room}/{circuit}.aag", f"{room}/{circuit}.cnf")
         told = peers(f"{room}/{circuit}.cnf")
         best = {}
@@ -172,7 +172,7 @@ def main():
                     best[name] = seconds, memory, steps
         for name, (seconds, memory, steps) in best.items():
             rate = "; ".join(f"{step} {count}: {took:.3f} s, {count / max(took, 1e-6):,.0f} a second" for step, count, took in steps)
-            print(f"| {circuit} | {name} | {steps[-1][0]} {steps[-1][1]} | {seconds:.3f} | {memory} | {rate} | {told} |", flush=True)
+            print(f"| {circuit}, {words[0]} | {name} | {steps[-1][0]} {steps[-1][1]} | {seconds:.3f} | {memory} | {rate} | {told} |", flush=True)
 
 
 if __name__ == "__main__":
