@@ -1,5 +1,5 @@
 //! Windows, and what they propose.
-ghost use Rattle.std.specs.Prelude.{◌≡◌, ◌≤◌, All, IfOk, IfSome, OnOk};
+ghost use Rattle.std.specs.Prelude.{◌≡◌, All, IfOk, IfSome};
 ghost use Rattle.rr_choice.specs.Choices.{IsChoice, total_bits};
 
 use crate::asking::{Reply, ask};
@@ -9,6 +9,7 @@ use rr_choice::{Choice, SiteList};
 use rr_encode::encode;
 use rr_trace::Table;
 use rr_transition::Transition;
+use rr_unroll::judges;
 use std::alloc::{AllocError, Global};
 use std::thread::Threads;
 
@@ -94,82 +95,33 @@ pub fn propose<R: Threads + Sync>(
     Ok(found)
 }
 
-/// The first row of the table that a choice misses.
-fn missed(
+/// Whether a choice mends the whole table.
+fn mends(
     alloc: Global,
     transition: &Transition,
     table: &Table,
     list: &SiteList<'_>,
     choice: &Choice,
-) -> Result<Option<usize>, AllocError>
-    requires { IsChoice list.now choice.now.picks.items }
-{
-    let bits = encode(alloc, list, choice)?;
-    let row = first_miss(alloc, transition, bits.as_slice(), table)?;
-    Ok(row)
-}
-
-/// Whether the circuit of so many rows is small enough to be asked as a whole. No contract speaks of it.
-fn is_small(transition: &Transition, rows: usize) -> bool {
-    let gates = transition.circuit.gates.len();
-    gates.saturating_mul(rows) <= MOST_GATES
-}
-
-/// The row after a window that begins at `from`: the one after its own rows, or, where the table is too
-/// large to be asked as a whole, the one after the row at which the last proposal failed, if the
-/// window's circuit stays small.
-fn end_of(transition: &Transition, table: &Table, from: usize, own: usize, failed: usize) -> usize
-    ensures { own ≤ result }
-{
-    let wide = failed.saturating_add(1);
-    if wide <= own || is_small(transition, table.inputs.len()) {
-        own
-    } else if is_small(transition, wide.saturating_sub(from)) {
-        wide
-    } else {
-        own
-    }
-}
-
-/// The choices that are found for windows around a row that the design as it is misses, up to one that
-/// mends the whole table, and whether there is such a one.
-fn windows<R: Threads + Sync>(
-    rt: &R,
-    alloc: Global,
-    transition: &Transition,
-    table: &Table,
-    list: &SiteList<'_>,
-    miss: usize,
-    found: &mut Vec<Choice>,
 ) -> Result<bool, AllocError>
     requires bits { transition.now.choice_bits ≡ total_bits list.now }
-    requires found { All (λ c. IsChoice list.now c.picks.items) found.old.items }
-    ensures { OnOk result (All (λ c. IsChoice list.now c.picks.items) found.new.items) }
+    requires choice { IsChoice list.now choice.now.picks.items }
 {
-    let mut failed = miss;
-    for reach in REACHES.iter() {
-        let from = miss.saturating_add(1).saturating_sub(*reach);
-        let own = miss.saturating_add(*reach);
-        let end = end_of(transition, table, from, own, failed);
-        let len = end.saturating_sub(from);
-        if let Some(choice) = find(rt, alloc, transition, table, list, from, len, BUDGET)? {
-            let row = missed(alloc, transition, table, list, &choice)?;
-            found.push(choice)?;
-            match row {
-                None => return Ok(true),
-                Some(row) => failed = failed.max(row),
-            }
-        }
-    }
-    Ok(false)
+    let bits = encode(alloc, list, choice)?;
+    let mended = judges(alloc, transition, table, bits.as_slice())?;
+    Ok(mended)
+}
+
+/// Whether the circuit of a whole table is small enough to be asked. No contract speaks of it.
+fn is_small(transition: &Transition, table: &Table) -> bool {
+    let gates = transition.circuit.gates.len();
+    gates.saturating_mul(table.inputs.len()) <= MOST_GATES
 }
 
 /// The choices that are found for windows around the first row that the design as it is misses, the
 /// smallest first, up to one that mends the whole table: each window has 2, 4, 8 or 16 rows that end at
-/// the miss, and one row less than that after it. Where none of them mends it and its circuit is small,
-/// the last window is the whole table, each of whose questions may learn `budget` lines; of a larger
-/// table a window also covers the row at which the last proposal failed. Each is a choice among the
-/// sites; there is none where no row is missed.
+/// the miss, and one row less than that after it. Where none of them mends it and its circuit is small, the last window is the
+/// whole table, each of whose questions may learn `budget` lines. Each is a choice among the sites; there is none
+/// where no row is missed.
 pub fn proposals<R: Threads + Sync>(
     rt: &R,
     alloc: Global,
@@ -182,12 +134,22 @@ pub fn proposals<R: Threads + Sync>(
     ensures { IfOk result (λ r. All (λ c. IsChoice list.now c.picks.items) r.items) }
 {
     let mut found = Vec::new(alloc);
-    let Some(miss) = first_miss(alloc, transition, &[], table)? else {
+    let Some(miss) = first_miss(alloc, transition, table)? else {
         return Ok(found);
     };
-    let mended = windows(rt, alloc, transition, table, list, miss, &mut found)?;
-    let rows = table.inputs.len();
-    if !mended && is_small(transition, rows) {
+    for reach in REACHES.iter() {
+        let from = miss.saturating_add(1).saturating_sub(*reach);
+        let len = miss.saturating_add(*reach) - from;
+        if let Some(choice) = find(rt, alloc, transition, table, list, from, len, BUDGET)? {
+            let whole = mends(alloc, transition, table, list, &choice)?;
+            found.push(choice)?;
+            if whole {
+                return Ok(found);
+            }
+        }
+    }
+    if is_small(transition, table) {
+        let rows = table.inputs.len();
         if let Some(choice) = find(rt, alloc, transition, table, list, 0, rows, budget)? {
             found.push(choice)?;
         }
