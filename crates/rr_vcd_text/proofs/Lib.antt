@@ -1,0 +1,14 @@
+pub mod Cutting
+pub mod Passing
+pub mod Numerals
+pub mod Rooming
+pub mod Sizing
+pub mod Scoping
+pub mod Fronts
+pub mod Endings
+pub mod Telling
+pub mod Bodies
+pub mod Declaring
+pub mod Heads
+pub mod Once
+pub mod Reading

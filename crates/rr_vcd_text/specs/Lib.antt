@@ -1,0 +1,7 @@
+pub mod Words
+pub mod Numbers
+pub mod Dump
+pub mod Breaks
+pub mod Rooms
+pub mod Steps
+pub mod View
