@@ -1,0 +1,13 @@
+pub mod Facts
+pub mod Units
+pub mod Nesting
+pub mod Outputs
+pub mod Frames
+pub mod Names
+pub mod Running
+pub mod Texts
+pub mod Acts
+pub mod Files
+pub mod Unique
+pub mod Faults
+pub mod Plain
