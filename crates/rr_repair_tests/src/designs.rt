@@ -35,6 +35,23 @@ pub(crate) const INSTANCES: &str =
 
 pub(crate) const INSTANCES_TABLE: &str = "a,y\n0,2\n5,7\n";
 
+pub(crate) const SET: &str =
+    "module m(input clk, input a, output reg q);\n  always @(posedge clk) if (a) q <= 1'b1; else q <= 1'b0;\nendmodule\n";
+
+pub(crate) const SET_TABLE: &str = "a,q\n0,0\n0,1\n0,1\n";
+
+pub(crate) const LOAD: &str =
+    "module m(input clk, input a, input b, output reg q);\n  always @(posedge clk) if (a) q <= b; else q <= q;\nendmodule\n";
+
+pub(crate) const LOAD_TABLE: &str = "a,b,q\n0,1,0\n0,1,1\n0,1,1\n";
+
+pub(crate) const JOINED_TABLE: &str = "a,b,q\n1,1,0\n1,0,1\n0,1,0\n0,0,1\n1,0,1\n0,0,0\n";
+
+pub(crate) const COPY: &str =
+    "module m(input clk, input a, output reg q);\n  always @(posedge clk) q <= a;\nendmodule\n";
+
+pub(crate) const COPY_TABLE: &str = "a,q\n0,0\n0,1\n0,1\n";
+
 pub(crate) const MIXED: &str =
     "module m(input clk, input rst, input go, output reg [3:0] q, output reg [3:0] s);\n  always @(posedge clk)\n    if (rst) begin q <= 4'd1; s <= 4'd0; end\n    else begin\n      if (go) q <= (q << 1) ^ 4'd8;\n      else q <= q + 4'd4;\n      s <= s + (q ^ 4'd7);\n    end\nendmodule\n";
 

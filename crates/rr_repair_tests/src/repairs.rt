@@ -3,8 +3,9 @@
 ghost use Rattle.std.specs.Prelude.{◌≡◌};
 
 use crate::designs::{
-    CELLS, COUNTER, COUNTER_TABLE, GATE, GATE_TABLE, INSTANCES, INSTANCES_TABLE, INVERTED,
-    INVERTED_TABLE, MISSING, MISSING_TABLE, TWO, TWO_TABLE, WIRE, WIRE_TABLE,
+    CELLS, COPY, COPY_TABLE, COUNTER, COUNTER_TABLE, GATE, GATE_TABLE, INSTANCES, INSTANCES_TABLE,
+    INVERTED, INVERTED_TABLE, JOINED_TABLE, LOAD, LOAD_TABLE, MISSING, MISSING_TABLE, SET,
+    SET_TABLE, TWO, TWO_TABLE, WIRE, WIRE_TABLE,
 };
 use bumpalo::Bump;
 use rr_repair::{Request, repair};
@@ -60,6 +61,75 @@ fn prints<R: Threads + Sync>(
         Err(_) => Err(Fail::from("stopped")),
         Ok(found) => Ok(does(&found, out, notes, status)),
     }
+}
+
+/// Whether the repair of a design by its table reports this first.
+fn reports<R: Threads + Sync>(
+    rt: &R,
+    alloc: Global,
+    design: &str,
+    table: &str,
+    notes: &str,
+) -> Result<bool, Fail> {
+    let arena = Bump::new(alloc);
+    if design.len() > 1000 {
+        return Err(Fail::from("a text too long"));
+    }
+    match repair(
+        rt,
+        alloc,
+        design.as_bytes(),
+        table.as_bytes(),
+        &request(1000, 2),
+        &arena,
+    ) {
+        Err(_) => Err(Fail::from("stopped")),
+        Ok(found) => Ok(found.notes.as_bytes().starts_with(notes.as_bytes())),
+    }
+}
+
+/// Each of these designs has least repairs of several kinds, of which the plainest is printed: a literal, a
+/// negated condition, one that is joined with a name, and a last assignment that is always made.
+#[test]
+fn of_several_the_plainest(rt: HostRuntime) -> Result<(), Fail> {
+    let alloc = rt.alloc();
+    assert!(rt;
+        reports(
+            &rt,
+            alloc,
+            SET,
+            SET_TABLE,
+            "repaired 1\nsite 3 literal 96 1'h1\n"
+        )?
+    );
+    assert!(rt;
+        reports(
+            &rt,
+            alloc,
+            LOAD,
+            LOAD_TABLE,
+            "repaired 1\nsite 1 guard 81 !(E)\n"
+        )?
+    );
+    assert!(rt;
+        reports(
+            &rt,
+            alloc,
+            LOAD,
+            JOINED_TABLE,
+            "repaired 1\nsite 1 guard 81 (E) || "
+        )?
+    );
+    assert!(rt;
+        reports(
+            &rt,
+            alloc,
+            COPY,
+            COPY_TABLE,
+            "repaired 1\nsite 0 overwrite 68 if (1'h1) q <= 1'h1;\n"
+        )?
+    );
+    Ok(())
 }
 
 #[test]

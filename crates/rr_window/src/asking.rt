@@ -3,6 +3,7 @@ ghost use Rattle.std.specs.Prelude.{◌≡◌, IfOk, length};
 ghost use Rattle.rr_choice.specs.Choices.{IsChoice, total_bits};
 ghost use Rattle.rr_window.specs.Replies.{IsReply};
 
+use crate::plainer::plainer;
 use rr_choice::{Choice, SiteList, decode};
 use rr_solver::Outcome;
 use rr_trace::Table;
@@ -15,11 +16,18 @@ use std::thread::Threads;
 /// How many threads make the circuit of a question.
 const WORKERS: u32 = 4;
 
+/// A choice that mends the rows of a window, and a plainer one where one was found.
+#[derive(Drop)]
+pub(crate) struct Mended {
+    pub choice: Choice,
+    pub plain: Option<Choice>,
+}
+
 /// The outcome of a question over a window.
 #[derive(Drop)]
 pub(crate) enum Reply {
     /// A choice within the bound mends the rows.
-    Mended(Choice),
+    Mended(Mended),
     /// None does.
     Refuted,
     /// It is left open.
@@ -27,7 +35,7 @@ pub(crate) enum Reply {
 }
 
 /// The choice that the values of variables write, from variable 1 on.
-fn chosen(
+pub(crate) fn chosen(
     alloc: Global,
     list: &SiteList<'_>,
     count: u32,
@@ -59,11 +67,13 @@ pub(crate) fn ask<R: Threads + Sync>(
     ensures { IfOk result (IsReply list.now) }
 {
     let circuit = question(rt, alloc, transition, table, bound, WORKERS)?;
-    let formula = formula_of(alloc, &circuit)?;
+    let count = transition.choice_bits;
+    let mut formula = formula_of(alloc, &circuit)?;
     match rr_free::search(alloc, &formula, budget)? {
         Outcome::Model(values) => {
-            let choice = chosen(alloc, list, transition.choice_bits, values.as_slice())?;
-            Ok(Reply::Mended(choice))
+            let choice = chosen(alloc, list, count, values.as_slice())?;
+            let plain = plainer(alloc, &mut formula, list, count, &choice)?;
+            Ok(Reply::Mended(Mended { choice, plain }))
         }
         Outcome::Refuted(_) => Ok(Reply::Refuted),
         Outcome::Spent(_) => Ok(Reply::Open),

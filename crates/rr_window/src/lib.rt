@@ -6,6 +6,7 @@
 
 mod asking;
 mod beginning;
+mod plainer;
 mod proposing;
 mod walking;
 

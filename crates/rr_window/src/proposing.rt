@@ -1,15 +1,17 @@
 //! Windows, and what they propose.
-ghost use Rattle.std.specs.Prelude.{◌≡◌, All, IfOk, IfSome};
+ghost use Rattle.std.specs.Prelude.{◌≡◌, ◌≤◌, List, All, IfOk, IfSome, OnOk};
 ghost use Rattle.rr_choice.specs.Choices.{IsChoice, total_bits};
+ghost use Rattle.rr_choice.specs.Sites.{Site};
+ghost use Rattle.rr_window.specs.Replies.{AreOf, IsTried};
 
-use crate::asking::{Reply, ask};
+use crate::asking::{Mended, Reply, ask};
 use crate::beginning::begun;
+use crate::plainer::rank;
 use crate::walking::{first_miss, state_before};
-use rr_choice::{Choice, SiteList};
+use rr_choice::{Choice, SiteList, cost};
 use rr_encode::encode;
 use rr_trace::Table;
 use rr_transition::Transition;
-use rr_unroll::judges;
 use std::alloc::{AllocError, Global};
 use std::thread::Threads;
 
@@ -21,6 +23,9 @@ const BUDGET: u32 = 1_000;
 
 /// How many gates a table's circuit may have for the whole table to be asked.
 const MOST_GATES: usize = 300_000;
+
+/// The most sites of a choice whose changes are counted.
+const MOST_SITES: usize = 1_000_000;
 
 /// How many rows of a window end at the first miss.
 const REACHES: [usize; 4] = [2, 4, 8, 16];
@@ -45,8 +50,8 @@ fn cut(alloc: Global, table: &Table, from: usize, len: usize) -> Result<Table, A
     Ok(Table { inputs, expected })
 }
 
-/// The choice that is found for a window: bounds are asked from 1 upwards, until a choice mends its rows
-/// or a question is left open.
+/// What is found for a window: bounds are asked upwards from the one after `below`, until a choice mends its
+/// rows or a question is left open.
 fn find<R: Threads + Sync>(
     rt: &R,
     alloc: Global,
@@ -55,22 +60,36 @@ fn find<R: Threads + Sync>(
     list: &SiteList<'_>,
     from: usize,
     len: usize,
+    below: u32,
     budget: u32,
-) -> Result<Option<Choice>, AllocError>
+) -> Result<Option<Mended>, AllocError>
     requires bits { transition.now.choice_bits ≡ total_bits list.now }
-    ensures { IfOk result (λ r. IfSome r (λ c. IsChoice list.now c.picks.items)) }
+    ensures { IfOk result (λ r. IfSome r (AreOf list.now)) }
 {
     let start = state_before(alloc, transition, table, from)?;
     let there = begun(alloc, transition, start.as_slice())?;
     let rows = cut(alloc, table, from, len)?;
-    for bound in 0..MOST {
+    for bound in below..MOST {
         match ask(rt, alloc, &there, &rows, list, bound + 1, budget)? {
-            Reply::Mended(choice) => return Ok(Some(choice)),
+            Reply::Mended(mended) => return Ok(Some(mended)),
             Reply::Refuted => {}
             Reply::Open => return Ok(None),
         }
     }
     Ok(None)
+}
+
+/// Adds what was found for a window to the proposals, the plainer choice first.
+fn offer(mended: Mended, found: &mut Vec<Choice>) -> Result<(), AllocError>
+    ensures { (sites : List Site) → AreOf sites mended → All (λ c. IsChoice sites c.picks.items) found.old.items
+        → OnOk result (All (λ c. IsChoice sites c.picks.items) found.new.items) }
+{
+    let Mended { choice, plain } = mended;
+    if let Some(plain) = plain {
+        found.push(plain)?;
+    }
+    found.push(choice)?;
+    Ok(())
 }
 
 /// The choices that are found for a window of `len` rows from row `from` on, which begins in the state
@@ -89,39 +108,174 @@ pub fn propose<R: Threads + Sync>(
     ensures { IfOk result (λ r. All (λ c. IsChoice list.now c.picks.items) r.items) }
 {
     let mut found = Vec::new(alloc);
-    if let Some(choice) = find(rt, alloc, transition, table, list, from, len, BUDGET)? {
-        found.push(choice)?;
+    if let Some(mended) = find(rt, alloc, transition, table, list, from, len, 0, BUDGET)? {
+        offer(mended, &mut found)?;
     }
     Ok(found)
 }
 
-/// Whether a choice mends the whole table.
-fn mends(
+/// The first row of the table that a choice misses.
+fn missed(
     alloc: Global,
     transition: &Transition,
     table: &Table,
     list: &SiteList<'_>,
     choice: &Choice,
-) -> Result<bool, AllocError>
-    requires bits { transition.now.choice_bits ≡ total_bits list.now }
-    requires choice { IsChoice list.now choice.now.picks.items }
+) -> Result<Option<usize>, AllocError>
+    requires { IsChoice list.now choice.now.picks.items }
 {
     let bits = encode(alloc, list, choice)?;
-    let mended = judges(alloc, transition, table, bits.as_slice())?;
-    Ok(mended)
+    let row = first_miss(alloc, transition, bits.as_slice(), table)?;
+    Ok(row)
 }
 
-/// Whether the circuit of a whole table is small enough to be asked. No contract speaks of it.
-fn is_small(transition: &Transition, table: &Table) -> bool {
+/// What became of the choices that were found for a window.
+#[derive(Drop)]
+pub(crate) enum Tried {
+    /// One of them mends the whole table.
+    Whole(Choice),
+    /// None does; the row that one of them misses first.
+    Missed(usize),
+}
+
+/// How many changes a choice makes, or 0 where there are more than a window is asked for.
+fn changes(choice: &Choice) -> u32 {
+    if choice.picks.len() > MOST_SITES {
+        return 0;
+    }
+    cost(choice)
+}
+
+/// Whether the circuit of so many rows is small enough to be asked as a whole. No contract speaks of it.
+fn is_small(transition: &Transition, rows: usize) -> bool {
     let gates = transition.circuit.gates.len();
-    gates.saturating_mul(table.inputs.len()) <= MOST_GATES
+    gates.saturating_mul(rows) <= MOST_GATES
+}
+
+/// The row after a window that begins at `from`: the one after its own rows, or, where the table is too
+/// large to be asked as a whole, the one after the row at which the last proposal failed, if the
+/// window's circuit stays small.
+fn end_of(transition: &Transition, table: &Table, from: usize, own: usize, failed: usize) -> usize
+    ensures { own ≤ result }
+{
+    let wide = failed.saturating_add(1);
+    if wide <= own || is_small(transition, table.inputs.len()) {
+        own
+    } else if is_small(transition, wide.saturating_sub(from)) {
+        wide
+    } else {
+        own
+    }
+}
+
+/// Of what was found for a window the choice that mends the whole table, the plainer one first, or else the row
+/// that the other misses; choices that do not mend it are added to the proposals.
+fn tested(
+    alloc: Global,
+    transition: &Transition,
+    table: &Table,
+    list: &SiteList<'_>,
+    mended: Mended,
+    found: &mut Vec<Choice>,
+) -> Result<Tried, AllocError>
+    requires mended { AreOf list.now mended }
+    requires found { All (λ c. IsChoice list.now c.picks.items) found.old.items }
+    ensures found { OnOk result (All (λ c. IsChoice list.now c.picks.items) found.new.items) }
+    ensures whole { IfOk result (IsTried list.now) }
+{
+    let Mended { choice, plain } = mended;
+    if let Some(plain) = plain {
+        match missed(alloc, transition, table, list, &plain)? {
+            None => return Ok(Tried::Whole(plain)),
+            Some(_) => found.push(plain)?,
+        }
+    }
+    match missed(alloc, transition, table, list, &choice)? {
+        None => Ok(Tried::Whole(choice)),
+        Some(row) => {
+            found.push(choice)?;
+            Ok(Tried::Missed(row))
+        }
+    }
+}
+
+/// The choice that is found for a window around a row that the design as it is misses and that mends the whole
+/// table; the choices that were found for windows before it are added to the proposals.
+fn windows<R: Threads + Sync>(
+    rt: &R,
+    alloc: Global,
+    transition: &Transition,
+    table: &Table,
+    list: &SiteList<'_>,
+    miss: usize,
+    found: &mut Vec<Choice>,
+) -> Result<Option<Choice>, AllocError>
+    requires bits { transition.now.choice_bits ≡ total_bits list.now }
+    requires found { All (λ c. IsChoice list.now c.picks.items) found.old.items }
+    ensures found { OnOk result (All (λ c. IsChoice list.now c.picks.items) found.new.items) }
+    ensures whole { IfOk result (λ r. IfSome r (λ c. IsChoice list.now c.picks.items)) }
+{
+    let mut failed = miss;
+    for reach in REACHES.iter() {
+        let from = miss.saturating_add(1).saturating_sub(*reach);
+        let own = miss.saturating_add(*reach);
+        let end = end_of(transition, table, from, own, failed);
+        let len = end.saturating_sub(from);
+        if let Some(mended) = find(rt, alloc, transition, table, list, from, len, 0, BUDGET)? {
+            match tested(alloc, transition, table, list, mended, found)? {
+                Tried::Whole(choice) => return Ok(Some(choice)),
+                Tried::Missed(row) => failed = failed.max(row),
+            }
+        }
+    }
+    Ok(None)
+}
+
+/// Asks the whole table, where no window's choice mends it, or for a plainer choice than the one that does and of no
+/// more changes; what is found is added to the proposals.
+fn ask_all<R: Threads + Sync>(
+    rt: &R,
+    alloc: Global,
+    transition: &Transition,
+    table: &Table,
+    list: &SiteList<'_>,
+    whole: &Option<Choice>,
+    budget: u32,
+    found: &mut Vec<Choice>,
+) -> Result<(), AllocError>
+    requires bits { transition.now.choice_bits ≡ total_bits list.now }
+    requires found { All (λ c. IsChoice list.now c.picks.items) found.old.items }
+    ensures { OnOk result (All (λ c. IsChoice list.now c.picks.items) found.new.items) }
+{
+    let (below, most) = match whole {
+        None => (0, usize::MAX),
+        Some(choice) => (changes(choice).saturating_sub(1), rank(list, choice)),
+    };
+    if most == 0 {
+        return Ok(());
+    }
+    let rows = table.inputs.len();
+    if let Some(mended) = find(rt, alloc, transition, table, list, 0, rows, below, budget)? {
+        let Mended { choice, plain } = mended;
+        if let Some(plain) = plain {
+            if rank(list, &plain) < most {
+                found.push(plain)?;
+            }
+        }
+        if rank(list, &choice) < most {
+            found.push(choice)?;
+        }
+    }
+    Ok(())
 }
 
 /// The choices that are found for windows around the first row that the design as it is misses, the
 /// smallest first, up to one that mends the whole table: each window has 2, 4, 8 or 16 rows that end at
-/// the miss, and one row less than that after it. Where none of them mends it and its circuit is small, the last window is the
-/// whole table, each of whose questions may learn `budget` lines. Each is a choice among the sites; there is none
-/// where no row is missed.
+/// the miss, and one row less than that after it. Where none of them mends it and its circuit is small,
+/// the last window is the whole table, each of whose questions may learn `budget` lines; of a larger
+/// table a window also covers the row at which the last proposal failed. Each is a choice among the
+/// sites; there is none where no row is missed. A plainer choice of no greater cost, where one is found, stands before
+/// the one that it is found for.
 pub fn proposals<R: Threads + Sync>(
     rt: &R,
     alloc: Global,
@@ -134,25 +288,18 @@ pub fn proposals<R: Threads + Sync>(
     ensures { IfOk result (λ r. All (λ c. IsChoice list.now c.picks.items) r.items) }
 {
     let mut found = Vec::new(alloc);
-    let Some(miss) = first_miss(alloc, transition, table)? else {
+    let Some(miss) = first_miss(alloc, transition, &[], table)? else {
         return Ok(found);
     };
-    for reach in REACHES.iter() {
-        let from = miss.saturating_add(1).saturating_sub(*reach);
-        let len = miss.saturating_add(*reach) - from;
-        if let Some(choice) = find(rt, alloc, transition, table, list, from, len, BUDGET)? {
-            let whole = mends(alloc, transition, table, list, &choice)?;
-            found.push(choice)?;
-            if whole {
-                return Ok(found);
-            }
-        }
+    let whole = windows(rt, alloc, transition, table, list, miss, &mut found)?;
+    let rows = table.inputs.len();
+    if is_small(transition, rows) {
+        ask_all(
+            rt, alloc, transition, table, list, &whole, budget, &mut found,
+        )?;
     }
-    if is_small(transition, table) {
-        let rows = table.inputs.len();
-        if let Some(choice) = find(rt, alloc, transition, table, list, 0, rows, budget)? {
-            found.push(choice)?;
-        }
+    if let Some(choice) = whole {
+        found.push(choice)?;
     }
     Ok(found)
 }

@@ -1,4 +1,4 @@
-//! The run of a design as it is, with all switches off.
+//! The run of a design under a choice, by evaluation of the circuit of its cycle.
 ghost use Rattle.std.specs.Prelude.{◌≡◌, IfOk, length};
 
 use rr_trace::{Cell, Table};
@@ -22,23 +22,24 @@ fn row_bits(alloc: Global, widths: &[u32], row: &[u128]) -> Result<Vec<bool>, Al
     Ok(bits)
 }
 
-/// The inputs of a cycle: no switch is on, then the state, then the row's bits.
+/// The inputs of a cycle: the bits of the choice, then the state, then the row's bits. What is not there is 0.
 fn cycle_inputs(
     alloc: Global,
     transition: &Transition,
+    choice: &[bool],
     state: &[bool],
     bits: &[bool],
 ) -> Result<Vec<bool>, AllocError>
     ensures { IfOk result (λ r. length r.items ≡ transition.now.circuit.netlist.inputs) }
 {
-    let choice = u64::from(transition.choice_bits);
-    let row = choice + u64::from(transition.state_bits);
+    let before = u64::from(transition.choice_bits);
+    let row = before + u64::from(transition.state_bits);
     let mut inputs = Vec::new(alloc);
     for k in 0..transition.circuit.inputs {
-        let input = if k < choice {
-            false
+        let input = if k < before {
+            choice.get(k as usize).copied().unwrap_or(false)
         } else if k < row {
-            state.get((k - choice) as usize).copied().unwrap_or(false)
+            state.get((k - before) as usize).copied().unwrap_or(false)
         } else {
             bits.get((k - row) as usize).copied().unwrap_or(false)
         };
@@ -51,11 +52,12 @@ fn cycle_inputs(
 fn cycle(
     alloc: Global,
     transition: &Transition,
+    choice: &[bool],
     state: &[bool],
     row: &[u128],
 ) -> Result<Vec<bool>, AllocError> {
     let bits = row_bits(alloc, transition.input_widths.as_slice(), row)?;
-    let inputs = cycle_inputs(alloc, transition, state, bits.as_slice())?;
+    let inputs = cycle_inputs(alloc, transition, choice, state, bits.as_slice())?;
     let out = transition.circuit.eval(alloc, inputs.as_slice())?;
     Ok(out)
 }
@@ -72,7 +74,7 @@ fn next_state(
     Ok(state)
 }
 
-/// The state before a row, from the state 0 on.
+/// The state before a row, from the state 0 on, with all switches off.
 pub(crate) fn state_before(
     alloc: Global,
     transition: &Transition,
@@ -81,7 +83,7 @@ pub(crate) fn state_before(
 ) -> Result<Vec<bool>, AllocError> {
     let mut state = Vec::new(alloc);
     for inputs in table.inputs.iter().take(row) {
-        let out = cycle(alloc, transition, state.as_slice(), inputs.as_slice())?;
+        let out = cycle(alloc, transition, &[], state.as_slice(), inputs.as_slice())?;
         state = next_state(alloc, transition, out.as_slice())?;
     }
     Ok(state)
@@ -115,15 +117,23 @@ fn row_agrees(transition: &Transition, cells: &[Cell], out: &[bool]) -> bool {
     true
 }
 
-/// The first row of a table in which the design as it is has not the outputs that are expected.
+/// The first row of a table in which the design has not the outputs that are expected, under the choice
+/// that bits write; without bits it is the design as it is.
 pub(crate) fn first_miss(
     alloc: Global,
     transition: &Transition,
+    choice: &[bool],
     table: &Table,
 ) -> Result<Option<usize>, AllocError> {
     let mut state = Vec::new(alloc);
     for (row, inputs) in table.inputs.iter().enumerate() {
-        let out = cycle(alloc, transition, state.as_slice(), inputs.as_slice())?;
+        let out = cycle(
+            alloc,
+            transition,
+            choice,
+            state.as_slice(),
+            inputs.as_slice(),
+        )?;
         if let Some(cells) = table.expected.get(row) {
             if !row_agrees(transition, cells.as_slice(), out.as_slice()) {
                 return Ok(Some(row));
