@@ -16,8 +16,8 @@ use rr_writers::first_two_drivers;
 use std::alloc::{AllocError, Global};
 
 /// Which law a flat design breaks first, by the tokens at which it does (IEEE 1364-2005 sections 6.1,
-/// 9.2, 9.5.1, 9.7.2 and 12.3.9.2); and want of memory. The laws are checked from the last variant but
-/// one upwards: names, targets, labels, the clock and its uses, writers, kinds, races, latches, loops.
+/// 9.2, 9.5.1, 9.7.2 and 12.3.9.2); and want of memory. They are asked in another order than that of the
+/// variants: names, targets, labels, the one clock, its uses, writers, kinds, races, latches, loops.
 #[derive(Drop)]
 pub enum LawFault {
     /// A bit has two writers, whose targets or `always` stand at these tokens.
