@@ -9,8 +9,10 @@ last line counts; the status is 0 where all is as it should be. What may not be 
 """
 import os, shutil, stat, subprocess, sys, tempfile, threading
 
+from program import built
+
 top = os.path.dirname(os.path.dirname(os.path.abspath(__file__)))
-program = os.path.abspath(sys.argv[1]) if len(sys.argv) > 1 else f"{top}/crates/rtl_repair/out/rtl_repair"
+program = os.path.abspath(sys.argv[1]) if len(sys.argv) > 1 else built()
 DESIGN = """module counter(input clk, input rst, output reg [3:0] q);
   always @(posedge clk)
     if (rst) q <= 4'd0;

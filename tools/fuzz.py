@@ -18,9 +18,10 @@ sys.path.insert(0, f"{top}/tools")
 from cells import misses  # noqa: E402
 from endings import fault_of  # noqa: E402
 from verdicts import is_refuted, read_circuit, verdict  # noqa: E402
+from program import built
 
 LONGEST = 20
-program = os.path.abspath(sys.argv[1]) if len(sys.argv) > 1 else f"{top}/crates/rtl_repair/out/rtl_repair"
+program = os.path.abspath(sys.argv[1]) if len(sys.argv) > 1 else built()
 count = int(sys.argv[2]) if len(sys.argv) > 2 else 1000
 draw = random.Random(int(sys.argv[3]) if len(sys.argv) > 3 else 1)
 

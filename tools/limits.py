@@ -17,6 +17,8 @@ sys.path.insert(0, f"{top}/tools")
 from endings import fault_of  # noqa: E402
 from verdicts import verdict  # noqa: E402
 
+from program import built
+
 MEBI = 1 << 20
 
 
@@ -516,13 +518,13 @@ def mutants(program):
 
 def main():
     words = argparse.ArgumentParser()
-    words.add_argument("program", nargs="?", default=f"{top}/crates/rtl_repair/out/rtl_repair")
+    words.add_argument("program", nargs="?")
     words.add_argument("--seconds", type=float, default=10)
     words.add_argument("--only", default="")
     words.add_argument("--large", action="store_true")
     words.add_argument("--quiet", action="store_true", help="prints slow, growing and failing inputs alone")
     asked = words.parse_args()
-    program = os.path.abspath(asked.program)
+    program = os.path.abspath(asked.program) if asked.program else built()
     print("| input | size | status | standard error | seconds | MiB | growth |")
     print("|---|---|---|---|---|---|---|")
     passed = failed = 0

@@ -12,6 +12,8 @@ It is no test of the gate, since tests take the one allocator that there is; `rt
 """
 import argparse, os, subprocess, sys, tempfile
 
+from program import built
+
 top = os.path.dirname(os.path.dirname(os.path.abspath(__file__)))
 
 LIBRARY = r"""
@@ -108,12 +110,12 @@ def wrong_with(ended, held, own, whole):
 
 def main():
     words = argparse.ArgumentParser()
-    words.add_argument("program", nargs="?", default=f"{top}/crates/rtl_repair/out/rtl_repair")
+    words.add_argument("program", nargs="?")
     words.add_argument("--each", action="store_true")
     words.add_argument("--step", type=int, default=1)
     words.add_argument("--only", default="")
     asked = words.parse_args()
-    program = os.path.abspath(asked.program)
+    program = os.path.abspath(asked.program) if asked.program else built()
     passed = failed = 0
     with tempfile.TemporaryDirectory() as room:
         with open(f"{room}/refused.c", "w") as file:

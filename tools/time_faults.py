@@ -11,6 +11,8 @@ the formula of its certificate (which asks for one change less), with what the r
 """
 import os, random, re, shutil, subprocess, sys, tempfile
 
+from program import built
+
 top = os.path.dirname(os.path.dirname(os.path.abspath(__file__)))
 LIMIT = 120
 PEERS = (("minisat", ["minisat", "-verb=0"]), ("cadical", ["cadical", "-q"]))
@@ -185,7 +187,7 @@ def repair(program, room):
 
 
 def main():
-    programs = [os.path.abspath(it) for it in sys.argv[1:]] or [f"{top}/crates/rtl_repair/out/rtl_repair"]
+    programs = [os.path.abspath(it) for it in sys.argv[1:]] or [built()]
     print("| design | faults | known, % | program | status | changes | s | lines | minisat, s | times minisat | cadical, s | times cadical |")
     print("|---|---|---|---|---|---|---|---|---|---|---|---|")
     for name, design, faults, inputs, rows in DESIGNS:

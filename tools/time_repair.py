@@ -10,8 +10,10 @@ examples, two counters with a fault each at 20 to 2,000 rows, and eight counters
 """
 import os, shutil, subprocess, sys, tempfile, time
 
+from program import built
+
 top = os.path.dirname(os.path.dirname(os.path.abspath(__file__)))
-program = os.path.abspath(sys.argv[1]) if len(sys.argv) > 1 else f"{top}/crates/rtl_repair/out/rtl_repair"
+program = os.path.abspath(sys.argv[1]) if len(sys.argv) > 1 else built()
 
 
 def timed(words, folder):

@@ -9,8 +9,10 @@ processor, in user mode, the best of three turns each; `iverilog`, which compile
 """
 import os, random, shutil, subprocess, sys, tempfile
 
+from program import built
+
 top = os.path.dirname(os.path.dirname(os.path.abspath(__file__)))
-program = os.path.abspath(sys.argv[1]) if len(sys.argv) > 1 else f"{top}/crates/rtl_repair/out/rtl_repair"
+program = os.path.abspath(sys.argv[1]) if len(sys.argv) > 1 else built()
 ROWS = 65_536
 TURNS = 3
 
