@@ -4,6 +4,9 @@ use std::alloc::Global;
 
 /// Whether a file expands to this text.
 fn gives(alloc: Global, file: &[u8], text: &[u8]) -> bool {
+    if file.len() > 1000 {
+        return false;
+    }
     match expand(alloc, file) {
         Ok(expanded) => {
             expanded.text.as_slice() == text && expanded.origins.len() == expanded.text.len()
@@ -14,6 +17,9 @@ fn gives(alloc: Global, file: &[u8], text: &[u8]) -> bool {
 
 /// Whether a file is refused so.
 fn fails(alloc: Global, file: &[u8], fault: DirectiveFault) -> bool {
+    if file.len() > 1000 {
+        return false;
+    }
     match expand(alloc, file) {
         Ok(_) => false,
         Err(found) => found == fault,
@@ -22,6 +28,9 @@ fn fails(alloc: Global, file: &[u8], fault: DirectiveFault) -> bool {
 
 /// Whether the byte at a place comes from there.
 fn comes(alloc: Global, file: &[u8], at: usize, offset: u32, exact: bool) -> bool {
+    if file.len() > 1000 {
+        return false;
+    }
     match expand(alloc, file) {
         Ok(expanded) => match expanded.origins.get(at) {
             Some(origin) => origin.offset == offset && origin.exact == exact,
@@ -191,17 +200,23 @@ fn origins_are_told(rt: HostRuntime) {
     assert!(rt; comes(alloc, b"`ifdef A\n`else\nx`endif", 2, 15, true));
 }
 
+/// Whether the byte at a place of the text stands there in the file.
+fn stands(alloc: Global, file: &[u8], at: u32, offset: u32) -> bool {
+    if file.len() > 1000 {
+        return false;
+    }
+    match expand(alloc, file) {
+        Ok(expanded) => { (at as usize) < expanded.text.len() && place(&expanded, at) == offset }
+        Err(_) => false,
+    }
+}
+
 #[test]
 fn places_are_told(rt: HostRuntime) {
     let alloc = rt.alloc();
-    match expand(alloc, b"`define A bc\nx `A y") {
-        Ok(expanded) => {
-            assert!(rt; place(&expanded, 2) == 13);
-            assert!(rt; place(&expanded, 5) == 15);
-            assert!(rt; place(&expanded, 7) == 18);
-        }
-        Err(_) => assert!(rt; false),
-    }
+    assert!(rt; stands(alloc, b"`define A bc\nx `A y", 2, 13));
+    assert!(rt; stands(alloc, b"`define A bc\nx `A y", 5, 15));
+    assert!(rt; stands(alloc, b"`define A bc\nx `A y", 7, 18));
 }
 
 /// An escaped name that begins inside an attribute may hold what the lexer reads as a token and the front
