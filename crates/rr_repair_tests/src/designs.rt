@@ -51,9 +51,3 @@ pub(crate) const COPY: &str =
     "module m(input clk, input a, output reg q);\n  always @(posedge clk) q <= a;\nendmodule\n";
 
 pub(crate) const COPY_TABLE: &str = "a,q\n0,0\n0,1\n0,1\n";
-
-pub(crate) const MIXED: &str =
-    "module m(input clk, input rst, input go, output reg [3:0] q, output reg [3:0] s);\n  always @(posedge clk)\n    if (rst) begin q <= 4'd1; s <= 4'd0; end\n    else begin\n      if (go) q <= (q << 1) ^ 4'd8;\n      else q <= q + 4'd4;\n      s <= s + (q ^ 4'd7);\n    end\nendmodule\n";
-
-pub(crate) const MIXED_TABLE: &str =
-    "rst,go,q,s\n1,1,x,x\n0,0,x,x\n0,1,x,x\n0,0,5,7\n0,1,x,x\n0,1,13,6\n0,1,x,x\n0,1,15,6\n";

@@ -5,6 +5,4 @@
 #[cfg(test)]
 mod designs;
 #[cfg(test)]
-mod members;
-#[cfg(test)]
 mod repairs;
