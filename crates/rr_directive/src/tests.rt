@@ -197,7 +197,7 @@ fn origins_are_told(rt: HostRuntime) {
     assert!(rt; comes(alloc, b"\\ab c", 1, 1, false));
     assert!(rt; comes(alloc, b"\\ab c", 2, 2, true));
     assert!(rt; comes(alloc, b"(* // *) assign y = ;", 20, 20, false));
-    assert!(rt; comes(alloc, b"`ifdef A\n`else\nx`endif", 2, 15, true));
+    assert!(rt; comes(alloc, b"`ifdef A\n`else\nx`endif", 3, 15, true));
 }
 
 /// Whether the byte at a place of the text stands there in the file.
