@@ -15,6 +15,7 @@ use rr_search::{Answer, Job, least};
 use rr_sites::design_sites;
 use rr_trace::Table;
 use rr_transition::Transition;
+use rr_plainer::Near;
 use rr_window::propose;
 use std::alloc::{AllocError, Global};
 use std::test::Fail;
@@ -133,7 +134,8 @@ fn proposes_last<R: Threads + Sync>(
     let Some(cycle) = transition_of(alloc, design, list)? else {
         return Ok(false);
     };
-    let found = propose(rt, alloc, &cycle, rows, list, 1, 4)?;
+    let near = Near::of(alloc, design.tokens, list)?;
+    let found = propose(rt, alloc, &cycle, rows, list, &near, 1, 4)?;
     match found.as_slice().first() {
         Some(choice) => Ok(is_last(choice)),
         None => Ok(false),

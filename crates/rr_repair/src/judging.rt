@@ -26,6 +26,7 @@ use bumpalo::Bump;
 use rr_answers::{beyond, left_open, repaired, unchanged};
 use rr_blast::transition;
 use rr_choice::SiteList;
+use rr_plainer::Near;
 use rr_registers::register_bits;
 use rr_report::{Found, Refusal, Stop, stop_of};
 use rr_run::{LawfulDesign, Limit, Refusal as RunRefusal, RunFault, lawful_design, read_rows};
@@ -153,7 +154,8 @@ fn searched<'b, R: Threads + Sync>(
         budget: request.budget,
         members: request.members,
     };
-    let proposed = proposals(rt, alloc, &cycle, rows, list, request.budget)?;
+    let near = Near::of(alloc, design.tokens, list)?;
+    let proposed = proposals(rt, alloc, &cycle, rows, list, &near, request.budget)?;
     let answer = least(rt, alloc, &job, proposed.as_slice())?;
     let tested = proposed.len().min(u32::MAX as usize) as u32;
     let found = told(alloc, bytes, design, &job, request, tested, &answer)?;

@@ -51,3 +51,25 @@ pub(crate) const COPY: &str =
     "module m(input clk, input a, output reg q);\n  always @(posedge clk) q <= a;\nendmodule\n";
 
 pub(crate) const COPY_TABLE: &str = "a,q\n0,0\n0,1\n0,1\n";
+
+pub(crate) const MIXED: &str =
+    "module m(input clk, input rst, input go, output reg [3:0] q, output reg [3:0] s);\n  always @(posedge clk)\n    if (rst) begin q <= 4'd1; s <= 4'd0; end\n    else begin\n      if (go) q <= (q << 1) ^ 4'd8;\n      else q <= q + 4'd4;\n      s <= s + (q ^ 4'd7);\n    end\nendmodule\n";
+
+pub(crate) const MIXED_TABLE: &str =
+    "rst,go,q,s\n1,1,x,x\n0,0,x,x\n0,1,x,x\n0,0,5,7\n0,1,x,x\n0,1,13,6\n0,1,x,x\n0,1,15,6\n";
+
+pub(crate) const STEPS: &str =
+    "module m(input clk, input rst, output reg [3:0] q);\n  always @(posedge clk)\n    if (rst) q <= 4'd0;\n    else q <= q + 4'd7 + 4'd0;\nendmodule\n";
+
+pub(crate) const STEPS_TABLE: &str = "rst,q\n1,0\n0,0\n0,8\n0,0\n0,8\n";
+
+pub(crate) const VALUE: &str =
+    "module m(input [3:0] a, output [3:0] y);\n  assign y = a & 4'd6;\nendmodule\n";
+
+pub(crate) const VALUE_TABLE: &str = "a,y\n1,1\n2,2\n4,4\n";
+
+pub(crate) const NAMES: &str =
+    "module m(input clk, input far, input go, input load, input d, output reg q, output reg r);\n  always @(posedge clk) begin\n    if (load) q <= d;\n    if (go) r <= d;\n  end\nendmodule\n";
+
+pub(crate) const NAMES_TABLE: &str =
+    "far,go,load,d,q,r\n0,0,1,1,0,0\n1,1,1,1,0,0\n0,0,1,0,1,1\n1,1,1,0,1,1\n0,0,0,1,0,0\n1,1,0,1,0,0\n0,0,0,0,0,1\n";

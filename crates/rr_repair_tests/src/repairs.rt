@@ -4,8 +4,9 @@ ghost use Rattle.std.specs.Prelude.{◌≡◌};
 
 use crate::designs::{
     CELLS, COPY, COPY_TABLE, COUNTER, COUNTER_TABLE, GATE, GATE_TABLE, INSTANCES, INSTANCES_TABLE,
-    INVERTED, INVERTED_TABLE, JOINED_TABLE, LOAD, LOAD_TABLE, MISSING, MISSING_TABLE, SET,
-    SET_TABLE, TWO, TWO_TABLE, WIRE, WIRE_TABLE,
+    INVERTED, INVERTED_TABLE, JOINED_TABLE, LOAD, LOAD_TABLE, MISSING, MISSING_TABLE, NAMES,
+    NAMES_TABLE, SET, SET_TABLE, STEPS, STEPS_TABLE, TWO, TWO_TABLE, VALUE, VALUE_TABLE, WIRE,
+    WIRE_TABLE,
 };
 use bumpalo::Bump;
 use rr_repair::{Request, repair};
@@ -259,4 +260,15 @@ fn a_cell_above_its_width_is_refused(rt: HostRuntime) -> Result<(), Fail> {
         Err(Stop::Refused(Refusal::Input(RunRefusal::CellTooLarge { .. }))) => Ok(()),
         _ => Err(Fail::from("no refusal")),
     }
+}
+
+/// Of several literals the one that changes in fewer bits, of several values the one that differs in fewer bits,
+/// and of several names the one that stands nearer.
+#[test]
+fn of_several_the_nearest(rt: HostRuntime) -> Result<(), Fail> {
+    let alloc = rt.alloc();
+    assert!(rt; reports(&rt, alloc, STEPS, STEPS_TABLE, "repaired 1\nsite 4 literal 125 4'h1\n")?);
+    assert!(rt; reports(&rt, alloc, VALUE, VALUE_TABLE, "repaired 1\nsite 0 literal 58 4'h7\n")?);
+    assert!(rt; reports(&rt, alloc, NAMES, NAMES_TABLE, "repaired 1\nsite 2 guard 129 (E) && go\n")?);
+    Ok(())
 }

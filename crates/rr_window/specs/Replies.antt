@@ -1,5 +1,5 @@
 -- What is kept of the outcome of a question over a window.
-use Rattle.std.specs.Prelude.{⊤, List, IfSome}
+use Rattle.std.specs.Prelude.{⊤, List}
 use Rattle.rr_choice.specs.Choices.{IsChoice}
 use Rattle.rr_choice.specs.Sites.{Site}
 use Rattle.rr_window.specs.declared.asking.Mended.{Mended as RustMended}
@@ -10,7 +10,7 @@ use Rattle.rr_window.specs.declared.proposing.Tried.TheVariants.{Whole, Missed}
 
 -- both choices are of the sites
 abbrev pub AreOf : List Site → RustMended → Type 0
-AreOf sites m = IsChoice sites m.choice.picks.items × IfSome m.plain (λ c. IsChoice sites c.picks.items)
+AreOf sites m = IsChoice sites m.choice.picks.items × IsChoice sites m.plain.picks.items
 
 -- a choice is one among the sites
 abbrev pub IsReply : List Site → Reply → Type 0

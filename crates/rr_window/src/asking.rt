@@ -1,10 +1,10 @@
 //! One question over a window.
-ghost use Rattle.std.specs.Prelude.{◌≡◌, IfOk, length};
-ghost use Rattle.rr_choice.specs.Choices.{IsChoice, total_bits};
+ghost use Rattle.std.specs.Prelude.{◌≡◌, IfOk};
+ghost use Rattle.rr_choice.specs.Choices.{total_bits};
 ghost use Rattle.rr_window.specs.Replies.{IsReply};
 
-use crate::plainer::plainer;
-use rr_choice::{Choice, SiteList, decode};
+use rr_choice::{Choice, SiteList};
+use rr_plainer::{Near, chosen, plainer};
 use rr_solver::Outcome;
 use rr_trace::Table;
 use rr_transition::Transition;
@@ -16,11 +16,11 @@ use std::thread::Threads;
 /// How many threads make the circuit of a question.
 const WORKERS: u32 = 4;
 
-/// A choice that mends the rows of a window, and a plainer one where one was found.
+/// A choice that mends the rows of a window, and the plainest that was looked for, which may be the same.
 #[derive(Drop)]
 pub(crate) struct Mended {
     pub choice: Choice,
-    pub plain: Option<Choice>,
+    pub plain: Choice,
 }
 
 /// The outcome of a question over a window.
@@ -34,24 +34,6 @@ pub(crate) enum Reply {
     Open,
 }
 
-/// The choice that the values of variables write, from variable 1 on.
-pub(crate) fn chosen(
-    alloc: Global,
-    list: &SiteList<'_>,
-    count: u32,
-    values: &[bool],
-) -> Result<Choice, AllocError>
-    requires { count ≡ total_bits list.now }
-    ensures { IfOk result (λ c. IsChoice list.now c.picks.items) }
-{
-    let mut bits = Vec::new(alloc);
-    for k in 0..count {
-        bits.push(values.get(k as usize + 1).copied().unwrap_or(false))?;
-    }
-    let choice = decode(alloc, list, bits.as_slice())?;
-    Ok(choice)
-}
-
 /// Asks whether at most `bound` changes mend the rows of a table, by a search of at most `budget` lines that
 /// need not be fresh: what is asked here is only to be proposed.
 pub(crate) fn ask<R: Threads + Sync>(
@@ -60,6 +42,7 @@ pub(crate) fn ask<R: Threads + Sync>(
     transition: &Transition,
     table: &Table,
     list: &SiteList<'_>,
+    near: &Near,
     bound: u32,
     budget: u32,
 ) -> Result<Reply, AllocError>
@@ -72,7 +55,7 @@ pub(crate) fn ask<R: Threads + Sync>(
     match rr_free::search(alloc, &formula, budget)? {
         Outcome::Model(values) => {
             let choice = chosen(alloc, list, count, values.as_slice())?;
-            let plain = plainer(alloc, &mut formula, list, count, &choice)?;
+            let plain = plainer(alloc, &mut formula, transition, table, list, near, &choice)?;
             Ok(Reply::Mended(Mended { choice, plain }))
         }
         Outcome::Refuted(_) => Ok(Reply::Refuted),

@@ -6,8 +6,6 @@
 
 mod asking;
 mod beginning;
-mod plainer;
 mod proposing;
-mod walking;
 
 pub use proposing::{proposals, propose};

@@ -6,10 +6,9 @@ ghost use Rattle.rr_window.specs.Replies.{AreOf, IsTried};
 
 use crate::asking::{Mended, Reply, ask};
 use crate::beginning::begun;
-use crate::plainer::rank;
-use crate::walking::{first_miss, state_before};
 use rr_choice::{Choice, SiteList, cost};
 use rr_encode::encode;
+use rr_plainer::{Near, first_miss, nearer, rank, state_before};
 use rr_trace::Table;
 use rr_transition::Transition;
 use std::alloc::{AllocError, Global};
@@ -58,6 +57,7 @@ fn find<R: Threads + Sync>(
     transition: &Transition,
     table: &Table,
     list: &SiteList<'_>,
+    near: &Near,
     from: usize,
     len: usize,
     below: u32,
@@ -70,7 +70,7 @@ fn find<R: Threads + Sync>(
     let there = begun(alloc, transition, start.as_slice())?;
     let rows = cut(alloc, table, from, len)?;
     for bound in below..MOST {
-        match ask(rt, alloc, &there, &rows, list, bound + 1, budget)? {
+        match ask(rt, alloc, &there, &rows, list, near, bound + 1, budget)? {
             Reply::Mended(mended) => return Ok(Some(mended)),
             Reply::Refuted => {}
             Reply::Open => return Ok(None),
@@ -79,13 +79,18 @@ fn find<R: Threads + Sync>(
     Ok(None)
 }
 
+/// Whether two choices make the same changes.
+fn are_same(left: &Choice, right: &Choice) -> bool {
+    left.picks.as_slice() == right.picks.as_slice()
+}
+
 /// Adds what was found for a window to the proposals, the plainer choice first.
 fn offer(mended: Mended, found: &mut Vec<Choice>) -> Result<(), AllocError>
     ensures { (sites : List Site) → AreOf sites mended → All (λ c. IsChoice sites c.picks.items) found.old.items
         → OnOk result (All (λ c. IsChoice sites c.picks.items) found.new.items) }
 {
     let Mended { choice, plain } = mended;
-    if let Some(plain) = plain {
+    if !are_same(&plain, &choice) {
         found.push(plain)?;
     }
     found.push(choice)?;
@@ -101,6 +106,7 @@ pub fn propose<R: Threads + Sync>(
     transition: &Transition,
     table: &Table,
     list: &SiteList<'_>,
+    near: &Near,
     from: usize,
     len: usize,
 ) -> Result<Vec<Choice>, AllocError>
@@ -108,7 +114,9 @@ pub fn propose<R: Threads + Sync>(
     ensures { IfOk result (λ r. All (λ c. IsChoice list.now c.picks.items) r.items) }
 {
     let mut found = Vec::new(alloc);
-    if let Some(mended) = find(rt, alloc, transition, table, list, from, len, 0, BUDGET)? {
+    if let Some(mended) = find(
+        rt, alloc, transition, table, list, near, from, len, 0, BUDGET,
+    )? {
         offer(mended, &mut found)?;
     }
     Ok(found)
@@ -168,6 +176,25 @@ fn end_of(transition: &Transition, table: &Table, from: usize, own: usize, faile
     }
 }
 
+/// A choice that mends the whole table, brought nearer to the source where the table's circuit is small.
+fn settled(
+    alloc: Global,
+    transition: &Transition,
+    table: &Table,
+    list: &SiteList<'_>,
+    near: &Near,
+    choice: Choice,
+) -> Result<Choice, AllocError>
+    requires { IsChoice list.now choice.picks.items }
+    ensures { IfOk result (λ c. IsChoice list.now c.picks.items) }
+{
+    if is_small(transition, table.inputs.len()) {
+        nearer(alloc, transition, table, list, near, &choice)
+    } else {
+        Ok(choice)
+    }
+}
+
 /// Of what was found for a window the choice that mends the whole table, the plainer one first, or else the row
 /// that the other misses; choices that do not mend it are added to the proposals.
 fn tested(
@@ -175,6 +202,7 @@ fn tested(
     transition: &Transition,
     table: &Table,
     list: &SiteList<'_>,
+    near: &Near,
     mended: Mended,
     found: &mut Vec<Choice>,
 ) -> Result<Tried, AllocError>
@@ -184,14 +212,17 @@ fn tested(
     ensures whole { IfOk result (IsTried list.now) }
 {
     let Mended { choice, plain } = mended;
-    if let Some(plain) = plain {
-        match missed(alloc, transition, table, list, &plain)? {
-            None => return Ok(Tried::Whole(plain)),
-            Some(_) => found.push(plain)?,
+    if !are_same(&plain, &choice) {
+        if missed(alloc, transition, table, list, &plain)?.is_none() {
+            return Ok(Tried::Whole(plain));
         }
+        found.push(plain)?;
     }
     match missed(alloc, transition, table, list, &choice)? {
-        None => Ok(Tried::Whole(choice)),
+        None => {
+            let choice = settled(alloc, transition, table, list, near, choice)?;
+            Ok(Tried::Whole(choice))
+        }
         Some(row) => {
             found.push(choice)?;
             Ok(Tried::Missed(row))
@@ -207,6 +238,7 @@ fn windows<R: Threads + Sync>(
     transition: &Transition,
     table: &Table,
     list: &SiteList<'_>,
+    near: &Near,
     miss: usize,
     found: &mut Vec<Choice>,
 ) -> Result<Option<Choice>, AllocError>
@@ -221,8 +253,10 @@ fn windows<R: Threads + Sync>(
         let own = miss.saturating_add(*reach);
         let end = end_of(transition, table, from, own, failed);
         let len = end.saturating_sub(from);
-        if let Some(mended) = find(rt, alloc, transition, table, list, from, len, 0, BUDGET)? {
-            match tested(alloc, transition, table, list, mended, found)? {
+        if let Some(mended) = find(
+        rt, alloc, transition, table, list, near, from, len, 0, BUDGET,
+    )? {
+            match tested(alloc, transition, table, list, near, mended, found)? {
                 Tried::Whole(choice) => return Ok(Some(choice)),
                 Tried::Missed(row) => failed = failed.max(row),
             }
@@ -239,6 +273,7 @@ fn ask_all<R: Threads + Sync>(
     transition: &Transition,
     table: &Table,
     list: &SiteList<'_>,
+    near: &Near,
     whole: &Option<Choice>,
     budget: u32,
     found: &mut Vec<Choice>,
@@ -255,12 +290,12 @@ fn ask_all<R: Threads + Sync>(
         return Ok(());
     }
     let rows = table.inputs.len();
-    if let Some(mended) = find(rt, alloc, transition, table, list, 0, rows, below, budget)? {
+    if let Some(mended) = find(
+        rt, alloc, transition, table, list, near, 0, rows, below, budget,
+    )? {
         let Mended { choice, plain } = mended;
-        if let Some(plain) = plain {
-            if rank(list, &plain) < most {
-                found.push(plain)?;
-            }
+        if rank(list, &plain) < most && !are_same(&plain, &choice) {
+            found.push(plain)?;
         }
         if rank(list, &choice) < most {
             found.push(choice)?;
@@ -282,6 +317,7 @@ pub fn proposals<R: Threads + Sync>(
     transition: &Transition,
     table: &Table,
     list: &SiteList<'_>,
+    near: &Near,
     budget: u32,
 ) -> Result<Vec<Choice>, AllocError>
     requires bits { transition.now.choice_bits ≡ total_bits list.now }
@@ -291,11 +327,11 @@ pub fn proposals<R: Threads + Sync>(
     let Some(miss) = first_miss(alloc, transition, &[], table)? else {
         return Ok(found);
     };
-    let whole = windows(rt, alloc, transition, table, list, miss, &mut found)?;
+    let whole = windows(rt, alloc, transition, table, list, near, miss, &mut found)?;
     let rows = table.inputs.len();
     if is_small(transition, rows) {
         ask_all(
-            rt, alloc, transition, table, list, &whole, budget, &mut found,
+            rt, alloc, transition, table, list, near, &whole, budget, &mut found,
         )?;
     }
     if let Some(choice) = whole {

@@ -1,24 +1,16 @@
-//! Of several choices that mend a window a plain one: other kinds of changes are ruled out one after the other.
-//! No contract speaks of which choice that is, but that it is one of the sites.
-ghost use Rattle.std.specs.Prelude.{◌≡◌, IfOk, IfSome};
-ghost use Rattle.rr_choice.specs.Choices.{IsChoice, total_bits};
+//! The kinds of changes, from those that are furthest from the source on, and clauses that rule them out.
 
-use crate::asking::chosen;
 use rr_choice::{Choice, Pick, SiteList, form_width, guard_names, site_bits, value_width};
 use rr_cnf::{Clause, Formula, Lit};
-use rr_solver::Outcome;
 use rr_syntax::{Site, SiteKind};
 use std::alloc::{AllocError, Global};
-
-/// How many lines may be learned for one kind of changes that is ruled out.
-const BUDGET: u32 = 500;
 
 /// The greatest variable that is ruled out; no formula over a choice has as many.
 const MOST_VAR: u64 = 4_294_967_295;
 
 /// Changes that are ruled out, those that are furthest from the source first.
 #[derive(Clone, Copy, PartialEq, Eq)]
-enum Ruled {
+pub(crate) enum Ruled {
     /// Last assignments with a condition.
     ConditionalAssignments,
     /// Last assignments.
@@ -30,7 +22,7 @@ enum Ruled {
 }
 
 /// In this order each kind that is left is plainer than those before.
-const ORDER: [Ruled; 4] = [
+pub(crate) const ORDER: [Ruled; 4] = [
     Ruled::ConditionalAssignments,
     Ruled::Assignments,
     Ruled::JoinedConditions,
@@ -49,7 +41,7 @@ fn is_ruled(site: &Site, ruled: Ruled) -> Option<bool> {
 }
 
 /// Adds that a bit of a choice is false.
-fn hold_off(alloc: Global, formula: &mut Formula, place: u64) -> Result<(), AllocError> {
+pub(crate) fn hold_off(alloc: Global, formula: &mut Formula, place: u64) -> Result<(), AllocError> {
     let var = place.saturating_add(1);
     if var > MOST_VAR || var > formula.vars() {
         return Ok(());
@@ -86,7 +78,7 @@ fn rule_out_at(
 }
 
 /// Adds that no change is of the kind.
-fn rule_out(
+pub(crate) fn rule_out(
     alloc: Global,
     formula: &mut Formula,
     list: &SiteList<'_>,
@@ -110,7 +102,7 @@ fn is_picked(site: &Site, pick: &Pick, ruled: Ruled) -> bool {
 }
 
 /// Whether a choice has a change of the kind.
-fn has(list: &SiteList<'_>, choice: &Choice, ruled: Ruled) -> bool {
+pub(crate) fn has(list: &SiteList<'_>, choice: &Choice, ruled: Ruled) -> bool {
     let sites = list.sites();
     let picks = choice.picks.as_slice();
     let end = sites.len().min(picks.len());
@@ -124,42 +116,11 @@ fn has(list: &SiteList<'_>, choice: &Choice, ruled: Ruled) -> bool {
 
 /// How far from plain a choice is: 0 where it changes literals alone, up to 4 where it has a last assignment with a
 /// condition.
-pub(crate) fn rank(list: &SiteList<'_>, choice: &Choice) -> usize {
+pub fn rank(list: &SiteList<'_>, choice: &Choice) -> usize {
     for (k, ruled) in ORDER.iter().enumerate() {
         if has(list, choice, *ruled) {
             return ORDER.len() - k;
         }
     }
     0
-}
-
-/// A plainer choice that satisfies a formula than one that does, where one is found; what the formula says
-/// of the bits of a choice is added to.
-pub(crate) fn plainer(
-    alloc: Global,
-    formula: &mut Formula,
-    list: &SiteList<'_>,
-    count: u32,
-    choice: &Choice,
-) -> Result<Option<Choice>, AllocError>
-    requires bits { count ≡ total_bits list.now }
-    ensures { IfOk result (λ r. IfSome r (λ c. IsChoice list.now c.picks.items)) }
-{
-    let mut plain: Option<Choice> = None;
-    for ruled in ORDER.iter() {
-        rule_out(alloc, formula, list, *ruled)?;
-        let is_there = match &plain {
-            Some(better) => has(list, better, *ruled),
-            None => has(list, choice, *ruled),
-        };
-        if is_there {
-            match rr_free::search(alloc, formula, BUDGET)? {
-                Outcome::Model(values) => {
-                    plain = Some(chosen(alloc, list, count, values.as_slice())?);
-                }
-                _ => return Ok(plain),
-            }
-        }
-    }
-    Ok(plain)
 }

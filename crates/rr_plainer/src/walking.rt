@@ -75,7 +75,7 @@ fn next_state(
 }
 
 /// The state before a row, from the state 0 on, with all switches off.
-pub(crate) fn state_before(
+pub fn state_before(
     alloc: Global,
     transition: &Transition,
     table: &Table,
@@ -119,7 +119,7 @@ fn row_agrees(transition: &Transition, cells: &[Cell], out: &[bool]) -> bool {
 
 /// The first row of a table in which the design has not the outputs that are expected, under the choice
 /// that bits write; without bits it is the design as it is.
-pub(crate) fn first_miss(
+pub fn first_miss(
     alloc: Global,
     transition: &Transition,
     choice: &[bool],

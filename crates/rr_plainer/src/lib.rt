@@ -1,0 +1,18 @@
+//! Of several choices that mend some rows of a table a plain one: kinds of changes are ruled out, those that are
+//! furthest from the source first, values go back to those that the source has, bit by bit, and names to those
+//! that stand nearest. Each is a choice among the sites; which of them it is, no contract says, since whoever
+//! takes one tests it over the whole table. It stands on the free search of `rr_free`, and runs a design under
+//! a choice by the circuit of its cycle.
+#![tactic(auto)]
+
+mod kinds;
+mod near;
+mod nearer;
+mod plainer;
+mod walking;
+
+pub use kinds::rank;
+pub use near::{Near, distance};
+pub use nearer::nearer;
+pub use plainer::{chosen, plainer};
+pub use walking::{first_miss, state_before};
