@@ -1,5 +1,5 @@
 -- What a repair prints, read and run again.
-use Rattle.std.specs.Prelude.{◌≡◌, ℕ, List, length, Bool, Option, Ok}
+use Rattle.std.specs.Prelude.{◌≡◌, ◌≢◌, ℕ, List, [], length, Bool, Option, Ok}
 use Rattle.rr_syntax.specs.Tree.{SourceText}
 use Rattle.rr_lex.specs.Tokens.{Lexeme}
 use Rattle.rr_flat.specs.Plain.{Flat}
@@ -12,7 +12,7 @@ use Rattle.rr_cycle.specs.Cycles.{Run}
 use Rattle.rr_run.specs.Runs.{IsLawfulDesign, IsRun}
 use Rattle.rr_report.specs.Found.{Answer}
 use Rattle.rr_repair.specs.Repairs.{PlainRequest}
-use Rattle.rr_repair.specs.Outcomes.{IsMended}
+use Rattle.rr_repair.specs.Outcomes.{IsLeftOpen, IsMended}
 
 -- the bytes are a lawful design, and the text is the table of the rows with the outputs of its run on them, which equal each
 -- known cell of the table
@@ -38,4 +38,14 @@ RunsAgain = (w : PlainRequest) (design table : List ℕ) (answer : Answer) → I
 -- and each run of them is such
 abbrev pub RunAgrees : Type 0
 RunAgrees = (w : PlainRequest) (design table : List ℕ) (answer : Answer) → IsMended w design table answer → (text : List ℕ) → IsRun answer.out table w.top w.clock text →
+    RunsRight answer.out table w.top w.clock text
+
+-- The same of bytes that are printed where a repair is left open: no law and no table refuses them,
+abbrev pub FoundRunsAgain : Type 0
+FoundRunsAgain = (w : PlainRequest) (design table : List ℕ) (answer : Answer) → IsLeftOpen w design table answer → answer.out ≢ [] → (tokens : List Lexeme) (tree : SourceText) → IsText answer.out tokens tree →
+    (text : List ℕ) × RunsRight answer.out table w.top w.clock text
+
+-- and each run of them is such
+abbrev pub FoundRunAgrees : Type 0
+FoundRunAgrees = (w : PlainRequest) (design table : List ℕ) (answer : Answer) → IsLeftOpen w design table answer → answer.out ≢ [] → (text : List ℕ) → IsRun answer.out table w.top w.clock text →
     RunsRight answer.out table w.top w.clock text
