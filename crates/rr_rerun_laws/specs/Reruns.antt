@@ -1,5 +1,7 @@
 -- What a repair prints, read and run again.
 use Rattle.std.specs.Prelude.{◌≡◌, ℕ, List, length, Bool, Option, Ok}
+use Rattle.rr_directive.specs.declared.origin.Origin.{Origin}
+use Rattle.rr_directive.specs.Expand.{IsTaken}
 use Rattle.rr_syntax.specs.Tree.{SourceText}
 use Rattle.rr_lex.specs.Tokens.{Lexeme}
 use Rattle.rr_flat.specs.Plain.{Flat}
@@ -10,6 +12,7 @@ use Rattle.rr_trace.specs.Tops.{ports_of}
 use Rattle.rr_trace.specs.Written.{table_text}
 use Rattle.rr_cycle.specs.Cycles.{Run}
 use Rattle.rr_run.specs.Runs.{IsLawfulDesign, IsRun}
+use Rattle.rr_run.specs.Files.{IsFileRun}
 use Rattle.rr_report.specs.Found.{Answer}
 use Rattle.rr_repair.specs.Repairs.{PlainRequest}
 use Rattle.rr_repair.specs.Outcomes.{IsMended}
@@ -39,3 +42,15 @@ RunsAgain = (w : PlainRequest) (design table : List ℕ) (answer : Answer) → I
 abbrev pub RunAgrees : Type 0
 RunAgrees = (w : PlainRequest) (design table : List ℕ) (answer : Answer) → IsMended w design table answer → (text : List ℕ) → IsRun answer.out table w.top w.clock text →
     RunsRight answer.out table w.top w.clock text
+
+-- The command `run` expands directives. Where the printed bytes are their own expansion, as bytes without a backtick are, it gives
+-- such a run of them
+abbrev pub FileRunsAgain : Type 0
+FileRunsAgain = (w : PlainRequest) (design table : List ℕ) (answer : Answer) → IsMended w design table answer → (origins : List Origin) → IsTaken answer.out answer.out origins →
+    (tokens : List Lexeme) (tree : SourceText) → IsText answer.out tokens tree →
+    (text : List ℕ) × (IsFileRun answer.out table w.top w.clock text × RunsRight answer.out table w.top w.clock text)
+
+-- and each run of them as a file is such
+abbrev pub FileRunAgrees : Type 0
+FileRunAgrees = (w : PlainRequest) (design table : List ℕ) (answer : Answer) → IsMended w design table answer → (origins : List Origin) → IsTaken answer.out answer.out origins →
+    (text : List ℕ) → IsFileRun answer.out table w.top w.clock text → RunsRight answer.out table w.top w.clock text

@@ -1,12 +1,15 @@
 //! The law of what a repair prints, as a contract of a function that does nothing.
 ghost use Rattle.rr_rerun_laws.specs.Checks.{CheckAccepts, CheckAcceptsNone};
-ghost use Rattle.rr_rerun_laws.specs.Reruns.{RunAgrees, RunsAgain};
+ghost use Rattle.rr_rerun_laws.specs.Reruns.{FileRunAgrees, FileRunsAgain, RunAgrees, RunsAgain};
 
 /// Where a repair prints a source, and its bytes are read as a text, they have a run on the table of the
-/// repair, which agrees with each known cell; and every run of them does.
+/// repair, which agrees with each known cell; and every run of them does. So it is with the run of the bytes
+/// as a file, whose directives are expanded, where they are their own expansion.
 pub fn repair_then_run()
     ensures again { RunsAgain }
     ensures agrees { RunAgrees }
+    ensures file_again { FileRunsAgain }
+    ensures file_agrees { FileRunAgrees }
 {}
 
 /// The certificate that a repair writes, that fewer changes do not match or that none do, is accepted by a

@@ -1,4 +1,5 @@
--- Why two texts have no run: a fault of the design at one byte, a limit that is passed, or a fault of the table.
+-- Why two texts, or a file and a table, have no run: a fault of the design at one byte, a limit that is passed, or a fault of the
+-- table.
 use Rattle.std.specs.Prelude.{ℕ, ⊤, List}
 use Rattle.rr_flat.specs.declared.fault.Limit.{Limit}
 use Rattle.rr_run.specs.declared.fault.Fault.{Fault}
@@ -10,6 +11,7 @@ use Rattle.rr_run.specs.declared.fault.RunFault.TheVariants as fault
 pub data Refusal : Type 0 where
   At : Fault → ℕ → Refusal
   TooMany : Limit → ℕ → Refusal
+  Expanded : ℕ → Refusal
   NoHeader : Refusal
   UnknownColumn : ℕ → Refusal
   ColumnTwice : ℕ → Refusal
@@ -23,6 +25,7 @@ pub data Refusal : Type 0 where
 abbrev pub plain_refusal : RustRefusal → Refusal
 plain_refusal (refusal.At what at) = At what at
 plain_refusal (refusal.TooMany limit count) = TooMany limit count
+plain_refusal (refusal.Expanded count) = Expanded count
 plain_refusal refusal.NoHeader = NoHeader
 plain_refusal (refusal.UnknownColumn column) = UnknownColumn column
 plain_refusal (refusal.ColumnTwice column) = ColumnTwice column

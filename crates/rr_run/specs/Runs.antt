@@ -21,7 +21,7 @@ use Rattle.rr_trace.specs.declared.fault.TableFault.TheVariants as table
 use Rattle.rr_cycle.specs.Cycles.{Run}
 use Rattle.rr_run.specs.declared.fault.Fault.{Fault}
 use Rattle.rr_run.specs.declared.fault.Fault.TheVariants as fault
-use Rattle.rr_run.specs.Refusals.{Refusal, At, TooMany, NoHeader, UnknownColumn, ColumnTwice, MissingInput, RowLength, BadCell, CellTooLarge, NotUtf8}
+use Rattle.rr_run.specs.Refusals.{Refusal, At, TooMany, Expanded, NoHeader, UnknownColumn, ColumnTwice, MissingInput, RowLength, BadCell, CellTooLarge, NotUtf8}
 
 -- an order of the steps of a design that is lawful with this word
 abbrev pub InOrder : Design → Order → Option Text → Type 0
@@ -77,7 +77,7 @@ pub record IsBroken (bytes : List ℕ) (top word : Option Text) (what : Fault) (
 
 -- What is wrong with a design first, and at which byte: the first fault of its bytes, its first word without a rule, that
 -- it has no tree, the first fault of its elaboration, or the first law that it breaks. Which byte is told of a text
--- without a tree is not said.
+-- without a tree is not said. No text has a fault of directives that are expanded: those are of files.
 abbrev pub IsAt : List ℕ → Option Text → Option Text → Fault → ℕ → Type 0
 IsAt bytes top word fault.BadByte at = IsFirstFault bytes wrong.Byte at
 IsAt bytes top word fault.BadNumber at = IsFirstFault bytes wrong.Number at
@@ -103,11 +103,15 @@ IsAt bytes top word fault.ClockUse at = IsBroken bytes top word fault.ClockUse a
 IsAt bytes top word fault.TwoClocks at = IsBroken bytes top word fault.TwoClocks at
 IsAt bytes top word fault.BadTarget at = IsBroken bytes top word fault.BadTarget at
 IsAt bytes top word fault.WildLabel at = IsBroken bytes top word fault.WildLabel at
+IsAt bytes top word fault.UnknownMacro at = ⊥
+IsAt bytes top word fault.BadDirective at = ⊥
+IsAt bytes top word fault.MacroLoop at = ⊥
 
 -- why a text has no lawful design
 abbrev pub RefusesDesign : List ℕ → Option Text → Option Text → Refusal → Type 0
 RefusesDesign bytes top word (At what at) = IsAt bytes top word what at
 RefusesDesign bytes top word (TooMany limit count) = IsFlawed bytes top (flat.TooMany limit count)
+RefusesDesign bytes top word (Expanded count) = ⊥
 RefusesDesign bytes top word NoHeader = ⊥
 RefusesDesign bytes top word (UnknownColumn column) = ⊥
 RefusesDesign bytes top word (ColumnTwice column) = ⊥
@@ -121,6 +125,7 @@ RefusesDesign bytes top word NotUtf8 = ⊥
 abbrev pub RefusesTable : Flat → Option ℕ → List ℕ → Refusal → Type 0
 RefusesTable flat clock bytes (At what at) = ⊥
 RefusesTable flat clock bytes (TooMany limit count) = table_of (ports_of flat clock) bytes ≡ Err (table.TooMany limit count)
+RefusesTable flat clock bytes (Expanded count) = ⊥
 RefusesTable flat clock bytes NoHeader = table_of (ports_of flat clock) bytes ≡ Err table.NoHeader
 RefusesTable flat clock bytes (UnknownColumn column) = table_of (ports_of flat clock) bytes ≡ Err (table.UnknownColumn column)
 RefusesTable flat clock bytes (ColumnTwice column) = table_of (ports_of flat clock) bytes ≡ Err (table.ColumnTwice column)

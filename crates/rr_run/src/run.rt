@@ -7,10 +7,12 @@ ghost use Rattle.rr_trace.specs.Tables.{table_of};
 ghost use Rattle.rr_trace.specs.Tops.{ports_of};
 ghost use Rattle.rr_trace.specs.View.{plain_table};
 ghost use Rattle.rr_run.specs.Refusals.{StopsWhere};
+ghost use Rattle.rr_run.specs.Files.{IsFileRun, RefusesFile};
 ghost use Rattle.rr_run.specs.Runs.{GivesText, InOrder, IsLawfulDesign, IsRun, Refuses, RefusesTable};
 
-use crate::design::{LawfulDesign, lawful_design};
+use crate::design::LawfulDesign;
 use crate::fault::RunFault;
+use crate::file::file_design;
 use crate::refused::of_table;
 use bumpalo::Bump;
 use rr_meaning::run_table;
@@ -70,8 +72,10 @@ fn run_on<'a>(
     }
 }
 
-/// The table with the outputs as they are: the run of the design on its rows, from the state 0; or the
-/// first refusal, of the design and then of the table (33, 26 to 32 and 16).
+/// The table with the outputs as they are: the run on its rows, from the state 0, of the design that the
+/// file expands to; or the first refusal, of the directives (38 to 40 and 16), then of the expanded design
+/// (1 to 25), with each byte of it told at its place in the file, and then of the table (33, 26 to 32 and
+/// 16).
 pub fn run_files<'a>(
     alloc: Global,
     design: &[u8],
@@ -82,10 +86,10 @@ pub fn run_files<'a>(
 ) -> Result<Vec<u8>, RunFault<'a>>
     requires { length design.now ≤ 1048576 }
     ensures { MatchResult result
-        (λ text. IsRun design.now table.now (option_map (λ n. n.now) top.entry) (option_map (λ w. w.now) clock.entry) text.items)
-        (StopsWhere (Refuses design.now table.now (option_map (λ n. n.now) top.entry) (option_map (λ w. w.now) clock.entry))) }
+        (λ text. IsFileRun design.now table.now (option_map (λ n. n.now) top.entry) (option_map (λ w. w.now) clock.entry) text.items)
+        (StopsWhere (RefusesFile design.now table.now (option_map (λ n. n.now) top.entry) (option_map (λ w. w.now) clock.entry))) }
 {
-    match lawful_design(alloc, design, top, clock, arena) {
+    match file_design(alloc, design, top, clock, arena) {
         Err(fault) => Err(fault),
         Ok(design) => run_on(alloc, &design, table),
     }

@@ -3,7 +3,8 @@ use Rattle.std.specs.Prelude.{◌≡◌, ◌⊎◌, ⊤, ℕ, ◌≤◌, List, [
 use Rattle.rr_edge.specs.Held.{Held}
 use Rattle.rr_words.specs.Plan.{Plan, repair, run, sites, check, make}
 use Rattle.rr_run.specs.Refusals.{Refusal as RunRefusal}
-use Rattle.rr_run.specs.Runs.{IsRun, IsSameRefusal as IsSameRunRefusal, Refuses as RefusesRun}
+use Rattle.rr_run.specs.Files.{IsFileRun, RefusesFile}
+use Rattle.rr_run.specs.Runs.{IsSameRefusal as IsSameRunRefusal}
 use Rattle.rr_sites.specs.Lists.{IsSiteText, RefusesSites}
 use Rattle.rr_certify.specs.Certificates.{FlawIs, IsJudged}
 use Rattle.rr_certify.specs.Texts.{verdict_text}
@@ -58,23 +59,23 @@ repair_command design_name table_name w = record {
 }
 
 -- ---- `run`: the same files
--- the answer: the table of the rows with the outputs of the design's run, and nothing to report
+-- the answer: the table of the rows with the outputs of the run of the design that the file expands to, and nothing to report
 pub record AnswersRun (top clock : Option (List ℕ)) (design table : List ℕ) (answer : Answer) : Type 0 where
-  pub ran : IsRun design table top clock answer.out
+  pub ran : IsFileRun design table top clock answer.out
   pub files : answer.files ≡ []
   pub notes : answer.notes ≡ []
   pub status : answer.status ≡ 0
 
--- the refusal; every lawful design is taken
+-- the refusal: of the directives, the expanded design or the table; every lawful design is taken
 abbrev pub RefusesTexts : Option (List ℕ) → Option (List ℕ) → List ℕ → List ℕ → Refusal → Type 0
 RefusesTexts top word design table (TooManyBytes count) = ⊥
-RefusesTexts top word design table (Input refusal) = RefusesRun design table top word refusal
+RefusesTexts top word design table (Input refusal) = RefusesFile design table top word refusal
 RefusesTexts top word design table (Flawed flaw line) = ⊥
 
 abbrev pub ComesToRun : Option (List ℕ) → Option (List ℕ) → List ℕ → List ℕ → Outcome → Type 0
 ComesToRun top clock design table mended = ⊥
 ComesToRun top clock design table unmendable = ⊥
-ComesToRun top clock design table (ran text) = IsRun design table top clock text
+ComesToRun top clock design table (ran text) = IsFileRun design table top clock text
 ComesToRun top clock design table (listed text) = ⊥
 ComesToRun top clock design table (checked verdict) = ⊥
 ComesToRun top clock design table (made text) = ⊥

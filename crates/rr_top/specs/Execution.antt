@@ -8,7 +8,7 @@ use Rattle.rr_words.specs.Plan.{Plan, repair, check, command_of}
 use Rattle.rr_words.specs.Usage.{usage_text}
 use Rattle.rr_run.specs.declared.fault.Fault.TheVariants.{Syntax}
 use Rattle.rr_run.specs.Refusals.{At}
-use Rattle.rr_run.specs.Runs.{IsRun}
+use Rattle.rr_run.specs.Files.{IsFileRun}
 use Rattle.rr_sites.specs.Lists.{IsSiteText}
 use Rattle.rr_check.specs.declared.verdict.Verdict.{Verdict}
 use Rattle.rr_check.specs.declared.verdict.Verdict.TheVariants as found
@@ -124,13 +124,13 @@ pub record IsRejected (r : Execution) (circuit_name proof_name : List ℕ) : Typ
   pub shelf : KeepsShelf r.before r.after
 
 -- Status 0 of `run`: both files were read, and the output has grown by exactly the table of the rows with the outputs of
--- the design's one run.
+-- the one run of the design that the file expands to.
 pub record IsSimulated (r : Execution) (design_name table_name : List ℕ) (top clock : Option (List ℕ)) : Type 0 where
   pub design : List ℕ
   pub table : List ℕ
   pub given : BothGiven r.before.held design_name table_name design table
   pub text : List ℕ
-  pub ran : IsRun design table top clock text
+  pub ran : IsFileRun design table top clock text
   pub printed : Appends r.before.out r.after.out text
   pub reported : Appends r.notes_before r.notes_after []
   pub shelf : KeepsShelf r.before r.after
