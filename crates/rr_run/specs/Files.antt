@@ -11,6 +11,7 @@ use Rattle.rr_flat.specs.Plain.{Flat}
 use Rattle.rr_run.specs.declared.fault.Fault.{Fault}
 use Rattle.rr_run.specs.declared.fault.Fault.TheVariants as fault
 use Rattle.rr_run.specs.Refusals.{Refusal, At, Expanded}
+use Rattle.rr_run.specs.declared.rows.TableKind.{TableKind}
 use Rattle.rr_run.specs.Runs.{HasNoTable, IsLawfulDesign, IsRun, RefusesDesign}
 
 -- the place in the file of a byte of its expansion; of the end of the expansion, the length of the file
@@ -55,20 +56,20 @@ pub record HasNoDesign (file : List ℕ) (top word : Option Text) (refusal : Ref
 abbrev pub RefusesFileDesign : List ℕ → Option Text → Option Text → Refusal → Type 0
 RefusesFileDesign file top word refusal = RefusesExpansion file refusal ⊎ HasNoDesign file top word refusal
 
--- the file expands to a text, whose run on the table gives this
-pub record IsFileRun (file table : List ℕ) (top word : Option Text) (printed : List ℕ) : Type 0 where
+-- the file expands to a text, whose run on the table of this kind gives this
+pub record IsFileRun (kind : TableKind) (file table : List ℕ) (top word : Option Text) (printed : List ℕ) : Type 0 where
   pub text : List ℕ
   pub origins : List Origin
   pub expansion : IsTaken file text origins
-  pub run : IsRun text table top word printed
+  pub run : IsRun kind text table top word printed
 
--- the file expands to a text, whose design is lawful; the table is none for its ports, for this reason
-pub record HasNoFileTable (file table : List ℕ) (top word : Option Text) (refusal : Refusal) : Type 0 where
+-- the file expands to a text, whose design is lawful; the table of this kind is none for its ports, for this reason
+pub record HasNoFileTable (kind : TableKind) (file table : List ℕ) (top word : Option Text) (refusal : Refusal) : Type 0 where
   pub text : List ℕ
   pub origins : List Origin
   pub expansion : IsTaken file text origins
-  pub refused : HasNoTable text table top word refusal
+  pub refused : HasNoTable kind text table top word refusal
 
 -- why a file and a table have no run: of the directives first, then of the design, then of the table
-abbrev pub RefusesFile : List ℕ → List ℕ → Option Text → Option Text → Refusal → Type 0
-RefusesFile file table top word refusal = RefusesFileDesign file top word refusal ⊎ HasNoFileTable file table top word refusal
+abbrev pub RefusesFile : TableKind → List ℕ → List ℕ → Option Text → Option Text → Refusal → Type 0
+RefusesFile kind file table top word refusal = RefusesFileDesign file top word refusal ⊎ HasNoFileTable kind file table top word refusal

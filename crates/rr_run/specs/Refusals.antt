@@ -20,6 +20,8 @@ pub data Refusal : Type 0 where
   BadCell : ℕ → ℕ → Refusal
   CellTooLarge : ℕ → ℕ → Refusal
   NotUtf8 : Refusal
+  BadVcd : ℕ → Refusal
+  NoScope : Refusal
 
 -- the bytes of the input's name in the place of the text
 abbrev pub plain_refusal : RustRefusal → Refusal
@@ -34,6 +36,8 @@ plain_refusal (refusal.RowLength row) = RowLength row
 plain_refusal (refusal.BadCell row column) = BadCell row column
 plain_refusal (refusal.CellTooLarge row column) = CellTooLarge row column
 plain_refusal refusal.NotUtf8 = NotUtf8
+plain_refusal (refusal.BadVcd line) = BadVcd line
+plain_refusal refusal.NoScope = NoScope
 
 -- a refusal that holds, or want of memory, which is free
 abbrev pub StopsWhere : (Refusal → Type 0) → RunFault → Type 0

@@ -126,6 +126,10 @@ pub enum Refusal<'a> {
     CellTooLarge { row: u32, column: u32 },
     /// The table's bytes are not UTF-8 (33).
     NotUtf8,
+    /// The text of a dump breaks its form at this line, counted from 1 (41).
+    BadVcd(u64),
+    /// No scope of a dump has every input of the top (42).
+    NoScope,
 }
 
 /// What is counted against a limit.
@@ -176,6 +180,8 @@ impl fmt::Display for Refusal<'_> {
                 write!(f, "32 CellTooLarge row {row} column {column}")
             }
             Refusal::NotUtf8 => write!(f, "33 NotUtf8"),
+            Refusal::BadVcd(line) => write!(f, "41 BadVcd line {line}"),
+            Refusal::NoScope => write!(f, "42 NoScope"),
         }
     }
 }
