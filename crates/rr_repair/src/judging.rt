@@ -213,7 +213,6 @@ fn judge_table<'b, 'a, R: Threads + Sync>(
     requires some { 1 ≤ request.now.members }
     requires most { request.now.members ≤ 8 }
     requires budget { 1 ≤ request.now.budget }
-    requires input { IsClockInput (plain_flat design.now.flat) design.now.order.clock }
     requires fits { FitsArguments (design_of (plain_request request.now) (plain_source design.now.source.now)) (plain_flat design.now.flat) design.now.order.clock design.now.order.rising design.now.order.steps.items list.now }
     ensures { IsSited (plain_request request.now) bytes.entry.now (lexemes design.now.tokens.now) (plain_source design.now.source.now) (plain_flat design.now.flat) design.now.order.clock design.now.order.rising list.now
         → MatchResult result (λ c. CountsRepair (plain_request request.now) bytes.entry.now table.now (plain_answer c.found) c.changes) (StopsWhere (RefusesRepair (plain_request request.now) bytes.entry.now table.now)) }

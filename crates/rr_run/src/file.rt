@@ -4,7 +4,6 @@ ghost use Rattle.rr_directive.specs.Expand.{Faults, IsTaken};
 ghost use Rattle.rr_lex.specs.Tokens.{lexemes};
 ghost use Rattle.rr_flat.specs.Elaborated.{IsSound};
 ghost use Rattle.rr_flat.specs.View.{plain_flat};
-ghost use Rattle.rr_clock.specs.Clock.{IsClockInput};
 ghost use Rattle.rr_run.specs.Files.{IsFileDesign, RefusesExpansion, RefusesFileDesign, place as place_in, placed as placed_in, told_at as told_in};
 ghost use Rattle.rr_run.specs.Refusals.{StopsWhere, plain_refusal};
 ghost use Rattle.rr_run.specs.Runs.{InOrder, RefusesDesign};
@@ -89,7 +88,6 @@ pub fn file_design<'a>(
         (StopsWhere (RefusesFileDesign bytes.now (option_map (λ n. n.now) top.entry) (option_map (λ w. w.now) clock.entry))) }
     ensures ordered { IfOk result (λ d. InOrder d.flat d.order (option_map (λ w. w.now) clock.entry)) }
     ensures sound { IfOk result (λ d. IsSound (plain_flat d.flat)) }
-    ensures input { IfOk result (λ d. IsClockInput (plain_flat d.flat) d.order.clock) }
 {
     let expanded = match expand(alloc, bytes) {
         Ok(expanded) => expanded,

@@ -1,7 +1,6 @@
 //! The rows of tables.
 ghost use Rattle.std.specs.Prelude.{◌≡◌, Ok, MatchResult};
 ghost use Rattle.rr_flat.specs.View.{plain_flat};
-ghost use Rattle.rr_clock.specs.Clock.{IsClockInput};
 ghost use Rattle.rr_trace.specs.Tables.{table_of};
 ghost use Rattle.rr_trace.specs.Tops.{ports_of};
 ghost use Rattle.rr_trace.specs.View.{plain_table};
@@ -47,7 +46,6 @@ fn read_dump<'a>(
     design: &LawfulDesign<'a>,
     table: &[u8],
 ) -> Result<Table, RunFault<'a>>
-    requires { IsClockInput (plain_flat design.now.flat) design.now.order.clock }
     ensures { MatchResult result
         (λ rows. IsSampled (plain_flat design.now.flat) design.now.order.clock design.now.order.rising table.now (plain_table rows))
         (StopsWhere (RefusesDump (plain_flat design.now.flat) design.now.order.clock design.now.order.rising table.now)) }
@@ -58,15 +56,14 @@ fn read_dump<'a>(
     }
 }
 
-/// The rows of a table of this kind for a lawful design, whose clock is one of its inputs; or the first
-/// fault of the table: of comma-separated values 33, 26 to 32 and 16, of a dump 41, 42 and 16.
+/// The rows of a table of this kind for a lawful design, or the first fault of the table: of comma-separated
+/// values 33, 26 to 32 and 16, of a dump 41, 42 and 16.
 pub fn read_rows<'a>(
     alloc: Global,
     design: &LawfulDesign<'a>,
     kind: TableKind,
     table: &[u8],
 ) -> Result<Table, RunFault<'a>>
-    requires { IsClockInput (plain_flat design.now.flat) design.now.order.clock }
     ensures { MatchResult result
         (λ rows. ReadsTable kind (plain_flat design.now.flat) design.now.order.clock design.now.order.rising table.now (plain_table rows))
         (StopsWhere (RefusesTable kind (plain_flat design.now.flat) design.now.order.clock design.now.order.rising table.now)) }

@@ -3,7 +3,6 @@ ghost use Rattle.std.specs.Prelude.{◌≤◌, ℕ, List, Option, IfOk, MatchRes
 ghost use Rattle.rr_lex.specs.Tokens.{lexemes};
 ghost use Rattle.rr_flat.specs.View.{plain_flat};
 ghost use Rattle.rr_flat.specs.Elaborated.{IsSound};
-ghost use Rattle.rr_clock.specs.Clock.{IsClockInput};
 ghost use Rattle.rr_trace.specs.View.{plain_table};
 ghost use Rattle.rr_run.specs.Refusals.{StopsWhere};
 ghost use Rattle.rr_run.specs.Files.{IsFileRun, RefusesFile};
@@ -45,7 +44,6 @@ fn run_on<'a>(
 ) -> Result<Vec<u8>, RunFault<'a>>
     requires sound { IsSound (plain_flat design.now.flat) }
     requires ordered { (word : Option (List ℕ)) × InOrder design.now.flat design.now.order word }
-    requires input { IsClockInput (plain_flat design.now.flat) design.now.order.clock }
     ensures { (bytes : List ℕ) (top word : Option (List ℕ)) → IsLawfulDesign bytes top word (lexemes design.now.tokens.now) (plain_flat design.now.flat) design.now.order.clock design.now.order.rising
         → MatchResult result (λ text. IsRun kind bytes table.now top word text.items) (StopsWhere (Refuses kind bytes table.now top word)) }
 {
