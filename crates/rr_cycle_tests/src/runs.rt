@@ -1,6 +1,6 @@
 //! Lawful designs, runs of small ones on tables, and the first refusal where there is none, by its text.
 use bumpalo::Bump;
-use rr_run::{Fault, LawfulDesign, Limit, Refusal, RunFault, lawful_design, read_rows, run_files};
+use rr_run::{Fault, LawfulDesign, Limit, Refusal, RunFault, TableKind, lawful_design, read_rows, run_files};
 use std::alloc::{AllocError, Global};
 use std::test::Fail;
 
@@ -90,7 +90,7 @@ fn is_no_clock(alloc: Global, design: &str, word: &str, byte: u32) -> bool {
 fn rows_of(alloc: Global, design: &str, word: &str, table: &[u8]) -> Option<usize> {
     let arena = Bump::new(alloc);
     match design_of(alloc, design, None, Some(word), &arena) {
-        Ok(design) => match read_rows(alloc, &design, table) {
+        Ok(design) => match read_rows(alloc, &design, TableKind::Csv, table) {
             Ok(rows) => Some(rows.inputs.len()),
             Err(_) => None,
         },

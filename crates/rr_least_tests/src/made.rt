@@ -10,7 +10,7 @@ use rr_blast::{row_bits, transition};
 use rr_choice::{Choice, SiteList};
 use rr_made::made;
 use rr_registers::register_bits;
-use rr_run::{LawfulDesign, lawful_design, read_rows};
+use rr_run::{LawfulDesign, TableKind, lawful_design, read_rows};
 use rr_search::{Answer, Job, least};
 use rr_sites::design_sites;
 use rr_trace::Table;
@@ -90,7 +90,7 @@ fn changes_of<R: Threads + Sync>(rt: &R, alloc: Global, seed: u64) -> Result<Opt
     if list.sites().len() > 1024 {
         return Err(Fail::from("too many sites"));
     }
-    let Ok(rows) = read_rows(alloc, &design, input.table.as_slice()) else {
+    let Ok(rows) = read_rows(alloc, &design, TableKind::Csv, input.table.as_slice()) else {
         return Err(Fail::from("no rows"));
     };
     Ok(fewest(rt, alloc, &design, &list, &rows)?)
@@ -152,7 +152,7 @@ fn proposes<R: Threads + Sync>(rt: &R, alloc: Global) -> Result<bool, Fail> {
     if list.sites().len() > 1024 {
         return Err(Fail::from("too many sites"));
     }
-    let Ok(rows) = read_rows(alloc, &design, COUNTER_TABLE.as_bytes()) else {
+    let Ok(rows) = read_rows(alloc, &design, TableKind::Csv, COUNTER_TABLE.as_bytes()) else {
         return Err(Fail::from("no rows"));
     };
     Ok(proposes_last(rt, alloc, &design, &list, &rows)?)

@@ -2,14 +2,15 @@
 -- summary, or that no changes do; and what an answer tells of it. No search stands in it.
 use Rattle.std.specs.Prelude.{◌≡◌, ◌⊎◌, ℕ, List, [], ◌++◌, None, codes, decimal}
 use Rattle.rr_made.specs.Made.{made_design, made_table}
+use Rattle.rr_run.specs.declared.rows.TableKind.TheVariants.{Csv}
 use Rattle.rr_report.specs.Found.{Answer}
 use Rattle.rr_report.specs.Refusals.{Refusal}
 use Rattle.rr_repair.specs.Repairs.{IsLeastCount, RefusesRepair, PlainRequest}
 use Rattle.rr_repair.specs.Outcomes.{IsDespaired, IsLeftOpen, IsMended, IsUnmendable}
 
--- what is asked: the top and the clock that the design tells, and 4 members of 20,000 lines
+-- what is asked: a table of comma-separated values, the top and the clock that the design tells, and 4 members of 20,000 lines
 abbrev pub made_request : List ℕ → PlainRequest
-made_request cert = record { top = None; clock = None; cert = cert; budget = 20000; members = 4 }
+made_request cert = record { kind = Csv; top = None; clock = None; cert = cert; budget = 20000; members = 4 }
 
 -- the summary of so many changes, each line ended by LF
 abbrev pub summary : ℕ → ℕ → List ℕ

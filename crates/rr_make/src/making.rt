@@ -9,6 +9,7 @@ use bumpalo::Bump;
 use rr_made::{Input, made};
 use rr_repair::{Counted, Request, repair_counted};
 use rr_report::{Found, Piece, Stop, Text};
+use rr_run::TableKind;
 use std::alloc::{AllocError, Global};
 use std::thread::Threads;
 
@@ -75,6 +76,7 @@ fn repaired<'b, 'a, R: Threads + Sync>(
     ensures { MatchResult result (λ found. AnswersMake seed cert.now (plain_answer found)) (StopsWhere (RefusesMake seed cert.now)) }
 {
     let request = Request {
+        kind: TableKind::Csv,
         top: None,
         clock: None,
         cert,

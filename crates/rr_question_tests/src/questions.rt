@@ -12,7 +12,7 @@ use crate::instances::{bits_of, instance_text, transition_of};
 use bumpalo::Bump;
 use rr_choice::SiteList;
 use rr_circuit::Circuit;
-use rr_run::{LawfulDesign, lawful_design, read_rows, run_files};
+use rr_run::{LawfulDesign, TableKind, lawful_design, read_rows, run_files};
 use rr_sites::design_sites;
 use rr_trace::{Cell, Table};
 use rr_transition::Transition;
@@ -50,10 +50,10 @@ fn outputs_of(
         return Ok(None);
     }
     let arena = Bump::new(alloc);
-    let Ok(run) = run_files(alloc, text, table.as_bytes(), None, None, &arena) else {
+    let Ok(run) = run_files(alloc, text, TableKind::Csv, table.as_bytes(), None, None, &arena) else {
         return Ok(None);
     };
-    match read_rows(alloc, design, run.as_slice()) {
+    match read_rows(alloc, design, TableKind::Csv, run.as_slice()) {
         Ok(outputs) => Ok(Some(outputs)),
         Err(_) => Ok(None),
     }
@@ -181,7 +181,7 @@ fn agrees<R: Threads + Sync>(
     let Some(cycle) = transition_of(alloc, &design, &list)? else {
         return Err(Fail::from("no transition"));
     };
-    let Ok(rows) = read_rows(alloc, &design, table.as_bytes()) else {
+    let Ok(rows) = read_rows(alloc, &design, TableKind::Csv, table.as_bytes()) else {
         return Err(Fail::from("no rows"));
     };
     let circuits = questions(rt, alloc, &cycle, &rows, bounds)?;

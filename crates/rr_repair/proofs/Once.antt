@@ -1,5 +1,5 @@
 -- What two files decide for a repair, they decide once.
-use Rattle.std.proofs.Common.{◌≡◌, ◌∙◌, inl, inr, ℕ, ◌<◌, ◌^◌, ◌+◌, List, [], ◌∷◌, false, cond, refl, sym, ap, subst, arith, Option, Ok, Err}
+use Rattle.std.proofs.Common.{◌≡◌, ◌∙◌, inl, inr, ℕ, ◌<◌, ◌^◌, ◌+◌, List, [], ◌∷◌, Bool, false, cond, refl, sym, ap, subst, arith, Option}
 use Rattle.std.proofs.lemmas.List.Sums.{sum_by-cons}
 use Rattle.std.proofs.Math.Pow.{ones_lt}
 use Rattle.rr_syntax.specs.Tree.{SourceText}
@@ -11,13 +11,13 @@ use Rattle.rr_choice.specs.declared.pick.Pick.{Pick}
 use Rattle.rr_choice.specs.Choices.{cost, IsChoice}
 use Rattle.rr_choice.specs.Sites.{Site, value_width}
 use Rattle.rr_instance_laws.proofs.OffLaws.{keeps_at_no_cost}
-use Rattle.rr_trace.specs.Tables.{Table, table_of}
-use Rattle.rr_trace.specs.Tops.{ports_of}
+use Rattle.rr_trace.specs.Tables.{Table}
 use Rattle.rr_transition.specs.Cycles.{Design, instance_design}
 use Rattle.rr_unroll.specs.Matches.{Matches}
 use Rattle.rr_run.specs.Refusals.{Refusal as RunRefusal, TooMany}
-use Rattle.rr_run.specs.Runs.{HasNoTable as HasNoRows, IsLawfulDesign, IsSameRefusal, RefusesTable}
-use Rattle.rr_run.proofs.Causes.{table_cause}
+use Rattle.rr_run.specs.Rows.{ReadsTable, RefusesTable}
+use Rattle.rr_run.specs.Runs.{HasNoTable as HasNoRows, IsLawfulDesign, IsSameRefusal}
+use Rattle.rr_run.proofs.Reading.{moved_reading, one_reading, read_or_refused}
 use Rattle.rr_run.proofs.Once.{one_lawful, one_refused}
 use Rattle.rr_sites.specs.Lines.{site_lines}
 use Rattle.rr_sites.specs.Lists.{HasSites, RefusesSites}
@@ -27,60 +27,53 @@ use Rattle.rr_repair.specs.Laws.{IsOneTaking, OneTaking, OneRefusal, TakenOrRefu
 
 module _ (w : PlainRequest) (design : List ℕ) where
   -- ---- a design with its sites
-  lawful_of : {ts : List Lexeme} {a : SourceText} {flat : Flat} {clock : Option ℕ} {ss : List Site} (s : IsSited w design ts a flat clock ss) → IsLawfulDesign design w.top w.clock ts flat clock s.rising
-  lawful_of {ts} {a} {flat} {clock} {ss} s = record { design = record { tree = a; text = s.tree.text; flat = s.tree.flat }; lawful = s.lawful; one_clock = s.one_clock }
+  lawful_of : {ts : List Lexeme} {a : SourceText} {flat : Flat} {clock : Option ℕ} {rising : Bool} {ss : List Site} → IsSited w design ts a flat clock rising ss → IsLawfulDesign design w.top w.clock ts flat clock rising
+  lawful_of {ts} {a} {flat} {clock} {rising} {ss} s = record { design = record { tree = a; text = s.tree.text; flat = s.tree.flat }; lawful = s.lawful; one_clock = s.one_clock }
 
-  sites_of_it : {ts : List Lexeme} {a : SourceText} {flat : Flat} {clock : Option ℕ} {ss : List Site} → IsSited w design ts a flat clock ss → HasSites design w.top w.clock ts ss
-  sites_of_it {ts} {a} {flat} {clock} {ss} s = record { source = a; flat = flat; clock = clock; rising = s.rising; design = s.tree; lawful = s.lawful; one_clock = s.one_clock; are = s.are }
+  sites_of_it : {ts : List Lexeme} {a : SourceText} {flat : Flat} {clock : Option ℕ} {rising : Bool} {ss : List Site} → IsSited w design ts a flat clock rising ss → HasSites design w.top w.clock ts ss
+  sites_of_it {ts} {a} {flat} {clock} {rising} {ss} s = record { source = a; flat = flat; clock = clock; rising = rising; design = s.tree; lawful = s.lawful; one_clock = s.one_clock; are = s.are }
 
-  record IsOneSited (ts us : List Lexeme) (a b : SourceText) (f g : Flat) (c d : Option ℕ) (ss rs : List Site) : Type 0 where
+  record IsOneSited (ts us : List Lexeme) (a b : SourceText) (f g : Flat) (c d : Option ℕ) (r s : Bool) (ss rs : List Site) : Type 0 where
     tokens : ts ≡ us
     source : a ≡ b
     flat : f ≡ g
     clock : c ≡ d
+    rising : r ≡ s
     sites : ss ≡ rs
 
-  one_sited : {ts us : List Lexeme} {a b : SourceText} {f g : Flat} {c d : Option ℕ} {ss rs : List Site} → IsSited w design ts a f c ss → IsSited w design us b g d rs → IsOneSited ts us a b f g c d ss rs
-  one_sited {ts} {us} {a} {b} {f} {g} {c} {d} {ss} {rs} p q =
+  one_sited : {ts us : List Lexeme} {a b : SourceText} {f g : Flat} {c d : Option ℕ} {r s : Bool} {ss rs : List Site} → IsSited w design ts a f c r ss → IsSited w design us b g d s rs → IsOneSited ts us a b f g c d r s ss rs
+  one_sited {ts} {us} {a} {b} {f} {g} {c} {d} {r} {s} {ss} {rs} p q =
       let lists = one_list design w.top w.clock ts us ss rs (sites_of_it p) (sites_of_it q) in
       let trees = one_tree design ts us a b p.tree.text q.tree.text in
-      let lawful = one_lawful design w.top w.clock ts us f g c d p.rising q.rising (lawful_of p) (lawful_of q) in
-      record { tokens = lists.0; source = trees.1; flat = lawful.1.0; clock = lawful.1.1.0; sites = lists.1 }
+      let lawful = one_lawful design w.top w.clock ts us f g c d r s (lawful_of p) (lawful_of q) in
+      record { tokens = lists.0; source = trees.1; flat = lawful.1.0; clock = lawful.1.1.0; rising = lawful.1.1.1; sites = lists.1 }
 
-  not_refused : {ts : List Lexeme} {a : SourceText} {flat : Flat} {clock : Option ℕ} {ss : List Site} (r : RunRefusal) → IsSited w design ts a flat clock ss → RefusesSites design w.top w.clock r → ⊥
-  not_refused {ts} {a} {flat} {clock} {ss} r s refuses =
+  not_refused : {ts : List Lexeme} {a : SourceText} {flat : Flat} {clock : Option ℕ} {rising : Bool} {ss : List Site} (r : RunRefusal) → IsSited w design ts a flat clock rising ss → RefusesSites design w.top w.clock r → ⊥
+  not_refused {ts} {a} {flat} {clock} {rising} {ss} r s refuses =
       text_or_refusal design w.top w.clock (site_lines ts 0 ss) r (record { tokens = ts; sites = ss; has = sites_of_it s; told = (s.few, refl) }) refuses
 
   -- ---- its table
   module _ (table : List ℕ) where
-    same_rows : {f g : Flat} {c d : Option ℕ} → f ≡ g → c ≡ d → table_of (ports_of f c) table ≡ table_of (ports_of g d) table
-    same_rows {f} {g} {c} {d} p q = cc
+    one_rows : {f g : Flat} {c d : Option ℕ} {r s : Bool} {x y : Table} → f ≡ g → c ≡ d → r ≡ s → ReadsTable w.kind f c r table x → ReadsTable w.kind g d s table y → x ≡ y
+    one_rows {f} {g} {c} {d} {r} {s} {x} {y} p q e a b = one_reading w.kind g d s table x y (moved_reading w.kind table x p q e a) b
 
-    one_rows : {f g : Flat} {c d : Option ℕ} {x y : Table} → f ≡ g → c ≡ d → table_of (ports_of f c) table ≡ Ok x → table_of (ports_of g d) table ≡ Ok y → x ≡ y
-    one_rows {f} {g} {c} {d} {x} {y} p q a b =
-        let reads : Ok x ≡ Ok y = sym a ∙ (same_rows p q ∙ b) in
-        cc
-
-    no_rows : {f g : Flat} {c d : Option ℕ} {x : Table} {X : Type 0} (r : RunRefusal) → f ≡ g → c ≡ d → table_of (ports_of f c) table ≡ Ok x → RefusesTable g d table r → X
-    no_rows {f} {g} {c} {d} {x} r p q a refuses =
-        let cause = table_cause g d table r refuses in
-        let reads : Ok x ≡ Err cause.0 = sym a ∙ (same_rows p q ∙ cause.1.0) in
-        absurd (cc)
+    no_rows : {f g : Flat} {c d : Option ℕ} {r s : Bool} {x : Table} {X : Type 0} (refusal : RunRefusal) → f ≡ g → c ≡ d → r ≡ s → ReadsTable w.kind f c r table x → RefusesTable w.kind g d s table refusal → X
+    no_rows {f} {g} {c} {d} {r} {s} {x} refusal p q e a refuses = absurd (read_or_refused w.kind g d s table x refusal (moved_reading w.kind table x p q e a) refuses)
 
     same_work : {f g : Flat} {x y : Table} → f ≡ g → x ≡ y → work_of f x ≡ work_of g y
     same_work {f} {g} {x} {y} p q = ap (λ (h : Flat). work_of h x) p ∙ ap (λ (t : Table). work_of g t) q
 
-    no_table_of : (r : RunRefusal) → HasNoTable w design table r → HasNoRows design table w.top w.clock r
-    no_table_of r n = record { tokens = n.tokens; flat = n.flat; clock = n.clock; rising = n.sited.rising; design = lawful_of n.sited; refused = n.refused }
+    no_table_of : (r : RunRefusal) → HasNoTable w design table r → HasNoRows w.kind design table w.top w.clock r
+    no_table_of r n = record { tokens = n.tokens; flat = n.flat; clock = n.clock; rising = n.rising; design = lawful_of n.sited; refused = n.refused }
 
     -- ---- refusals
     rows_or_none : {X : Type 0} (r s : RunRefusal) → HasMuchWork w design table r → HasNoTable w design table s → X
-    rows_or_none r s m n = let one = one_sited m.sited n.sited in no_rows s one.flat one.clock m.read n.refused
+    rows_or_none r s m n = let one = one_sited m.sited n.sited in no_rows s one.flat one.clock one.rising m.read n.refused
 
     one_work : (r s : RunRefusal) → HasMuchWork w design table r → HasMuchWork w design table s → r ≡ s
     one_work r s p q =
         let one = one_sited p.sited q.sited in
-        let rows = one_rows one.flat one.clock p.read q.read in
+        let rows = one_rows one.flat one.clock one.rising p.read q.read in
         p.told ∙ (ap (λ (n : ℕ). TooMany limit.Work n) (same_work one.flat rows) ∙ sym q.told)
 
     one_refused_pair : (r s : RunRefusal) → Refuses w design table r → Refuses w design table s → IsSameRefusal r s
@@ -88,7 +81,7 @@ module _ (w : PlainRequest) (design : List ℕ) where
     one_refused_pair r s (inl p) (inr (inl q)) = absurd (not_refused r q.sited p)
     one_refused_pair r s (inl p) (inr (inr q)) = absurd (not_refused r q.sited p)
     one_refused_pair r s (inr (inl p)) (inl q) = absurd (not_refused s p.sited q)
-    one_refused_pair r s (inr (inl p)) (inr (inl q)) = one_refused design table w.top w.clock r s (inr (no_table_of r p)) (inr (no_table_of s q))
+    one_refused_pair r s (inr (inl p)) (inr (inl q)) = one_refused w.kind design table w.top w.clock r s (inr (no_table_of r p)) (inr (no_table_of s q))
     one_refused_pair r s (inr (inl p)) (inr (inr q)) = rows_or_none s r q p
     one_refused_pair r s (inr (inr p)) (inl q) = absurd (not_refused s p.sited q)
     one_refused_pair r s (inr (inr p)) (inr (inl q)) = rows_or_none r s p q
@@ -98,19 +91,19 @@ module _ (w : PlainRequest) (design : List ℕ) where
     one_pair : {ts us : List Lexeme} {a b : SourceText} {ss rs : List Site} {x y : Table} → IsTaken w design table ts a ss x → IsTaken w design table us b rs y → IsOneTaking ts us a b ss rs x y
     one_pair {ts} {us} {a} {b} {ss} {rs} {x} {y} p q =
         let one = one_sited p.sited q.sited in
-        record { tokens = one.tokens; source = one.source; sites = one.sites; rows = one_rows one.flat one.clock p.read q.read }
+        record { tokens = one.tokens; source = one.source; sites = one.sites; rows = one_rows one.flat one.clock one.rising p.read q.read }
 
     much_or_little : {X : Type 0} {ts : List Lexeme} {a : SourceText} {ss : List Site} {x : Table} (r : RunRefusal) → IsTaken w design table ts a ss x → HasMuchWork w design table r → X
     much_or_little {ts = ts} {a = a} {ss = ss} {x = x} r t m =
         let one = one_sited t.sited m.sited in
-        let works : work_of t.flat x ≡ work_of m.flat m.rows = same_work one.flat (one_rows one.flat one.clock t.read m.read) in
+        let works : work_of t.flat x ≡ work_of m.flat m.rows = same_work one.flat (one_rows one.flat one.clock one.rising t.read m.read) in
         let small = t.small in
         let much = m.much in
         absurd (omega (arith, works, small, much))
 
     not_both : {ts : List Lexeme} {a : SourceText} {ss : List Site} {x : Table} (r : RunRefusal) → IsTaken w design table ts a ss x → Refuses w design table r → ⊥
     not_both r t (inl p) = not_refused r t.sited p
-    not_both r t (inr (inl n)) = let one = one_sited t.sited n.sited in no_rows r one.flat one.clock t.read n.refused
+    not_both r t (inr (inl n)) = let one = one_sited t.sited n.sited in no_rows r one.flat one.clock one.rising t.read n.refused
     not_both r t (inr (inr m)) = much_or_little r t m
 
 pub one_taking : OneTaking

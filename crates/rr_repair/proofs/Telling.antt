@@ -1,5 +1,5 @@
 -- What the search answered, as what is to be done.
-use Rattle.std.proofs.Common.{◌≡◌, ◌⊎◌, inl, inr, ℕ, suc, ◌+◌, ◌-◌, ◌<◌, ◌≤◌, min, List, [], ◌∷◌, length, refl, sym, ◌∙◌, ap, subst, arith, Option, Some, None, Ok}
+use Rattle.std.proofs.Common.{◌≡◌, ◌⊎◌, inl, inr, ℕ, suc, ◌+◌, ◌-◌, ◌<◌, ◌≤◌, min, List, [], ◌∷◌, length, refl, sym, ◌∙◌, ap, subst, arith, Bool, Option, Some, None, Ok}
 use Rattle.std.specs.List.{sum}
 use Rattle.std.proofs.lemmas.List.{length-map}
 use Rattle.rr_syntax.specs.Tree.{SourceText}
@@ -16,12 +16,13 @@ use Rattle.rr_certify.specs.Certificates.{IsJudged}
 use Rattle.rr_flat.specs.Inputs.{row_inputs}
 use Rattle.rr_flat.specs.Plain.{Flat}
 use Rattle.rr_flat.specs.declared.fault.Limit.TheVariants as limit
-use Rattle.rr_trace.specs.Tables.{Table, table_of}
-use Rattle.rr_trace.specs.Tops.{ports_of}
+use Rattle.rr_trace.specs.Tables.{Table}
 use Rattle.rr_run.specs.declared.fault.RunFault.{RunFault}
 use Rattle.rr_run.specs.declared.fault.RunFault.TheVariants as run_fault
 use Rattle.rr_run.specs.Refusals.{TooMany, StopsWhere as RunStops}
-use Rattle.rr_run.specs.Runs.{RefusesTable}
+use Rattle.rr_run.specs.Rows.{ReadsTable, RefusesTable}
+use Rattle.rr_run.specs.declared.rows.TableKind.{TableKind}
+use Rattle.rr_run.specs.declared.rows.TableKind.TheVariants as kind
 use Rattle.rr_choice.specs.declared.pick.Choice.{Choice}
 use Rattle.rr_choice.specs.declared.pick.Pick.{Pick}
 use Rattle.rr_choice.specs.Choices.{total_bits, IsChoice}
@@ -34,7 +35,9 @@ use Rattle.rr_blast.specs.Circuits.{bit_count}
 use Rattle.rr_blast.specs.Rows.{bits_of_row}
 use Rattle.rr_blast.proofs.FitLaws.{row_length}
 use Rattle.rr_transition.specs.Cycles.{Cycle, Design, widths_of}
-use Rattle.rr_table_laws.proofs.Standing.{tables_stand}
+use Rattle.rr_transition.specs.Transitions.{Transition}
+use Rattle.rr_unroll.specs.Matches.{FitsOutputs}
+use Rattle.rr_table_laws.proofs.Standing.{samples_stand, tables_stand}
 use Rattle.rr_site_names.proofs.Written.{names_are_written}
 use Rattle.rr_respell.specs.Laws.{AreNamed}
 use Rattle.rr_elaborate.specs.Designs.{IsText}
@@ -172,18 +175,19 @@ few_cycle flat clock ss s row x y es er ex ey l =
 
 -- refusals
 
-module _ (w : PlainRequest) (design table : List ℕ) (tokens : List Lexeme) (source : SourceText) (flat : Flat) (clock : Option ℕ) (sites : List Site) (sited : IsSited w design tokens source flat clock sites) where
-  pub stops_table : (f : RunFault) → RunStops (RefusesTable flat clock table) f → StopsWhere (RefusesRepair w design table) (stop_from f)
-  stops_table (run_fault.Refused r) h = inr (inl (record { tokens = tokens; source = source; flat = flat; clock = clock; sites = sites; sited = sited; refused = h }))
+module _ (w : PlainRequest) (design table : List ℕ) (tokens : List Lexeme) (source : SourceText) (flat : Flat) (clock : Option ℕ) (rising : Bool) (sites : List Site) (sited : IsSited w design tokens source flat clock rising sites) where
+  pub stops_table : (f : RunFault) → RunStops (RefusesTable w.kind flat clock rising table) f → StopsWhere (RefusesRepair w design table) (stop_from f)
+  stops_table (run_fault.Refused r) h = inr (inl (record { tokens = tokens; source = source; flat = flat; clock = clock; rising = rising; sites = sites; sited = sited; refused = h }))
   stops_table run_fault.Memory h = tt
 
-  module _ (rows : Table) (read : table_of (ports_of flat clock) table ≡ Ok rows) (work : ℕ) (e : work ≡ work_of flat rows) where
+  module _ (rows : Table) (read : ReadsTable w.kind flat clock rising table rows) (work : ℕ) (e : work ≡ work_of flat rows) where
     pub much_work : 262144 < work → Refuses w design table (TooMany limit.Work work)
     much_work l = inr (inr (record {
       tokens = tokens;
       source = source;
       flat = flat;
       clock = clock;
+      rising = rising;
       sites = sites;
       sited = sited;
       rows = rows;
@@ -198,7 +202,7 @@ module _ (w : PlainRequest) (design table : List ℕ) (tokens : List Lexeme) (so
       source = source;
       sites = sites;
       rows = rows;
-      taken = record { flat = flat; clock = clock; sited = sited; read = read; small = subst (λ (n : ℕ). n ≤ 262144) e l };
+      taken = record { flat = flat; clock = clock; rising = rising; sited = sited; read = read; small = subst (λ (n : ℕ). n ≤ 262144) e l };
       is = is;
     }
 
@@ -210,15 +214,20 @@ module _ (w : PlainRequest) (design table : List ℕ) (tokens : List Lexeme) (so
         source = source;
         sites = sites;
         rows = rows;
-        taken = record { flat = flat; clock = clock; sited = sited; read = read; small = subst (λ (n : ℕ). n ≤ 262144) e l };
+        taken = record { flat = flat; clock = clock; rising = rising; sited = sited; read = read; small = subst (λ (n : ℕ). n ≤ 262144) e l };
         least = c.least zero;
       };
     }
 
 -- what is asked of the search
 
-pub task_of_design : (t : Task) (j : Design) → Cycle j t.sites t.transition → (flat : Flat) → flat_of j.source j.top ≡ Ok flat → (clock : Option ℕ) (bytes : List ℕ) → table_of (ports_of flat clock) bytes ≡ Ok t.table → IsOf t j
-task_of_design t j y flat e clock bytes r = record { stands = y; fits = tables_stand j t.sites t.transition y flat e clock bytes t.table r }
+rows_stand : (kind : TableKind) (j : Design) (sites : List Site) (t : Transition) → Cycle j sites t → (flat : Flat) → flat_of j.source j.top ≡ Ok flat → (clock : Option ℕ) (rising : Bool) (bytes : List ℕ) (rows : Table) →
+    ReadsTable kind flat clock rising bytes rows → FitsOutputs t.output_widths rows
+rows_stand kind.Csv j sites t y flat e clock rising bytes rows r = tables_stand j sites t y flat e clock bytes rows r
+rows_stand kind.Vcd j sites t y flat e clock rising bytes rows r = samples_stand j sites t y flat e clock rising bytes rows r
+
+pub task_of_design : (kind : TableKind) (t : Task) (j : Design) → Cycle j t.sites t.transition → (flat : Flat) → flat_of j.source j.top ≡ Ok flat → (clock : Option ℕ) (rising : Bool) (bytes : List ℕ) → ReadsTable kind flat clock rising bytes t.table → IsOf t j
+task_of_design kind t j y flat e clock rising bytes r = record { stands = y; fits = rows_stand kind j t.sites t.transition y flat e clock rising bytes t.table r }
 
 pub sites_named : (bytes : List ℕ) (ts : List Lexeme) (source : SourceText) (flat : Flat) (clock : Option ℕ) (ss : List Site) → IsText bytes ts source → AreSites source flat clock ss → AreNamed ss
 sites_named bytes ts source flat clock ss text are =

@@ -1,7 +1,7 @@
 -- What the repair of a design is, from the bytes of the design and of its table: the source with the fewest changes whose run
 -- matches each known cell, or that no changes do, or that the search has spent its lines, with what it found by then. No
 -- search stands in it.
-use Rattle.std.specs.Prelude.{◌≡◌, ◌⊎◌, ℕ, ◌+◌, ◌-◌, ◌*◌, ◌<◌, ◌≤◌, min, Bool, List, [], length, map, Option, Ok}
+use Rattle.std.specs.Prelude.{◌≡◌, ◌⊎◌, ℕ, ◌+◌, ◌-◌, ◌*◌, ◌<◌, ◌≤◌, min, Bool, List, [], length, map, Option}
 use Rattle.std.specs.List.{sum}
 use Rattle.rr_syntax.specs.Tree.{SourceText}
 use Rattle.rr_lex.specs.Tokens.{Lexeme}
@@ -18,10 +18,10 @@ use Rattle.rr_derive.specs.Derive.{Proof, Refutes}
 use Rattle.rr_derive.specs.Lrat.{lrat}
 use Rattle.rr_check.specs.declared.verdict.Verdict.TheVariants.{Accepted}
 use Rattle.rr_certify.specs.Certificates.{IsJudged}
-use Rattle.rr_trace.specs.Tables.{Table, table_of}
-use Rattle.rr_trace.specs.Tops.{ports_of}
+use Rattle.rr_trace.specs.Tables.{Table}
 use Rattle.rr_run.specs.Refusals.{Refusal as RunRefusal, TooMany}
-use Rattle.rr_run.specs.Runs.{RefusesTable}
+use Rattle.rr_run.specs.Rows.{ReadsTable, RefusesTable}
+use Rattle.rr_run.specs.declared.rows.TableKind.{TableKind}
 use Rattle.rr_choice.specs.declared.pick.Pick.{Pick}
 use Rattle.rr_choice.specs.Choices.{cost, IsChoice}
 use Rattle.rr_instance.specs.Instances.{instance_source}
@@ -40,9 +40,10 @@ use Rattle.rr_report.specs.Refusals.{Refusal, TooManyBytes, Input, Flawed}
 use Rattle.rr_answers.specs.Certified.{certificate}
 use Rattle.rr_answers.specs.Texts.{beyond_text, found_text, open_text, unchanged_text}
 
--- what is asked: the top and the clock, each given or not, the name of the certificate's files, and how many lines each of how
--- many members of a search may learn for one question
+-- what is asked: how the table is read, the top and the clock, each given or not, the name of the certificate's files, and how
+-- many lines each of how many members of a search may learn for one question
 pub record PlainRequest : Type 0 where
+  pub kind : TableKind
   pub top : Option Text
   pub clock : Option Text
   pub cert : List ℕ
@@ -58,10 +59,9 @@ abbrev pub work_of : Flat → Table → ℕ
 work_of flat rows = min (length rows.inputs * flat_bits flat) 18446744073709551615
 
 -- the bytes of a design have these tokens, this tree and this lawful flat design, with at most 1,024 sites
-pub record IsSited (w : PlainRequest) (design : List ℕ) (tokens : List Lexeme) (source : SourceText) (flat : Flat) (clock : Option ℕ) (sites : List Site) : Type 0 where
+pub record IsSited (w : PlainRequest) (design : List ℕ) (tokens : List Lexeme) (source : SourceText) (flat : Flat) (clock : Option ℕ) (rising : Bool) (sites : List Site) : Type 0 where
   pub tree : IsDesignOf design tokens source w.top flat
   pub lawful : Lawful flat w.clock
-  pub rising : Bool
   pub one_clock : OneClock flat w.clock clock rising
   pub are : AreSites source flat clock sites
   pub few : length sites ≤ 1024
@@ -70,8 +70,9 @@ pub record IsSited (w : PlainRequest) (design : List ℕ) (tokens : List Lexeme)
 pub record IsTaken (w : PlainRequest) (design table : List ℕ) (tokens : List Lexeme) (source : SourceText) (sites : List Site) (rows : Table) : Type 0 where
   pub flat : Flat
   pub clock : Option ℕ
-  pub sited : IsSited w design tokens source flat clock sites
-  pub read : table_of (ports_of flat clock) table ≡ Ok rows
+  pub rising : Bool
+  pub sited : IsSited w design tokens source flat clock rising sites
+  pub read : ReadsTable w.kind flat clock rising table rows
   pub small : work_of flat rows ≤ 262144
 
 -- the design, with the words for its top and its clock
@@ -198,9 +199,10 @@ pub record HasNoTable (w : PlainRequest) (design table : List ℕ) (refusal : Ru
   pub source : SourceText
   pub flat : Flat
   pub clock : Option ℕ
+  pub rising : Bool
   pub sites : List Site
-  pub sited : IsSited w design tokens source flat clock sites
-  pub refused : RefusesTable flat clock table refusal
+  pub sited : IsSited w design tokens source flat clock rising sites
+  pub refused : RefusesTable w.kind flat clock rising table refusal
 
 -- the table has these rows, and the work is above 262,144, which the refusal tells
 pub record HasMuchWork (w : PlainRequest) (design table : List ℕ) (refusal : RunRefusal) : Type 0 where
@@ -208,10 +210,11 @@ pub record HasMuchWork (w : PlainRequest) (design table : List ℕ) (refusal : R
   pub source : SourceText
   pub flat : Flat
   pub clock : Option ℕ
+  pub rising : Bool
   pub sites : List Site
-  pub sited : IsSited w design tokens source flat clock sites
+  pub sited : IsSited w design tokens source flat clock rising sites
   pub rows : Table
-  pub read : table_of (ports_of flat clock) table ≡ Ok rows
+  pub read : ReadsTable w.kind flat clock rising table rows
   pub much : 262144 < work_of flat rows
   pub told : refusal ≡ TooMany limit.Work (work_of flat rows)
 

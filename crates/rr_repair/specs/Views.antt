@@ -7,6 +7,7 @@ use Rattle.rr_repair.specs.Repairs.{PlainRequest}
 
 abbrev pub plain_request : Request → PlainRequest
 plain_request a = record {
+  kind = a.kind;
   top = option_map (λ t. t.now) a.top;
   clock = option_map (λ c. c.now) a.clock;
   cert = a.cert.now;

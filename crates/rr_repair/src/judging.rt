@@ -1,5 +1,5 @@
 //! The answer for a design and its table.
-ghost use Rattle.std.specs.Prelude.{◌≡◌, ◌<◌, ◌≤◌, ◌^◌, ℕ, List, Ok, IfOk, MatchResult, length};
+ghost use Rattle.std.specs.Prelude.{◌≡◌, ◌<◌, ◌≤◌, ◌^◌, ℕ, List, IfOk, MatchResult, length};
 ghost use Rattle.rr_syntax.specs.Items.{FitLiteralsSource};
 ghost use Rattle.rr_syntax.specs.View.{plain_source};
 ghost use Rattle.rr_lex.specs.Tokens.{lexemes};
@@ -11,9 +11,8 @@ ghost use Rattle.rr_blast.specs.Circuits.{FitsArguments};
 ghost use Rattle.rr_transition.specs.Cycles.{Cycle, Design};
 ghost use Rattle.rr_search.specs.Answers.{AnswerIs, IsLeftOpen, task_of};
 ghost use Rattle.rr_respell.specs.Laws.{AreNamed};
+ghost use Rattle.rr_run.specs.Rows.{ReadsTable};
 ghost use Rattle.rr_run.specs.Runs.{InOrder};
-ghost use Rattle.rr_trace.specs.Tables.{table_of};
-ghost use Rattle.rr_trace.specs.Tops.{ports_of};
 ghost use Rattle.rr_trace.specs.View.{plain_table};
 ghost use Rattle.rr_report.specs.Views.{plain_answer, StopsWhere};
 ghost use Rattle.rr_repair.specs.Repairs.{AnswersRepair, CountsRepair, IsAnswer, IsCounted, IsOpen, IsSited, RefusesRepair, design_of};
@@ -186,7 +185,7 @@ fn searched<'b, R: Threads + Sync>(
     requires most { request.now.members ≤ 8 }
     requires budget { 1 ≤ request.now.budget }
     requires fits { FitsArguments (design_of (plain_request request.now) (plain_source design.now.source.now)) (plain_flat design.now.flat) design.now.order.clock design.now.order.rising design.now.order.steps.items list.now }
-    requires read { (table : List ℕ) × (table_of (ports_of (plain_flat design.now.flat) design.now.order.clock) table ≡ Ok (plain_table rows.now)) }
+    requires read { (table : List ℕ) × (ReadsTable request.now.kind (plain_flat design.now.flat) design.now.order.clock design.now.order.rising table (plain_table rows.now)) }
     ensures { IfOk result (λ c. IsCounted (plain_request request.now) bytes.entry.now (lexemes design.now.tokens.now) (plain_source design.now.source.now) list.now (plain_table rows.now) (plain_answer c.found) c.changes) }
 {
     let cycle = cycle_of(alloc, design, list)?;
@@ -226,9 +225,9 @@ fn judge_rows<'b, 'a, R: Threads + Sync>(
     requires most { request.now.members ≤ 8 }
     requires budget { 1 ≤ request.now.budget }
     requires fits { FitsArguments (design_of (plain_request request.now) (plain_source design.now.source.now)) (plain_flat design.now.flat) design.now.order.clock design.now.order.rising design.now.order.steps.items list.now }
-    requires read { (table : List ℕ) × (table_of (ports_of (plain_flat design.now.flat) design.now.order.clock) table ≡ Ok (plain_table rows.now)) }
-    ensures { (table : List ℕ) → IsSited (plain_request request.now) bytes.entry.now (lexemes design.now.tokens.now) (plain_source design.now.source.now) (plain_flat design.now.flat) design.now.order.clock list.now
-        → table_of (ports_of (plain_flat design.now.flat) design.now.order.clock) table ≡ Ok (plain_table rows.now)
+    requires read { (table : List ℕ) × (ReadsTable request.now.kind (plain_flat design.now.flat) design.now.order.clock design.now.order.rising table (plain_table rows.now)) }
+    ensures { (table : List ℕ) → IsSited (plain_request request.now) bytes.entry.now (lexemes design.now.tokens.now) (plain_source design.now.source.now) (plain_flat design.now.flat) design.now.order.clock design.now.order.rising list.now
+        → ReadsTable request.now.kind (plain_flat design.now.flat) design.now.order.clock design.now.order.rising table (plain_table rows.now)
         → MatchResult result (λ c. CountsRepair (plain_request request.now) bytes.entry.now table (plain_answer c.found) c.changes) (StopsWhere (RefusesRepair (plain_request request.now) bytes.entry.now table)) }
 {
     let work = work_of(&design.flat, rows);
@@ -260,10 +259,10 @@ fn judge_table<'b, 'a, R: Threads + Sync>(
     requires most { request.now.members ≤ 8 }
     requires budget { 1 ≤ request.now.budget }
     requires fits { FitsArguments (design_of (plain_request request.now) (plain_source design.now.source.now)) (plain_flat design.now.flat) design.now.order.clock design.now.order.rising design.now.order.steps.items list.now }
-    ensures { IsSited (plain_request request.now) bytes.entry.now (lexemes design.now.tokens.now) (plain_source design.now.source.now) (plain_flat design.now.flat) design.now.order.clock list.now
+    ensures { IsSited (plain_request request.now) bytes.entry.now (lexemes design.now.tokens.now) (plain_source design.now.source.now) (plain_flat design.now.flat) design.now.order.clock design.now.order.rising list.now
         → MatchResult result (λ c. CountsRepair (plain_request request.now) bytes.entry.now table.now (plain_answer c.found) c.changes) (StopsWhere (RefusesRepair (plain_request request.now) bytes.entry.now table.now)) }
 {
-    match read_rows(alloc, design, table) {
+    match read_rows(alloc, design, request.kind, table) {
         Ok(rows) => judge_rows(rt, alloc, bytes, design, list, &rows, request),
         Err(fault) => Err(stop_of(fault)),
     }
@@ -305,8 +304,8 @@ fn judge_sites<'b, 'a, R: Threads + Sync>(
 
 /// The repair of a design of at most 1,048,576 bytes by its table: what is to be printed, reported and
 /// written, and, where the status is 0, the least number of changes. Else the first refusal: of the design
-/// (1 to 25), that it has more than 1,024 sites (16), of the table (33, 26 to 32 and 16), and that the rows
-/// times the bits of all signals are more than 262,144 (16). Names in a refusal live in the arena.
+/// (1 to 25), that it has more than 1,024 sites (16), of the table (33, 26 to 32 and 16, or of a dump 41, 42
+/// and 16), and that the rows times the bits of all signals are more than 262,144 (16). Names in a refusal live in the arena.
 pub fn repair_counted<'b, 'a, R: Threads + Sync>(
     rt: &R,
     alloc: Global,

@@ -27,23 +27,24 @@ use Rattle.rr_lawful_instance.specs.Listed.{AreRight}
 use Rattle.rr_lawful_instance.proofs.Cycles.{listed_are_sites}
 use Rattle.rr_lawful_instance.proofs.Whole.{clock as clock_stays}
 use Rattle.rr_trace.specs.Misses.{AgreeRows}
-use Rattle.rr_trace.specs.Tables.{Table, table_of}
+use Rattle.rr_trace.specs.Tables.{Table}
 use Rattle.rr_trace.specs.Tops.{ports_of}
 use Rattle.rr_trace.specs.Written.{table_text}
 use Rattle.rr_cycle.specs.Cycles.{Run}
 use Rattle.rr_unroll.specs.Matches.{Matches}
 use Rattle.rr_sites.proofs.Given.{formed, numbered, right}
+use Rattle.rr_run.specs.declared.rows.TableKind.{TableKind}
+use Rattle.rr_run.specs.Rows.{ReadsTable}
 use Rattle.rr_run.specs.Runs.{IsRun}
 use Rattle.rr_run.proofs.Once.{one_run}
 use Rattle.rr_report.specs.Found.{Answer}
 use Rattle.rr_repair.specs.Repairs.{IsFound, IsNothingFound, IsRepaired, IsTaken, IsUnchanged, PlainRequest, design_of}
 use Rattle.rr_rerun_laws.specs.Reruns.{FoundRunAgrees, FoundRunsAgain, RunsRight, RunsAgain, RunAgrees}
-use Rattle.rr_rerun_laws.proofs.Ports.{instance_ports, same_ports}
+use Rattle.rr_rerun_laws.proofs.Ports.{instance_reading, same_reading}
 
 -- a flat design of the text, with the clock, whose run agrees
-record IsRight (w : PlainRequest) (flat : Flat) (clock : Option ℕ) (rows : Table) : Type 0 where
+record IsRight (w : PlainRequest) (flat : Flat) (clock : Option ℕ) (rising : Bool) (rows : Table) : Type 0 where
   lawful : Lawful flat w.clock
-  rising : Bool
   one : OneClock flat w.clock clock rising
   outputs : List (List ℕ)
   run : Run flat clock rows.inputs outputs
@@ -51,7 +52,7 @@ record IsRight (w : PlainRequest) (flat : Flat) (clock : Option ℕ) (rows : Tab
 
 -- a design that matches is right with its one flat design and its one clock
 right_by : (w : PlainRequest) (source : SourceText) (rows : Table) (flat : Flat) (clock : Option ℕ) (rising : Bool) → flat_of source w.top ≡ Ok flat → OneClock flat w.clock clock rising →
-    Matches (design_of w source) rows → IsRight w flat clock rows
+    Matches (design_of w source) rows → IsRight w flat clock rising rows
 right_by w source rows flat clock rising e one m =
     let oks : Ok m.flat ≡ Ok flat = sym m.design.design ∙ e in
     let flats : m.flat ≡ flat = cc in
@@ -60,7 +61,6 @@ right_by w source rows flat clock rising e one m =
     let run : Run flat m.clock rows.inputs m.outputs = subst (λ (f : Flat). Run f m.clock rows.inputs m.outputs) flats m.run in
     record {
       lawful = subst (λ (f : Flat). Lawful f w.clock) flats m.design.lawful;
-      rising = rising;
       one = one;
       outputs = m.outputs;
       run = subst (λ (c : Option ℕ). Run flat c rows.inputs m.outputs) clocks run;
@@ -68,26 +68,25 @@ right_by w source rows flat clock rising e one m =
     }
 
 -- the same of a flat design that is equal without token numbers
-right_same : (w : PlainRequest) (f g : Flat) (clock : Option ℕ) (rows : Table) → IsSameFlat f g → IsRight w f clock rows → IsRight w g clock rows
-right_same w f g clock rows same r = record {
+right_same : (w : PlainRequest) (f g : Flat) (clock : Option ℕ) (rising : Bool) (rows : Table) → IsSameFlat f g → IsRight w f clock rising rows → IsRight w g clock rising rows
+right_same w f g clock rising rows same r = record {
   lawful = same_laws f g w.clock same r.lawful;
-  rising = r.rising;
-  one = same_clock f g same w.clock clock r.rising r.one;
+  one = same_clock f g same w.clock clock rising r.one;
   outputs = r.outputs;
   run = same_run f g clock rows.inputs r.outputs same r.run;
   agree = r.agree;
 }
 
 -- the run of a text with such a flat design
-told : (w : PlainRequest) (bytes table : List ℕ) (ts : List Lexeme) (tree : SourceText) (flat : Flat) (clock : Option ℕ) (rows : Table) → IsText bytes ts tree → flat_of tree w.top ≡ Ok flat →
-    table_of (ports_of flat clock) table ≡ Ok rows → IsRight w flat clock rows → (text : List ℕ) × RunsRight bytes table w.top w.clock text
-told w bytes table ts tree flat clock rows x e read r = (
+told : (w : PlainRequest) (bytes table : List ℕ) (ts : List Lexeme) (tree : SourceText) (flat : Flat) (clock : Option ℕ) (rising : Bool) (rows : Table) → IsText bytes ts tree → flat_of tree w.top ≡ Ok flat →
+    ReadsTable w.kind flat clock rising table rows → IsRight w flat clock rising rows → (text : List ℕ) × RunsRight w.kind bytes table w.top w.clock text
+told w bytes table ts tree flat clock rising rows x e read r = (
   table_text (ports_of flat clock) rows.inputs r.outputs,
   record {
     tokens = ts;
     flat = flat;
     clock = clock;
-    rising = r.rising;
+    rising = rising;
     design = record { design = record { tree = tree; text = x; flat = e }; lawful = r.lawful; one_clock = r.one };
     rows = rows;
     read = read;
@@ -104,51 +103,51 @@ tree_of bytes ts tree x = record { tokens = ts; are = x.lexed; spells = x.spells
 module _ (w : PlainRequest) (design table : List ℕ) (ts : List Lexeme) (source : SourceText) (sites : List Site) (rows : Table) (taken : IsTaken w design table ts source sites rows) where
   its_right : AreRight source taken.flat w.clock sites
   its_right =
-      right source w.top taken.flat (formed design ts source w.top taken.flat taken.sited.tree) (numbered design ts source w.top taken.flat taken.sited.tree) taken.sited.tree.flat w.clock taken.clock taken.sited.rising taken.sited.are.0 taken.sited.lawful taken.sited.one_clock taken.sited.are.1 sites taken.sited.are.2
+      right source w.top taken.flat (formed design ts source w.top taken.flat taken.sited.tree) (numbered design ts source w.top taken.flat taken.sited.tree) taken.sited.tree.flat w.clock taken.clock taken.rising taken.sited.are.0 taken.sited.lawful taken.sited.one_clock taken.sited.are.1 sites taken.sited.are.2
 
   fit : AreSitesOf taken.flat w.clock sites × SitesFit sites source taken.flat
   fit = listed_are_sites source w.top taken.flat w.clock sites taken.sited.tree.flat taken.sited.lawful.targets its_right
 
   -- printed as it is
   unchanged : (answer : Answer) → IsUnchanged w design source rows answer → (us : List Lexeme) (tree : SourceText) → IsText answer.out us tree →
-      (text : List ℕ) × RunsRight answer.out table w.top w.clock text
+      (text : List ℕ) × RunsRight w.kind answer.out table w.top w.clock text
   unchanged answer u us tree x =
       let again : IsText design us tree = subst (λ (b : List ℕ). IsText b us tree) u.printed x in
       let same = one_text design us ts tree source again taken.sited.tree.text in
       let flat : flat_of tree w.top ≡ Ok taken.flat = ap (λ (t : SourceText). flat_of t w.top) same.1 ∙ taken.sited.tree.flat in
-      told w answer.out table us tree taken.flat taken.clock rows x flat taken.read (right_by w source rows taken.flat taken.clock taken.sited.rising taken.sited.tree.flat taken.sited.one_clock u.matches)
+      told w answer.out table us tree taken.flat taken.clock taken.rising rows x flat taken.read (right_by w source rows taken.flat taken.clock taken.rising taken.sited.tree.flat taken.sited.one_clock u.matches)
 
   -- printed with a choice whose instance matches
   with_choice : (out : List ℕ) (choice : List Pick) → Matches (design_of w (instance_source sites choice source)) rows → IsTree out (instance_source sites choice source) →
-      (us : List Lexeme) (tree : SourceText) → IsText out us tree → (text : List ℕ) × RunsRight out table w.top w.clock text
+      (us : List Lexeme) (tree : SourceText) → IsText out us tree → (text : List ℕ) × RunsRight w.kind out table w.top w.clock text
   with_choice out choice matches its us tree x =
       let same : IsSameSource (instance_source sites choice source) tree = unique_tree out (instance_source sites choice source) tree its (tree_of out us tree x) in
       let G : Flat = instance_flat sites choice taken.flat in
       let has : HasSameFlat tree w.top G = instances_of_trees sites choice source tree w.top taken.flat taken.sited.tree.flat fit.1 same in
       let is : flat_of (instance_source sites choice source) w.top ≡ Ok G = instances_flatten sites choice source w.top taken.flat taken.sited.tree.flat fit.1 in
-      let clock : OneClock G w.clock taken.clock taken.sited.rising = clock_stays taken.clock taken.sited.rising taken.flat w.clock sites choice fit.0 taken.sited.one_clock in
-      let good : IsRight w G taken.clock rows = right_by w (instance_source sites choice source) rows G taken.clock taken.sited.rising is clock matches in
-      let ports = sym (same_ports G has.flat taken.clock has.same) ∙ instance_ports taken.flat sites choice taken.clock in
-      told w out table us tree has.flat taken.clock rows x has.is (ap (λ p. table_of p table) ports ∙ taken.read) (right_same w G has.flat taken.clock rows has.same good)
+      let clock : OneClock G w.clock taken.clock taken.rising = clock_stays taken.clock taken.rising taken.flat w.clock sites choice fit.0 taken.sited.one_clock in
+      let good : IsRight w G taken.clock taken.rising rows = right_by w (instance_source sites choice source) rows G taken.clock taken.rising is clock matches in
+      let read = same_reading w.kind G has.flat taken.clock taken.rising table rows has.same (instance_reading w.kind taken.flat sites choice taken.clock taken.rising table rows taken.read) in
+      told w out table us tree has.flat taken.clock taken.rising rows x has.is read (right_same w G has.flat taken.clock taken.rising rows has.same good)
 
   repaired : (answer : Answer) → IsRepaired w design ts source sites rows answer → (us : List Lexeme) (tree : SourceText) → IsText answer.out us tree →
-      (text : List ℕ) × RunsRight answer.out table w.top w.clock text
+      (text : List ℕ) × RunsRight w.kind answer.out table w.top w.clock text
   repaired answer r = with_choice answer.out r.choice r.matches r.tree
 
   found : (answer : Answer) (bound : ℕ) → answer.out ≢ [] → IsNothingFound w sites bound answer ⊎ IsFound w design ts source sites rows bound answer →
-      (us : List Lexeme) (tree : SourceText) → IsText answer.out us tree → (text : List ℕ) × RunsRight answer.out table w.top w.clock text
+      (us : List Lexeme) (tree : SourceText) → IsText answer.out us tree → (text : List ℕ) × RunsRight w.kind answer.out table w.top w.clock text
   found answer bound some (inl n) us tree x = absurd (some n.printed)
   found answer bound some (inr f) us tree x = with_choice answer.out f.choice f.matches f.tree us tree x
 
 pub runs_again : RunsAgain
 runs_again w design table answer m us tree x = go m.is
   where
-    go : IsUnchanged w design m.source m.rows answer ⊎ IsRepaired w design m.tokens m.source m.sites m.rows answer → (text : List ℕ) × RunsRight answer.out table w.top w.clock text
+    go : IsUnchanged w design m.source m.rows answer ⊎ IsRepaired w design m.tokens m.source m.sites m.rows answer → (text : List ℕ) × RunsRight w.kind answer.out table w.top w.clock text
     go (inl u) = unchanged w design table m.tokens m.source m.sites m.rows m.taken answer u us tree x
     go (inr r) = repaired w design table m.tokens m.source m.sites m.rows m.taken answer r us tree x
 
-is_run : (bytes table : List ℕ) (top word : Option (List ℕ)) (text : List ℕ) → RunsRight bytes table top word text → IsRun bytes table top word text
-is_run bytes table top word text r = record {
+is_run : (kind : TableKind) (bytes table : List ℕ) (top word : Option (List ℕ)) (text : List ℕ) → RunsRight kind bytes table top word text → IsRun kind bytes table top word text
+is_run kind bytes table top word text r = record {
   tokens = r.tokens;
   flat = r.flat;
   clock = r.clock;
@@ -160,17 +159,18 @@ is_run bytes table top word text r = record {
 }
 
 -- the text of each run is the one that agrees
-agrees_by : (bytes table : List ℕ) (top word : Option (List ℕ)) (text : List ℕ) → (again : (other : List ℕ) × RunsRight bytes table top word other) → IsRun bytes table top word text → RunsRight bytes table top word text
-agrees_by bytes table top word text again r =
-    let same : again.0 ≡ text = one_run bytes table top word again.0 text (is_run bytes table top word again.0 again.1) r in
-    subst (λ (t : List ℕ). RunsRight bytes table top word t) same again.1
+agrees_by : (kind : TableKind) (bytes table : List ℕ) (top word : Option (List ℕ)) (text : List ℕ) → (again : (other : List ℕ) × RunsRight kind bytes table top word other) → IsRun kind bytes table top word text →
+    RunsRight kind bytes table top word text
+agrees_by kind bytes table top word text again r =
+    let same : again.0 ≡ text = one_run kind bytes table top word again.0 text (is_run kind bytes table top word again.0 again.1) r in
+    subst (λ (t : List ℕ). RunsRight kind bytes table top word t) same again.1
 
 pub run_agrees : RunAgrees
-run_agrees w design table answer m text r = agrees_by answer.out table w.top w.clock text (runs_again w design table answer m r.tokens r.design.design.tree r.design.design.text) r
+run_agrees w design table answer m text r = agrees_by w.kind answer.out table w.top w.clock text (runs_again w design table answer m r.tokens r.design.design.tree r.design.design.text) r
 
 pub found_runs_again : FoundRunsAgain
 found_runs_again w design table answer o some us tree x = found w design table o.tokens o.source o.sites o.rows o.taken answer o.is.bound some o.is.found us tree x
 
 pub found_run_agrees : FoundRunAgrees
 found_run_agrees w design table answer o some text r =
-    agrees_by answer.out table w.top w.clock text (found_runs_again w design table answer o some r.tokens r.design.design.tree r.design.design.text) r
+    agrees_by w.kind answer.out table w.top w.clock text (found_runs_again w design table answer o some r.tokens r.design.design.tree r.design.design.text) r

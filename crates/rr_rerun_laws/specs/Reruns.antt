@@ -1,29 +1,34 @@
 -- What a repair prints, read and run again.
-use Rattle.std.specs.Prelude.{◌≡◌, ◌≢◌, ℕ, List, [], length, Bool, Option, Ok}
+use Rattle.std.specs.Prelude.{◌≡◌, ◌≢◌, ℕ, List, [], length, Bool, Option}
+use Rattle.rr_directive.specs.declared.origin.Origin.{Origin}
+use Rattle.rr_directive.specs.Expand.{IsTaken}
 use Rattle.rr_syntax.specs.Tree.{SourceText}
 use Rattle.rr_lex.specs.Tokens.{Lexeme}
 use Rattle.rr_flat.specs.Plain.{Flat}
 use Rattle.rr_elaborate.specs.Designs.{IsText}
 use Rattle.rr_trace.specs.Misses.{AgreeRows}
-use Rattle.rr_trace.specs.Tables.{Table, table_of}
+use Rattle.rr_trace.specs.Tables.{Table}
 use Rattle.rr_trace.specs.Tops.{ports_of}
 use Rattle.rr_trace.specs.Written.{table_text}
 use Rattle.rr_cycle.specs.Cycles.{Run}
+use Rattle.rr_run.specs.declared.rows.TableKind.{TableKind}
+use Rattle.rr_run.specs.Rows.{ReadsTable}
 use Rattle.rr_run.specs.Runs.{IsLawfulDesign, IsRun}
+use Rattle.rr_run.specs.Files.{IsFileRun}
 use Rattle.rr_report.specs.Found.{Answer}
 use Rattle.rr_repair.specs.Repairs.{PlainRequest}
 use Rattle.rr_repair.specs.Outcomes.{IsLeftOpen, IsMended}
 
--- the bytes are a lawful design, and the text is the table of the rows with the outputs of its run on them, which equal each
--- known cell of the table
-pub record RunsRight (bytes table : List ℕ) (top word : Option (List ℕ)) (text : List ℕ) : Type 0 where
+-- the bytes are a lawful design, and the text is the table of the rows, read as a table of this kind, with the outputs of its run
+-- on them, which equal each known cell of the table
+pub record RunsRight (kind : TableKind) (bytes table : List ℕ) (top word : Option (List ℕ)) (text : List ℕ) : Type 0 where
   pub tokens : List Lexeme
   pub flat : Flat
   pub clock : Option ℕ
   pub rising : Bool
   pub design : IsLawfulDesign bytes top word tokens flat clock rising
   pub rows : Table
-  pub read : table_of (ports_of flat clock) table ≡ Ok rows
+  pub read : ReadsTable kind flat clock rising table rows
   pub outputs : List (List ℕ)
   pub run : Run flat clock rows.inputs outputs
   pub printed : text ≡ table_text (ports_of flat clock) rows.inputs outputs
@@ -33,19 +38,31 @@ pub record RunsRight (bytes table : List ℕ) (top word : Option (List ℕ)) (te
 -- refuses them.
 abbrev pub RunsAgain : Type 0
 RunsAgain = (w : PlainRequest) (design table : List ℕ) (answer : Answer) → IsMended w design table answer → (tokens : List Lexeme) (tree : SourceText) → IsText answer.out tokens tree →
-    (text : List ℕ) × RunsRight answer.out table w.top w.clock text
+    (text : List ℕ) × RunsRight w.kind answer.out table w.top w.clock text
 
 -- and each run of them is such
 abbrev pub RunAgrees : Type 0
-RunAgrees = (w : PlainRequest) (design table : List ℕ) (answer : Answer) → IsMended w design table answer → (text : List ℕ) → IsRun answer.out table w.top w.clock text →
-    RunsRight answer.out table w.top w.clock text
+RunAgrees = (w : PlainRequest) (design table : List ℕ) (answer : Answer) → IsMended w design table answer → (text : List ℕ) → IsRun w.kind answer.out table w.top w.clock text →
+    RunsRight w.kind answer.out table w.top w.clock text
 
 -- The same of bytes that are printed where a repair is left open: no law and no table refuses them,
 abbrev pub FoundRunsAgain : Type 0
 FoundRunsAgain = (w : PlainRequest) (design table : List ℕ) (answer : Answer) → IsLeftOpen w design table answer → answer.out ≢ [] → (tokens : List Lexeme) (tree : SourceText) → IsText answer.out tokens tree →
-    (text : List ℕ) × RunsRight answer.out table w.top w.clock text
+    (text : List ℕ) × RunsRight w.kind answer.out table w.top w.clock text
 
 -- and each run of them is such
 abbrev pub FoundRunAgrees : Type 0
-FoundRunAgrees = (w : PlainRequest) (design table : List ℕ) (answer : Answer) → IsLeftOpen w design table answer → answer.out ≢ [] → (text : List ℕ) → IsRun answer.out table w.top w.clock text →
-    RunsRight answer.out table w.top w.clock text
+FoundRunAgrees = (w : PlainRequest) (design table : List ℕ) (answer : Answer) → IsLeftOpen w design table answer → answer.out ≢ [] → (text : List ℕ) → IsRun w.kind answer.out table w.top w.clock text →
+    RunsRight w.kind answer.out table w.top w.clock text
+
+-- The command `run` expands directives. Where the printed bytes are their own expansion, as bytes without a backtick are, it gives
+-- such a run of them
+abbrev pub FileRunsAgain : Type 0
+FileRunsAgain = (w : PlainRequest) (design table : List ℕ) (answer : Answer) → IsMended w design table answer → (origins : List Origin) → IsTaken answer.out answer.out origins →
+    (tokens : List Lexeme) (tree : SourceText) → IsText answer.out tokens tree →
+    (text : List ℕ) × (IsFileRun w.kind answer.out table w.top w.clock text × RunsRight w.kind answer.out table w.top w.clock text)
+
+-- and each run of them as a file is such
+abbrev pub FileRunAgrees : Type 0
+FileRunAgrees = (w : PlainRequest) (design table : List ℕ) (answer : Answer) → IsMended w design table answer → (origins : List Origin) → IsTaken answer.out answer.out origins →
+    (text : List ℕ) → IsFileRun w.kind answer.out table w.top w.clock text → RunsRight w.kind answer.out table w.top w.clock text

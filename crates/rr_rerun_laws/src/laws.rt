@@ -1,12 +1,15 @@
 //! The laws of what a repair prints and writes, as contracts of functions that do nothing.
 ghost use Rattle.rr_rerun_laws.specs.Checks.{CheckAccepts, CheckAcceptsNone};
-ghost use Rattle.rr_rerun_laws.specs.Reruns.{FoundRunAgrees, FoundRunsAgain, RunAgrees, RunsAgain};
+ghost use Rattle.rr_rerun_laws.specs.Reruns.{FileRunAgrees, FileRunsAgain, FoundRunAgrees, FoundRunsAgain, RunAgrees, RunsAgain};
 
 /// Where a repair prints a source, and its bytes are read as a text, they have a run on the table of the
-/// repair, which agrees with each known cell; and every run of them does.
+/// repair, which agrees with each known cell; and every run of them does. So it is with the run of the bytes
+/// as a file, whose directives are expanded, where they are their own expansion.
 pub fn repair_then_run()
     ensures again { RunsAgain }
     ensures agrees { RunAgrees }
+    ensures file_again { FileRunsAgain }
+    ensures file_agrees { FileRunAgrees }
 {}
 
 /// Where a repair is left open and prints a source, and its bytes are read as a text, they have a run on the

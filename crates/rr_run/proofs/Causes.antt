@@ -12,14 +12,10 @@ use Rattle.rr_elaborate.specs.declared.design.DesignFault.TheVariants as design
 use Rattle.rr_lawful.specs.Checked.{Denies, told}
 use Rattle.rr_lawful.specs.declared.laws.LawFault.{LawFault}
 use Rattle.rr_lawful.specs.declared.laws.LawFault.TheVariants as law
-use Rattle.rr_trace.specs.Tables.{table_of}
-use Rattle.rr_trace.specs.Tops.{name_of, ports_of}
-use Rattle.rr_trace.specs.declared.fault.TableFault.{TableFault}
-use Rattle.rr_trace.specs.declared.fault.TableFault.TheVariants as table
 use Rattle.rr_run.specs.declared.fault.Fault.{Fault}
 use Rattle.rr_run.specs.declared.fault.Fault.TheVariants as fault
-use Rattle.rr_run.specs.Refusals.{Refusal, At, TooMany, NoHeader, UnknownColumn, ColumnTwice, MissingInput, RowLength, BadCell, CellTooLarge, NotUtf8}
-use Rattle.rr_run.specs.Runs.{IsBroken, RefusesDesign, RefusesTable, Told}
+use Rattle.rr_run.specs.Refusals.{Refusal, At, TooMany, Expanded, NoHeader, UnknownColumn, ColumnTwice, MissingInput, RowLength, BadCell, CellTooLarge, NotUtf8, BadVcd, NoScope}
+use Rattle.rr_run.specs.Runs.{IsBroken, RefusesDesign, Told}
 
 -- the refusal by which a fault of elaboration is told; want of memory is told by none, so that its line has no meaning
 abbrev pub of_wrong : Wrong → ℕ → Refusal
@@ -79,7 +75,11 @@ module _ (bytes : List ℕ) (top word : Option Text) where
   cause (At fault.TwoClocks at) r = late fault.TwoClocks at r refl
   cause (At fault.BadTarget at) r = late fault.BadTarget at r refl
   cause (At fault.WildLabel at) r = late fault.WildLabel at r refl
+  cause (At fault.UnknownMacro at) r = absurd r
+  cause (At fault.BadDirective at) r = absurd r
+  cause (At fault.MacroLoop at) r = absurd r
   cause (TooMany limit count) r = early (design.Flaw (flat.TooMany limit count)) (λ e. cc) r refl
+  cause (Expanded count) r = absurd r
   cause NoHeader r = absurd r
   cause (UnknownColumn column) r = absurd r
   cause (ColumnTwice column) r = absurd r
@@ -88,6 +88,8 @@ module _ (bytes : List ℕ) (top word : Option Text) where
   cause (BadCell row column) r = absurd r
   cause (CellTooLarge row column) r = absurd r
   cause NotUtf8 r = absurd r
+  cause (BadVcd line) r = absurd r
+  cause NoScope r = absurd r
 
 -- the law of a number
 abbrev pub law_numbered : ℕ → Fault
@@ -126,31 +128,3 @@ denied P (law.TwoClocks t) what at r d = d
 denied P (law.BadTarget t) what at r d = d
 denied P (law.WildLabel t) what at r d = d
 denied P law.Memory what at r d = absurd r
-
--- the refusal by which a fault of a table is told
-abbrev pub of_table : Flat → TableFault → Refusal
-of_table flat table.NoHeader = NoHeader
-of_table flat (table.UnknownColumn column) = UnknownColumn column
-of_table flat (table.ColumnTwice column) = ColumnTwice column
-of_table flat (table.MissingInput id) = MissingInput (name_of flat id)
-of_table flat (table.RowLength row) = RowLength row
-of_table flat (table.BadCell row column) = BadCell row column
-of_table flat (table.CellTooLarge row column) = CellTooLarge row column
-of_table flat table.NotUtf8 = NotUtf8
-of_table flat (table.TooMany limit count) = TooMany limit count
-of_table flat table.Memory = NotUtf8
-
-abbrev pub IsTableCause : Flat → Option ℕ → List ℕ → Refusal → Type 0
-IsTableCause flat clock bytes refusal = (f : TableFault) × ((table_of (ports_of flat clock) bytes ≡ Err f) × (refusal ≡ of_table flat f))
-
-pub table_cause : (flat : Flat) (clock : Option ℕ) (bytes : List ℕ) (refusal : Refusal) → RefusesTable flat clock bytes refusal → IsTableCause flat clock bytes refusal
-table_cause flat clock bytes (At what at) r = absurd r
-table_cause flat clock bytes (TooMany limit count) r = (table.TooMany limit count, (r, refl))
-table_cause flat clock bytes NoHeader r = (table.NoHeader, (r, refl))
-table_cause flat clock bytes (UnknownColumn column) r = (table.UnknownColumn column, (r, refl))
-table_cause flat clock bytes (ColumnTwice column) r = (table.ColumnTwice column, (r, refl))
-table_cause flat clock bytes (MissingInput name) r = (table.MissingInput r.0, (r.1.0, ap MissingInput r.1.1))
-table_cause flat clock bytes (RowLength row) r = (table.RowLength row, (r, refl))
-table_cause flat clock bytes (BadCell row column) r = (table.BadCell row column, (r, refl))
-table_cause flat clock bytes (CellTooLarge row column) r = (table.CellTooLarge row column, (r, refl))
-table_cause flat clock bytes NotUtf8 r = (table.NotUtf8, (r, refl))

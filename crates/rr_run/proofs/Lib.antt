@@ -1,3 +1,4 @@
 pub mod Telling
 pub mod Causes
+pub mod Reading
 pub mod Once

@@ -1,5 +1,5 @@
 -- Two texts have one outcome.
-use Rattle.std.proofs.Common.{◌≡◌, ℕ, List, Bool, Option, Some, None, Ok, Err, ap, sym, subst, ◌∙◌, inl, inr}
+use Rattle.std.proofs.Common.{◌≡◌, ℕ, List, Bool, Option, Some, None, ap, sym, subst, ◌∙◌, inl, inr}
 use Rattle.rr_lex.specs.Tokens.{Lexeme}
 use Rattle.rr_flat.specs.Signals.{Text}
 use Rattle.rr_flat.specs.Lawful.{Lawful}
@@ -12,13 +12,15 @@ use Rattle.rr_lawful.specs.Checked.{FailsFirst, IsSameFault, told}
 use Rattle.rr_lawful.proofs.ClockOnce.{one_clock}
 use Rattle.rr_lawful.proofs.OneFault.{same_fault, unlawful}
 use Rattle.rr_lawful.specs.declared.laws.LawFault.{LawFault}
-use Rattle.rr_trace.specs.Tables.{Table, table_of}
+use Rattle.rr_trace.specs.Tables.{Table}
 use Rattle.rr_trace.specs.Tops.{ports_of}
 use Rattle.rr_trace.specs.Written.{table_text}
 use Rattle.rr_run.specs.declared.fault.Fault.{Fault}
+use Rattle.rr_run.specs.declared.rows.TableKind.{TableKind}
 use Rattle.rr_run.specs.Refusals.{Refusal, At}
 use Rattle.rr_run.specs.Runs.{GivesText, HasNoTable, IsBroken, IsLawfulDesign, IsRun, IsSameRefusal, Refuses, RefusesDesign, Told}
-use Rattle.rr_run.proofs.Causes.{Cause, early, late, cause, denied, law_numbered, number_told, of_design, of_table, table_cause}
+use Rattle.rr_run.proofs.Causes.{Cause, early, late, cause, denied, law_numbered, number_told, of_design}
+use Rattle.rr_run.proofs.Reading.{moved_reading, moved_refusal, one_reading, one_table_refusal, read_or_refused}
 use Rattle.rr_cycle.proofs.Ranked.{run_once}
 
 pub one_lawful : (bytes : List ℕ) (top word : Option Text) (ts us : List Lexeme) (f g : Flat) (c d : Option ℕ) (r s : Bool) →
@@ -84,52 +86,37 @@ one_design_refusal bytes top word a b (late x i p h) (early g n q k) = absurd (n
 one_design_refusal bytes top word a b (late x i p h) (late y j q k) = inl (h ∙ (one_broken bytes top word x y i j p q ∙ sym k))
 
 -- the bytes of a design with those of a table
-module _ (bytes table : List ℕ) (top word : Option Text) where
-  same_ports : (ts us : List Lexeme) (f g : Flat) (c d : Option ℕ) (r s : Bool) → IsLawfulDesign bytes top word ts f c r → IsLawfulDesign bytes top word us g d s →
-      table_of (ports_of f c) table ≡ table_of (ports_of g d) table
-  same_ports ts us f g c d r s a b =
-      let both = one_lawful bytes top word ts us f g c d r s a b in
-      let flats : f ≡ g = both.1.0 in
-      let clocks : c ≡ d = both.1.1.0 in
-      cc
-
-  one_table_refusal : (a b : Refusal) → HasNoTable bytes table top word a → HasNoTable bytes table top word b → a ≡ b
-  one_table_refusal a b p q =
-      let x = table_cause p.flat p.clock table a p.refused in
-      let y = table_cause q.flat q.clock table b q.refused in
+module _ (kind : TableKind) (bytes table : List ℕ) (top word : Option Text) where
+  one_no_table : (a b : Refusal) → HasNoTable kind bytes table top word a → HasNoTable kind bytes table top word b → a ≡ b
+  one_no_table a b p q =
       let both = one_lawful bytes top word p.tokens q.tokens p.flat q.flat p.clock q.clock p.rising q.rising p.design q.design in
-      let flats : p.flat ≡ q.flat = both.1.0 in
-      let errors : Err x.0 ≡ Err y.0 = sym x.1.0 ∙ (same_ports p.tokens q.tokens p.flat q.flat p.clock q.clock p.rising q.rising p.design q.design ∙ y.1.0) in
-      let faults : x.0 ≡ y.0 = cc in
-      x.1.1 ∙ (ap (of_table p.flat) faults ∙ (ap (λ (g : Flat). of_table g y.0) flats ∙ sym y.1.1))
+      one_table_refusal kind q.flat q.clock q.rising table a b (moved_refusal kind table a both.1.0 both.1.1.0 both.1.1.1 p.refused) q.refused
 
-  no_table : (x : List ℕ) (a : Refusal) → IsRun bytes table top word x → HasNoTable bytes table top word a → ⊥
+  no_table : (x : List ℕ) (a : Refusal) → IsRun kind bytes table top word x → HasNoTable kind bytes table top word a → ⊥
   no_table x a p q =
-      let y = table_cause q.flat q.clock table a q.refused in
-      let e : Ok p.rows ≡ Err y.0 = sym p.read ∙ (same_ports p.tokens q.tokens p.flat q.flat p.clock q.clock p.rising q.rising p.design q.design ∙ y.1.0) in
-      cc
+      let both = one_lawful bytes top word p.tokens q.tokens p.flat q.flat p.clock q.clock p.rising q.rising p.design q.design in
+      read_or_refused kind q.flat q.clock q.rising table p.rows a (moved_reading kind table p.rows both.1.0 both.1.1.0 both.1.1.1 p.read) q.refused
 
-  pub run_or_refusal : (x : List ℕ) (a : Refusal) → IsRun bytes table top word x → Refuses bytes table top word a → ⊥
+  pub run_or_refusal : (x : List ℕ) (a : Refusal) → IsRun kind bytes table top word x → Refuses kind bytes table top word a → ⊥
   run_or_refusal x a p (inl r) = lawful_or_refusal bytes top word p.tokens p.flat p.clock p.rising a p.design r
   run_or_refusal x a p (inr r) = no_table x a p r
 
-  pub one_refused : (a b : Refusal) → Refuses bytes table top word a → Refuses bytes table top word b → IsSameRefusal a b
+  pub one_refused : (a b : Refusal) → Refuses kind bytes table top word a → Refuses kind bytes table top word b → IsSameRefusal a b
   one_refused a b (inl p) (inl q) = one_design_refusal bytes top word a b (cause bytes top word a p) (cause bytes top word b q)
   one_refused a b (inl p) (inr q) = absurd (lawful_or_refusal bytes top word q.tokens q.flat q.clock q.rising a q.design p)
   one_refused a b (inr p) (inl q) = absurd (lawful_or_refusal bytes top word p.tokens p.flat p.clock p.rising b p.design q)
-  one_refused a b (inr p) (inr q) = inl (one_table_refusal a b p q)
+  one_refused a b (inr p) (inr q) = inl (one_no_table a b p q)
 
   same_text : (flat : Flat) (clock : Option ℕ) (rows : Table) (x y : List ℕ) → Lawful flat word → GivesText flat clock rows x → GivesText flat clock rows y → x ≡ y
   same_text flat clock rows x y l p q =
       p.printed ∙ (ap (table_text (ports_of flat clock) rows.inputs) (run_once flat word l clock rows.inputs p.outputs q.outputs p.run q.run) ∙ sym q.printed)
 
-  pub one_run : (x y : List ℕ) → IsRun bytes table top word x → IsRun bytes table top word y → x ≡ y
+  pub one_run : (x y : List ℕ) → IsRun kind bytes table top word x → IsRun kind bytes table top word y → x ≡ y
   one_run x y p q =
       let both = one_lawful bytes top word p.tokens q.tokens p.flat q.flat p.clock q.clock p.rising q.rising p.design q.design in
       let flats : p.flat ≡ q.flat = both.1.0 in
       let clocks : p.clock ≡ q.clock = both.1.1.0 in
-      let reads : Ok p.rows ≡ Ok q.rows = sym p.read ∙ (same_ports p.tokens q.tokens p.flat q.flat p.clock q.clock p.rising q.rising p.design q.design ∙ q.read) in
-      let tables : p.rows ≡ q.rows = cc in
+      let tables : p.rows ≡ q.rows = one_reading kind q.flat q.clock q.rising table p.rows q.rows (moved_reading kind table p.rows flats clocks both.1.1.1 p.read) q.read in
       let gives : GivesText q.flat q.clock q.rows x =
       subst (λ (t : Table). GivesText q.flat q.clock t x) tables (subst (λ (c : Option ℕ). GivesText q.flat c p.rows x) clocks (subst (λ (f : Flat). GivesText f p.clock p.rows x) flats p.gives)) in
       same_text q.flat q.clock q.rows x y q.design.lawful gives q.gives

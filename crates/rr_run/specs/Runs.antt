@@ -1,5 +1,5 @@
 -- What the run of a design on a table gives, and why there is none (IEEE 1364-2005 sections 9, 11 and 12).
-use Rattle.std.specs.Prelude.{ℕ, ◌≡◌, ◌⊎◌, Bool, List, Option, Ok, Err}
+use Rattle.std.specs.Prelude.{ℕ, ◌≡◌, ◌⊎◌, Bool, List, Option}
 use Rattle.rr_lex.specs.Tokens.{Lexeme, IsFirstFault}
 use Rattle.rr_lex.specs.declared.piece.Wrong.TheVariants as wrong
 use Rattle.rr_flat.specs.Signals.{Text}
@@ -14,14 +14,15 @@ use Rattle.rr_elaborate.specs.Designs.{IsDesign, IsFlawed, IsUnparsed, IsUnsuppo
 use Rattle.rr_lawful.specs.Checked.{FailsFirst}
 use Rattle.rr_lawful.specs.declared.laws.LawFault.{LawFault}
 use Rattle.rr_lawful.specs.declared.laws.LawFault.TheVariants as law
-use Rattle.rr_trace.specs.Tables.{Table, table_of}
-use Rattle.rr_trace.specs.Tops.{name_of, ports_of}
+use Rattle.rr_trace.specs.Tables.{Table}
+use Rattle.rr_trace.specs.Tops.{ports_of}
 use Rattle.rr_trace.specs.Written.{table_text}
-use Rattle.rr_trace.specs.declared.fault.TableFault.TheVariants as table
 use Rattle.rr_cycle.specs.Cycles.{Run}
 use Rattle.rr_run.specs.declared.fault.Fault.{Fault}
 use Rattle.rr_run.specs.declared.fault.Fault.TheVariants as fault
-use Rattle.rr_run.specs.Refusals.{Refusal, At, TooMany, NoHeader, UnknownColumn, ColumnTwice, MissingInput, RowLength, BadCell, CellTooLarge, NotUtf8}
+use Rattle.rr_run.specs.Refusals.{Refusal, At, TooMany, Expanded, NoHeader, UnknownColumn, ColumnTwice, MissingInput, RowLength, BadCell, CellTooLarge, NotUtf8, BadVcd, NoScope}
+use Rattle.rr_run.specs.Rows.{ReadsTable, RefusesTable}
+use Rattle.rr_run.specs.declared.rows.TableKind.{TableKind}
 
 -- an order of the steps of a design that is lawful with this word
 abbrev pub InOrder : Design → Order → Option Text → Type 0
@@ -39,15 +40,15 @@ pub record GivesText (flat : Flat) (clock : Option ℕ) (rows : Table) (text : L
   pub run : Run flat clock rows.inputs outputs
   pub printed : text ≡ table_text (ports_of flat clock) rows.inputs outputs
 
--- the table of a text with the outputs of the run on its rows
-pub record IsRun (bytes table : List ℕ) (top word : Option Text) (text : List ℕ) : Type 0 where
+-- the table of a text with the outputs of the run on its rows, which are those of a table of this kind
+pub record IsRun (kind : TableKind) (bytes table : List ℕ) (top word : Option Text) (text : List ℕ) : Type 0 where
   pub tokens : List Lexeme
   pub flat : Flat
   pub clock : Option ℕ
   pub rising : Bool
   pub design : IsLawfulDesign bytes top word tokens flat clock rising
   pub rows : Table
-  pub read : table_of (ports_of flat clock) table ≡ Ok rows
+  pub read : ReadsTable kind flat clock rising table rows
   pub gives : GivesText flat clock rows text
 
 -- which law, and the token at which it is told
@@ -77,7 +78,7 @@ pub record IsBroken (bytes : List ℕ) (top word : Option Text) (what : Fault) (
 
 -- What is wrong with a design first, and at which byte: the first fault of its bytes, its first word without a rule, that
 -- it has no tree, the first fault of its elaboration, or the first law that it breaks. Which byte is told of a text
--- without a tree is not said.
+-- without a tree is not said. No text has a fault of directives that are expanded: those are of files.
 abbrev pub IsAt : List ℕ → Option Text → Option Text → Fault → ℕ → Type 0
 IsAt bytes top word fault.BadByte at = IsFirstFault bytes wrong.Byte at
 IsAt bytes top word fault.BadNumber at = IsFirstFault bytes wrong.Number at
@@ -103,11 +104,15 @@ IsAt bytes top word fault.ClockUse at = IsBroken bytes top word fault.ClockUse a
 IsAt bytes top word fault.TwoClocks at = IsBroken bytes top word fault.TwoClocks at
 IsAt bytes top word fault.BadTarget at = IsBroken bytes top word fault.BadTarget at
 IsAt bytes top word fault.WildLabel at = IsBroken bytes top word fault.WildLabel at
+IsAt bytes top word fault.UnknownMacro at = ⊥
+IsAt bytes top word fault.BadDirective at = ⊥
+IsAt bytes top word fault.MacroLoop at = ⊥
 
 -- why a text has no lawful design
 abbrev pub RefusesDesign : List ℕ → Option Text → Option Text → Refusal → Type 0
 RefusesDesign bytes top word (At what at) = IsAt bytes top word what at
 RefusesDesign bytes top word (TooMany limit count) = IsFlawed bytes top (flat.TooMany limit count)
+RefusesDesign bytes top word (Expanded count) = ⊥
 RefusesDesign bytes top word NoHeader = ⊥
 RefusesDesign bytes top word (UnknownColumn column) = ⊥
 RefusesDesign bytes top word (ColumnTwice column) = ⊥
@@ -116,32 +121,21 @@ RefusesDesign bytes top word (RowLength row) = ⊥
 RefusesDesign bytes top word (BadCell row column) = ⊥
 RefusesDesign bytes top word (CellTooLarge row column) = ⊥
 RefusesDesign bytes top word NotUtf8 = ⊥
+RefusesDesign bytes top word (BadVcd line) = ⊥
+RefusesDesign bytes top word NoScope = ⊥
 
--- why a text is no table for the ports of a design
-abbrev pub RefusesTable : Flat → Option ℕ → List ℕ → Refusal → Type 0
-RefusesTable flat clock bytes (At what at) = ⊥
-RefusesTable flat clock bytes (TooMany limit count) = table_of (ports_of flat clock) bytes ≡ Err (table.TooMany limit count)
-RefusesTable flat clock bytes NoHeader = table_of (ports_of flat clock) bytes ≡ Err table.NoHeader
-RefusesTable flat clock bytes (UnknownColumn column) = table_of (ports_of flat clock) bytes ≡ Err (table.UnknownColumn column)
-RefusesTable flat clock bytes (ColumnTwice column) = table_of (ports_of flat clock) bytes ≡ Err (table.ColumnTwice column)
-RefusesTable flat clock bytes (MissingInput name) = (id : ℕ) × ((table_of (ports_of flat clock) bytes ≡ Err (table.MissingInput id)) × (name ≡ name_of flat id))
-RefusesTable flat clock bytes (RowLength row) = table_of (ports_of flat clock) bytes ≡ Err (table.RowLength row)
-RefusesTable flat clock bytes (BadCell row column) = table_of (ports_of flat clock) bytes ≡ Err (table.BadCell row column)
-RefusesTable flat clock bytes (CellTooLarge row column) = table_of (ports_of flat clock) bytes ≡ Err (table.CellTooLarge row column)
-RefusesTable flat clock bytes NotUtf8 = table_of (ports_of flat clock) bytes ≡ Err table.NotUtf8
-
--- the design is lawful, and the table is none for its ports, for this reason
-pub record HasNoTable (bytes table : List ℕ) (top word : Option Text) (refusal : Refusal) : Type 0 where
+-- the design is lawful, and the table of this kind is none for its ports, for this reason
+pub record HasNoTable (kind : TableKind) (bytes table : List ℕ) (top word : Option Text) (refusal : Refusal) : Type 0 where
   pub tokens : List Lexeme
   pub flat : Flat
   pub clock : Option ℕ
   pub rising : Bool
   pub design : IsLawfulDesign bytes top word tokens flat clock rising
-  pub refused : RefusesTable flat clock table refusal
+  pub refused : RefusesTable kind flat clock rising table refusal
 
 -- why two texts have no run: of the design first
-abbrev pub Refuses : List ℕ → List ℕ → Option Text → Option Text → Refusal → Type 0
-Refuses bytes table top word refusal = RefusesDesign bytes top word refusal ⊎ HasNoTable bytes table top word refusal
+abbrev pub Refuses : TableKind → List ℕ → List ℕ → Option Text → Option Text → Refusal → Type 0
+Refuses kind bytes table top word refusal = RefusesDesign bytes top word refusal ⊎ HasNoTable kind bytes table top word refusal
 
 -- the same refusal; of a text without a tree the byte may differ
 abbrev pub IsSameRefusal : Refusal → Refusal → Type 0

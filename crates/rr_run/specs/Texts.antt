@@ -4,7 +4,7 @@ use Rattle.rr_flat.specs.declared.fault.Limit.{Limit}
 use Rattle.rr_flat.specs.declared.fault.Limit.TheVariants as limit
 use Rattle.rr_run.specs.declared.fault.Fault.{Fault}
 use Rattle.rr_run.specs.declared.fault.Fault.TheVariants as fault
-use Rattle.rr_run.specs.Refusals.{Refusal, At, TooMany, NoHeader, UnknownColumn, ColumnTwice, MissingInput, RowLength, BadCell, CellTooLarge, NotUtf8}
+use Rattle.rr_run.specs.Refusals.{Refusal, At, TooMany, Expanded, NoHeader, UnknownColumn, ColumnTwice, MissingInput, RowLength, BadCell, CellTooLarge, NotUtf8, BadVcd, NoScope}
 
 abbrev pub fault_text : Fault → List ℕ
 fault_text fault.BadByte = codes "1 BadByte"
@@ -31,6 +31,9 @@ fault_text fault.ClockUse = codes "22 ClockUse"
 fault_text fault.TwoClocks = codes "23 TwoClocks"
 fault_text fault.BadTarget = codes "24 BadTarget"
 fault_text fault.WildLabel = codes "25 WildLabel"
+fault_text fault.UnknownMacro = codes "38 UnknownMacro"
+fault_text fault.BadDirective = codes "39 BadDirective"
+fault_text fault.MacroLoop = codes "40 MacroLoop"
 
 -- what is counted
 abbrev pub limit_text : Limit → List ℕ
@@ -45,10 +48,11 @@ limit_text limit.Work = codes "work"
 abbrev pub place_text : ℕ → ℕ → List ℕ
 place_text row column = codes " row " ++ (decimal row ++ (codes " column " ++ decimal column))
 
--- row 0 is the header, columns count from 0
+-- row 0 is the header, columns count from 0, lines of a dump from 1
 abbrev pub refusal_text : Refusal → List ℕ
 refusal_text (At what at) = fault_text what ++ (codes " at " ++ decimal at)
 refusal_text (TooMany limit count) = codes "16 TooMany " ++ (limit_text limit ++ (codes " " ++ decimal count))
+refusal_text (Expanded count) = codes "16 TooMany expanded " ++ decimal count
 refusal_text NoHeader = codes "26 NoHeader row 0"
 refusal_text (UnknownColumn column) = codes "27 UnknownColumn row 0 column " ++ decimal column
 refusal_text (ColumnTwice column) = codes "28 ColumnTwice row 0 column " ++ decimal column
@@ -57,3 +61,5 @@ refusal_text (RowLength row) = codes "30 RowLength row " ++ decimal row
 refusal_text (BadCell row column) = codes "31 BadCell" ++ place_text row column
 refusal_text (CellTooLarge row column) = codes "32 CellTooLarge" ++ place_text row column
 refusal_text NotUtf8 = codes "33 NotUtf8"
+refusal_text (BadVcd line) = codes "41 BadVcd line " ++ decimal line
+refusal_text NoScope = codes "42 NoScope"

@@ -2,7 +2,7 @@
 use rr_flat::Limit;
 use std::fmt;
 
-/// What is wrong with a design at one byte of its text: refusals 1 to 15 and 17 to 25.
+/// What is wrong with a design at one byte of its text or file: refusals 1 to 15, 17 to 25 and 38 to 40.
 #[derive(Clone, Copy, Debug, PartialEq, Eq)]
 pub enum Fault {
     /// A byte that begins no token (IEEE 1364-2005 section 3).
@@ -11,7 +11,7 @@ pub enum Fault {
     BadNumber,
     /// A comment without its end (section 3.3).
     OpenComment,
-    /// A compiler directive of another kind than those that are skipped (section 19).
+    /// A compiler directive of another kind than those that are skipped or expanded (section 19).
     Directive,
     /// A word without a rule.
     Unsupported,
@@ -53,6 +53,13 @@ pub enum Fault {
     BadTarget,
     /// A label of `case` with x or z.
     WildLabel,
+    /// A use of a name that is not defined (section 19.3).
+    UnknownMacro,
+    /// A directive without its name, with arguments, of a directive's name or with a directive in its
+    /// text, without its opening or its end, or `elsif (sections 19.3 and 19.4).
+    BadDirective,
+    /// A use whose text uses a name that is being expanded (section 19.3.1).
+    MacroLoop,
 }
 
 impl fmt::Display for Fault {
@@ -87,6 +94,9 @@ impl fmt::Display for Fault {
             Fault::TwoClocks => write!(f, "23 TwoClocks"),
             Fault::BadTarget => write!(f, "24 BadTarget"),
             Fault::WildLabel => write!(f, "25 WildLabel"),
+            Fault::UnknownMacro => write!(f, "38 UnknownMacro"),
+            Fault::BadDirective => write!(f, "39 BadDirective"),
+            Fault::MacroLoop => write!(f, "40 MacroLoop"),
         }
     }
 }
@@ -94,10 +104,12 @@ impl fmt::Display for Fault {
 /// Why two texts have no run. Bytes and columns count from 0, rows from 1: row 0 is the header.
 #[derive(Clone, Copy, Debug, PartialEq, Eq)]
 pub enum Refusal<'a> {
-    /// What is wrong with the design first, at this byte (1 to 15, 17 to 25).
+    /// What is wrong with the design first, at this byte of its file (1 to 15, 17 to 25, 38 to 40).
     At(Fault, u32),
     /// A count that passes its limit, with that count (16).
     TooMany(Limit, u64),
+    /// The directives of the design give more bytes and uses than 1,048,576: how many were met (16).
+    Expanded(u64),
     /// The table has no record (26).
     NoHeader,
     /// This column names no port (27).
@@ -114,6 +126,10 @@ pub enum Refusal<'a> {
     CellTooLarge { row: u32, column: u32 },
     /// The table's bytes are not UTF-8 (33).
     NotUtf8,
+    /// The text of a dump breaks its form at this line, counted from 1 (41).
+    BadVcd(u64),
+    /// No scope of a dump has every input of the top (42).
+    NoScope,
 }
 
 /// What is counted against a limit.
@@ -153,6 +169,7 @@ impl fmt::Display for Refusal<'_> {
                 let counted = Counted(*limit);
                 write!(f, "16 TooMany {counted} {count}")
             }
+            Refusal::Expanded(count) => write!(f, "16 TooMany expanded {count}"),
             Refusal::NoHeader => write!(f, "26 NoHeader row 0"),
             Refusal::UnknownColumn(column) => write!(f, "27 UnknownColumn row 0 column {column}"),
             Refusal::ColumnTwice(column) => write!(f, "28 ColumnTwice row 0 column {column}"),
@@ -163,6 +180,8 @@ impl fmt::Display for Refusal<'_> {
                 write!(f, "32 CellTooLarge row {row} column {column}")
             }
             Refusal::NotUtf8 => write!(f, "33 NotUtf8"),
+            Refusal::BadVcd(line) => write!(f, "41 BadVcd line {line}"),
+            Refusal::NoScope => write!(f, "42 NoScope"),
         }
     }
 }

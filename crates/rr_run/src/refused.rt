@@ -1,5 +1,5 @@
 //! Refusals from the faults of texts, of laws and of tables.
-ghost use Rattle.std.specs.Prelude.{◌≡◌, ℕ, List, Option, MatchOption};
+ghost use Rattle.std.specs.Prelude.{◌≡◌, ℕ, Bool, List, Option, MatchOption};
 ghost use Rattle.rr_lex.specs.Tokens.{IsFirstFault, lexemes};
 ghost use Rattle.rr_flat.specs.View.{plain_flat};
 ghost use Rattle.rr_flat.specs.Plain.{Flat as PlainFlat};
@@ -10,13 +10,16 @@ ghost use Rattle.rr_trace.specs.Tables.{table_of};
 ghost use Rattle.rr_trace.specs.Tops.{name_of as name_in, ports_of};
 ghost use Rattle.rr_trace.specs.View.{Refuses as RefusesRead};
 ghost use Rattle.rr_run.specs.Refusals.{StopsWhere};
-ghost use Rattle.rr_run.specs.Runs.{IsAt, RefusesDesign, RefusesTable, Told};
+ghost use Rattle.rr_vcd.specs.Faults.{RefusesVcd};
+ghost use Rattle.rr_run.specs.Rows.{RefusesCsv, RefusesDump};
+ghost use Rattle.rr_run.specs.Runs.{IsAt, RefusesDesign, Told};
 
 use crate::fault::{Fault, Refusal, RunFault};
 use rr_elaborate::{DesignFault, Flat, FlatFault, Wrong, start_of};
 use rr_lawful::LawFault;
 use rr_syntax::Token;
 use rr_trace::TableFault;
+use rr_vcd::VcdFault;
 
 /// What is wrong with a design, at a byte.
 fn at<'a>(fault: Fault, byte: u32) -> RunFault<'a>
@@ -98,9 +101,9 @@ pub(crate) fn of_law<'a>(tokens: &[Token<'_>], fault: &LawFault) -> RunFault<'a>
     }
 }
 
-/// Why a text is no table.
+/// Why a text is no table of comma-separated values.
 pub(crate) fn of_table<'a>(flat: &Flat<'a>, fault: TableFault) -> RunFault<'a>
-    ensures { (clock : Option ℕ) (bytes : List ℕ) → RefusesRead (table_of (ports_of (plain_flat flat.now) clock) bytes) fault → StopsWhere (RefusesTable (plain_flat flat.now) clock bytes) result }
+    ensures { (clock : Option ℕ) (bytes : List ℕ) → RefusesRead (table_of (ports_of (plain_flat flat.now) clock) bytes) fault → StopsWhere (RefusesCsv (plain_flat flat.now) clock bytes) result }
 {
     let refusal = match fault {
         TableFault::NoHeader => Refusal::NoHeader,
@@ -113,6 +116,19 @@ pub(crate) fn of_table<'a>(flat: &Flat<'a>, fault: TableFault) -> RunFault<'a>
         TableFault::NotUtf8 => Refusal::NotUtf8,
         TableFault::TooMany(limit, count) => Refusal::TooMany(limit, count),
         TableFault::Memory => return RunFault::Memory,
+    };
+    RunFault::Refused(refusal)
+}
+
+/// Why a text is no dump with rows for a design.
+pub(crate) fn of_dump<'a>(fault: VcdFault) -> RunFault<'a>
+    ensures { (flat : PlainFlat) (clock : Option ℕ) (rising : Bool) (bytes : List ℕ) → RefusesVcd flat clock rising bytes fault → StopsWhere (RefusesDump flat clock rising bytes) result }
+{
+    let refusal = match fault {
+        VcdFault::BadVcd(line) => Refusal::BadVcd(line),
+        VcdFault::NoScope => Refusal::NoScope,
+        VcdFault::TooMany(limit, count) => Refusal::TooMany(limit, count),
+        VcdFault::Memory => return RunFault::Memory,
     };
     RunFault::Refused(refusal)
 }

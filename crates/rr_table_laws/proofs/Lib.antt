@@ -1,4 +1,5 @@
 pub mod TopPorts
 pub mod Cells
 pub mod Fitting
+pub mod Sampling
 pub mod Standing

@@ -3,7 +3,9 @@ use Rattle.std.specs.Prelude.{◌≡◌, ◌⊎◌, ⊤, ℕ, ◌≤◌, List, [
 use Rattle.rr_edge.specs.Held.{Held}
 use Rattle.rr_words.specs.Plan.{Plan, repair, run, sites, check, make}
 use Rattle.rr_run.specs.Refusals.{Refusal as RunRefusal}
-use Rattle.rr_run.specs.Runs.{IsRun, IsSameRefusal as IsSameRunRefusal, Refuses as RefusesRun}
+use Rattle.rr_run.specs.declared.rows.TableKind.{TableKind}
+use Rattle.rr_run.specs.Files.{IsFileRun, RefusesFile}
+use Rattle.rr_run.specs.Runs.{IsSameRefusal as IsSameRunRefusal}
 use Rattle.rr_sites.specs.Lists.{IsSiteText, RefusesSites}
 use Rattle.rr_certify.specs.Certificates.{FlawIs, IsJudged}
 use Rattle.rr_certify.specs.Texts.{verdict_text}
@@ -14,6 +16,7 @@ use Rattle.rr_effects.specs.Reads.{Gave, Given, RefusesReads}
 use Rattle.rr_repair.specs.Repairs.{AnswersRepair, RefusesRepair, PlainRequest}
 use Rattle.rr_repair.specs.Outcomes.{IsLeftOpen, IsMendable, IsUnmendable}
 use Rattle.rr_make.specs.Makes.{AnswersMake, IsMadeOpen, IsNeverMade, IsSummary, RefusesMake}
+use Rattle.rr_top.specs.Kinds.{kind_of}
 use Rattle.rr_top.specs.Outcomes.{Outcome, mended, unmendable, ran, listed, checked, made, IsToldBy, verdict_status}
 
 -- A command: the names that it reads, in order, each with the most bytes that it may have; the answer for the files that it
@@ -57,34 +60,34 @@ repair_command design_name table_name w = record {
   leaves_open = λ files answer. WhereTwo files (λ design table. IsLeftOpen w design table answer);
 }
 
--- ---- `run`: the same files
--- the answer: the table of the rows with the outputs of the design's run, and nothing to report
-pub record AnswersRun (top clock : Option (List ℕ)) (design table : List ℕ) (answer : Answer) : Type 0 where
-  pub ran : IsRun design table top clock answer.out
+-- ---- `run`: the same files; the table's name tells how it is read
+-- the answer: the table of the rows with the outputs of the run of the design that the file expands to, and nothing to report
+pub record AnswersRun (kind : TableKind) (top clock : Option (List ℕ)) (design table : List ℕ) (answer : Answer) : Type 0 where
+  pub ran : IsFileRun kind design table top clock answer.out
   pub files : answer.files ≡ []
   pub notes : answer.notes ≡ []
   pub status : answer.status ≡ 0
 
--- the refusal; every lawful design is taken
-abbrev pub RefusesTexts : Option (List ℕ) → Option (List ℕ) → List ℕ → List ℕ → Refusal → Type 0
-RefusesTexts top word design table (TooManyBytes count) = ⊥
-RefusesTexts top word design table (Input refusal) = RefusesRun design table top word refusal
-RefusesTexts top word design table (Flawed flaw line) = ⊥
+-- the refusal: of the directives, the expanded design or the table; every lawful design is taken
+abbrev pub RefusesTexts : TableKind → Option (List ℕ) → Option (List ℕ) → List ℕ → List ℕ → Refusal → Type 0
+RefusesTexts kind top word design table (TooManyBytes count) = ⊥
+RefusesTexts kind top word design table (Input refusal) = RefusesFile kind design table top word refusal
+RefusesTexts kind top word design table (Flawed flaw line) = ⊥
 
-abbrev pub ComesToRun : Option (List ℕ) → Option (List ℕ) → List ℕ → List ℕ → Outcome → Type 0
-ComesToRun top clock design table mended = ⊥
-ComesToRun top clock design table unmendable = ⊥
-ComesToRun top clock design table (ran text) = IsRun design table top clock text
-ComesToRun top clock design table (listed text) = ⊥
-ComesToRun top clock design table (checked verdict) = ⊥
-ComesToRun top clock design table (made text) = ⊥
+abbrev pub ComesToRun : TableKind → Option (List ℕ) → Option (List ℕ) → List ℕ → List ℕ → Outcome → Type 0
+ComesToRun kind top clock design table mended = ⊥
+ComesToRun kind top clock design table unmendable = ⊥
+ComesToRun kind top clock design table (ran text) = IsFileRun kind design table top clock text
+ComesToRun kind top clock design table (listed text) = ⊥
+ComesToRun kind top clock design table (checked verdict) = ⊥
+ComesToRun kind top clock design table (made text) = ⊥
 
 abbrev pub run_command : List ℕ → List ℕ → Option (List ℕ) → Option (List ℕ) → Command
 run_command design_name table_name top clock = record {
   reads = (design_name, 1048576) ∷ ((table_name, 16777216) ∷ []);
-  answers = λ files answer. WhereTwo files (λ design table. AnswersRun top clock design table answer);
-  refuses = λ files refusal. WhereTwo files (λ design table. RefusesTexts top clock design table refusal);
-  comes_to = λ files outcome. WhereTwo files (λ design table. ComesToRun top clock design table outcome);
+  answers = λ files answer. WhereTwo files (λ design table. AnswersRun (kind_of table_name) top clock design table answer);
+  refuses = λ files refusal. WhereTwo files (λ design table. RefusesTexts (kind_of table_name) top clock design table refusal);
+  comes_to = λ files outcome. WhereTwo files (λ design table. ComesToRun (kind_of table_name) top clock design table outcome);
   leaves_open = λ files answer. ⊥;
 }
 
@@ -172,9 +175,10 @@ make_command seed cert = record {
 }
 
 -- ---- the table
--- what the words of a repair ask for
-abbrev pub request : List ℕ → Option (List ℕ) → Option (List ℕ) → ℕ → ℕ → PlainRequest
-request cert top clock budget members = record {
+-- what the words of a repair ask for; the table's name tells how it is read
+abbrev pub request : List ℕ → List ℕ → Option (List ℕ) → Option (List ℕ) → ℕ → ℕ → PlainRequest
+request table_name cert top clock budget members = record {
+  kind = kind_of table_name;
   top = top;
   clock = clock;
   cert = cert;
@@ -183,7 +187,7 @@ request cert top clock budget members = record {
 }
 
 abbrev pub command_of_plan : Plan → Command
-command_of_plan (repair design table cert top clock budget members) = repair_command design table (request cert top clock budget members)
+command_of_plan (repair design table cert top clock budget members) = repair_command design table (request table cert top clock budget members)
 command_of_plan (run design table top clock) = run_command design table top clock
 command_of_plan (sites design top clock) = sites_command design top clock
 command_of_plan (check circuit proof) = check_command circuit proof
@@ -275,7 +279,7 @@ pub record CertificateGiven (told : Option Held) (circuit_name proof_name circui
 
 -- the plan is one of this command, for whose names and options this holds
 abbrev pub WhereRepair : Plan → (List ℕ → List ℕ → PlainRequest → Type 0) → Type 0
-WhereRepair (repair design table cert top clock budget members) P = P design table (request cert top clock budget members)
+WhereRepair (repair design table cert top clock budget members) P = P design table (request table cert top clock budget members)
 WhereRepair (run design table top clock) P = ⊥
 WhereRepair (sites design top clock) P = ⊥
 WhereRepair (check circuit proof) P = ⊥

@@ -8,7 +8,8 @@ use Rattle.rr_words.specs.Plan.{Plan, repair, check, command_of}
 use Rattle.rr_words.specs.Usage.{usage_text}
 use Rattle.rr_run.specs.declared.fault.Fault.TheVariants.{Syntax}
 use Rattle.rr_run.specs.Refusals.{At}
-use Rattle.rr_run.specs.Runs.{IsRun}
+use Rattle.rr_run.specs.Files.{IsFileRun}
+use Rattle.rr_top.specs.Kinds.{kind_of}
 use Rattle.rr_sites.specs.Lists.{IsSiteText}
 use Rattle.rr_check.specs.declared.verdict.Verdict.{Verdict}
 use Rattle.rr_check.specs.declared.verdict.Verdict.TheVariants as found
@@ -128,13 +129,13 @@ pub record IsRejected (r : Execution) (circuit_name proof_name : List ℕ) : Typ
   pub shelf : KeepsShelf r.before r.after
 
 -- Status 0 of `run`: both files were read, and the output has grown by exactly the table of the rows with the outputs of
--- the design's one run.
+-- the one run of the design that the file expands to.
 pub record IsSimulated (r : Execution) (design_name table_name : List ℕ) (top clock : Option (List ℕ)) : Type 0 where
   pub design : List ℕ
   pub table : List ℕ
   pub given : BothGiven r.before.held design_name table_name design table
   pub text : List ℕ
-  pub ran : IsRun design table top clock text
+  pub ran : IsFileRun (kind_of table_name) design table top clock text
   pub printed : Appends r.before.out r.after.out text
   pub reported : Appends r.notes_before r.notes_after []
   pub shelf : KeepsShelf r.before r.after
@@ -364,7 +365,7 @@ pub record IsMatchingRepair (r : Execution) (design : List ℕ) : Type 0 where
   pub arguments : command_of r.arguments ≡ Some (repair design_name table_name cert top clock budget members)
   pub table : List ℕ
   pub given : BothGiven (Some held) design_name table_name design table
-  pub matching : IsMatching (request cert top clock budget members) design table
+  pub matching : IsMatching (request table_name cert top clock budget members) design table
 
 -- the source is put out as it was, and the shelf stays; or memory ran out; or something failed
 abbrev pub PrintsAsItWas : Execution → List ℕ → Type 0
@@ -387,7 +388,7 @@ pub record IsAmpleRepair (r : Execution) : Type 0 where
   pub design : List ℕ
   pub table : List ℕ
   pub given : BothGiven (Some held) design_name table_name design table
-  pub ample : IsAmple (request cert top clock budget members) design table
+  pub ample : IsAmple (request table_name cert top clock budget members) design table
 
 -- what `repair` and `make` alone may do is not asked for
 abbrev pub AsksNoRepair : List (List ℕ) → Type 0

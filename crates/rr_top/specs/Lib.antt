@@ -3,6 +3,7 @@ pub use Rattle.rr_edge.specs.Held
 pub use Rattle.rr_edge.specs.Shelf
 pub use Rattle.rr_edge.specs.Sink
 pub mod Outcomes
+pub mod Kinds
 pub mod Commands
 pub mod Expected
 pub mod Endings

@@ -11,6 +11,7 @@ ghost use Rattle.rr_top.specs.Commands.{AnswersCheck, AnswersRun, AnswersSites, 
 ghost use Rattle.rr_top.specs.Endings.{CommandEnds};
 ghost use Rattle.rr_top.specs.Views.{Gives};
 
+use crate::kinds::kind_of;
 use bumpalo::Bump;
 use rr_certify::{CertificateFault, Verdict, judge, verdict_text};
 use rr_edge::{Shelf, Sink};
@@ -18,7 +19,7 @@ use rr_effects::deliver;
 use rr_make::make;
 use rr_repair::{Request, repair};
 use rr_report::{Found, Piece, Refusal, Report, Stop, Text, stop_of, stopped};
-use rr_run::run_files;
+use rr_run::{TableKind, run_files};
 use rr_sites::list_sites;
 use rr_words::Command;
 use std::alloc::{AllocError, Global};
@@ -61,10 +62,11 @@ fn repair_files<'b, 'a, R: Threads + Sync>(
     repair(rt, alloc, design, table, request, arena)
 }
 
-/// The answer of `run` for the bytes of a design and of its table.
+/// The answer of `run` for the bytes of a design and of its table, which is of this kind.
 fn simulate<'b, 'a>(
     alloc: Global,
     design: &[u8],
+    kind: TableKind,
     table: &[u8],
     top: Option<&str>,
     clock: Option<&str>,
@@ -72,10 +74,10 @@ fn simulate<'b, 'a>(
 ) -> Result<Found<'b>, Stop<'a>>
     requires { length design.now ≤ 1048576 }
     ensures { MatchResult result
-        (λ found. AnswersRun (texts_of top.entry) (texts_of clock.entry) design.now table.now (plain_answer found))
-        (StopsWhere (RefusesTexts (texts_of top.entry) (texts_of clock.entry) design.now table.now)) }
+        (λ found. AnswersRun kind (texts_of top.entry) (texts_of clock.entry) design.now table.now (plain_answer found))
+        (StopsWhere (RefusesTexts kind (texts_of top.entry) (texts_of clock.entry) design.now table.now)) }
 {
-    match run_files(alloc, design, table, top, clock, arena) {
+    match run_files(alloc, design, kind, table, top, clock, arena) {
         Ok(text) => Ok(Found {
             status: 0,
             files: Vec::new(alloc),
@@ -86,19 +88,21 @@ fn simulate<'b, 'a>(
     }
 }
 
-/// The answer of `run` for a design and its table. Names in a refusal live in the arena.
+/// The answer of `run` for a design and its table of this name. Names in a refusal live in the arena.
 fn simulate_files<'b, 'a>(
     alloc: Global,
     files: &[Vec<u8>],
+    table_name: &str,
     top: Option<&str>,
     clock: Option<&str>,
     arena: &'a Bump,
 ) -> Result<Found<'b>, Stop<'a>>
     requires { WhereTwo (contents files.now) (λ design table. length design ≤ 1048576) }
-    ensures { (design table : List ℕ) → Gives (run_command design table (texts_of top.entry) (texts_of clock.entry)) (contents files.now) result }
+    ensures { (design : List ℕ) → Gives (run_command design table_name.now (texts_of top.entry) (texts_of clock.entry)) (contents files.now) result }
 {
     let (design, table) = both(files);
-    simulate(alloc, design, table, top, clock, arena)
+    let kind = kind_of(table_name);
+    simulate(alloc, design, kind, table, top, clock, arena)
 }
 
 /// The bytes of one file.
@@ -258,6 +262,7 @@ pub(crate) fn answer_files<'a, R: Threads + Sync, H: Shelf, K: Sink>(
 {
     match command {
         Command::Repair {
+            table,
             cert,
             top,
             clock,
@@ -266,6 +271,7 @@ pub(crate) fn answer_files<'a, R: Threads + Sync, H: Shelf, K: Sink>(
             ..
         } => {
             let request = Request {
+                kind: kind_of(table),
                 top,
                 clock,
                 cert,
@@ -275,8 +281,10 @@ pub(crate) fn answer_files<'a, R: Threads + Sync, H: Shelf, K: Sink>(
             let answer = repair_files(rt, alloc, &files, &request, arena);
             conclude(alloc, answer, shelf, out)
         }
-        Command::Run { top, clock, .. } => {
-            let answer = simulate_files(alloc, &files, top, clock, arena);
+        Command::Run {
+            table, top, clock, ..
+        } => {
+            let answer = simulate_files(alloc, &files, table, top, clock, arena);
             conclude(alloc, answer, shelf, out)
         }
         Command::Check { .. } => {

@@ -26,6 +26,7 @@ use std::thread::Threads;
 
 mod args;
 mod commands;
+mod kinds;
 mod laws;
 mod reads;
 
@@ -112,7 +113,8 @@ fn conduct<R: Threads + Sync, H: Shelf, K: Sink, E: Sink>(
 /// matches, 1 of `check`, and 4 where a put on the output or on the report failed.
 ///
 /// The commands are `repair DESIGN TABLE CERT`, `run DESIGN TABLE`, `sites DESIGN`,
-/// `check CIRCUIT PROOF` and `make SEED CERT`, which reads nothing. Only `repair` and `make` write to the
+/// `check CIRCUIT PROOF` and `make SEED CERT`, which reads nothing. A TABLE whose name ends with `.vcd` is
+/// read as a value change dump. Only `repair` and `make` write to the
 /// shelf: the files `CERT.aag`, `CERT.cnf` and `CERT.lrat`.
 pub fn run<R: Threads + Sync, H: Shelf, K: Sink, E: Sink>(
     rt: &R,

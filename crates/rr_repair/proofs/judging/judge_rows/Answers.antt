@@ -11,9 +11,9 @@ use Rattle.rr_repair.proofs.judging.judge_rows.Goals as goal
 pub returns-then-work-gt-WORK_LIMIT : goal.returns-then-work-gt-WORK_LIMIT
 returns-then-work-gt-WORK_LIMIT g c = λ table sited read.
     much_work (plain_request c.args.request.now) c.args.bytes.now table (lexemes c.args.design.now.tokens.now) (plain_source c.args.design.now.source.now) (plain_flat c.args.design.now.flat)
-    c.args.design.now.order.clock c.args.list.now sited (plain_table c.args.rows.now) read c.work_of-work.result c.work_of-work.ensures c.if-work-gt-WORK_LIMIT.true
+    c.args.design.now.order.clock c.args.design.now.order.rising c.args.list.now sited (plain_table c.args.rows.now) read c.work_of-work.result c.work_of-work.ensures c.if-work-gt-WORK_LIMIT.true
 
 pub returns-in-Ok : goal.returns-in-Ok
 returns-in-Ok g c = λ table sited read.
     counted (plain_request c.args.request.now) c.args.bytes.now table (lexemes c.args.design.now.tokens.now) (plain_source c.args.design.now.source.now) (plain_flat c.args.design.now.flat)
-    c.args.design.now.order.clock c.args.list.now sited (plain_table c.args.rows.now) read c.work_of-work.result c.work_of-work.ensures (plain_answer c.in-Ok.counted.found) c.in-Ok.counted.changes c.if-work-gt-WORK_LIMIT.false c.in-Ok.ensures
+    c.args.design.now.order.clock c.args.design.now.order.rising c.args.list.now sited (plain_table c.args.rows.now) read c.work_of-work.result c.work_of-work.ensures (plain_answer c.in-Ok.counted.found) c.in-Ok.counted.changes c.if-work-gt-WORK_LIMIT.false c.in-Ok.ensures

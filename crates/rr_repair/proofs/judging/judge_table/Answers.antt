@@ -10,4 +10,4 @@ pub returns-in-Err : goal.returns-in-Err
 returns-in-Err g c = λ sited.
     rw c.stop_of.ensures
     (stops_table (plain_request c.args.request.now) c.args.bytes.now c.args.table.now (lexemes c.args.design.now.tokens.now) (plain_source c.args.design.now.source.now) (plain_flat c.args.design.now.flat)
-    c.args.design.now.order.clock c.args.list.now sited c.in-Err.fault c.in-Err.ensures)
+    c.args.design.now.order.clock c.args.design.now.order.rising c.args.list.now sited c.in-Err.fault c.in-Err.ensures)

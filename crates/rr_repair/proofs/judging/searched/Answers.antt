@@ -22,7 +22,7 @@ pub told-requires-clause-found : goal.told-requires-clause-found
 told-requires-clause-found g c =
     let j = design_of (plain_request c.args.request.now) (plain_source c.args.design.now.source.now) in
     c.in_ok-answer.ensures.answer j
-    (task_of_design _ j (c.in_ok-cycle.ensures j c.requires.fits) (plain_flat c.args.design.now.flat) c.requires.fits.design c.args.design.now.order.clock c.requires.read.0 c.requires.read.1)
+    (task_of_design c.args.request.now.kind _ j (c.in_ok-cycle.ensures j c.requires.fits) (plain_flat c.args.design.now.flat) c.requires.fits.design c.args.design.now.order.clock c.args.design.now.order.rising c.requires.read.0 c.requires.read.1)
 
 pub returns : goal.returns
 returns g c =
@@ -30,7 +30,7 @@ returns g c =
     let source = plain_source c.args.design.now.source.now in
     let j = design_of w source in
     let is = c.in_ok-answer.ensures.answer j
-    (task_of_design _ j (c.in_ok-cycle.ensures j c.requires.fits) (plain_flat c.args.design.now.flat) c.requires.fits.design c.args.design.now.order.clock c.requires.read.0 c.requires.read.1) in
+    (task_of_design c.args.request.now.kind _ j (c.in_ok-cycle.ensures j c.requires.fits) (plain_flat c.args.design.now.flat) c.requires.fits.design c.args.design.now.order.clock c.args.design.now.order.rising c.requires.read.0 c.requires.read.1) in
     rw c.changes_of.ensures
     (counted_told w c.args.bytes.now (lexemes c.args.design.now.tokens.now) source _ (plain_answer c.in_ok-found.found) c.in_ok-answer.answer is c.in_ok-found.ensures.answer c.in_ok-found.ensures.status)
 

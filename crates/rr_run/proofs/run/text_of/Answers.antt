@@ -6,8 +6,8 @@ use Rattle.rr_trace.specs.View.{plain_table, plain_values}
 use Rattle.rr_trace.specs.Tops.{ports_of}
 use Rattle.rr_trace.specs.Written.{table_text}
 use Rattle.rr_meaning.specs.Calls.{IsRow}
-use Rattle.rr_meaning.proofs.Tabled.{read_rows}
 use Rattle.rr_run.specs.Runs.{GivesText}
+use Rattle.rr_run.proofs.Reading.{of_vectors}
 use Rattle.rr_run.proofs.run.text_of.Goals as goal
 
 pub run_table-requires-clause-rows : goal.run_table-requires-clause-rows
@@ -15,7 +15,7 @@ run_table-requires-clause-rows c =
     let F = plain_flat c.args.design.now.flat in
     let k = c.args.design.now.order.clock in
     subst (All (λ (v : Vec ℕ Global). IsRow F k v.items)) (sym c.as_slice.ensures.value)
-    (read_rows F k c.requires.read.0 c.args.rows.now c.requires.read.1)
+    (of_vectors (IsRow F k) c.args.rows.now.inputs.items c.requires.fit)
 
 pub returns : goal.returns
 returns c =

@@ -1,5 +1,6 @@
 use Rattle.rr_table_laws.proofs.Fitting.{tables_fit}
-use Rattle.rr_table_laws.proofs.Standing.{tables_stand}
+use Rattle.rr_table_laws.proofs.Sampling.{samples_fit}
+use Rattle.rr_table_laws.proofs.Standing.{samples_stand, tables_stand}
 use Rattle.rr_table_laws.proofs.laws.table_laws.Goals as goal
 
 pub returns-clause-read : goal.returns-clause-read
@@ -7,3 +8,9 @@ returns-clause-read c = tables_fit
 
 pub returns-clause-stands : goal.returns-clause-stands
 returns-clause-stands c = tables_stand
+
+pub returns-clause-sampled : goal.returns-clause-sampled
+returns-clause-sampled c = samples_fit
+
+pub returns-clause-sampled_stands : goal.returns-clause-sampled_stands
+returns-clause-sampled_stands c = samples_stand
