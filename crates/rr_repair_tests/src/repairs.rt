@@ -4,9 +4,9 @@ ghost use Rattle.std.specs.Prelude.{◌≡◌};
 
 use crate::designs::{
     CELLS, COPY, COPY_TABLE, COUNTER, COUNTER_TABLE, GATE, GATE_TABLE, INSTANCES, INSTANCES_TABLE,
-    INVERTED, INVERTED_TABLE, JOINED_TABLE, LOAD, LOAD_TABLE, MISSING, MISSING_TABLE, NAMES,
-    NAMES_TABLE, RESETS, RESETS_TABLE, SET, SET_TABLE, STEPS, STEPS_TABLE, TWO, TWO_TABLE, VALUE,
-    VALUE_TABLE, WIRE, WIRE_TABLE,
+    INVERTED, INVERTED_TABLE, JOINED_TABLE, LOAD, LOAD_TABLE, LOCK, LOCK_TABLE, MISSING,
+    MISSING_TABLE, NAMES, NAMES_TABLE, RESETS, RESETS_TABLE, SET, SET_TABLE, STEPS, STEPS_TABLE,
+    TWO, TWO_TABLE, VALUE, VALUE_TABLE, WIRE, WIRE_TABLE,
 };
 use bumpalo::Bump;
 use rr_repair::{Request, repair};
@@ -264,6 +264,28 @@ fn what_was_found_at_a_spent_budget_is_printed(rt: HostRuntime) -> Result<(), Fa
             let notes =
                 "budget spent 1 bound 1\nfound 2\nsite 3 literal 130 4'h1\nsite 7 literal 194 4'h1\n";
             assert!(rt; does(&found, out, notes, 2));
+            assert!(rt; found.files.len() == 3);
+            Ok(())
+        }
+    }
+}
+
+// No values of the three literals make the output 1 in each row, and one line is too few to show it.
+#[test]
+fn where_nothing_was_found_nothing_is_printed(rt: HostRuntime) -> Result<(), Fail> {
+    let alloc = rt.alloc();
+    let arena = Bump::new(alloc);
+    match repair(
+        &rt,
+        alloc,
+        LOCK.as_bytes(),
+        LOCK_TABLE.as_bytes(),
+        &request(1, 1),
+        &arena,
+    ) {
+        Err(_) => Err(Fail::from("stopped")),
+        Ok(found) => {
+            assert!(rt; does(&found, "", "budget spent 1 bound 3\n", 2));
             assert!(rt; found.files.len() == 3);
             Ok(())
         }
