@@ -18,7 +18,7 @@ use Rattle.rr_trace.specs.declared.fault.TableFault.{TableFault}
 use Rattle.rr_trace.specs.declared.fault.TableFault.TheVariants as table
 use Rattle.rr_run.specs.declared.fault.Fault.{Fault}
 use Rattle.rr_run.specs.declared.fault.Fault.TheVariants as fault
-use Rattle.rr_run.specs.Refusals.{Refusal, At, TooMany, NoHeader, UnknownColumn, ColumnTwice, MissingInput, RowLength, BadCell, CellTooLarge, NotUtf8}
+use Rattle.rr_run.specs.Refusals.{Refusal, At, TooMany, Expanded, NoHeader, UnknownColumn, ColumnTwice, MissingInput, RowLength, BadCell, CellTooLarge, NotUtf8}
 use Rattle.rr_run.specs.Runs.{IsBroken, RefusesDesign, RefusesTable, Told}
 
 -- the refusal by which a fault of elaboration is told; want of memory is told by none, so that its line has no meaning
@@ -79,7 +79,11 @@ module _ (bytes : List ℕ) (top word : Option Text) where
   cause (At fault.TwoClocks at) r = late fault.TwoClocks at r refl
   cause (At fault.BadTarget at) r = late fault.BadTarget at r refl
   cause (At fault.WildLabel at) r = late fault.WildLabel at r refl
+  cause (At fault.UnknownMacro at) r = absurd r
+  cause (At fault.BadDirective at) r = absurd r
+  cause (At fault.MacroLoop at) r = absurd r
   cause (TooMany limit count) r = early (design.Flaw (flat.TooMany limit count)) (λ e. cc) r refl
+  cause (Expanded count) r = absurd r
   cause NoHeader r = absurd r
   cause (UnknownColumn column) r = absurd r
   cause (ColumnTwice column) r = absurd r
@@ -146,6 +150,7 @@ IsTableCause flat clock bytes refusal = (f : TableFault) × ((table_of (ports_of
 pub table_cause : (flat : Flat) (clock : Option ℕ) (bytes : List ℕ) (refusal : Refusal) → RefusesTable flat clock bytes refusal → IsTableCause flat clock bytes refusal
 table_cause flat clock bytes (At what at) r = absurd r
 table_cause flat clock bytes (TooMany limit count) r = (table.TooMany limit count, (r, refl))
+table_cause flat clock bytes (Expanded count) r = absurd r
 table_cause flat clock bytes NoHeader r = (table.NoHeader, (r, refl))
 table_cause flat clock bytes (UnknownColumn column) r = (table.UnknownColumn column, (r, refl))
 table_cause flat clock bytes (ColumnTwice column) r = (table.ColumnTwice column, (r, refl))

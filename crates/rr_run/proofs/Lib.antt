@@ -1,3 +1,7 @@
 pub mod Telling
 pub mod Causes
 pub mod Once
+pub mod FileOnce
+pub mod Bounds
+pub mod OwnFiles
+pub mod FileRuns
