@@ -11,7 +11,7 @@ use Rattle.rr_flat.specs.Plain.{Flat}
 use Rattle.rr_run.specs.declared.fault.Fault.TheVariants as fault
 use Rattle.rr_run.specs.Refusals.{Refusal, At, Expanded, NotUtf8}
 use Rattle.rr_run.specs.Runs.{HasNoTable, IsLawfulDesign, IsRun, IsSameRefusal, Refuses, RefusesDesign}
-use Rattle.rr_run.specs.Files.{HasNoDesign, HasNoFileTable, IsFileDesign, IsFileRun, RefusesExpansion, RefusesFile, RefusesFileDesign, placed}
+use Rattle.rr_run.specs.Files.{HasNoDesign, HasNoFileTable, IsFileDesign, IsFileRun, RefusesExpansion, RefusesFile, RefusesFileDesign, place, placed}
 use Rattle.rr_run.proofs.Once.{lawful_or_refusal, one_lawful, one_refused, one_run, run_or_refusal}
 
 -- ---- the expansion
@@ -25,26 +25,26 @@ of_directives (directive.TooMany count) = Expanded count
 of_directives directive.Memory = NotUtf8
 
 record Unexpanded (file : List ℕ) (refusal : Refusal) : Type 0 where
-  fault : DirectiveFault
-  some : fault ≢ directive.Memory
-  faults : Faults file fault
-  told : refusal ≡ of_directives fault
+  cause : DirectiveFault
+  some : cause ≢ directive.Memory
+  faults : Faults file cause
+  told : refusal ≡ of_directives cause
 
 unexpanded : (file : List ℕ) (refusal : Refusal) → RefusesExpansion file refusal → Unexpanded file refusal
-unexpanded file (At fault.UnknownMacro at) r = record { fault = directive.UnknownMacro at; some = λ e. cc; faults = r; told = refl }
-unexpanded file (At fault.BadDirective at) r = record { fault = directive.BadDirective at; some = λ e. cc; faults = r; told = refl }
-unexpanded file (At fault.MacroLoop at) r = record { fault = directive.MacroLoop at; some = λ e. cc; faults = r; told = refl }
-unexpanded file (Expanded count) r = record { fault = directive.TooMany count; some = λ e. cc; faults = r; told = refl }
+unexpanded file (At fault.UnknownMacro at) r = record { cause = directive.UnknownMacro at; some = λ e. cc; faults = r; told = refl }
+unexpanded file (At fault.BadDirective at) r = record { cause = directive.BadDirective at; some = λ e. cc; faults = r; told = refl }
+unexpanded file (At fault.MacroLoop at) r = record { cause = directive.MacroLoop at; some = λ e. cc; faults = r; told = refl }
+unexpanded file (Expanded count) r = record { cause = directive.TooMany count; some = λ e. cc; faults = r; told = refl }
 unexpanded file refusal r = absurd r
 
 one_unexpanded : (file : List ℕ) (a b : Refusal) → RefusesExpansion file a → RefusesExpansion file b → a ≡ b
 one_unexpanded file a b p q =
     let x = unexpanded file a p in
     let y = unexpanded file b q in
-    x.told ∙ (ap of_directives (one_fault file x.fault y.fault x.faults y.faults x.some y.some) ∙ sym y.told)
+    x.told ∙ (ap of_directives (one_fault file x.cause y.cause x.faults y.faults x.some y.some) ∙ sym y.told)
 
 pub expanded_or_not : (file text : List ℕ) (origins : List Origin) (a : Refusal) → IsTaken file text origins → RefusesExpansion file a → ⊥
-expanded_or_not file text origins a t r = let x = unexpanded file a r in x.some (not_both file text origins x.fault t x.faults)
+expanded_or_not file text origins a t r = let x = unexpanded file a r in x.some (not_both file text origins x.cause t x.faults)
 
 pub one_text : (file text other : List ℕ) (origins others : List Origin) → IsTaken file text origins → IsTaken file other others → (text ≡ other) × (origins ≡ others)
 one_text file text other origins others a b = one_expansion file text other origins others a.expansion b.expansion
@@ -52,7 +52,7 @@ one_text file text other origins others a b = one_expansion file text other orig
 -- ---- places
 pub same_placed : (origins : List Origin) (size : ℕ) (a b : Refusal) → IsSameRefusal a b → IsSameRefusal (placed origins size a) (placed origins size b)
 same_placed origins size a b (inl e) = inl (ap (placed origins size) e)
-same_placed origins size a b (inr (i, (j, both))) = let p = ap (placed origins size) both.0 in let q = ap (placed origins size) both.1 in inr (_, (_, (p, q)))
+same_placed origins size a b (inr (i, (j, both))) = let p = ap (placed origins size) both.0 in let q = ap (placed origins size) both.1 in inr (place origins size i, (place origins size j, (p, q)))
 
 -- ---- a file with a table
 module _ (file : List ℕ) (top word : Option Text) where

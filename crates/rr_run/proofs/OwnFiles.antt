@@ -1,6 +1,6 @@
 -- A file that is its own expansion runs as the text that it is.
 use Rattle.std.proofs.Common.{◌≡◌, ◌∙◌, ◌≤◌, ◌<◌, ℕ, List, length, nat_lt, Bool, true, false, if◌then◌else◌, Option, refl, ap, sym, subst, arith, inl, inr}
-use Rattle.std.proofs.lemmas.Bool.{cases_Bool}
+use Rattle.std.proofs.lemmas.Bool.{cases_lt, le-ltb, lt-ltb}
 use Rattle.rr_directive.specs.declared.origin.Origin.{Origin}
 use Rattle.rr_directive.specs.Expand.{IsTaken, bytes_of, origins_of}
 use Rattle.rr_directive.specs.Laws.{AreOwn}
@@ -36,9 +36,9 @@ one_each file text origins t = ap length t.expansion.text_is ∙ (same_length t.
 module _ (file : List ℕ) (origins : List Origin) (taken : IsTaken file file origins) (own : AreOwn origins) where
   -- a place within the file, or its end, is told as it is
   own_place : (at : ℕ) → at ≤ length file → place origins (length file) at ≡ at
-  own_place at l = elim (cases_Bool (nat_lt at (length origins))) [
-    | inl h ↦ rw h (own at (omega (arith, h)))
-    | inr h ↦ rw h (omega (arith, h, l, one_each file file origins taken))
+  own_place at l = elim (cases_lt at (length origins)) [
+    | inl h ↦ let e = lt-ltb at (length origins) h in rw e (own at h)
+    | inr h ↦ let e = le-ltb at (length origins) h in rw e (omega (arith, h, l, one_each file file origins taken))
   ]
 
   kept : (what : Fault) (at : ℕ) → at ≤ length file → IsSameRefusal (At what at) (At what (place origins (length file) at))

@@ -61,7 +61,7 @@ fn repair_files<'b, 'a, R: Threads + Sync>(
     repair(rt, alloc, design, table, request, arena)
 }
 
-/// The answer of `run` for the bytes of a design and of its table.
+/// The answer of `run` for the bytes of a design, whose directives are expanded, and of its table.
 fn simulate<'b, 'a>(
     alloc: Global,
     design: &[u8],
