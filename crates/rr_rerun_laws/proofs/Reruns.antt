@@ -37,9 +37,10 @@ use Rattle.rr_run.specs.declared.rows.TableKind.{TableKind}
 use Rattle.rr_run.specs.Rows.{ReadsTable}
 use Rattle.rr_run.specs.Runs.{IsRun}
 use Rattle.rr_run.proofs.Once.{one_run}
+use Rattle.rr_run.proofs.OwnFiles.{own_run}
 use Rattle.rr_report.specs.Found.{Answer}
 use Rattle.rr_repair.specs.Repairs.{IsFound, IsNothingFound, IsRepaired, IsTaken, IsUnchanged, PlainRequest, design_of}
-use Rattle.rr_rerun_laws.specs.Reruns.{FoundRunAgrees, FoundRunsAgain, RunsRight, RunsAgain, RunAgrees}
+use Rattle.rr_rerun_laws.specs.Reruns.{FileRunAgrees, FileRunsAgain, FoundRunAgrees, FoundRunsAgain, RunsRight, RunsAgain, RunAgrees}
 use Rattle.rr_rerun_laws.proofs.Ports.{instance_reading, same_reading}
 
 -- a flat design of the text, with the clock, whose run agrees
@@ -174,3 +175,13 @@ found_runs_again w design table answer o some us tree x = found w design table o
 pub found_run_agrees : FoundRunAgrees
 found_run_agrees w design table answer o some text r =
     agrees_by w.kind answer.out table w.top w.clock text (found_runs_again w design table answer o some r.tokens r.design.design.tree r.design.design.text) r
+
+-- the same of the printed bytes as a file
+pub file_runs_again : FileRunsAgain
+file_runs_again w design table answer m origins taken us tree x =
+    let r = runs_again w design table answer m us tree x in
+    (r.0, ((own_run answer.out origins taken w.kind table w.top w.clock r.0).0 (is_run w.kind answer.out table w.top w.clock r.0 r.1), r.1))
+
+pub file_run_agrees : FileRunAgrees
+file_run_agrees w design table answer m origins taken text f =
+    run_agrees w design table answer m text ((own_run answer.out origins taken w.kind table w.top w.clock text).1 f)
