@@ -5,4 +5,6 @@
 #[cfg(test)]
 mod designs;
 #[cfg(test)]
+mod dumps;
+#[cfg(test)]
 mod repairs;
