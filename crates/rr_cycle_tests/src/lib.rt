@@ -8,6 +8,8 @@ mod cycles;
 #[cfg(test)]
 mod directives;
 #[cfg(test)]
+mod dumps;
+#[cfg(test)]
 mod runs;
 #[cfg(test)]
 mod statements;

@@ -31,7 +31,7 @@ fn run_of<'a>(
     if bytes.len() > 1_048_576 {
         return Err(RunFault::Memory);
     }
-    run_files(alloc, bytes, table, top, None, arena)
+    run_files(alloc, bytes, TableKind::Csv, table, top, None, arena)
 }
 
 pub(crate) fn gives(

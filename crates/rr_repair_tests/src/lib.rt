@@ -5,6 +5,8 @@
 #[cfg(test)]
 mod designs;
 #[cfg(test)]
+mod dumps;
+#[cfg(test)]
 mod members;
 #[cfg(test)]
 mod repairs;

@@ -11,7 +11,7 @@ use crate::designs::{
 use bumpalo::Bump;
 use rr_repair::{Request, repair};
 use rr_report::{Found, Refusal, Stop};
-use rr_run::Refusal as RunRefusal;
+use rr_run::{Refusal as RunRefusal, TableKind};
 use std::alloc::Global;
 use std::test::Fail;
 use std::thread::Threads;
@@ -22,6 +22,7 @@ fn request(budget: u32, members: u32) -> Request<'static>
     ensures members { result.members ≡ members }
 {
     Request {
+        kind: TableKind::Csv,
         top: None,
         clock: None,
         cert: "c",

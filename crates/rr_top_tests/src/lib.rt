@@ -11,6 +11,8 @@ mod commands;
 #[cfg(test)]
 mod directives;
 #[cfg(test)]
+mod dumps;
+#[cfg(test)]
 mod edge;
 #[cfg(test)]
 mod effects;
