@@ -7,7 +7,8 @@ ghost use Rattle.rr_blast.specs.Circuits.{FitsArguments};
 use crate::made::transition_of;
 use bumpalo::Bump;
 use rr_choice::SiteList;
-use rr_run::{LawfulDesign, lawful_design, read_rows};
+use rr_plainer::Near;
+use rr_run::{LawfulDesign, TableKind, lawful_design, read_rows};
 use rr_search::{Answer, Job, least};
 use rr_sites::design_sites;
 use rr_trace::Table;
@@ -56,7 +57,8 @@ fn searched<R: Threads + Sync>(
     let Some(cycle) = transition_of(alloc, design, list)? else {
         return Ok(Ending::Other);
     };
-    let proposed = propose(rt, alloc, &cycle, rows, list, 0, 4)?;
+    let near = Near::of(alloc, design.tokens, list)?;
+    let proposed = propose(rt, alloc, &cycle, rows, list, &near, 0, 4)?;
     let job = Job {
         list,
         transition: &cycle,
@@ -86,7 +88,7 @@ fn with_one_line<R: Threads + Sync>(
     if list.sites().len() > 1024 {
         return Err(Fail::from("too many sites"));
     }
-    let Ok(rows) = read_rows(alloc, &design, table.as_bytes()) else {
+    let Ok(rows) = read_rows(alloc, &design, TableKind::Csv, table.as_bytes()) else {
         return Err(Fail::from("no rows"));
     };
     Ok(searched(rt, alloc, &design, &list, &rows)?)

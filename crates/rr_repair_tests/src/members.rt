@@ -9,6 +9,7 @@ use rr_circuit::{Circuit, read_aag};
 use rr_cnf::Formula;
 use rr_members::{Members, OpenGate, Round};
 use rr_repair::{Request, repair};
+use rr_run::TableKind;
 use rr_tseitin::formula_of;
 use std::alloc::{AllocError, Global};
 use std::test::Fail;
@@ -60,6 +61,7 @@ fn what_members_leave_open_is_settled_before(rt: HostRuntime) -> Result<(), Fail
     let request = Request {
         top: None,
         clock: None,
+        kind: TableKind::Csv,
         cert: "c",
         budget: LINES,
         members: 4,
