@@ -40,7 +40,7 @@ use Rattle.rr_run.proofs.Once.{one_run}
 use Rattle.rr_run.proofs.OwnFiles.{own_run}
 use Rattle.rr_report.specs.Found.{Answer}
 use Rattle.rr_repair.specs.Repairs.{IsFound, IsNothingFound, IsRepaired, IsTaken, IsUnchanged, PlainRequest, design_of}
-use Rattle.rr_rerun_laws.specs.Reruns.{FileRunAgrees, FileRunsAgain, FoundRunAgrees, FoundRunsAgain, RunsRight, RunsAgain, RunAgrees}
+use Rattle.rr_rerun_laws.specs.Reruns.{FileRunAgrees, FileRunsAgain, FoundFileRunAgrees, FoundFileRunsAgain, FoundRunAgrees, FoundRunsAgain, RunsRight, RunsAgain, RunAgrees}
 use Rattle.rr_rerun_laws.proofs.Ports.{instance_reading, same_reading}
 
 -- a flat design of the text, with the clock, whose run agrees
@@ -185,3 +185,12 @@ file_runs_again w design table answer m origins taken us tree x =
 pub file_run_agrees : FileRunAgrees
 file_run_agrees w design table answer m origins taken text f =
     run_agrees w design table answer m text ((own_run answer.out origins taken w.kind table w.top w.clock text).1 f)
+
+pub found_file_runs_again : FoundFileRunsAgain
+found_file_runs_again w design table answer o some origins taken us tree x =
+    let r = found_runs_again w design table answer o some us tree x in
+    (r.0, ((own_run answer.out origins taken w.kind table w.top w.clock r.0).0 (is_run w.kind answer.out table w.top w.clock r.0 r.1), r.1))
+
+pub found_file_run_agrees : FoundFileRunAgrees
+found_file_run_agrees w design table answer o some origins taken text f =
+    found_run_agrees w design table answer o some text ((own_run answer.out origins taken w.kind table w.top w.clock text).1 f)

@@ -66,3 +66,13 @@ FileRunsAgain = (w : PlainRequest) (design table : List ℕ) (answer : Answer) �
 abbrev pub FileRunAgrees : Type 0
 FileRunAgrees = (w : PlainRequest) (design table : List ℕ) (answer : Answer) → IsMended w design table answer → (origins : List Origin) → IsTaken answer.out answer.out origins →
     (text : List ℕ) → IsFileRun w.kind answer.out table w.top w.clock text → RunsRight w.kind answer.out table w.top w.clock text
+
+-- So it is with what is printed where a repair is left open
+abbrev pub FoundFileRunsAgain : Type 0
+FoundFileRunsAgain = (w : PlainRequest) (design table : List ℕ) (answer : Answer) → IsLeftOpen w design table answer → answer.out ≢ [] → (origins : List Origin) → IsTaken answer.out answer.out origins →
+    (tokens : List Lexeme) (tree : SourceText) → IsText answer.out tokens tree →
+    (text : List ℕ) × (IsFileRun w.kind answer.out table w.top w.clock text × RunsRight w.kind answer.out table w.top w.clock text)
+
+abbrev pub FoundFileRunAgrees : Type 0
+FoundFileRunAgrees = (w : PlainRequest) (design table : List ℕ) (answer : Answer) → IsLeftOpen w design table answer → answer.out ≢ [] → (origins : List Origin) → IsTaken answer.out answer.out origins →
+    (text : List ℕ) → IsFileRun w.kind answer.out table w.top w.clock text → RunsRight w.kind answer.out table w.top w.clock text
