@@ -5,14 +5,14 @@
 //! a choice by the circuit of its cycle.
 #![tactic(auto)]
 
+mod asking;
+mod bringing;
 mod kinds;
-mod near;
-mod nearer;
-mod plainer;
+mod source;
 mod walking;
 
+pub use asking::{chosen, plainer};
+pub use bringing::nearer;
 pub use kinds::rank;
-pub use near::{Near, distance};
-pub use nearer::nearer;
-pub use plainer::{chosen, plainer};
+pub use source::{Near, distance};
 pub use walking::{first_miss, state_before};

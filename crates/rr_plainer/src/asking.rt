@@ -2,9 +2,9 @@
 ghost use Rattle.std.specs.Prelude.{◌≡◌, IfOk, IfSome, length};
 ghost use Rattle.rr_choice.specs.Choices.{IsChoice, total_bits};
 
+use crate::bringing::nearer;
 use crate::kinds::{ORDER, has, hold_off, rank, rule_out};
-use crate::near::{Near, distance, pick_distance};
-use crate::nearer::nearer;
+use crate::source::{Near, distance, pick_distance};
 use rr_choice::{Choice, SiteList, decode, site_bits};
 use rr_cnf::Formula;
 use rr_solver::Outcome;

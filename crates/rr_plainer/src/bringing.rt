@@ -2,7 +2,7 @@
 ghost use Rattle.std.specs.Prelude.{◌≡◌, IfOk, OnOk, length};
 ghost use Rattle.rr_choice.specs.Choices.{IsChoice};
 
-use crate::near::Near;
+use crate::source::Near;
 use crate::walking::first_miss;
 use rr_choice::{Choice, SiteList, decode, form_width, guard_names, site_bits, value_width};
 use rr_encode::encode;
@@ -45,7 +45,11 @@ fn set_number(bits: &mut [bool], from: usize, count: u32, number: u8)
     ensures { length bits.new ≡ length bits.old }
 {
     for place in 0..count.min(8) {
-        set(bits, from.saturating_add(place as usize), (number >> place) & 1 == 1);
+        set(
+            bits,
+            from.saturating_add(place as usize),
+            (number >> place) & 1 == 1,
+        );
     }
 }
 

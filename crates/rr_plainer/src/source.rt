@@ -21,10 +21,12 @@ pub struct Near {
 /// The value of a literal as the source has it.
 fn value_at(tokens: &[Token<'_>], site: &Site) -> u128 {
     match tokens.get(site.token as usize) {
-        Some(Token {
-            kind: Kind::Number(number),
-            ..
-        }) => number.value,
+        Some(
+            Token {
+                kind: Kind::Number(number),
+                ..
+            },
+        ) => number.value,
         _ => 0,
     }
 }
@@ -44,10 +46,12 @@ fn add_name(
     names: &[&str],
     found: &mut Vec<u8>,
 ) -> Result<(), AllocError> {
-    let Some(Token {
-        kind: Kind::Name(text),
-        ..
-    }) = tokens.get(at)
+    let Some(
+        Token {
+            kind: Kind::Name(text),
+            ..
+        },
+    ) = tokens.get(at)
     else {
         return Ok(());
     };
@@ -63,11 +67,7 @@ fn add_name(
 }
 
 /// The names of a site that stand nearest to it, on either side.
-fn names_near(
-    alloc: Global,
-    tokens: &[Token<'_>],
-    site: &Site,
-) -> Result<Vec<u8>, AllocError> {
+fn names_near(alloc: Global, tokens: &[Token<'_>], site: &Site) -> Result<Vec<u8>, AllocError> {
     let names = guard_names(site);
     let mut found = Vec::new(alloc);
     if names.is_empty() {
