@@ -4,7 +4,8 @@ import re
 NUMBER = r"(0|[1-9]\d*)"
 NAMES = ("BadByte BadNumber OpenComment Directive Unsupported Syntax NoTop UnknownModule SelfInstance NameTwice UnknownName BadRange NotConstant PortMismatch TooWide TooMany TwoDrivers WrongAssign Race "
          "Latch Loop ClockUse TwoClocks BadTarget WildLabel NoHeader UnknownColumn ColumnTwice MissingInput RowLength BadCell CellTooLarge NotUtf8 BadCircuit BadProof RatLine").split()
-LIMITS = "bytes rows sites instances depth flatbits work".split()
+NUMBERED = {**dict(enumerate(NAMES, 1)), 38: "UnknownMacro", 39: "BadDirective", 40: "MacroLoop"}
+LIMITS = "bytes rows sites instances depth flatbits work expanded".split()
 
 
 def place(number):
@@ -13,7 +14,7 @@ def place(number):
         return rf" ({'|'.join(LIMITS)}) {NUMBER}"
     if number == 7:
         return " at 0"
-    if number <= 25:
+    if number <= 25 or number in (38, 39, 40):
         return f" at {NUMBER}"
     if number == 26:
         return " row 0"
@@ -36,7 +37,7 @@ FORMS = {
     0: rf"|unchanged\n|repaired {NUMBER}\n({CHANGE})+proposals {NUMBER}\n",
     1: rf"|no repair\nsites {NUMBER}\n",
     2: rf"budget spent {NUMBER} bound {NUMBER}\n",
-    3: "|".join(rf"refused {number} {name}{place(number)}\n" for number, name in enumerate(NAMES, 1)),
+    3: "|".join(rf"refused {number} {name}{place(number)}\n" for number, name in NUMBERED.items()),
     4: r"|(absent [^\n]+|fault (read|write) [^\n]+|fault out)\n",
     5: r"out of memory\n",
     6: r"usage: rtl_repair repair DESIGN TABLE CERT, run DESIGN TABLE, sites DESIGN, check CIRCUIT PROOF, make SEED CERT\n",

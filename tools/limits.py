@@ -326,6 +326,49 @@ def columns(count):
     return design, ",".join([*reversed(names), "y"]) + "\n" + ",".join(["1"] * (count + 1)) + "\n"
 
 
+# Directives.
+
+def filled(front, unit, end=""):
+    """A text of so many bytes at most: a front, a unit over and over, and an end."""
+    return lambda n: front + unit * ((n - len(front) - len(end)) // len(unit)) + end
+
+
+def doubled(levels):
+    """Names of which each uses the one before twice, and a use of the last: 2^levels bytes, and twice as many uses less one."""
+    return "`define D0 x\n" + "".join(f"`define D{k + 1} `D{k}`D{k}\n" for k in range(levels)) + f"`D{levels}\n"
+
+
+def numbered(n):
+    """Definitions of many names, of which each uses the one before, and a use of the last."""
+    count = n // 26 - 1
+    return "`define N000000 x\n" + "".join(f"`define N{k + 1:06} `N{k:06}\n" for k in range(count)) + f"`N{count:06}\n"
+
+
+def just(blanks):
+    """1,023 uses that give 1,023 bytes each, a definition and its line end, and so many blanks, before a use of a name that is not defined."""
+    return f"`define A {'x' * 1023}\n{'`A' * 1023}{' ' * blanks}`U\n"
+
+
+EXPANDED = "refused 16 TooMany expanded 1048577\n"
+DIRECTIVES = {
+    "uses": (filled("`define A x\n", "`A"), None),
+    "uses of nothing": (filled("`define A\n", "`A"), None),
+    "conditionals within one another": (lambda n: "`ifdef A\n" * (n // 16) + "`endif\n" * (n // 16), None),
+    "conditionals behind one another": (filled("", "`ifdef A\nx`else\ny`endif\n"), None),
+    "definitions of new names": (lambda n: "".join(f"`define N{k:06} x\n" for k in range(n // 18)), None),
+    "definitions of one name": (filled("", "`define A x\n"), None),
+    "names, each used by the next": (numbered, None),
+    "uses of a long name": (lambda n: f"`define {'a' * (n // 4)} x\n`{'a' * (n // 4)} `{'a' * (n // 4)}\n", None),
+    "a text of one line": (filled("`define A ", "x ", "\n"), None),
+    "a text of many lines": (filled("`define A ", "x \\\n", "\n"), None),
+    "a branch that is not taken": (filled("`ifdef A\n", "`B x ", "`endif\n"), None),
+    "more uses than the limit": (lambda n: doubled(20), EXPANDED),
+    "an opening without its end before that": (lambda n: "`ifndef A\n" + doubled(20), "refused 39 BadDirective at 0\n"),
+    "an opening without its end behind that": (lambda n: doubled(20) + "`ifndef A\n", EXPANDED),
+    "no name at the limit": (lambda n: just(1021), "refused 38 UnknownMacro at 4101\n"),
+    "no name beyond the limit": (lambda n: just(1022), EXPANDED),
+}
+
 SITES, RUN, REPAIR, CHECK = ("sites", "d.v"), ("run", "d.v", "t.csv"), ("repair", "d.v", "t.csv", "c"), ("check", "c.aag", "c.lrat")
 TABLE = "a,y\n0,0\n1,1\n1,0\n"
 
@@ -397,6 +440,8 @@ def inputs():
             yield f"{words[0]}: 16 MiB {name}", words, {"d.v": WIRE, "t.csv": text}, (last // 4, last // 2, last), (0, 3)
         yield f"{words[0]}: 16 MiB and a byte", words, {"d.v": WIRE, "t.csv": lambda n: " " * n}, (16 * MEBI + 1,), (3, "refused 16 TooMany bytes 16777217\n")
         yield f"{words[0]}: a cell of 30 digits", words, {"d.v": WIRE, "t.csv": "a,y\n" + "9" * 30 + ",1\n"}, (1,), (3, "refused 32 CellTooLarge row 1 column 0\n")
+    for name, (design, due) in DIRECTIVES.items():
+        yield f"run: directives, {name}", RUN, {"d.v": design, "t.csv": TABLE}, (MEBI // 4, MEBI // 2, MEBI) if due is None else (1,), (3,) if due is None else (3, due)
     UNSAT, EMPTY = "aag 1 1 0 2 0\n2\n2\n3\n", "3 0 1 2 0\n"
     for name, (circuit, proof, sizes, due) in {
         "a million empty lines for a circuit": (rows("\n", ""), EMPTY, (250000, 500000, 1000000), (3, "refused 34 BadCircuit line 1\n")),

@@ -6,6 +6,8 @@
 #[cfg(test)]
 mod cycles;
 #[cfg(test)]
+mod directives;
+#[cfg(test)]
 mod dumps;
 #[cfg(test)]
 mod runs;

@@ -34,7 +34,13 @@ fn run_of<'a>(
     run_files(alloc, bytes, TableKind::Csv, table, top, None, arena)
 }
 
-fn gives(alloc: Global, design: &str, table: &str, top: Option<&str>, expected: &str) -> bool {
+pub(crate) fn gives(
+    alloc: Global,
+    design: &str,
+    table: &str,
+    top: Option<&str>,
+    expected: &str,
+) -> bool {
     let arena = Bump::new(alloc);
     match run_of(alloc, design, table.as_bytes(), top, &arena) {
         Ok(text) => text.as_slice() == expected.as_bytes(),
@@ -52,7 +58,7 @@ fn refuses(alloc: Global, design: &str, table: &[u8], expected: Refusal<'_>) -> 
 }
 
 /// Whether a design with an empty table is refused by this text.
-fn tells(
+pub(crate) fn tells(
     alloc: Global,
     design: &str,
     top: Option<&str>,

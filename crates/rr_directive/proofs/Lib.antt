@@ -11,3 +11,4 @@ pub mod Files
 pub mod Unique
 pub mod Faults
 pub mod Plain
+pub mod PlainPlaces

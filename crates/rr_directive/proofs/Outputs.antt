@@ -42,7 +42,7 @@ given_same : (step : Step) (o : Origin) → length (bytes_given step) ≡ length
 given_same (Gives b) o = refl
 given_same Uses o = refl
 
-same_length : (es : List Event) → length (bytes_of es) ≡ length (origins_of es)
+pub same_length : (es : List Event) → length (bytes_of es) ≡ length (origins_of es)
 unfolding bytes_of origins_of
 same_length [] = refl
 same_length (e ∷ es) = omega (arith, length-append (bytes_given e.step) (bytes_of es), length-append (origins_given e.step e.origin) (origins_of es), given_same e.step e.origin, same_length es)

@@ -40,7 +40,7 @@ named_size (Some directive.Else) n bs = omega arith
 named_size (Some directive.Endif) n bs = omega arith
 named_size (Some directive.Elsif) n bs = omega arith
 
-some_size : (bs : List ℕ) → 1 ≤ (piece bs).size
+pub some_size : (bs : List ℕ) → 1 ≤ (piece bs).size
 unfolding piece
 some_size bs = elim (cases_Bool (begins_with 47 47 bs)) [
   | inl h ↦ rw h (omega arith)
@@ -56,14 +56,14 @@ some_size bs = elim (cases_Bool (begins_with 47 47 bs)) [
   ]
 ]
 
-abbrev its_bytes : TextUnit → List ℕ
+abbrev pub its_bytes : TextUnit → List ℕ
 its_bytes u = u.bytes
 
 taken_one : (n b : ℕ) (bs : List ℕ) → 1 ≤ n → take n (b ∷ bs) ++ drop (n - 1) bs ≡ b ∷ bs
 taken_one zero b bs l = absurd (omega arith)
 taken_one (suc n) b bs l = let e : suc n - 1 ≡ n = omega arith in ap (λ (m : ℕ). b ∷ (take n bs ++ drop m bs)) e ∙ ap (λ (xs : List ℕ). b ∷ xs) (take-append-drop n bs)
 
-units_join : (at taken : ℕ) (bs : List ℕ) → flat_map its_bytes (units at taken bs) ≡ drop taken bs
+pub units_join : (at taken : ℕ) (bs : List ℕ) → flat_map its_bytes (units at taken bs) ≡ drop taken bs
 unfolding units
 units_join at zero [] = refl
 units_join at (suc taken) [] = refl
@@ -73,12 +73,12 @@ units_join at zero (b ∷ bs) =
 
 -- ---- units that give themselves
 
-own_given : (exact : Exact) (at : ℕ) (bs : List ℕ) → bytes_of (own exact at bs) ≡ bs
+pub own_given : (exact : Exact) (at : ℕ) (bs : List ℕ) → bytes_of (own exact at bs) ≡ bs
 unfolding own bytes_of
 own_given exact at [] = refl
 own_given exact at (b ∷ bs) = ap (λ (xs : List ℕ). b ∷ xs) (own_given exact (at + 1) bs)
 
-kept_act : (u : TextUnit) (k : Kind) → is_kept k ≡ true → (exact : Exact) × (act_of start u.piece k ≡ Own exact)
+pub kept_act : (u : TextUnit) (k : Kind) → is_kept k ≡ true → (exact : Exact) × (act_of start u.piece k ≡ Own exact)
 unfolding is_kept act_of is_on
 kept_act u kind.Comment h = (Nowhere, refl)
 kept_act u kind.Escaped h = (Last, refl)
@@ -108,10 +108,10 @@ kept_closed (kind.Named directive.Else) h = refl
 kept_closed (kind.Named directive.Endif) h = refl
 kept_closed (kind.Named directive.Elsif) h = refl
 
-abbrev AreKept : List TextUnit → Type 0
+abbrev pub AreKept : List TextUnit → Type 0
 AreKept us = All (λ u. is_kept u.piece.kind ≡ true) us
 
-none_open : (us : List TextUnit) → AreKept us → first_unclosed us ≡ None
+pub none_open : (us : List TextUnit) → AreKept us → first_unclosed us ≡ None
 unfolding first_unclosed
 none_open [] a = refl
 none_open (u ∷ us) a =

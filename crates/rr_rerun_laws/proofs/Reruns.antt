@@ -36,9 +36,10 @@ use Rattle.rr_run.specs.declared.rows.TableKind.{TableKind}
 use Rattle.rr_run.specs.Rows.{ReadsTable}
 use Rattle.rr_run.specs.Runs.{IsRun}
 use Rattle.rr_run.proofs.Once.{one_run}
+use Rattle.rr_run.proofs.OwnFiles.{own_run}
 use Rattle.rr_report.specs.Found.{Answer}
 use Rattle.rr_repair.specs.Repairs.{IsRepaired, IsTaken, IsUnchanged, PlainRequest, design_of}
-use Rattle.rr_rerun_laws.specs.Reruns.{RunsRight, RunsAgain, RunAgrees}
+use Rattle.rr_rerun_laws.specs.Reruns.{FileRunAgrees, FileRunsAgain, RunsRight, RunsAgain, RunAgrees}
 use Rattle.rr_rerun_laws.proofs.Ports.{instance_reading, same_reading}
 
 -- a flat design of the text, with the clock, whose run agrees
@@ -153,3 +154,13 @@ run_agrees w design table answer m text r =
     let again = runs_again w design table answer m r.tokens r.design.design.tree r.design.design.text in
     let same : again.0 ≡ text = one_run w.kind answer.out table w.top w.clock again.0 text (is_run w.kind answer.out table w.top w.clock again.0 again.1) r in
     subst (λ (t : List ℕ). RunsRight w.kind answer.out table w.top w.clock t) same again.1
+
+-- the same of the printed bytes as a file
+pub file_runs_again : FileRunsAgain
+file_runs_again w design table answer m origins taken us tree x =
+    let r = runs_again w design table answer m us tree x in
+    (r.0, ((own_run answer.out origins taken w.kind table w.top w.clock r.0).0 (is_run w.kind answer.out table w.top w.clock r.0 r.1), r.1))
+
+pub file_run_agrees : FileRunAgrees
+file_run_agrees w design table answer m origins taken text f =
+    run_agrees w design table answer m text ((own_run answer.out origins taken w.kind table w.top w.clock text).1 f)

@@ -4,8 +4,8 @@ use Rattle.rr_run.specs.declared.fault.Fault.{Fault}
 use Rattle.rr_run.specs.declared.fault.Fault.TheVariants as fault
 use Rattle.rr_run.specs.declared.fault.RunFault.{RunFault}
 use Rattle.rr_run.specs.declared.fault.RunFault.TheVariants as run_fault
-use Rattle.rr_run.specs.Refusals.{Refusal as RunRefusal, At, TooMany, NoHeader, UnknownColumn, ColumnTwice, MissingInput, RowLength, BadCell, CellTooLarge, NotUtf8, StopsWhere as RunStops}
-use Rattle.rr_run.specs.Runs.{Refuses as RefusesRun}
+use Rattle.rr_run.specs.Refusals.{Refusal as RunRefusal, At, TooMany, Expanded, NoHeader, UnknownColumn, ColumnTwice, MissingInput, RowLength, BadCell, CellTooLarge, NotUtf8, StopsWhere as RunStops}
+use Rattle.rr_run.specs.Files.{RefusesFile}
 use Rattle.rr_report.specs.Views.{stop_from, StopsWhere}
 use Rattle.rr_sites.specs.Lists.{RefusesSites}
 use Rattle.rr_top.specs.Commands.{RefusesSiteList, RefusesTexts}
@@ -42,11 +42,15 @@ at_placed fault.ClockUse at = inl (placed fault.ClockUse at (λ e. cc))
 at_placed fault.TwoClocks at = inl (placed fault.TwoClocks at (λ e. cc))
 at_placed fault.BadTarget at = inl (placed fault.BadTarget at (λ e. cc))
 at_placed fault.WildLabel at = inl (placed fault.WildLabel at (λ e. cc))
+at_placed fault.UnknownMacro at = inl (placed fault.UnknownMacro at (λ e. cc))
+at_placed fault.BadDirective at = inl (placed fault.BadDirective at (λ e. cc))
+at_placed fault.MacroLoop at = inl (placed fault.MacroLoop at (λ e. cc))
 
 -- whether the place of a refusal is decided
 pub placed_or_syntax : (r : RunRefusal) → (IsSyntax r → ⊥) ⊎ IsSyntax r
 placed_or_syntax (At f at) = at_placed f at
 placed_or_syntax (TooMany limit count) = inl (λ (offset, is). cc)
+placed_or_syntax (Expanded count) = inl (λ (offset, is). cc)
 placed_or_syntax NoHeader = inl (λ (offset, is). cc)
 placed_or_syntax (UnknownColumn column) = inl (λ (offset, is). cc)
 placed_or_syntax (ColumnTwice column) = inl (λ (offset, is). cc)
@@ -58,7 +62,7 @@ placed_or_syntax NotUtf8 = inl (λ (offset, is). cc)
 
 -- what the calls below refuse, the commands refuse
 module _ (top word : Option (List ℕ)) (design table : List ℕ) where
-  pub stops_run : (f : RunFault) → RunStops (RefusesRun design table top word) f → StopsWhere (RefusesTexts top word design table) (stop_from f)
+  pub stops_run : (f : RunFault) → RunStops (RefusesFile design table top word) f → StopsWhere (RefusesTexts top word design table) (stop_from f)
   stops_run (run_fault.Refused r) h = h
   stops_run run_fault.Memory h = tt
 

@@ -5,8 +5,8 @@ use Rattle.rr_syntax.specs.Tree.{SourceText}
 use Rattle.rr_lex.specs.Tokens.{Lexeme}
 use Rattle.rr_choice.specs.Sites.{Site}
 use Rattle.rr_trace.specs.Tables.{Table}
-use Rattle.rr_run.specs.Runs.{IsRun}
-use Rattle.rr_run.proofs.Once.{one_run, run_or_refusal, one_refused}
+use Rattle.rr_run.specs.Files.{IsFileRun}
+use Rattle.rr_run.proofs.FileOnce.{file_run_or_refusal, one_file_refused, one_file_run}
 use Rattle.rr_sites.specs.Lists.{IsSiteText}
 use Rattle.rr_sites.proofs.Once as listing
 use Rattle.rr_certify.specs.declared.fault.Flaw.{Flaw}
@@ -144,12 +144,12 @@ module _ (top clock : Option (List ℕ)) (design table : List ℕ) where
   run_refusals (Flawed f n) b p q = absurd p
   run_refusals (Input r) (TooManyBytes n) p q = absurd q
   run_refusals (Input r) (Flawed f n) p q = absurd q
-  run_refusals (Input r) (Input s) p q = inr (r, (s, (refl, (refl, one_refused design table top clock r s p q))))
+  run_refusals (Input r) (Input s) p q = inr (r, (s, (refl, (refl, one_file_refused design top clock table r s p q))))
 
-  ran_or_refused : (text : List ℕ) (a : Refusal) → IsRun design table top clock text → RefusesTexts top clock design table a → ⊥
+  ran_or_refused : (text : List ℕ) (a : Refusal) → IsFileRun design table top clock text → RefusesTexts top clock design table a → ⊥
   ran_or_refused text (TooManyBytes n) p q = q
   ran_or_refused text (Flawed f n) p q = q
-  ran_or_refused text (Input r) p q = run_or_refusal design table top clock text r p q
+  ran_or_refused text (Input r) p q = file_run_or_refusal design top clock table text r p q
 
   run_or_refused : (v : Outcome) (a : Refusal) → ComesToRun top clock design table v → RefusesTexts top clock design table a → ⊥
   run_or_refused mended a u r = u
@@ -170,7 +170,7 @@ module _ (top clock : Option (List ℕ)) (design table : List ℕ) where
   run_outcome (ran text) (listed other) p q = absurd q
   run_outcome (ran text) (checked verdict) p q = absurd q
   run_outcome (ran text) (made other) p q = absurd q
-  run_outcome (ran text) (ran other) p q = ap (λ (x : List ℕ). ran x) (one_run design table top clock text other p q)
+  run_outcome (ran text) (ran other) p q = ap (λ (x : List ℕ). ran x) (one_file_run design top clock table text other p q)
 
   run_told : (answer : Answer) → AnswersRun top clock design table answer → SomeTold answer (ComesToRun top clock design table)
   run_told answer a = record { outcome = ran answer.out; holds = a.ran; told = record { status = a.status; tells = (refl, a.notes) } }

@@ -62,7 +62,8 @@ fn repair_files<'b, 'a, R: Threads + Sync>(
     repair(rt, alloc, design, table, request, arena)
 }
 
-/// The answer of `run` for the bytes of a design and of its table, which is of this kind.
+/// The answer of `run` for the bytes of a design, whose directives are expanded, and of its table, which is of
+/// this kind.
 fn simulate<'b, 'a>(
     alloc: Global,
     design: &[u8],

@@ -113,8 +113,9 @@ fn conduct<R: Threads + Sync, H: Shelf, K: Sink, E: Sink>(
 ///
 /// The commands are `repair DESIGN TABLE CERT`, `run DESIGN TABLE`, `sites DESIGN`,
 /// `check CIRCUIT PROOF` and `make SEED CERT`, which reads nothing. A TABLE whose name ends with `.vcd` is
-/// read as a value change dump. Only `repair` and `make` write to the
-/// shelf: the files `CERT.aag`, `CERT.cnf` and `CERT.lrat`.
+/// read as a value change dump. Only `repair` and `make` write to the shelf: the files `CERT.aag`,
+/// `CERT.cnf` and `CERT.lrat`. Only `run` expands the compiler directives of its design; the others refuse
+/// what they would have to expand.
 pub fn run<R: Threads + Sync, H: Shelf, K: Sink, E: Sink>(
     rt: &R,
     alloc: Global,

@@ -9,6 +9,8 @@ mod certificates;
 #[cfg(test)]
 mod commands;
 #[cfg(test)]
+mod directives;
+#[cfg(test)]
 mod dumps;
 #[cfg(test)]
 mod edge;

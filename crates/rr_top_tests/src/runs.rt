@@ -168,7 +168,7 @@ const REFUSED: [(&str, &str); 23] = [
 ];
 
 /// A run that prints this.
-fn prints<R: Abort + AllocGlobal + Threads + Sync>(
+pub(crate) fn prints<R: Abort + AllocGlobal + Threads + Sync>(
     rt: &R,
     words: &'static str,
     design: &'static str,
@@ -188,7 +188,7 @@ fn prints<R: Abort + AllocGlobal + Threads + Sync>(
 }
 
 /// A refusal, with the notes that tell it.
-fn refuses<R: Abort + AllocGlobal + Threads + Sync>(
+pub(crate) fn refuses<R: Abort + AllocGlobal + Threads + Sync>(
     rt: &R,
     words: &'static str,
     design: &'static str,
