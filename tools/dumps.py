@@ -118,6 +118,8 @@ SUMS = """module bench;
       a = i * 37; b = i * 91 + 5;
       #1 $fdisplay(file, "%0d,%0d,%0d,%0d", a, b, sum, carry);
     end
+    // The dump tells the end of the simulation as a moment more.
+    $fdisplay(file, "%0d,%0d,%0d,%0d", a, b, sum, carry);
     $finish;
   end
 endmodule
