@@ -1,0 +1,9 @@
+pub mod Binary
+pub mod Extending
+pub mod Telling
+pub mod Sampling
+pub mod Scoping
+pub mod Slotting
+pub mod Keeping
+pub mod Unique
+pub mod Fitting

@@ -1,6 +1,6 @@
 -- Why a text gives no table: it breaks the form of a dump at a line; or it has the form, and no scope has every input of the
 -- top; or one has, and the rows are too many. Want of memory may come in place of any answer.
-use Rattle.std.specs.Prelude.{ℕ, ◌×◌, ◌≡◌, ◌<◌, List, length, Bool, Option, Unit}
+use Rattle.std.specs.Prelude.{ℕ, ◌≡◌, ◌<◌, List, length, Bool, Option}
 use Rattle.rr_flat.specs.Plain.{Flat}
 use Rattle.rr_flat.specs.declared.fault.Limit.TheVariants.{Rows}
 use Rattle.rr_vcd_text.specs.Dump.{Declared, Told, IsDump}

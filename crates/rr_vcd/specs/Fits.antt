@@ -1,5 +1,5 @@
 -- Tables whose values and cells have no bit past the widths of the ports.
-use Rattle.std.specs.Prelude.{ℕ, ◌^◌, ◌<◌, ◌≡◌, ◌×◌, List, [], ◌∷◌, length, map, Option, Unit}
+use Rattle.std.specs.Prelude.{ℕ, ◌^◌, ◌<◌, ◌≡◌, List, [], ◌∷◌, length, map, Option}
 use Rattle.std.specs.List.{All}
 use Rattle.rr_flat.specs.Plain.{Flat}
 use Rattle.rr_flat.specs.Inputs.{row_inputs}

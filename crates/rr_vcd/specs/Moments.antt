@@ -1,7 +1,7 @@
 -- The moments of a dump (IEEE 1364-2005 section 18.2.2), counted from 0: each begins with its time, and changes before the
 -- first time belong to the first moment.
-use Rattle.std.specs.Prelude.{ℕ, ◌+◌, ◌-◌, List, [], ◌∷◌, length, take, fold, Bool, true, false, not, ◌==◌, Option, Some, None, if◌then◌else◌}
-use Rattle.std.specs.List.{filter, list_any, prefix_len}
+use Rattle.std.specs.Prelude.{ℕ, zero, suc, ◌-◌, List, [], ◌∷◌, length, fold, Bool, true, false, Option, Some, None, if◌then◌else◌}
+use Rattle.std.specs.List.{filter, list_any}
 use Rattle.std.specs.Str.{bytes_eq}
 use Rattle.rr_vcd_text.specs.Dump.{Told, Nothing, Moment, Change, Off}
 
@@ -24,11 +24,12 @@ moments told = length (filter is_moment told)
 -- what is told before the time that follows so many times
 unfoldable pub before : ℕ → List Told → List Told
 before k [] = []
-before k (t ∷ ts) = if is_moment t then (if k == 0 then [] else t ∷ before (k - 1) ts) else t ∷ before k ts
+before zero (t ∷ ts) = if is_moment t then [] else t ∷ before zero ts
+before (suc k) (t ∷ ts) = t ∷ before (if is_moment t then k else suc k) ts
 
 -- what is told up to the end of a moment
 abbrev pub up_to : ℕ → List Told → List Told
-up_to i told = before (i + 1) told
+up_to i told = before (suc i) told
 
 -- the digits of an identifier behind a construct
 abbrev pub changed : List ℕ → Option (List ℕ) → Told → Option (List ℕ)
@@ -41,8 +42,10 @@ changed id found Off = found
 abbrev pub last_change : List ℕ → List Told → Option (List ℕ)
 last_change id told = fold (changed id) None told
 
-abbrev pub before_off : List Told → List Told
-before_off told = take (prefix_len (λ t. not (is_off t)) told) told
+-- what is told before values are first no longer dumped
+unfoldable pub before_off : List Told → List Told
+before_off [] = []
+before_off (t ∷ ts) = if is_off t then [] else t ∷ before_off ts
 
 -- how many moments have values: all, or those before the one in which the first `$dumpoff` stands (section 18.2.3.9)
 abbrev pub valued : List Told → ℕ

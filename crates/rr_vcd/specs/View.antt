@@ -1,5 +1,5 @@
 -- What the values of the reader stand for, and what they keep while it reads.
-use Rattle.std.specs.Prelude.{ℕ, ◌+◌, ◌-◌, ◌≡◌, ◌≤◌, ◌<◌, ◌×◌, ◌⊎◌, List, [], ◌∷◌, length, map, All, Bool, true, false, ◌==◌, nat_le, nat_lt, Option, Some, None, option_map, is_some, IfSome, Unit, if◌then◌else◌}
+use Rattle.std.specs.Prelude.{ℕ, ◌+◌, ◌-◌, ◌≡◌, ◌≤◌, ◌<◌, ◌⊎◌, List, [], ◌∷◌, length, map, All, Bool, true, false, not, ◌&&◌, ◌==◌, nat_le, nat_lt, Option, Some, None, option_map, is_some, IfSome, if◌then◌else◌}
 use Rattle.std.specs.List.{list_any}
 use Rattle.std.specs.Str.{bytes_eq}
 use Rattle.rr_flat.specs.declared.fault.Limit.TheVariants.{Rows}
@@ -26,7 +26,7 @@ use Rattle.rr_vcd.specs.Tops as tops
 use Rattle.rr_vcd.specs.Values.{cell_of}
 use Rattle.rr_vcd.specs.Moments.{moments, is_off, before_off, up_to, last_change, valued}
 use Rattle.rr_vcd.specs.Scopes.{id_in}
-use Rattle.rr_vcd.specs.Sampled.{cell_by, rows_of}
+use Rattle.rr_vcd.specs.Sampled.{cell_by, is_level, rows_of}
 
 -- ports
 
@@ -51,7 +51,7 @@ pub record AreWidths (t : Top) : Type 0 where
 -- identifiers by scope, size and name
 
 abbrev pub is_key : ℕ → tops.Port → Key → Bool
-is_key s p k = k.scope == s && (bytes_eq k.name.now p.name && k.size == p.width)
+is_key s p k = s == k.scope && (bytes_eq k.name.now p.name && k.size == p.width)
 
 -- the identifier that entries have for a port in a scope
 unfoldable pub place_at : ℕ → tops.Port → List (Key × List ℕ) → Option (List ℕ)
@@ -96,19 +96,19 @@ slot_at id (e ∷ es) = if bytes_eq id e.0 then Some e.1 else slot_at id es
 
 -- of which no change was read
 abbrev pub unseen : Slot
-unseen = record { earlier = unknown_cell; now = unknown_cell; moment = 0 }
+unseen = record { earlier = unknown_cell; current = unknown_cell; moment = 0 }
 
 abbrev pub before_moment : ℕ → Slot → Cell
-before_moment m s = if s.moment == m then s.earlier else s.now
+before_moment m s = if s.moment == m then s.earlier else s.current
 
-pub record IsSlot (id : List ℕ) (earlier now : List Told) (moment : ℕ) (s : Slot) : Type 0 where
-  pub now : s.now ≡ cell_of 128 (last_change id now)
-  pub earlier : before_moment moment s ≡ cell_of 128 (last_change id earlier)
-  pub moment : s.moment ≤ moment
+pub record IsSlot (id : List ℕ) (past told : List Told) (moment : ℕ) (s : Slot) : Type 0 where
+  pub current : s.current ≡ cell_of 128 (last_change id told)
+  pub earlier : before_moment moment s ≡ cell_of 128 (last_change id past)
+  pub begun : s.moment ≤ moment
 
 -- so much was told before the current moment, and so much is told now
 abbrev pub AreSlots : List Told → List Told → ℕ → List (List ℕ × Slot) → Type 0
-AreSlots earlier now moment slots = (id : List ℕ) → IfSome (slot_at id slots) (IsSlot id earlier now moment)
+AreSlots past told moment slots = (id : List ℕ) → IfSome (slot_at id slots) (IsSlot id past told moment)
 
 -- the bits of 128 are kept
 abbrev pub IsWatched : List (List ℕ × Slot) → Option (List ℕ) × ℕ → Type 0
@@ -125,8 +125,19 @@ pub record Watches (old new : List (List ℕ × Slot)) (probes : List Probe) : T
   pub more : (id : List ℕ) → is_some (slot_at id old) ≡ true → is_some (slot_at id new) ≡ true
   pub all : All (λ y. IfSome y.id (λ id. is_some (slot_at id.now new) ≡ true)) probes
 
+abbrev pub WatchesClock : List (List ℕ × Slot) → List (List ℕ × Slot) → Option ClockProbe → Type 0
+WatchesClock old new None = Watches old new []
+WatchesClock old new (Some c) = Watches old new (c.probe ∷ [])
+
 abbrev pub cells_by : List (Option (List ℕ) × ℕ) → List Told → List Cell
 cells_by probes told = map (λ x. cell_by x.1 x.0 told) probes
+
+-- the row of the ports behind what was told
+abbrev pub probe_row : Probes → List Told → Row
+probe_row x told = record { inputs = map (λ c. c.value) (cells_by (map plain_probe x.inputs.items) told); expected = cells_by (map plain_probe x.outputs.items) told }
+
+abbrev pub probe_goes_over : (Option (List ℕ) × ℕ) × Bool → List Told → List Told → Bool
+probe_goes_over c earlier later = is_level (not c.1) (cell_by c.0.1 c.0.0 earlier) && is_level c.1 (cell_by c.0.1 c.0.0 later)
 
 -- rows
 

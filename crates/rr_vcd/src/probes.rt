@@ -1,7 +1,7 @@
 //! The ports of the top in the chosen scope.
 ghost use Rattle.std.specs.Prelude.{◌≡◌, ◌≤◌, map, All, IfOk};
 ghost use Rattle.rr_vcd_text.specs.Dump.{Declared as PlainDeclared};
-ghost use Rattle.rr_vcd.specs.View.{plain_port, plain_top, plain_probe, probe_in, ArePlaces, AreProbes, AreWidths, IsWidth};
+ghost use Rattle.rr_vcd.specs.View.{plain_port, plain_top, plain_probe, probe_in, ArePlaces, AreProbes, AreNarrow, AreWidths, IsWidth};
 
 use crate::places::Places;
 use crate::ports::{Port, Top};
@@ -28,7 +28,7 @@ pub(crate) struct Probes<'a> {
     pub(crate) outputs: Vec<Probe<'a>>,
 }
 
-fn probe<'a>(places: &Places<'a>, scope: u32, port: Port) -> Probe<'a>
+fn probe_of<'a>(places: &Places<'a>, scope: u32, port: Port) -> Probe<'a>
     ensures probe { (d : PlainDeclared) → ArePlaces d.variables places.now → plain_probe result ≡ probe_in d scope (plain_port port.entry) }
     ensures width { result.width ≡ port.entry.width }
 {
@@ -38,7 +38,7 @@ fn probe<'a>(places: &Places<'a>, scope: u32, port: Port) -> Probe<'a>
     }
 }
 
-fn probes<'a>(
+fn probes_of<'a>(
     alloc: Global,
     places: &Places<'a>,
     scope: u32,
@@ -50,7 +50,7 @@ fn probes<'a>(
 {
     let mut probes = Vec::new(alloc);
     for &port in ports.iter() {
-        probes.push(probe(places, scope, port))?;
+        probes.push(probe_of(places, scope, port))?;
     }
     Ok(probes)
 }
@@ -69,15 +69,15 @@ impl<'a> Probes<'a> {
     {
         let clock = match top.clock {
             Some(clock) => Some(ClockProbe {
-                probe: probe(places, scope, clock.port),
+                probe: probe_of(places, scope, clock.port),
                 rising: clock.rising,
             }),
             None => None,
         };
         Ok(Probes {
             clock,
-            inputs: probes(alloc, places, scope, top.inputs.as_slice())?,
-            outputs: probes(alloc, places, scope, top.outputs.as_slice())?,
+            inputs: probes_of(alloc, places, scope, top.inputs.as_slice())?,
+            outputs: probes_of(alloc, places, scope, top.outputs.as_slice())?,
         })
     }
 }

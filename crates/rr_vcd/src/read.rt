@@ -1,5 +1,5 @@
 //! Dumps.
-ghost use Rattle.std.specs.Prelude.{◌≡◌, ◌×◌, ℕ, List, [], MatchResult, IfOk};
+ghost use Rattle.std.specs.Prelude.{◌≡◌, ℕ, List, [], MatchResult, IfOk};
 ghost use Rattle.rr_flat.specs.View.{plain_flat};
 ghost use Rattle.rr_vcd_text.specs.Dump.{Declared as PlainDeclared, Told as PlainTold, IsDump};
 ghost use Rattle.rr_vcd_text.specs.View.{IsReading, Refuses as RefusesText};

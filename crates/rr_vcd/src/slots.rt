@@ -17,13 +17,13 @@ use std::marker::Model;
 #[derive(Clone, Copy)]
 pub(crate) struct Slot {
     earlier: Cell,
-    now: Cell,
+    current: Cell,
     moment: u64,
 }
 
 const UNSEEN: Slot = Slot {
     earlier: UNKNOWN,
-    now: UNKNOWN,
+    current: UNKNOWN,
     moment: 0,
 };
 
@@ -50,7 +50,7 @@ impl Slot {
         if self.moment == moment {
             self.earlier
         } else {
-            self.now
+            self.current
         }
     }
 }
@@ -93,7 +93,7 @@ impl<'a> Slots<'a> {
         digits: &[u8],
         moment: u64,
     ) -> Result<(), AllocError>
-        ensures slots { (earlier now : List Told) → AreSlots earlier now moment self.old → OnOk result (AreSlots earlier (now ++ Change id.now digits.now ∷ []) moment self.new) }
+        ensures slots { (past told : List Told) → AreSlots past told moment self.old → OnOk result (AreSlots past (told ++ Change id.now digits.now ∷ []) moment self.new) }
         ensures same { OnOk result ((t : List ℕ) → is_some (slot_at t self.new) ≡ is_some (slot_at t self.old)) }
     {
         let Some(slot) = self.find(id) else {
@@ -101,7 +101,7 @@ impl<'a> Slots<'a> {
         };
         let changed = Slot {
             earlier: slot.before_moment(moment),
-            now: wide_cell(digits),
+            current: wide_cell(digits),
             moment,
         };
         self.put(id, changed)
@@ -109,9 +109,8 @@ impl<'a> Slots<'a> {
 
     /// The bits of a port now, or before the moment, the last one that has begun.
     pub(crate) fn cell(&self, probe: Probe, moment: u64, before: bool) -> Cell
-        requires { IsWatched self.now (plain_probe probe.entry) }
-        ensures { (earlier now : List Told) → AreSlots earlier now moment self.now →
-            result ≡ cell_by probe.entry.width (plain_probe probe.entry).0 (if before then earlier else now) }
+        ensures { (past told : List Told) → AreSlots past told moment self.now → IsWatched self.now (plain_probe probe.entry) →
+            result ≡ cell_by probe.entry.width (plain_probe probe.entry).0 (if before then past else told) }
     {
         let Some(id) = probe.id else {
             return UNKNOWN;
@@ -122,7 +121,7 @@ impl<'a> Slots<'a> {
         let cell = if before {
             slot.before_moment(moment)
         } else {
-            slot.now
+            slot.current
         };
         narrowed(cell, probe.width)
     }
