@@ -5,7 +5,7 @@ usage: tools/expand.py [--seed S] [--count N] [--times] [FILE ..]
 
 It builds a small program over rr_directive (tools/expand) without its proofs, expands sources of real style, N random ones (400 where not given) and the
 files, and compares the tokens with those of `iverilog -E` and of `verilator -E -P`. These two differ from one another: Icarus expands what looks like a use within
-an escaped name, and ends a text at a comment before a continued line. Sources that the profile refuses are counted by the number of their refusal. --times expands texts of up to 1 MiB too, of uses, conditionals, definitions, comments and names, and
+an escaped name, and ends a text at a comment before a continued line; both drop blanks at the end of a text, which is not tried. Sources that the profile refuses are counted by the number of their refusal. --times expands texts of up to 1 MiB too, of uses, conditionals, definitions, comments and names, and
 prints how the time grew from half the size (1 is linear, 2 is quadratic). Status 0 where each source has the tokens of one of the two.
 """
 import argparse, collections, math, os, random, re, shutil, subprocess, sys, tempfile
@@ -208,7 +208,7 @@ def drawn(random):
             name = random.choice(names)
             text = " ".join(piece() for _ in range(random.randint(0, 5)))
             if f"`{name}" not in text:
-                text = text.replace("\\esc ", "\\esc  ")
+                text = f"{text} ;" if "esc" in text[-6:] else text
                 lines.append(f"`define {name}{random.choice([' ', '  ', chr(9)])}{text}{random.choice(['', ' // of ' + name, ' ' + chr(92) + chr(10) + '  more'])}")
                 if not opened:
                     defined.add(name)

@@ -1,22 +1,17 @@
 -- What a unit of the file does, and what the reader has after it.
 use Rattle.std.proofs.lemmas.Bool.Decides.{nat_tests}
-use Rattle.std.proofs.Common.{ℕ, suc, ◌≡◌, ◌+◌, ◌-◌, ◌≤◌, ◌<◌, ◌||◌, ◌&&◌, List, [], ◌∷◌, ◌++◌, length, map, reverse, take, drop, get_or, nat_le, Bool, true, false, not, Option, Some, None, is_some, Result, Ok, Err, if◌then◌else◌, refl, ap, ◌∙◌, sym, subst, arith}
+use Rattle.std.proofs.Common.{ℕ, suc, ◌≡◌, ◌+◌, ◌-◌, ◌≤◌, ◌<◌, ◌&&◌, List, [], ◌∷◌, ◌++◌, length, map, reverse, take, drop, get_or, nat_le, Bool, true, false, not, Some, None, Result, Ok, Err, if◌then◌else◌, refl, ap, ◌∙◌, sym, subst, arith}
 use Rattle.std.specs.Result.{OnOk}
-use Rattle.std.specs.List.{slice_get}
-use Rattle.std.proofs.lemmas.List.{append-nil, length-append, length-map, length-reverse, reverse-append, get_or-reverse, length-take-le, length-drop}
-use Rattle.rr_directive.specs.declared.fault.Wrong.{Wrong}
-use Rattle.rr_directive.specs.declared.fault.Wrong.TheVariants as wrong
+use Rattle.std.proofs.lemmas.List.{append-nil, length-reverse, reverse-append, get_or-reverse, length-take-le, length-drop}
 use Rattle.rr_directive.specs.declared.piece.Directive.TheVariants as directive
-use Rattle.rr_directive.specs.declared.piece.Kind.{Kind}
 use Rattle.rr_directive.specs.declared.piece.Kind.TheVariants as kind
-use Rattle.rr_directive.specs.declared.output.Output.{Output}
 use Rattle.rr_directive.specs.declared.output.Stop.{Stop}
 use Rattle.rr_directive.specs.declared.output.Stop.TheVariants as stop
 use Rattle.rr_directive.specs.declared.definitions.Definitions.{Definitions}
 use Rattle.rr_directive.specs.declared.reading.Branch.{Branch as CodeBranch}
 use Rattle.rr_directive.specs.declared.reading.Reader.{Reader}
-use Rattle.rr_directive.specs.Pieces.{Piece, TextUnit, directive_of, has_name}
-use Rattle.rr_directive.specs.Expand.{Act, Own, Blank, Silent, Expands, Wrongs, Exact, Each, Last, Nowhere, Branch, Event, State, Step, Gives, Uses, Definition, act, act_of, bad, closing, from_use, has_directive, is_defined, is_exact, is_fit, is_on, Meets, nothing, one_blank, opened, opening, over, over_in_use, bad_use, own, own_bytes, shown, stands_for, text_items, turned, turning, where_read, whole_use, with_branches, with_definition}
+use Rattle.rr_directive.specs.Pieces.{Piece, TextUnit, has_name}
+use Rattle.rr_directive.specs.Expand.{Act, Own, Blank, Silent, Expands, Wrongs, Exact, Each, Last, Nowhere, Event, State, Gives, act, act_of, closing, from_use, is_defined, is_exact, is_fit, is_on, nothing, one_blank, opened, opening, over, over_in_use, bad_use, own, own_bytes, shown, stands_for, text_items, turned, turning, where_read, whole_use, with_branches, with_definition}
 use Rattle.rr_directive.specs.View.{Answers, Blanks, Gave, HasTexts, Knows, Overflows, Shows, Stands, UseAnswers, exact_from, names_of, plain_branch, plain_branches}
 
 -- ---- acts

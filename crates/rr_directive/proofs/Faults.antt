@@ -1,15 +1,13 @@
 -- A file has one expansion or one first fault.
-use Rattle.std.proofs.Common.{ℕ, suc, ◌≡◌, ◌≢◌, ◌+◌, ◌≤◌, ◌<◌, List, [], ◌∷◌, ◌++◌, length, get_or, Option, None, refl, ap, ◌∙◌, sym, subst, arith}
+use Rattle.std.proofs.Common.{ℕ, ◌≡◌, List, [], ◌∷◌, ◌++◌, length, Option, refl, ap, ◌∙◌, sym, subst, arith}
 use Rattle.std.specs.List.{All}
 use Rattle.std.proofs.lemmas.List.{length-append, get_or_at}
-use Rattle.std.proofs.lemmas.List.Elements.{All-same}
 use Rattle.rr_directive.specs.declared.fault.Wrong.{Wrong}
 use Rattle.rr_directive.specs.declared.fault.Wrong.TheVariants as wrong
-use Rattle.rr_directive.specs.declared.fault.DirectiveFault.{DirectiveFault}
 use Rattle.rr_directive.specs.declared.fault.DirectiveFault.TheVariants as fault
 use Rattle.rr_directive.specs.declared.origin.Origin.{Origin}
 use Rattle.rr_directive.specs.Pieces.{TextUnit, units_of}
-use Rattle.rr_directive.specs.Expand.{Event, Faults, State, bytes_of, first_unclosed, IsExpansion, IsFault, IsNot, IsOver, IsTaken, IsTooMany, IsWrong, origins_of, Reaches, ReadsAll, start}
+use Rattle.rr_directive.specs.Expand.{State, bytes_of, first_unclosed, IsFault, IsNot, IsOver, IsTaken, IsTooMany, IsWrong, origins_of, Reaches, ReadsAll, start}
 use Rattle.rr_directive.specs.Laws.{NotBoth, OneExpansion, OneFault}
 use Rattle.rr_directive.proofs.Unique.{not_over, not_wrong, one_wrong, passes, Read, same_all, wrong_or_over}
 

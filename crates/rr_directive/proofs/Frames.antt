@@ -1,15 +1,15 @@
 -- Texts that are being read, the innermost first.
-use Rattle.std.proofs.Common.{ℕ, zero, suc, ◌≡◌, ◌≢◌, ◌+◌, ◌≤◌, ◌<◌, ◌||◌, List, [], ◌∷◌, ◌++◌, length, map, reverse, get_or, set, Bool, true, false, Option, Some, None, refl, ap, ◌∙◌, sym, subst, arith, inl, inr}
+use Rattle.std.proofs.Common.{ℕ, ◌≡◌, ◌≢◌, ◌<◌, ◌||◌, List, [], ◌∷◌, ◌++◌, length, reverse, get_or, set, Bool, true, false, Option, Some, refl, ap, ◌∙◌, sym, subst, arith, inl, inr}
 use Rattle.std.specs.List.{AllZip, slice_get}
 use Rattle.std.specs.Str.{bytes_eq}
-use Rattle.std.proofs.lemmas.List.{append_assoc, append-nil, reverse-append, length-set, get_or-set_same, get_or-set_other}
-use Rattle.std.proofs.lemmas.Option.{slice_get_within, get_or_from_slice_get}
+use Rattle.std.proofs.lemmas.List.{append_assoc, reverse-append, length-set, get_or-set_same, get_or-set_other}
+use Rattle.std.proofs.lemmas.Option.{slice_get_within}
 use Rattle.std.proofs.lemmas.Bool.{cases_Bool, cases_eq}
 use Rattle.std.proofs.lemmas.Slice.Eq.{bytes_eq-Decides}
 use Rattle.rr_directive.specs.declared.fault.Wrong.{Wrong}
 use Rattle.rr_directive.specs.declared.using.Frame.{Frame}
 use Rattle.rr_directive.specs.Expand.{Item, Byte, Use, Definition, Step, Gives, Uses, Halt, Whole, Failed, Cut, Reads, ended as text_ended, cut, cut_in_use, byte, unknown, loops, halts, uses, text_of, is_expanding}
-use Rattle.rr_directive.specs.View.{Left, left_names, ReadsOn, ended, halted, passed, AreLeft, IsLeft, IsUnfit, undefined, within, Opens, Once}
+use Rattle.rr_directive.specs.View.{Left, left_names, ReadsOn, ended, halted, passed, AreLeft, IsLeft, IsUnfit, undefined, within, Opens}
 
 -- ---- what is left
 

@@ -1,16 +1,15 @@
 -- Names with numbers, and their texts.
-use Rattle.std.proofs.Common.{ℕ, zero, suc, ◌≡◌, ◌≢◌, ◌+◌, ◌≤◌, ◌<◌, ◌||◌, ◌⊎◌, List, [], ◌∷◌, ◌++◌, length, map, get_or, set, Bool, true, false, not, Option, Some, None, is_some, if◌then◌else◌, refl, ap, ◌∙◌, sym, subst, arith, inl, inr}
-use Rattle.std.specs.List.{AllZip, list_any, slice_get}
+use Rattle.std.proofs.Common.{ℕ, zero, suc, ◌≡◌, ◌+◌, ◌<◌, ◌||◌, ◌⊎◌, List, [], ◌∷◌, ◌++◌, length, map, get_or, set, Bool, true, false, not, Option, Some, None, is_some, refl, ap, ◌∙◌, sym, subst, arith, inl, inr}
+use Rattle.std.specs.List.{list_any, slice_get}
 use Rattle.std.specs.Option.{option_map}
 use Rattle.std.specs.Str.{bytes_eq}
-use Rattle.std.proofs.lemmas.List.{append_assoc, append-nil, map-append, length-append, length_push, length-set, length-map, get_or_append_left, get_or_push, get_or-set_same, get_or-set_other}
+use Rattle.std.proofs.lemmas.List.{append_assoc, append-nil, map-append, length_push, length-set, get_or_append_left, get_or_push, get_or-set_same, get_or-set_other}
 use Rattle.std.proofs.lemmas.Option.{slice_get-map, slice_get_within}
 use Rattle.std.proofs.lemmas.Bool.{cases_Bool, cases_eq}
-use Rattle.std.proofs.lemmas.Slice.Eq.{bytes_eq-Decides}
 use Rattle.indexmap.specs.IndexSet.{insert_key}
 use Rattle.rr_directive.specs.declared.definitions.Part.{Part}
 use Rattle.rr_directive.specs.declared.definitions.Part.TheVariants as part
-use Rattle.rr_directive.specs.Expand.{Item, Byte, Use, Definition, text_of, is_expanding, is_defined}
+use Rattle.rr_directive.specs.Expand.{Item, Byte, Use, Definition, text_of}
 use Rattle.rr_directive.specs.View.{AreItems, Extends, HasTexts, IsItem, IsText, Opens}
 use Rattle.rr_directive.proofs.Frames.{AreDistinct, eq_same, eq_refl, other_name, same_some}
 use denote.Ref.{Bor}

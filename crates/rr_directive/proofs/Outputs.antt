@@ -1,11 +1,11 @@
 -- What an output has of events.
-use Rattle.std.proofs.Common.{ℕ, zero, suc, ◌≡◌, ◌+◌, ◌-◌, ◌≤◌, ◌<◌, List, [], ◌∷◌, ◌++◌, length, take, drop, get_or, nat_le, Result, Ok, Err, refl, ap, ◌∙◌, sym, subst, arith}
+use Rattle.std.proofs.Common.{ℕ, ◌≡◌, ◌+◌, ◌-◌, ◌≤◌, ◌<◌, List, [], ◌∷◌, ◌++◌, length, take, drop, get_or, nat_le, Err, refl, ap, ◌∙◌, sym, subst, arith}
 use Rattle.std.proofs.lemmas.List.{append_assoc, append-nil, length_push, length-append, length-drop, take_more, length-take-le, get_or-drop}
 use Rattle.rr_directive.specs.declared.origin.Origin.{Origin}
 use Rattle.rr_directive.specs.declared.output.Output.{Output}
 use Rattle.rr_directive.specs.declared.output.Stop.{Stop}
 use Rattle.rr_directive.specs.declared.output.Stop.TheVariants as stop
-use Rattle.rr_directive.specs.Expand.{Event, Step, Gives, Uses, bytes_given, bytes_of, origins_given, origins_of, stands_for}
+use Rattle.rr_directive.specs.Expand.{Event, Step, Gives, Uses, bytes_given, bytes_of, origins_given, origins_of}
 use Rattle.rr_directive.specs.View.{Overflows, Shows, exact_from}
 
 pub bytes_append : (es fs : List Event) → bytes_of (es ++ fs) ≡ bytes_of es ++ bytes_of fs

@@ -1,16 +1,16 @@
 -- A file whose units all give themselves.
-use Rattle.std.proofs.Common.{ℕ, zero, suc, ◌≡◌, ◌+◌, ◌-◌, ◌≤◌, ◌<◌, ◌&&◌, List, [], ◌∷◌, ◌++◌, length, take, drop, Bool, true, false, Option, Some, None, if◌then◌else◌, refl, ap, ◌∙◌, sym, subst, arith, inl, inr}
+use Rattle.std.proofs.Common.{ℕ, zero, suc, ◌≡◌, ◌+◌, ◌-◌, ◌≤◌, ◌&&◌, List, [], ◌∷◌, ◌++◌, take, drop, true, false, Option, Some, None, refl, ap, ◌∙◌, sym, arith, inl, inr}
 use Rattle.std.specs.List.{All, flat_map, prefix_len}
 use Rattle.std.proofs.lemmas.Bool.{cases_Bool}
-use Rattle.std.proofs.lemmas.List.{append_assoc, take-append-drop}
+use Rattle.std.proofs.lemmas.List.{take-append-drop}
 use Rattle.std.proofs.lemmas.List.Elements.{All-head, All-tail}
 use Rattle.rr_directive.specs.declared.piece.Directive.{Directive}
 use Rattle.rr_directive.specs.declared.piece.Directive.TheVariants as directive
 use Rattle.rr_directive.specs.declared.piece.Kind.{Kind}
 use Rattle.rr_directive.specs.declared.piece.Kind.TheVariants as kind
-use Rattle.rr_directive.specs.Bytes.{begins, is, is_in_line, is_letter, is_name_byte, is_printable, is_space, past}
-use Rattle.rr_directive.specs.Pieces.{Piece, TextUnit, bare, begins_with, closed, defining, directive_of, front, has_name, is_escaped, named_piece, piece, units, units_of, with_name, with_text}
-use Rattle.rr_directive.specs.Expand.{Act, Own, Exact, Each, Last, Nowhere, Event, Gives, act, act_of, bytes_of, first_unclosed, is_on, is_opening, Meets, own, own_bytes, origins_of, ReadsAll, none, more, start, where_read}
+use Rattle.rr_directive.specs.Bytes.{begins, is, is_letter, is_name_byte, is_space, past}
+use Rattle.rr_directive.specs.Pieces.{Piece, TextUnit, begins_with, defining, directive_of, front, has_name, is_escaped, named_piece, piece, units, units_of, with_name}
+use Rattle.rr_directive.specs.Expand.{Own, Exact, Each, Last, Nowhere, Event, act_of, bytes_of, first_unclosed, is_on, is_opening, own, own_bytes, origins_of, ReadsAll, none, more, start}
 use Rattle.rr_directive.specs.Laws.{PlainStays, is_kept}
 use Rattle.rr_directive.proofs.Outputs.{bytes_append}
 

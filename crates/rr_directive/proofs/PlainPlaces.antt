@@ -1,16 +1,15 @@
 -- The bytes of a file whose units all give themselves stand at their own places; and so do those of a file without a backtick.
-use Rattle.std.proofs.Common.{ℕ, zero, suc, ◌≡◌, ◌≢◌, ◌+◌, ◌-◌, ◌≤◌, ◌<◌, ◌&&◌, ◌==◌, nat_eq, List, [], ◌∷◌, ◌++◌, length, take, drop, get_or, Bool, true, false, refl, ap, ◌∙◌, sym, subst, arith, inl, inr}
+use Rattle.std.proofs.Common.{ℕ, zero, suc, ◌≡◌, ◌≢◌, ◌+◌, ◌-◌, ◌≤◌, ◌<◌, ◌==◌, List, [], ◌∷◌, ◌++◌, length, take, true, false, refl, ap, ◌∙◌, sym, subst, arith, inl, inr}
 use Rattle.std.specs.List.{All, flat_map}
 use Rattle.std.proofs.lemmas.Bool.{cases_Bool, cases_lt}
 use Rattle.std.proofs.lemmas.Bool.Decides.{nat_tests}
 use Rattle.std.proofs.lemmas.List.{length-append, length-take-le}
 use Rattle.std.proofs.lemmas.List.Elements.{All-cons, All-head, All-nil, All-tail}
 use Rattle.rr_directive.specs.declared.origin.Origin.{Origin}
-use Rattle.rr_directive.specs.Bytes.{begins, is, is_letter}
 use Rattle.rr_directive.specs.Pieces.{TextUnit, begins_with, is_escaped, piece, units, units_of}
 use Rattle.rr_directive.specs.Places.{offset_at}
 use Rattle.rr_directive.specs.Expand.{Event, Exact, bytes_of, own, own_bytes, origins_of, ReadsAll, none, more, start}
-use Rattle.rr_directive.specs.Laws.{AreOwn, NoBackticks, PlainTaken, is_kept}
+use Rattle.rr_directive.specs.Laws.{NoBackticks, PlainTaken, is_kept}
 use Rattle.rr_directive.proofs.Outputs.{bytes_append, origins_append, same_length}
 use Rattle.rr_directive.proofs.Plain.{AreKept, its_bytes, kept_act, none_open, own_given, some_size, units_join}
 
@@ -58,12 +57,15 @@ unfolding units
 units_next at zero n [] e = tt
 units_next at (suc taken) n [] e = tt
 units_next at (suc taken) n (b ∷ bs) e = units_next (at + 1) taken n bs (omega (arith, e))
-units_next at zero n (b ∷ bs) e = (omega (arith, e), elim (cases_lt (length bs) (piece (b ∷ bs)).size) [
-  | inl l ↦ subst (AreNext (n + length (take (piece (b ∷ bs)).size (b ∷ bs)))) (sym (drained (at + 1) ((piece (b ∷ bs)).size - 1) bs (omega (arith, l)))) tt
-  | inr l ↦
-    units_next (at + 1) ((piece (b ∷ bs)).size - 1) (n + length (take (piece (b ∷ bs)).size (b ∷ bs))) bs
-    (omega (arith, e, some_size (b ∷ bs), length-take-le (piece (b ∷ bs)).size (b ∷ bs) (omega (arith, l))))
-])
+units_next at zero n (b ∷ bs) e = (
+  omega (arith, e),
+  elim (cases_lt (length bs) (piece (b ∷ bs)).size) [
+    | inl l ↦ subst (AreNext (n + length (take (piece (b ∷ bs)).size (b ∷ bs)))) (sym (drained (at + 1) ((piece (b ∷ bs)).size - 1) bs (omega (arith, l)))) tt
+    | inr l ↦
+        units_next (at + 1) ((piece (b ∷ bs)).size - 1) (n + length (take (piece (b ∷ bs)).size (b ∷ bs))) bs
+        (omega (arith, e, some_size (b ∷ bs), length-take-le (piece (b ∷ bs)).size (b ∷ bs) (omega (arith, l))))
+  ],
+)
 
 -- ---- the reading
 

@@ -1,16 +1,14 @@
 -- The reading of the text of a use, step by step.
-use Rattle.std.proofs.Common.{ℕ, ◌≡◌, ◌+◌, ◌≤◌, ◌<◌, List, [], ◌∷◌, ◌++◌, length, map, Bool, Result, Ok, Err, Some, refl, ap, ◌∙◌, sym, subst, arith}
-use Rattle.std.specs.List.{slice_get}
+use Rattle.std.proofs.Common.{ℕ, ◌≡◌, ◌+◌, ◌≤◌, ◌<◌, List, [], ◌∷◌, ◌++◌, length, Bool, Result, Ok, Err, ap, ◌∙◌, sym, subst, arith}
 use Rattle.std.specs.Result.{OnOk}
 use Rattle.std.proofs.lemmas.List.{append_assoc, append-nil, map-append, length-append, length-map}
-use Rattle.rr_directive.specs.declared.fault.Wrong.{Wrong}
 use Rattle.rr_directive.specs.declared.output.Output.{Output}
 use Rattle.rr_directive.specs.declared.output.Stop.{Stop}
 use Rattle.rr_directive.specs.declared.output.Stop.TheVariants as stop
 use Rattle.rr_directive.specs.declared.using.Frame.{Frame}
-use Rattle.rr_directive.specs.Expand.{Item, Byte, Use, Definition, Event, Step, Gives, Uses, Halt, Whole, Failed, Cut, Reads, from_use, stands_for, text_of}
-use Rattle.rr_directive.specs.View.{Advances, AreLeft, Begins, Begun, Goes, IsLeft, Left, left_names, Leads, ReadsOn, ended, Opens, Overflows, Shows, UseAnswers, UseGives}
-use Rattle.rr_directive.proofs.Frames.{behind, on_byte, on_use, on_end, at_first, unfit_first, unfit_within, full_first, full_use, full_byte, popped, none_left}
+use Rattle.rr_directive.specs.Expand.{Item, Byte, Use, Definition, Event, Step, Gives, Uses, Halt, Whole, Failed, Cut, Reads, from_use, stands_for}
+use Rattle.rr_directive.specs.View.{Advances, AreLeft, Begins, Begun, Goes, Left, left_names, ReadsOn, ended, Opens, Overflows, Shows, UseAnswers, UseGives}
+use Rattle.rr_directive.proofs.Frames.{behind, on_byte, on_use, on_end, at_first, unfit_first, unfit_within, full_first, full_use, full_byte, none_left}
 
 left_is : (ds : List Definition) (l : Left) (ls : List Left) (rest : List Item) (steps : List Step) (halt : Halt) → l.rest ≡ rest → ReadsOn ds (behind l rest ∷ ls) steps halt → ReadsOn ds (l ∷ ls) steps halt
 left_is ds l ls rest steps halt e t = subst (λ (xs : List Item). ReadsOn ds (behind l xs ∷ ls) steps halt) (sym e) t

@@ -1,13 +1,13 @@
 -- What texts ask for, unit by unit.
-use Rattle.std.proofs.Common.{ℕ, ◌≡◌, ◌||◌, List, [], ◌∷◌, ◌++◌, map, take, drop, Bool, true, false, Some, refl, ap, ◌∙◌, sym, subst}
+use Rattle.std.proofs.Common.{ℕ, ◌≡◌, ◌||◌, List, [], ◌∷◌, ◌++◌, map, Bool, true, false, Some, refl, ap, ◌∙◌, sym, subst}
 use Rattle.std.specs.List.{flat_map, list_any, slice_get}
 use Rattle.std.proofs.lemmas.List.{append_assoc, append-nil}
 use Rattle.rr_directive.specs.declared.piece.Kind.{Kind}
 use Rattle.rr_directive.specs.declared.piece.Kind.TheVariants as kind
 use Rattle.rr_directive.specs.declared.definitions.Part.{Part}
 use Rattle.rr_directive.specs.declared.definitions.Part.TheVariants as part
-use Rattle.rr_directive.specs.Pieces.{TextUnit, units, units_of}
-use Rattle.rr_directive.specs.Expand.{Item, Byte, Use, is_named, items_of, text_items}
+use Rattle.rr_directive.specs.Pieces.{TextUnit}
+use Rattle.rr_directive.specs.Expand.{Item, Byte, Use, is_named, items_of}
 use Rattle.rr_directive.specs.View.{AreItems, Extends}
 use Rattle.rr_directive.proofs.Names.{items_extended, zip_append, zip_bytes}
 

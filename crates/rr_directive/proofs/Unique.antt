@@ -1,12 +1,9 @@
 -- A text is read in one way, and so is a file.
-use Rattle.std.proofs.Common.{ℕ, suc, ◌≡◌, ◌≢◌, ◌+◌, ◌≤◌, ◌<◌, ◌⊎◌, List, [], ◌∷◌, ◌++◌, length, map, Bool, true, false, Option, Some, None, refl, ap, ◌∙◌, sym, subst, arith, inl, inr}
-use Rattle.std.specs.List.{All}
-use Rattle.std.proofs.lemmas.List.{append_assoc, append-nil, length-append, length-map}
-use Rattle.std.proofs.lemmas.List.Elements.{All-head, All-tail}
+use Rattle.std.proofs.Common.{ℕ, ◌≡◌, ◌≢◌, ◌+◌, ◌≤◌, List, [], ◌∷◌, ◌++◌, length, Option, Some, refl, ap, ◌∙◌, sym, subst, arith}
+use Rattle.std.proofs.lemmas.List.{append_assoc, length-append, length-map}
 use Rattle.rr_directive.specs.declared.fault.Wrong.{Wrong}
-use Rattle.rr_directive.specs.declared.fault.Wrong.TheVariants as wrong
 use Rattle.rr_directive.specs.Pieces.{TextUnit, units_of}
-use Rattle.rr_directive.specs.Expand.{Act, Own, Blank, Silent, Expands, Wrongs, Exact, act, Item, Byte, Use, Definition, Event, State, Step, Gives, Uses, Halt, Whole, Failed, Cut, Reads, ended, cut, cut_in_use, byte, unknown, loops, halts, uses, ReadsUse, text_of, is_expanding, from_use, stands_for, own, Meets, own_bytes, one_blank, nothing, whole_use, ReadsAll, none, more, start, first_unclosed, IsNot, IsWrong, bad, bad_use, unclosed, IsOver, over, over_in_use, Reaches}
+use Rattle.rr_directive.specs.Expand.{Expands, Wrongs, Exact, act, Item, Use, Definition, Event, State, Step, Gives, Uses, Halt, Whole, Failed, Cut, Reads, ended, cut, cut_in_use, byte, unknown, loops, halts, uses, ReadsUse, from_use, stands_for, own, Meets, own_bytes, one_blank, nothing, whole_use, ReadsAll, none, more, start, first_unclosed, IsNot, IsWrong, bad, bad_use, unclosed, IsOver, over, over_in_use, Reaches}
 
 -- ---- texts
 

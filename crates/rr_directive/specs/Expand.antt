@@ -2,7 +2,6 @@
 use Rattle.std.specs.Prelude.{ℕ, ◌+◌, ◌-◌, ◌≡◌, ◌≢◌, ◌<◌, ◌≤◌, List, [], ◌∷◌, ◌++◌, length, map, Bool, true, false, not, ◌&&◌, ◌||◌, ◌==◌, Option, Some, None, is_some, if◌then◌else◌}
 use Rattle.std.specs.List.{All, list_any, flat_map}
 use Rattle.std.specs.Str.{bytes_eq}
-use Rattle.rr_directive.specs.declared.piece.Directive.{Directive}
 use Rattle.rr_directive.specs.declared.piece.Directive.TheVariants as directive
 use Rattle.rr_directive.specs.declared.piece.Kind.{Kind}
 use Rattle.rr_directive.specs.declared.piece.Kind.TheVariants as kind

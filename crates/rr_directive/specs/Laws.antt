@@ -1,5 +1,5 @@
 -- What holds of expansions and of first faults.
-use Rattle.std.specs.Prelude.{ℕ, ◌≡◌, ◌≢◌, ◌<◌, ◌≤◌, List, Option, Some, Bool, true, false, drop, get_or, length}
+use Rattle.std.specs.Prelude.{ℕ, ◌≡◌, ◌≢◌, ◌<◌, ◌≤◌, List, Bool, true, false, length}
 use Rattle.std.specs.List.{All}
 use Rattle.rr_directive.specs.declared.piece.Directive.TheVariants as directive
 use Rattle.rr_directive.specs.declared.piece.Kind.{Kind}

@@ -1,8 +1,6 @@
 -- What the code's units, names, texts, conditionals and output stand for.
-use Rattle.std.specs.Prelude.{◌≡◌, ℕ, nat_lt, nat_le, ◌-◌, ◌+◌, ◌<◌, ◌≤◌, ◌++◌, ◌⊎◌, ◌≢◌, List, [], ◌∷◌, take, drop, map, length, reverse, get_or, slice_get, ◌==◌, Bool, true, false, Option, Some, None, Result, Ok, Err, Vec, if◌then◌else◌}
+use Rattle.std.specs.Prelude.{◌≡◌, ℕ, nat_lt, nat_le, ◌-◌, ◌+◌, ◌<◌, ◌≤◌, ◌++◌, ◌⊎◌, ◌≢◌, List, [], ◌∷◌, take, drop, map, length, reverse, get_or, slice_get, ◌==◌, Bool, true, false, Option, Some, None, Result, Ok, Err, if◌then◌else◌}
 use Rattle.std.specs.List.{AllZip}
-use Rattle.std.specs.declared.alloc.Global.{Global}
-use Rattle.rr_directive.specs.declared.origin.Origin.{Origin}
 use Rattle.rr_directive.specs.declared.fault.Wrong.{Wrong}
 use Rattle.rr_directive.specs.declared.fault.Wrong.TheVariants as wrong
 use Rattle.rr_directive.specs.declared.fault.DirectiveFault.{DirectiveFault}

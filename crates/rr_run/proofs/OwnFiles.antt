@@ -13,7 +13,7 @@ use Rattle.rr_lex.specs.declared.piece.Wrong.TheVariants as wrong
 use Rattle.rr_run.specs.declared.fault.Fault.{Fault}
 use Rattle.rr_run.specs.declared.fault.Fault.TheVariants as fault
 use Rattle.rr_run.specs.declared.rows.TableKind.{TableKind}
-use Rattle.rr_run.specs.Refusals.{Refusal, At, TooMany, Expanded, NoHeader, UnknownColumn, ColumnTwice, MissingInput, RowLength, BadCell, CellTooLarge, NotUtf8}
+use Rattle.rr_run.specs.Refusals.{Refusal, At, TooMany, Expanded, NoHeader, UnknownColumn, ColumnTwice, MissingInput, RowLength, BadCell, CellTooLarge, NotUtf8, BadVcd, NoScope}
 use Rattle.rr_run.specs.Runs.{HasNoTable, IsAt, IsRun, IsSameRefusal, Refuses, RefusesDesign}
 use Rattle.rr_run.specs.Files.{IsFileRun, RefusesFile, place, placed, told_at}
 use Rattle.rr_run.specs.Laws.{HasSameRuns, IsRefusedAlike, OwnRefusal, OwnRun, PlainRun}

@@ -14,7 +14,8 @@ use Rattle.rr_vcd.specs.Fits.{AreValues, widths}
 use Rattle.rr_vcd.specs.Sampled.{IsSampled}
 use Rattle.rr_vcd.specs.declared.fault.VcdFault.{VcdFault}
 use Rattle.rr_vcd.specs.declared.fault.VcdFault.TheVariants as vcd
-use Rattle.rr_vcd.proofs.Once.{one_fault, one_table, sampled_fits, table_or_fault}
+use Rattle.rr_vcd.proofs.Fitting.{tables_fit}
+use Rattle.rr_vcd.proofs.Unique.{one_fault, one_table, table_or_fault}
 use Rattle.rr_meaning.specs.Calls.{IsRow}
 use Rattle.rr_meaning.proofs.Tabled.{table_rows}
 use Rattle.rr_run.specs.declared.rows.TableKind.{TableKind}
@@ -131,7 +132,7 @@ values_length flat (id ∷ ids) (v ∷ vs) h = ap suc (values_length flat ids vs
 pub reading_fits : (kind : TableKind) (flat : Flat) (clock : Option ℕ) (rising : Bool) (bytes : List ℕ) (x : Table) → ReadsTable kind flat clock rising bytes x → FitsInputs flat clock x
 reading_fits kind.Csv flat clock rising bytes x p = table_rows flat clock bytes x p
 reading_fits kind.Vcd flat clock rising bytes x p =
-    let fits = sampled_fits flat clock rising bytes x p in
+    let fits = tables_fit flat clock rising bytes x p in
     λ k d l. values_length flat (row_inputs clock flat.inputs) _ (fits.inputs k d l)
 
 -- what holds of the lists of vectors

@@ -1,6 +1,6 @@
 -- The rows of a table, and why it has none. A table is comma-separated values (RFC 4180) or a value change dump (IEEE 1364-2005
 -- section 18.2).
-use Rattle.std.specs.Prelude.{ℕ, ◌×◌, ◌≡◌, Bool, List, All, Option, Ok, Err}
+use Rattle.std.specs.Prelude.{ℕ, ◌≡◌, Bool, List, All, Option, Ok, Err}
 use Rattle.rr_flat.specs.Plain.{Flat}
 use Rattle.rr_trace.specs.Tables.{Table, table_of}
 use Rattle.rr_trace.specs.Tops.{name_of, ports_of}

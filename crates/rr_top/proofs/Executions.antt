@@ -32,6 +32,7 @@ use Rattle.rr_repair.proofs.Told.{ample_settles, each_answer, matching_stays, pr
 use Rattle.rr_make.specs.Makes.{TellsMake}
 use Rattle.rr_make.proofs.Once.{each_make}
 use Rattle.rr_top.specs.Outcomes.{Outcome, mended, unmendable, ran, listed, checked, made, IsToldBy, Tells, outcome_status, verdict_status}
+use Rattle.rr_top.specs.Kinds.{kind_of}
 use Rattle.rr_top.specs.Commands.{AnswersRun, AnswersSites, AnswersCheck, AsksRepair, BothGiven, Command, Due, HasOneOutcome, Refuses, WhereOne, WhereTwo, check_command, command_of_plan, repair_command, run_command, sites_command, request}
 use Rattle.rr_top.specs.Expected.{Expected, absent, refused, unparsed, done, IsChecked, IsPlaced, Judges}
 use Rattle.rr_top.specs.Endings.{CommandEnds}
@@ -70,7 +71,7 @@ abbrev GivenRepair : Option Held → List ℕ → List ℕ → PlainRequest → 
 GivenRepair told d t w answer = TwoGiven told (d, 1048576) (t, 16777216) (λ x y. AnswersRepair w x y answer)
 
 abbrev GivenRun : Option Held → List ℕ → List ℕ → Option (List ℕ) → Option (List ℕ) → Answer → Type 0
-GivenRun told d t top clock answer = TwoGiven told (d, 1048576) (t, 16777216) (λ x y. AnswersRun top clock x y answer)
+GivenRun told d t top clock answer = TwoGiven told (d, 1048576) (t, 16777216) (λ x y. AnswersRun (kind_of t) top clock x y answer)
 
 abbrev GivenSites : Option Held → List ℕ → Option (List ℕ) → Option (List ℕ) → Answer → Type 0
 GivenSites told d top clock answer = OneGiven told (d, 1048576) (λ x. AnswersSites top clock x answer)
@@ -83,7 +84,7 @@ module _ (told : Option Held) (answer : Answer) where
   repair_given d t w due = two_given told (d, 1048576) (t, 16777216) due.files (λ x y. AnswersRepair w x y answer) due.given due.answers
 
   run_given : (d t : List ℕ) (top clock : Option (List ℕ)) → Due (run_command d t top clock) told answer → GivenRun told d t top clock answer
-  run_given d t top clock due = two_given told (d, 1048576) (t, 16777216) due.files (λ x y. AnswersRun top clock x y answer) due.given due.answers
+  run_given d t top clock due = two_given told (d, 1048576) (t, 16777216) due.files (λ x y. AnswersRun (kind_of t) top clock x y answer) due.given due.answers
 
   sites_given : (d : List ℕ) (top clock : Option (List ℕ)) → Due (sites_command d top clock) told answer → GivenSites told d top clock answer
   sites_given d top clock due = one_given told (d, 1048576) due.files (λ x. AnswersSites top clock x answer) due.given due.answers
@@ -418,7 +419,7 @@ module _ (r : Execution) (answer : Answer) (shelf : HoldsFiles r answer) (out : 
 
   mends_due : (plan : Plan) → Due (command_of_plan plan) r.before.held answer → answer.status ≡ 0 → HasDone r plan
   mends_due (repair d t cert top clock budget members) due zero =
-      let w = request cert top clock budget members in
+      let w = request t cert top clock budget members in
       let two = repair_given r.before.held answer d t w due in
       inl (mends_told d t w two (told_in d t w two) zero)
   mends_due (run d t top clock) due zero = inr (inl (simulates_given d t top clock (run_given r.before.held answer d t top clock due)))
@@ -428,7 +429,7 @@ module _ (r : Execution) (answer : Answer) (shelf : HoldsFiles r answer) (out : 
 
   despairs_due : (plan : Plan) → Due (command_of_plan plan) r.before.held answer → answer.status ≡ 1 → HasFailed r plan
   despairs_due (repair d t cert top clock budget members) due one =
-      let w = request cert top clock budget members in
+      let w = request t cert top clock budget members in
       let two = repair_given r.before.held answer d t w due in
       inl (despairs_told d t w two (told_in d t w two) one)
   despairs_due (run d t top clock) due one = absurd (omega (arith, one, (run_given r.before.held answer d t top clock due).holds.status))
@@ -438,7 +439,7 @@ module _ (r : Execution) (answer : Answer) (shelf : HoldsFiles r answer) (out : 
 
   opens_due : (plan : Plan) → Due (command_of_plan plan) r.before.held answer → answer.status ≡ 2 → LeavesOpen r plan
   opens_due (repair d t cert top clock budget members) due left =
-      let w = request cert top clock budget members in
+      let w = request t cert top clock budget members in
       let two = repair_given r.before.held answer d t w due in
       inl (opens_told d t w two (told_in d t w two) left)
   opens_due (run d t top clock) due left = absurd (omega (arith, left, (run_given r.before.held answer d t top clock due).holds.status))
@@ -654,7 +655,7 @@ module _ (r : Execution) (design : List ℕ) (m : IsMatchingRepair r design) whe
   plan_in = repair m.design_name m.table_name m.cert m.top m.clock m.budget m.members
 
   abbrev request_in : PlainRequest
-  request_in = request m.cert m.top m.clock m.budget m.members
+  request_in = request m.table_name m.cert m.top m.clock m.budget m.members
 
   abbrev command_in : Command
   command_in = repair_command m.design_name m.table_name request_in
@@ -709,7 +710,7 @@ module _ (r : Execution) (m : IsAmpleRepair r) where
   ample_plan = repair m.design_name m.table_name m.cert m.top m.clock m.budget m.members
 
   abbrev ample_request : PlainRequest
-  ample_request = request m.cert m.top m.clock m.budget m.members
+  ample_request = request m.table_name m.cert m.top m.clock m.budget m.members
 
   abbrev ample_command : Command
   ample_command = repair_command m.design_name m.table_name ample_request

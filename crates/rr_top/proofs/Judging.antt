@@ -3,8 +3,9 @@ use Rattle.std.proofs.Common.{◌≡◌, ◌⊎◌, inl, inr, refl, ℕ, List, O
 use Rattle.rr_run.specs.declared.fault.Fault.{Fault}
 use Rattle.rr_run.specs.declared.fault.Fault.TheVariants as fault
 use Rattle.rr_run.specs.declared.fault.RunFault.{RunFault}
+use Rattle.rr_run.specs.declared.rows.TableKind.{TableKind}
 use Rattle.rr_run.specs.declared.fault.RunFault.TheVariants as run_fault
-use Rattle.rr_run.specs.Refusals.{Refusal as RunRefusal, At, TooMany, Expanded, NoHeader, UnknownColumn, ColumnTwice, MissingInput, RowLength, BadCell, CellTooLarge, NotUtf8, StopsWhere as RunStops}
+use Rattle.rr_run.specs.Refusals.{Refusal as RunRefusal, At, TooMany, Expanded, NoHeader, UnknownColumn, ColumnTwice, MissingInput, RowLength, BadCell, CellTooLarge, NotUtf8, BadVcd, NoScope, StopsWhere as RunStops}
 use Rattle.rr_run.specs.Files.{RefusesFile}
 use Rattle.rr_report.specs.Views.{stop_from, StopsWhere}
 use Rattle.rr_sites.specs.Lists.{RefusesSites}
@@ -59,10 +60,12 @@ placed_or_syntax (RowLength row) = inl (λ (offset, is). cc)
 placed_or_syntax (BadCell row column) = inl (λ (offset, is). cc)
 placed_or_syntax (CellTooLarge row column) = inl (λ (offset, is). cc)
 placed_or_syntax NotUtf8 = inl (λ (offset, is). cc)
+placed_or_syntax (BadVcd line) = inl (λ (offset, is). cc)
+placed_or_syntax NoScope = inl (λ (offset, is). cc)
 
 -- what the calls below refuse, the commands refuse
-module _ (top word : Option (List ℕ)) (design table : List ℕ) where
-  pub stops_run : (f : RunFault) → RunStops (RefusesFile design table top word) f → StopsWhere (RefusesTexts top word design table) (stop_from f)
+module _ (kind : TableKind) (top word : Option (List ℕ)) (design table : List ℕ) where
+  pub stops_run : (f : RunFault) → RunStops (RefusesFile kind design table top word) f → StopsWhere (RefusesTexts kind top word design table) (stop_from f)
   stops_run (run_fault.Refused r) h = h
   stops_run run_fault.Memory h = tt
 

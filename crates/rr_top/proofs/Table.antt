@@ -5,6 +5,7 @@ use Rattle.rr_syntax.specs.Tree.{SourceText}
 use Rattle.rr_lex.specs.Tokens.{Lexeme}
 use Rattle.rr_choice.specs.Sites.{Site}
 use Rattle.rr_trace.specs.Tables.{Table}
+use Rattle.rr_run.specs.declared.rows.TableKind.{TableKind}
 use Rattle.rr_run.specs.Files.{IsFileRun}
 use Rattle.rr_run.proofs.FileOnce.{file_run_or_refusal, one_file_refused, one_file_run}
 use Rattle.rr_sites.specs.Lists.{IsSiteText}
@@ -24,6 +25,7 @@ use Rattle.rr_made.specs.Made.{made_design, made_table}
 use Rattle.rr_make.specs.Makes.{RefusesMake, TellsMake, made_request}
 use Rattle.rr_make.proofs.Once.{each_make, one_summary, summary_or_none}
 use Rattle.rr_top.specs.Outcomes.{Outcome, mended, unmendable, ran, listed, checked, made, IsToldBy}
+use Rattle.rr_top.specs.Kinds.{kind_of}
 use Rattle.rr_top.specs.Commands.{AnswersCheck, AnswersRun, AnswersSites, ComesToCheck, ComesToMake, ComesToRepair, ComesToRun, ComesToSites, HasOneOutcome, IsSameRefusal, RefusesCertificate, RefusesSiteList, RefusesTexts, AsksRepair, IsOfRepair, TellsOrLeavesOpen, WhereOne, WhereTwo, WritesNothing, request, check_command, command_of_plan, repair_command, run_command, make_command, sites_command}
 
 -- what facts about the same two files give
@@ -145,20 +147,20 @@ module _ (d t : List ℕ) (w : PlainRequest) where
   }
 
 -- ---- `run`
-module _ (top clock : Option (List ℕ)) (design table : List ℕ) where
-  run_refusals : (a b : Refusal) → RefusesTexts top clock design table a → RefusesTexts top clock design table b → IsSameRefusal a b
+module _ (kind : TableKind) (top clock : Option (List ℕ)) (design table : List ℕ) where
+  run_refusals : (a b : Refusal) → RefusesTexts kind top clock design table a → RefusesTexts kind top clock design table b → IsSameRefusal a b
   run_refusals (TooManyBytes n) b p q = absurd p
   run_refusals (Flawed f n) b p q = absurd p
   run_refusals (Input r) (TooManyBytes n) p q = absurd q
   run_refusals (Input r) (Flawed f n) p q = absurd q
-  run_refusals (Input r) (Input s) p q = inr (r, (s, (refl, (refl, one_file_refused design top clock table r s p q))))
+  run_refusals (Input r) (Input s) p q = inr (r, (s, (refl, (refl, one_file_refused design top clock kind table r s p q))))
 
-  ran_or_refused : (text : List ℕ) (a : Refusal) → IsFileRun design table top clock text → RefusesTexts top clock design table a → ⊥
+  ran_or_refused : (text : List ℕ) (a : Refusal) → IsFileRun kind design table top clock text → RefusesTexts kind top clock design table a → ⊥
   ran_or_refused text (TooManyBytes n) p q = q
   ran_or_refused text (Flawed f n) p q = q
-  ran_or_refused text (Input r) p q = file_run_or_refusal design top clock table text r p q
+  ran_or_refused text (Input r) p q = file_run_or_refusal design top clock kind table text r p q
 
-  run_or_refused : (v : Outcome) (a : Refusal) → ComesToRun top clock design table v → RefusesTexts top clock design table a → ⊥
+  run_or_refused : (v : Outcome) (a : Refusal) → ComesToRun kind top clock design table v → RefusesTexts kind top clock design table a → ⊥
   run_or_refused mended a u r = u
   run_or_refused unmendable a u r = u
   run_or_refused (ran text) a u r = ran_or_refused text a u r
@@ -166,7 +168,7 @@ module _ (top clock : Option (List ℕ)) (design table : List ℕ) where
   run_or_refused (checked verdict) a u r = u
   run_or_refused (made text) a u r = u
 
-  run_outcome : (v w : Outcome) → ComesToRun top clock design table v → ComesToRun top clock design table w → v ≡ w
+  run_outcome : (v w : Outcome) → ComesToRun kind top clock design table v → ComesToRun kind top clock design table w → v ≡ w
   run_outcome mended w p q = absurd p
   run_outcome unmendable w p q = absurd p
   run_outcome (listed text) w p q = absurd p
@@ -177,18 +179,18 @@ module _ (top clock : Option (List ℕ)) (design table : List ℕ) where
   run_outcome (ran text) (listed other) p q = absurd q
   run_outcome (ran text) (checked verdict) p q = absurd q
   run_outcome (ran text) (made other) p q = absurd q
-  run_outcome (ran text) (ran other) p q = ap (λ (x : List ℕ). ran x) (one_file_run design top clock table text other p q)
+  run_outcome (ran text) (ran other) p q = ap (λ (x : List ℕ). ran x) (one_file_run design top clock kind table text other p q)
 
-  run_told : (answer : Answer) → AnswersRun top clock design table answer → SomeTold answer (ComesToRun top clock design table)
+  run_told : (answer : Answer) → AnswersRun kind top clock design table answer → SomeTold answer (ComesToRun kind top clock design table)
   run_told answer a = record { outcome = ran answer.out; holds = a.ran; told = record { status = a.status; tells = (refl, a.notes) } }
 
 module _ (d t : List ℕ) (top clock : Option (List ℕ)) where
   run_one : HasOneOutcome (run_command d t top clock)
   run_one = record {
-    one_refusal = λ files a b p q. both files (λ x y. RefusesTexts top clock x y a) (λ x y. RefusesTexts top clock x y b) p q (λ x y u v. run_refusals top clock x y a b u v);
-    done_or_refused = λ files v a p q. both files (λ x y. ComesToRun top clock x y v) (λ x y. RefusesTexts top clock x y a) p q (λ x y u r. run_or_refused top clock x y v a u r);
-    one_outcome = λ files v w p q. both files (λ x y. ComesToRun top clock x y v) (λ x y. ComesToRun top clock x y w) p q (λ x y u z. run_outcome top clock x y v w u z);
-    answered = λ files answer a. inl (each_two files answer (λ x y. AnswersRun top clock x y answer) (λ x y v. ComesToRun top clock x y v) a (λ x y u. run_told top clock x y answer u));
+    one_refusal = λ files a b p q. both files (λ x y. RefusesTexts (kind_of t) top clock x y a) (λ x y. RefusesTexts (kind_of t) top clock x y b) p q (λ x y u v. run_refusals (kind_of t) top clock x y a b u v);
+    done_or_refused = λ files v a p q. both files (λ x y. ComesToRun (kind_of t) top clock x y v) (λ x y. RefusesTexts (kind_of t) top clock x y a) p q (λ x y u r. run_or_refused (kind_of t) top clock x y v a u r);
+    one_outcome = λ files v w p q. both files (λ x y. ComesToRun (kind_of t) top clock x y v) (λ x y. ComesToRun (kind_of t) top clock x y w) p q (λ x y u z. run_outcome (kind_of t) top clock x y v w u z);
+    answered = λ files answer a. inl (each_two files answer (λ x y. AnswersRun (kind_of t) top clock x y answer) (λ x y v. ComesToRun (kind_of t) top clock x y v) a (λ x y u. run_told (kind_of t) top clock x y answer u));
     open_status = λ files answer left. absurd left;
     open_printed = λ files answer left. absurd left;
     open_or_refused = λ files answer refusal left refused. left;
@@ -196,7 +198,7 @@ module _ (d t : List ℕ) (top clock : Option (List ℕ)) where
   }
 
   run_writes : WritesNothing (run_command d t top clock)
-  run_writes = record { files = λ files answer a. of_two files (λ x y. AnswersRun top clock x y answer) a (λ x y u. u.files); decides = λ files answer left. left }
+  run_writes = record { files = λ files answer a. of_two files (λ x y. AnswersRun (kind_of t) top clock x y answer) a (λ x y u. u.files); decides = λ files answer left. left }
 
 -- ---- `sites`
 module _ (top clock : Option (List ℕ)) (design : List ℕ) where
@@ -367,7 +369,7 @@ module _ (seed : ℕ) (cert : List ℕ) where
 
 -- ---- the table
 pub one_in_table : (plan : Plan) → HasOneOutcome (command_of_plan plan)
-one_in_table (repair d t cert top clock budget members) = repair_one d t (request cert top clock budget members)
+one_in_table (repair d t cert top clock budget members) = repair_one d t (request t cert top clock budget members)
 one_in_table (run d t top clock) = run_one d t top clock
 one_in_table (sites d top clock) = sites_one d top clock
 one_in_table (check c p) = check_one c p

@@ -1,5 +1,5 @@
-use Rattle.std.proofs.Common.{◌≡◌, ◌≤◌, ◌∙◌, ap, sym, subst, refl, rules, arith, Err, length}
-use Rattle.rr_directive.specs.Expand.{Faults, bytes_of}
+use Rattle.std.proofs.Common.{◌≤◌, ◌∙◌, ap, arith, length}
+use Rattle.rr_directive.specs.Expand.{bytes_of}
 use Rattle.rr_directive.proofs.Outputs.{few_bytes}
 use Rattle.rr_directive.proofs.expansion.expand.Goals as goal
 

@@ -1,5 +1,4 @@
 use Rattle.std.proofs.Common.{◌∙◌, ◌++◌, [], sym, subst, refl, arith}
-use Rattle.std.proofs.lemmas.List.{append-nil}
 use Rattle.rr_directive.specs.Expand.{text_items}
 use Rattle.rr_directive.specs.View.{AreItems, names_of, unit_at}
 use Rattle.rr_directive.proofs.Units.{unit_here, units_end}

@@ -1,4 +1,4 @@
-use Rattle.std.proofs.Common.{sym, refl, arith, ◌≡◌, ◌∙◌, ◌∷◌, ap}
+use Rattle.std.proofs.Common.{◌≡◌, ◌∙◌, ◌∷◌, ap}
 use Rattle.rr_directive.specs.declared.definitions.Part.{Part}
 use Rattle.rr_directive.specs.declared.definitions.Part.TheVariants as part
 use Rattle.rr_directive.specs.View.{left_names}

@@ -1,4 +1,4 @@
-use Rattle.std.proofs.Common.{◌≡◌, ◌∙◌, sym, arith, false, true, None, Some, get_or, ℕ, List}
+use Rattle.std.proofs.Common.{◌≡◌, ◌∙◌, sym, arith, false, true, None, Some, get_or}
 use Rattle.rr_directive.specs.Expand.{text_of, is_expanding}
 use Rattle.rr_directive.specs.View.{left_names, undefined, within}
 use Rattle.rr_directive.proofs.Names.{no_text, some_text}

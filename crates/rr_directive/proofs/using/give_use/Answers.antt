@@ -1,6 +1,6 @@
-use Rattle.std.proofs.Common.{◌≡◌, ◌++◌, sym, subst, rules, arith, [], Err, length}
+use Rattle.std.proofs.Common.{◌≡◌, ◌++◌, sym, subst, rules, arith, [], Err}
 use Rattle.rr_directive.specs.Expand.{from_use}
-use Rattle.rr_directive.specs.View.{Left, left_names, Opens, UseAnswers}
+use Rattle.rr_directive.specs.View.{left_names, Opens, UseAnswers}
 use Rattle.rr_directive.proofs.Frames.{popped, no_frames, empty_frames}
 use Rattle.rr_directive.proofs.Running.{begun, first_fails, went, run_fails, run_ends}
 use Rattle.rr_directive.proofs.using.give_use.Goals as goal

@@ -6,11 +6,11 @@ pub returns-in-Repair : goal.returns-in-Repair
 returns-in-Repair g c =
     let gives = c.repair_files-answer.ensures c.in-Repair.design.now c.in-Repair.table.now in
     let plan = repair c.in-Repair.design.now c.in-Repair.table.now c.in-Repair.cert.now (texts_of c.in-Repair.top) (texts_of c.in-Repair.clock) c.in-Repair.budget c.in-Repair.members in
-    rw c.in-Repair.is (c.conclude.ensures plan (contents c.args.files.items) (rw c.in-Repair.is at c.requires.given) (rw c.deref.ensures.value at gives))
+    rw c.in-Repair.is (c.conclude.ensures plan (contents c.args.files.items) (rw c.in-Repair.is at c.requires.given) (rw (c.deref.ensures.value, c.kind_of.ensures) at gives))
 
 pub returns-in-Run : goal.returns-in-Run
 returns-in-Run g c =
-    let gives = c.simulate_files-answer.ensures c.in-Run.design.now c.in-Run.table.now in
+    let gives = c.simulate_files-answer.ensures c.in-Run.design.now in
     let plan = run c.in-Run.design.now c.in-Run.table.now (texts_of c.in-Run.top) (texts_of c.in-Run.clock) in
     rw c.in-Run.is (c.conclude-in-Run.ensures plan (contents c.args.files.items) (rw c.in-Run.is at c.requires.given) (rw c.deref-in-Run.ensures.value at gives))
 

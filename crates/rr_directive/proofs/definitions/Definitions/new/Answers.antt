@@ -1,4 +1,4 @@
-use Rattle.std.proofs.Common.{ap, map, List, ℕ}
+use Rattle.std.proofs.Common.{ap, map}
 use Rattle.rr_directive.proofs.Names.{nothing_known}
 use Rattle.rr_directive.proofs.definitions.Definitions.new.Goals as goal
 

@@ -1,4 +1,4 @@
-use Rattle.std.proofs.Common.{◌≡◌, ◌∙◌, ap, false, map, ℕ, List}
+use Rattle.std.proofs.Common.{◌≡◌, ◌∙◌, ap, false, map}
 use Rattle.std.specs.List.{list_any}
 use Rattle.std.specs.Str.{bytes_eq}
 use Rattle.rr_directive.specs.View.{names_of}

@@ -1,4 +1,4 @@
-use Rattle.std.proofs.Common.{arith, refl, rules, subst, sym, Err, ◌≡◌, ◌-◌, ◌<◌}
+use Rattle.std.proofs.Common.{arith, refl, rules, subst, sym, Err, ◌≡◌, ◌-◌}
 use Rattle.rr_directive.specs.View.{Overflows}
 use Rattle.rr_directive.proofs.Outputs.{own_none, own_more, overflow_more}
 use Rattle.rr_directive.proofs.output.Output.give_own.Goals as goal

@@ -1,5 +1,5 @@
 use Rattle.std.proofs.Common.{◌≡◌, ◌∙◌, ap, refl, sym, subst, arith, length}
-use Rattle.rr_directive.specs.Expand.{State, bad, shown, with_branches}
+use Rattle.rr_directive.specs.Expand.{bad, shown, with_branches}
 use Rattle.rr_directive.specs.View.{Blanks, plain_branches}
 use Rattle.rr_directive.proofs.Acts.{closed_none, closes, shown_answers}
 use Rattle.rr_directive.proofs.reading.Reader.close.Goals as goal

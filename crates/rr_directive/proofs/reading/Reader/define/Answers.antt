@@ -1,6 +1,6 @@
-use Rattle.std.proofs.Common.{◌≡◌, ◌∙◌, ◌&&◌, ap, sym, subst, not, true, false, is_some, Some, nat_lt}
+use Rattle.std.proofs.Common.{◌≡◌, ◌∙◌, ◌&&◌, ap, sym, subst, not, true, false, is_some, Some}
 use Rattle.rr_directive.specs.Pieces.{directive_of, has_name}
-use Rattle.rr_directive.specs.Expand.{bad, has_directive, is_fit, text_items, with_definition}
+use Rattle.rr_directive.specs.Expand.{bad, has_directive, text_items, with_definition}
 use Rattle.rr_directive.specs.View.{AreItems, names_of, unit_at}
 use Rattle.rr_directive.proofs.Acts.{act_define, fit, fit_define, is_on_by, off, unfit_define, unfit_name, unfit_text, silent, shown_answers}
 use Rattle.rr_directive.proofs.reading.Reader.define.Goals as goal

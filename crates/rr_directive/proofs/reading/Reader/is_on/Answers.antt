@@ -1,4 +1,4 @@
-use Rattle.std.proofs.Common.{◌≡◌, ◌∙◌, ◌<◌, ◌-◌, ap, arith, eq-eqb, get_or, length}
+use Rattle.std.proofs.Common.{◌≡◌, ◌∙◌, ◌-◌, ap, arith, eq-eqb, get_or, length}
 use Rattle.rr_directive.proofs.Acts.{on_none, on_last}
 use Rattle.rr_directive.proofs.reading.Reader.is_on.Goals as goal
 

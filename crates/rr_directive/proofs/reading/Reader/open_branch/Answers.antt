@@ -1,6 +1,6 @@
-use Rattle.std.proofs.Common.{◌≡◌, ◌∙◌, ◌∷◌, ◌&&◌, ap, sym, subst, true, false, not, if◌then◌else◌}
-use Rattle.rr_directive.specs.Expand.{bad, is_defined, opened, opening, shown, with_branches, is_on}
-use Rattle.rr_directive.specs.View.{Blanks, plain_branches, plain_piece, unit_at}
+use Rattle.std.proofs.Common.{◌≡◌, ◌∙◌, ◌∷◌, ◌&&◌, ap, sym, false, not, if◌then◌else◌}
+use Rattle.rr_directive.specs.Expand.{bad, is_defined, opened, shown, with_branches, is_on}
+use Rattle.rr_directive.specs.View.{plain_branches, unit_at}
 use Rattle.rr_directive.proofs.Acts.{branches_push, named_opening, no_name_opening, shown_answers}
 use Rattle.rr_directive.proofs.reading.Reader.open_branch.Goals as goal
 

@@ -1,6 +1,6 @@
-use Rattle.std.proofs.Common.{◌≡◌, ◌∙◌, ◌++◌, ap, refl, sym, subst, true, false, arith, List}
+use Rattle.std.proofs.Common.{◌∙◌, ◌++◌, refl, subst, true, false, arith, List}
 use Rattle.std.specs.Result.{OnOk}
-use Rattle.rr_directive.specs.Expand.{Event, Own, is_on}
+use Rattle.rr_directive.specs.Expand.{Event, Own}
 use Rattle.rr_directive.specs.View.{Shows, unit_at}
 use Rattle.rr_directive.proofs.Acts.{is_on_by, off, on, own_answers, silent, unit_length}
 use Rattle.rr_directive.proofs.reading.Reader.own.Goals as goal

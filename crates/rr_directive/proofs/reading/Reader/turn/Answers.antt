@@ -1,5 +1,5 @@
 use Rattle.std.proofs.Common.{◌≡◌, ◌∙◌, ◌∷◌, ap, sym, subst, arith, length}
-use Rattle.rr_directive.specs.Expand.{State, bad, shown, turned, with_branches}
+use Rattle.rr_directive.specs.Expand.{bad, shown, turned, with_branches}
 use Rattle.rr_directive.specs.View.{Blanks, plain_branch, plain_branches}
 use Rattle.rr_directive.proofs.Acts.{branches_push, turned_none, turned_last, turns, shown_answers}
 use Rattle.rr_directive.proofs.reading.Reader.turn.Goals as goal

@@ -1,4 +1,4 @@
-use Rattle.std.proofs.Common.{◌≡◌, ◌∙◌, ap, sym, true, false, None}
+use Rattle.std.proofs.Common.{◌∙◌, sym, true, false, None}
 use Rattle.rr_directive.specs.Expand.{bad, with_definition}
 use Rattle.rr_directive.specs.View.{unit_at}
 use Rattle.rr_directive.proofs.Acts.{act_undef, is_on_by, off, no_name_undef, named_undef, silent, shown_answers}
