@@ -312,7 +312,7 @@ module _ (r : Execution) (answer : Answer) (shelf : HoldsFiles r answer) (out : 
     despairs_told (inr (inr told)) one = absurd (omega (arith, told.1, one))
 
     -- what a repair prints that is left open
-    module _ {bound count : ℕ} where
+    module _ (bound count : ℕ) where
       nothing_put : bound ≡ count → ((bound ≡ count) × (answer.out ≡ [])) ⊎ ((bound < count) × IsMatchingSource w two.first two.second (bound + 1) answer.out) → Appends r.before.out r.after.out []
       nothing_put all (inl n) = rw n.1 at out
       nothing_put all (inr f) = absurd (omega (arith, all, f.0))
@@ -332,8 +332,8 @@ module _ (r : Execution) (answer : Answer) (shelf : HoldsFiles r answer) (out : 
       answer = answer;
       left = told.0;
       printed = out;
-      nothing = λ all. nothing_put all (prints_found w two.first two.second answer told.0);
-      found = λ below. found_put below (prints_found w two.first two.second answer told.0);
+      unchanged = λ all. nothing_put told.0.is.bound (length told.0.sites) all (prints_found w two.first two.second answer told.0);
+      matching = λ below. found_put told.0.is.bound (length told.0.sites) below (prints_found w two.first two.second answer told.0);
       reported = notes;
       shelf = shelf;
     }

@@ -107,8 +107,8 @@ pub record IsUnsettled (r : Execution) (design_name table_name : List ℕ) (w : 
   pub answer : Answer
   pub left : IsLeftOpen w design table answer
   pub printed : Appends r.before.out r.after.out answer.out
-  pub nothing : left.is.bound ≡ length left.sites → Appends r.before.out r.after.out []
-  pub found : left.is.bound < length left.sites → IsMatchingSource w design table (left.is.bound + 1) answer.out
+  pub unchanged : left.is.bound ≡ length left.sites → Appends r.before.out r.after.out []
+  pub matching : left.is.bound < length left.sites → IsMatchingSource w design table (left.is.bound + 1) answer.out
   pub reported : Appends r.notes_before r.notes_after answer.notes
   pub shelf : HoldsFiles r answer
 
