@@ -4,7 +4,7 @@ import re
 NUMBER = r"(0|[1-9]\d*)"
 NAMES = ("BadByte BadNumber OpenComment Directive Unsupported Syntax NoTop UnknownModule SelfInstance NameTwice UnknownName BadRange NotConstant PortMismatch TooWide TooMany TwoDrivers WrongAssign Race "
          "Latch Loop ClockUse TwoClocks BadTarget WildLabel NoHeader UnknownColumn ColumnTwice MissingInput RowLength BadCell CellTooLarge NotUtf8 BadCircuit BadProof RatLine").split()
-NUMBERED = {**dict(enumerate(NAMES, 1)), 38: "UnknownMacro", 39: "BadDirective", 40: "MacroLoop"}
+NUMBERED = {**dict(enumerate(NAMES, 1)), 38: "UnknownMacro", 39: "BadDirective", 40: "MacroLoop", 41: "BadVcd", 42: "NoScope"}
 LIMITS = "bytes rows sites instances depth flatbits work expanded".split()
 
 
@@ -26,7 +26,7 @@ def place(number):
         return f" row {NUMBER}"
     if number in (31, 32):
         return f" row {NUMBER} column {NUMBER}"
-    return "" if number == 33 else f" line {NUMBER}"
+    return "" if number in (33, 42) else f" line {NUMBER}"
 
 
 GUARD = r"(!\(E\)|\(E\) (&&|\|\|) !?[!-~]+)"
@@ -36,13 +36,14 @@ CHANGE = rf"site {NUMBER} (literal {NUMBER} {LITERAL}|guard {NUMBER} {GUARD}|ove
 FORMS = {
     0: rf"|unchanged\n|repaired {NUMBER}\n({CHANGE})+proposals {NUMBER}\n",
     1: rf"|no repair\nsites {NUMBER}\n",
-    2: rf"budget spent {NUMBER} bound {NUMBER}\n",
+    2: rf"budget spent {NUMBER} bound {NUMBER}\n(found {NUMBER}\n({CHANGE})+)?",
     3: "|".join(rf"refused {number} {name}{place(number)}\n" for number, name in NUMBERED.items()),
     4: r"|(absent [^\n]+|fault (read|write) [^\n]+|fault out)\n",
     5: r"out of memory\n",
     6: r"usage: rtl_repair repair DESIGN TABLE CERT, run DESIGN TABLE, sites DESIGN, check CIRCUIT PROOF, make SEED CERT\n",
 }
 FORMS = {status: re.compile(form) for status, form in FORMS.items()}
+FOUND = re.compile(rb"budget spent \d+ bound (\d+)\n(?:found (\d+)\n)?")
 
 
 def fault_of(status, out, notes):
@@ -51,6 +52,12 @@ def fault_of(status, out, notes):
         return f"status {status} with {notes[-200:]!r}"
     if not FORMS[status].fullmatch(notes.decode("utf-8", "replace")):
         return f"standard error {notes[:200]!r} at status {status}"
-    if status in (2, 3, 5, 6) and out:
+    if status in (3, 5, 6) and out:
         return f"output at status {status}"
+    if status == 2:
+        bound, found = FOUND.match(notes).groups()
+        if found and (int(found) != int(bound) + 1 or notes.count(b"\nsite ") != int(found)):
+            return f"standard error {notes[:200]!r} at status 2"
+        if out and not found:
+            return "output at status 2, and nothing found"
     return None

@@ -7,7 +7,7 @@ PROGRAM is crates/rtl_repair/out/rtl_repair where it is not given, COUNT 1,000 i
 and a proof: those of examples/ and of their repairs with bytes or tokens changed, left out, doubled or exchanged, or a random design of the profile
 with a table of its own run in which some cells are changed. Looked for are: an end by a signal, more than LONGEST seconds of processor time, a status
 outside of 0 to 6, a text on standard error that is none of the documented forms, something on standard output where the status
-is 2, 3, 5 or 6, a repair of status 0 whose source `run` does not confirm on the table, a certificate of status 0 or 1 that `check` and tools/verdicts.py do not
+is 3, 5 or 6, or 2 and nothing was found, a repair of status 0 or 2 whose source `run` does not confirm on the table, a certificate of status 0 or 1 that `check` and tools/verdicts.py do not
 accept or of status 2 that they refuse, a verdict of `check` that is another than that of tools/verdicts.py, and one of `accepted` on a circuit whose outputs some input makes true.
 Each finding is printed and kept in a folder; the last lines count, and the status is 0 where there is none.
 """
@@ -190,7 +190,9 @@ def judge_repair(folder):
         due = (1, b"no empty clause\n", b"") if status == 2 else (0, b"accepted\n", b"")
         if fault or ended != due:
             return fault or f"check: {ended} at status {status}", status
-    if status == 0:
+    if status == 2 and (b"\nfound " in notes) != bool(out):
+        return "a source and no `found`, or `found` and no source", status
+    if status == 0 or out:
         if not names and out != read(folder, "d.v"):
             return "another source, unchanged", status
         with open(f"{folder}/r.v", "wb") as file:

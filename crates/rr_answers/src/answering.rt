@@ -16,7 +16,7 @@ ghost use Rattle.rr_respell.specs.Printing.{printed};
 ghost use Rattle.rr_tseitin.specs.Tseitin.{formula_of as tseitin};
 ghost use Rattle.rr_changes.specs.Texts.{report as report_of};
 ghost use Rattle.rr_answers.specs.Certified.{certificate as certificate_of};
-ghost use Rattle.rr_answers.specs.Texts.{beyond_text, open_text, unchanged_text};
+ghost use Rattle.rr_answers.specs.Texts.{beyond_text, unchanged_text};
 
 use crate::certifying::certificate;
 use rr_changes::report;
@@ -101,30 +101,6 @@ pub fn beyond<'b>(
     let notes = format!(in alloc; "no repair\nsites {sites}\n")?;
     Ok(Found {
         status: 1,
-        files,
-        out: Piece::Nothing,
-        notes: Text::Made(notes),
-    })
-}
-
-/// The answer that a question was left open, with its formula and what was learned.
-pub fn left_open<'b>(
-    alloc: Global,
-    budget: u32,
-    bound: u32,
-    cert: &str,
-    circuit: &Circuit,
-    journal: &Journal,
-) -> Result<Found<'b>, AllocError>
-    ensures files { IfOk result (λ found. (plain_answer found).files ≡ certificate_of cert.now circuit.now journal.now) }
-    ensures printed { IfOk result (λ found. (plain_answer found).out ≡ []) }
-    ensures notes { IfOk result (λ found. (plain_answer found).notes ≡ open_text budget bound) }
-    ensures status { IfOk result (λ found. (plain_answer found).status ≡ 2) }
-{
-    let files = certificate(alloc, cert, circuit, journal)?;
-    let notes = format!(in alloc; "budget spent {budget} bound {bound}\n")?;
-    Ok(Found {
-        status: 2,
         files,
         out: Piece::Nothing,
         notes: Text::Made(notes),

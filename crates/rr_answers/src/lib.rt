@@ -6,5 +6,7 @@
 
 mod answering;
 mod certifying;
+mod leaving;
 
-pub use answering::{beyond, left_open, repaired, unchanged};
+pub use answering::{beyond, repaired, unchanged};
+pub use leaving::{found_open, left_open};

@@ -1,5 +1,6 @@
 -- The report of a repair, each line ended by LF: the number of changes, then for each site that changes its number from 0,
--- its kind, the byte of its first token and what it becomes, and then the number of proposals that were tested.
+-- its kind, the byte of its first token and what it becomes, and then the number of proposals that were tested. The lines of
+-- the sites stand in other reports too.
 use Rattle.std.specs.Prelude.{ℕ, ◌+◌, ◌/◌, ◌%◌, ◌^◌, ◌==◌, Bool, false, if◌then◌else◌, List, [], ◌∷◌, ◌++◌, get_or, codes, decimal}
 use Rattle.rr_syntax.specs.Words.{Marked}
 use Rattle.rr_lex.specs.Numbers.{hex_text}
@@ -48,7 +49,7 @@ abbrev pub site_line : List Lexeme → ℕ → Site → Pick → List ℕ
 site_line ts number s p =
     codes "site " ++ (decimal number ++ (codes " " ++ (kind_text s.kind ++ (codes " " ++ (decimal (byte_of ts s.token) ++ (codes " " ++ (change_text s.kind p ++ codes "\n")))))))
 
--- a line for each site that is switched on, in the order of the sites
+-- a line for each site that is switched on, in the order of the sites, of which the first has this number
 unfoldable pub site_lines : List Lexeme → ℕ → List Site → List Pick → List ℕ
 site_lines ts number [] ps = []
 site_lines ts number (s ∷ ss) [] = []

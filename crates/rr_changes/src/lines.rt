@@ -67,8 +67,10 @@ fn push_if_on(
     Ok(())
 }
 
-/// Writes the lines of the sites that a choice switches on.
-fn push_lines(
+/// Writes the lines of the sites that the picks of a choice switch on, each ended by LF, in the order of
+/// the sites: the number of the site from 0, its kind, the byte of its first token and what it becomes.
+/// The error is want of memory.
+pub fn push_site_lines(
     alloc: Global,
     out: &mut String,
     tokens: &[Token<'_>],
@@ -85,7 +87,8 @@ fn push_lines(
     Ok(())
 }
 
-/// The report on a choice of a list of sites, whose first tokens are some of these: the number of changes, a line for each of them, and the number of proposals that were tested before. The error is
+/// The report on a choice of a list of sites, whose first tokens are some of these: the number of
+/// changes, a line for each of them, and the number of proposals that were tested before. The error is
 /// want of memory.
 pub fn report(
     alloc: Global,
@@ -99,7 +102,7 @@ pub fn report(
 {
     let changes = cost(choice);
     let mut out = format!(in alloc; "repaired {changes}\n")?;
-    push_lines(alloc, &mut out, tokens, list, choice.picks.as_slice())?;
+    push_site_lines(alloc, &mut out, tokens, list, choice.picks.as_slice())?;
     let tail = format!(in alloc; "proposals {proposals}\n")?;
     out.push_str(tail.as_str())?;
     Ok(out)

@@ -1,5 +1,8 @@
-//! Tests of the search for a least repair on made inputs, without proposals. It has tests alone.
+//! Tests of the search for a least repair: on made inputs, without proposals, and with a budget of one line, from
+//! proposals. It has tests alone.
 #![tactic(auto)]
 
+#[cfg(test)]
+mod found;
 #[cfg(test)]
 mod made;

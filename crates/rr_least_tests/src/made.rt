@@ -21,7 +21,7 @@ use std::test::Fail;
 use std::thread::Threads;
 
 /// The transition of a design with few registers, inputs and choice bits.
-fn transition_of(
+pub(crate) fn transition_of(
     alloc: Global,
     design: &LawfulDesign<'_>,
     list: &SiteList<'_>,

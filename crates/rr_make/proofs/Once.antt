@@ -54,4 +54,4 @@ never_made seed cert answer u = record { tokens = u.tokens; source = u.source; s
 pub each_make : EachMake
 each_make seed cert answer (inl m) = inl (m, ((m.changes, (m.printed, m.least)), m.status))
 each_make seed cert answer (inr (inl u)) = inr (inl (u, (never_made seed cert answer u, u.is.status)))
-each_make seed cert answer (inr (inr o)) = inr (inr (o, o.is.status))
+each_make seed cert answer (inr (inr o)) = inr (inr (o, o.status))

@@ -4,7 +4,7 @@ use Rattle.rr_made.specs.Made.{made_design, made_table}
 use Rattle.rr_report.specs.Found.{Answer, File}
 use Rattle.rr_repair.specs.Repairs.{CountsRepair}
 use Rattle.rr_repair.specs.Laws.{TellsOutcome}
-use Rattle.rr_repair.specs.Outcomes.{IsDespaired, IsLeftOpen}
+use Rattle.rr_repair.specs.Outcomes.{IsDespaired}
 use Rattle.rr_repair.proofs.Told.{each_answer}
 use Rattle.rr_make.specs.Makes.{AnswersMake, made_request, summary}
 
@@ -38,7 +38,7 @@ module _ (seed : ℕ) (cert : List ℕ) (repair : Answer) (changes : ℕ) (c : C
   other_of answer s f o n some (inr (inl t)) =
       inr (inl (subst (λ (a : Answer). IsDespaired (made_request cert) (made_design seed) (made_table seed) a) (sym (same_answer answer repair s f (o ∙ sym t.0.is.printed) n)) t.0))
   other_of answer s f o n some (inr (inr t)) =
-      inr (inr (subst (λ (a : Answer). IsLeftOpen (made_request cert) (made_design seed) (made_table seed) a) (sym (same_answer answer repair s f (o ∙ sym t.0.is.printed) n)) t.0))
+      inr (inr (record { repair = repair; left = t.0; files = f; printed = o; notes = n; status = s ∙ t.1 }))
 
   pub other_told : (answer : Answer) → answer.status ≡ repair.status → answer.files ≡ repair.files → answer.out ≡ [] → answer.notes ≡ repair.notes → (repair.status ≡ 0 → ⊥)
       → AnswersMake seed cert answer

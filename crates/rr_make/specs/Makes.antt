@@ -41,12 +41,18 @@ pub record IsMade (seed : ℕ) (cert : List ℕ) (answer : Answer) : Type 0 wher
   pub notes : answer.notes ≡ []
   pub status : answer.status ≡ 0
 
--- it is a repair's that tells that no changes match, or one's that leaves this open
+-- it is a repair's that tells that no changes match
 abbrev pub IsUnmade : ℕ → List ℕ → Answer → Type 0
 IsUnmade seed cert answer = IsDespaired (made_request cert) (made_design seed) (made_table seed) answer
 
-abbrev pub IsMadeOpen : ℕ → List ℕ → Answer → Type 0
-IsMadeOpen seed cert answer = IsLeftOpen (made_request cert) (made_design seed) (made_table seed) answer
+-- it prints nothing, and its report and its files are those of a repair that leaves open whether so many changes match
+pub record IsMadeOpen (seed : ℕ) (cert : List ℕ) (answer : Answer) : Type 0 where
+  pub repair : Answer
+  pub left : IsLeftOpen (made_request cert) (made_design seed) (made_table seed) repair
+  pub files : answer.files ≡ repair.files
+  pub printed : answer.out ≡ []
+  pub notes : answer.notes ≡ repair.notes
+  pub status : answer.status ≡ 2
 
 abbrev pub AnswersMake : ℕ → List ℕ → Answer → Type 0
 AnswersMake seed cert answer = IsMade seed cert answer ⊎ (IsUnmade seed cert answer ⊎ IsMadeOpen seed cert answer)

@@ -27,7 +27,7 @@ fn summary(alloc: Global, seed: u64, changes: u32) -> Result<String, AllocError>
 }
 
 /// What is done for a repair: its files, and, where its status is 0, the summary in place of what it
-/// prints and reports.
+/// prints and reports; else what it reports, and nothing is printed.
 fn summed<'b>(
     alloc: Global,
     seed: u64,
@@ -96,8 +96,9 @@ fn repaired<'b, 'a, R: Threads + Sync>(
 
 /// Makes the input of a seed and repairs it, with 4 members and 20,000 lines each for one question. The
 /// files of the repair, whose names begin with `cert`, are to be written; where its status is 0, the
-/// summary is to be printed in place of the source, and nothing to be reported; else what it reports. No
-/// file is read. Names in a refusal live in the arena.
+/// summary is to be printed in place of the source, and nothing to be reported; else nothing is to be
+/// printed, and what the repair reports is to be reported. No file is read. Names in a refusal live in the
+/// arena.
 pub fn make<'b, 'a, R: Threads + Sync>(
     rt: &R,
     alloc: Global,

@@ -1,5 +1,5 @@
 -- What the search answered, as what is to be done.
-use Rattle.std.proofs.Common.{◌≡◌, inl, inr, ℕ, suc, ◌+◌, ◌-◌, ◌<◌, ◌≤◌, min, List, [], ◌∷◌, length, refl, sym, ◌∙◌, ap, subst, arith, Bool, Option, Ok}
+use Rattle.std.proofs.Common.{◌≡◌, ◌⊎◌, inl, inr, ℕ, suc, ◌+◌, ◌-◌, ◌<◌, ◌≤◌, min, List, [], ◌∷◌, length, refl, sym, ◌∙◌, ap, subst, arith, Bool, Option, Some, None}
 use Rattle.std.specs.List.{sum}
 use Rattle.std.proofs.lemmas.List.{length-map}
 use Rattle.rr_syntax.specs.Tree.{SourceText}
@@ -23,6 +23,7 @@ use Rattle.rr_run.specs.Refusals.{TooMany, StopsWhere as RunStops}
 use Rattle.rr_run.specs.Rows.{ReadsTable, RefusesTable}
 use Rattle.rr_run.specs.declared.rows.TableKind.{TableKind}
 use Rattle.rr_run.specs.declared.rows.TableKind.TheVariants as kind
+use Rattle.rr_choice.specs.declared.pick.Choice.{Choice}
 use Rattle.rr_choice.specs.declared.pick.Pick.{Pick}
 use Rattle.rr_choice.specs.Choices.{total_bits, IsChoice}
 use Rattle.rr_instance.specs.Instances.{instance_source}
@@ -51,10 +52,11 @@ use Rattle.rr_search.specs.declared.answer.Answer.TheVariants as found
 use Rattle.rr_search.specs.Answers as search
 use Rattle.rr_search.specs.Answers.{Task, IsOf}
 use Rattle.rr_search.specs.Least.{Least}
+use Rattle.rr_members.specs.Searched.{IsSpent}
 use Rattle.rr_unroll.specs.Faithful.{Faithful}
 use Rattle.rr_answers.specs.Certified.{certificate}
-use Rattle.rr_answers.specs.Texts.{beyond_text}
-use Rattle.rr_repair.specs.Repairs.{PlainRequest, AnswersRepair, CountsRepair, IsAnswer, IsCounted, IsSited, Refuses, RefusesRepair, design_of, work_of}
+use Rattle.rr_answers.specs.Texts.{beyond_text, found_text, open_text}
+use Rattle.rr_repair.specs.Repairs.{PlainRequest, AnswersRepair, CountsRepair, IsAnswer, IsCounted, IsFound, IsNothingFound, IsOpen, IsSited, Refuses, RefusesRepair, design_of, work_of}
 use Rattle.rr_repair.specs.Views.{answer_status, changes_of}
 
 pub choice_length : (ss : List Site) (ps : List Pick) → IsChoice ss ps → length ps ≡ length ss
@@ -106,6 +108,42 @@ module _ (w : PlainRequest) (design : List ℕ) (tokens : List Lexeme) (source :
     status = status;
   })))
 
+-- a question that is left open, by the members and the lines that were asked for
+module _ (w : PlainRequest) (design : List ℕ) (tokens : List Lexeme) (source : SourceText) (t : Task) (answer : Answer) (members : t.members ≡ w.members) (budget : t.budget ≡ w.budget)
+    (bound : ℕ) (circuit : OutputNetlist) (p : Proof) (files : answer.files ≡ certificate w.cert circuit p) (status : answer.status ≡ 2) where
+  left_told : (choice : Option Choice) → search.IsLeftOpen (design_of w source) t bound circuit p.lines choice → IsNothingFound w t.sites bound answer ⊎ IsFound w design tokens source t.sites t.table bound answer
+      → IsOpen w design tokens source t.sites t.table answer
+  left_told choice l found = record {
+    faulty = l.faulty;
+    bound = bound;
+    few = l.few;
+    circuit = circuit;
+    proof = p;
+    faithful = l.faithful;
+    spent =
+        subst (λ (n : ℕ). IsSpent (formula_of circuit) circuit.netlist.inputs w.members n p.lines) budget
+        (subst (λ (n : ℕ). IsSpent (formula_of circuit) circuit.netlist.inputs n t.budget p.lines) members l.spent);
+    files = files;
+    found = found;
+    status = status;
+  }
+
+  pub nothing_told : search.IsLeftOpen (design_of w source) t bound circuit p.lines None → answer.out ≡ [] → answer.notes ≡ open_text w.budget bound → IsOpen w design tokens source t.sites t.table answer
+  nothing_told l out notes = left_told None l (inl (record { all = l.found; printed = out; notes = notes }))
+
+  pub found_told : (c : Choice) → search.IsLeftOpen (design_of w source) t bound circuit p.lines (Some c) → answer.out ≡ printed design tokens t.sites c.picks.items source
+      → IsTree answer.out (instance_source t.sites c.picks.items source) → answer.notes ≡ found_text w.budget bound tokens t.sites c.picks.items → IsOpen w design tokens source t.sites t.table answer
+  found_told c l out tree notes = left_told (Some c) l (inr (record {
+    below = l.found.below;
+    choice = c.picks.items;
+    chosen = l.found.choice;
+    costs = l.found.costs;
+    matches = l.found.mends;
+    printed = out;
+    tree = tree;
+    notes = notes;
+  }))
+
 -- the number of changes
 module _ (w : PlainRequest) (design : List ℕ) (tokens : List Lexeme) (source : SourceText) (t : Task) (told : Answer) where
   pub counted_told : (answer : SearchAnswer) → search.AnswerIs t (design_of w source) answer → IsAnswer w design tokens source t.sites t.table told → told.status ≡ answer_status answer
@@ -113,7 +151,7 @@ module _ (w : PlainRequest) (design : List ℕ) (tokens : List Lexeme) (source :
   counted_told found.Unchanged r is e = record { is = is; least = λ zero. r.least }
   counted_told (found.Repair choice k circuit journal) r is e = record { is = is; least = λ zero. r.least }
   counted_told (found.NoRepair circuit journal) r is e = record { is = is; least = λ zero. absurd (omega (arith, e, zero)) }
-  counted_told (found.Spent bound circuit journal) r is e = record { is = is; least = λ zero. absurd (omega (arith, e, zero)) }
+  counted_told (found.Spent bound circuit journal choice) r is e = record { is = is; least = λ zero. absurd (omega (arith, e, zero)) }
 
 pub plain_count : (sites : List ArenaSite) (ss : List Site) → plain_sites sites ≡ ss → length ss ≡ length sites
 plain_count sites ss e = sym (ap (λ (x : List Site). length x) e) ∙ length-map sites plain_site

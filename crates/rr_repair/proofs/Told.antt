@@ -1,5 +1,5 @@
 -- What an answer tells.
-use Rattle.std.proofs.Common.{◌≡◌, inl, inr, ℕ, ◌*◌, ◌^◌, ◌<◌, ◌≤◌, List, subst, arith}
+use Rattle.std.proofs.Common.{◌≡◌, ◌⊎◌, inl, inr, ℕ, ◌+◌, ◌*◌, ◌^◌, ◌<◌, ◌≤◌, List, [], length, subst, arith}
 use Rattle.rr_syntax.specs.Tree.{SourceText}
 use Rattle.rr_lex.specs.Tokens.{Lexeme}
 use Rattle.rr_choice.specs.Choices.{total_bits}
@@ -7,9 +7,9 @@ use Rattle.rr_choice.specs.Sites.{Site}
 use Rattle.rr_trace.specs.Tables.{Table}
 use Rattle.rr_unroll.specs.Matches.{Matches}
 use Rattle.rr_report.specs.Found.{Answer}
-use Rattle.rr_repair.specs.Repairs.{IsAnswer, IsBeyond, IsOpen, IsRepaired, IsTaken, IsUnchanged, PlainRequest, design_of}
-use Rattle.rr_repair.specs.Outcomes.{IsAsItWas}
-use Rattle.rr_repair.specs.Laws.{AmpleSettles, EachAnswer, MatchingStays, TellsOutcome}
+use Rattle.rr_repair.specs.Repairs.{IsAnswer, IsBeyond, IsFound, IsNothingFound, IsOpen, IsRepaired, IsTaken, IsUnchanged, PlainRequest, design_of}
+use Rattle.rr_repair.specs.Outcomes.{IsAsItWas, IsMatchingSource}
+use Rattle.rr_repair.specs.Laws.{AmpleSettles, EachAnswer, MatchingStays, PrintedIsMendable, PrintsFound, TellsOutcome}
 use Rattle.rr_repair.proofs.Once.{matching_mends, moved_matches, one_taking}
 
 module _ (w : PlainRequest) (design table : List ℕ) (answer : Answer) (ts : List Lexeme) (a : SourceText) (ss : List Site) (x : Table) (taken : IsTaken w design table ts a ss x) where
@@ -31,7 +31,7 @@ module _ (w : PlainRequest) (design table : List ℕ) (answer : Answer) (ts : Li
     (record { tokens = ts; source = a; sites = ss; rows = x; taken = taken; none = b.none }, b.status),
   ))
 
-  of_open : IsOpen w a ss x answer → TellsOutcome w design table answer
+  of_open : IsOpen w design ts a ss x answer → TellsOutcome w design table answer
   of_open o = inr (inr (record { tokens = ts; source = a; sites = ss; rows = x; taken = taken; is = o }, o.status))
 
   of_answer : IsAnswer w design ts a ss x answer → TellsOutcome w design table answer
@@ -39,6 +39,27 @@ module _ (w : PlainRequest) (design table : List ℕ) (answer : Answer) (ts : Li
   of_answer (inr (inl r)) = of_repaired r
   of_answer (inr (inr (inl b))) = of_beyond b
   of_answer (inr (inr (inr o))) = of_open o
+
+  -- what was found is printed, and matches
+  of_found : (bound : ℕ) → IsNothingFound w ss bound answer ⊎ IsFound w design ts a ss x bound answer →
+      ((bound ≡ length ss) × (answer.out ≡ [])) ⊎ ((bound < length ss) × IsMatchingSource w design table (bound + 1) answer.out)
+  of_found bound (inl n) = inl (n.all, n.printed)
+  of_found bound (inr f) = inr (
+    f.below,
+    record {
+      tokens = ts;
+      source = a;
+      sites = ss;
+      rows = x;
+      taken = taken;
+      choice = f.choice;
+      chosen = f.chosen;
+      costs = f.costs;
+      matches = f.matches;
+      printed = f.printed;
+      tree = f.tree;
+    },
+  )
 
   -- no other answer has a design that matches
   stays : Matches (design_of w a) x → IsAnswer w design ts a ss x answer → IsAsItWas design answer
@@ -58,6 +79,15 @@ module _ (w : PlainRequest) (design table : List ℕ) (answer : Answer) (ts : Li
 
 pub each_answer : EachAnswer
 each_answer w design table answer a = of_answer w design table answer a.tokens a.source a.sites a.rows a.taken a.is
+
+pub prints_found : PrintsFound
+prints_found w design table answer o = of_found w design table answer o.tokens o.source o.sites o.rows o.taken o.is.bound o.is.found
+
+pub printed_is_mendable : PrintedIsMendable
+printed_is_mendable w design table answer o = elim (prints_found w design table answer o) [
+  | inl n ↦ inl n.1
+  | inr f ↦ inr (record { tokens = f.1.tokens; source = f.1.source; sites = f.1.sites; rows = f.1.rows; taken = f.1.taken; choice = f.1.choice; chosen = f.1.chosen; matches = f.1.matches })
+]
 
 pub matching_stays : MatchingStays
 matching_stays w design table answer m a =

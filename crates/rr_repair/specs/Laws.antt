@@ -1,5 +1,5 @@
 -- Laws of repairs: two files come to one outcome or have one refusal, and each answer tells that outcome or leaves it open.
-use Rattle.std.specs.Prelude.{◌≡◌, ◌⊎◌, ℕ, List}
+use Rattle.std.specs.Prelude.{◌≡◌, ◌⊎◌, ℕ, ◌+◌, ◌<◌, List, [], length}
 use Rattle.rr_syntax.specs.Tree.{SourceText}
 use Rattle.rr_lex.specs.Tokens.{Lexeme}
 use Rattle.rr_choice.specs.Sites.{Site}
@@ -8,7 +8,7 @@ use Rattle.rr_run.specs.Refusals.{Refusal as RunRefusal}
 use Rattle.rr_run.specs.Runs.{IsSameRefusal}
 use Rattle.rr_report.specs.Found.{Answer}
 use Rattle.rr_repair.specs.Repairs.{AnswersRepair, IsTaken, Refuses, PlainRequest}
-use Rattle.rr_repair.specs.Outcomes.{IsAmple, IsAsItWas, IsDespaired, IsLeftOpen, IsMatching, IsMendable, IsMended, IsUnmendable}
+use Rattle.rr_repair.specs.Outcomes.{IsAmple, IsAsItWas, IsDespaired, IsLeftOpen, IsMatching, IsMatchingSource, IsMendable, IsMended, IsUnmendable}
 
 -- two ways to take the files are one
 pub record IsOneTaking (ts us : List Lexeme) (a b : SourceText) (ss rs : List Site) (x y : Table) : Type 0 where
@@ -44,6 +44,16 @@ TellsOutcome w design table answer = (IsMended w design table answer × (IsMenda
 
 abbrev pub EachAnswer : Type 0
 EachAnswer = (w : PlainRequest) (design table : List ℕ) (answer : Answer) → AnswersRepair w design table answer → TellsOutcome w design table answer
+
+-- an answer that leaves changes of all sites open prints nothing; one that leaves fewer open prints the source with one change
+-- more, which match
+abbrev pub PrintsFound : Type 0
+PrintsFound = (w : PlainRequest) (design table : List ℕ) (answer : Answer) (left : IsLeftOpen w design table answer) →
+    ((left.is.bound ≡ length left.sites) × (answer.out ≡ [])) ⊎ ((left.is.bound < length left.sites) × IsMatchingSource w design table (left.is.bound + 1) answer.out)
+
+-- so it prints nothing where no choice matches
+abbrev pub PrintedIsMendable : Type 0
+PrintedIsMendable = (w : PlainRequest) (design table : List ℕ) (answer : Answer) → IsLeftOpen w design table answer → (answer.out ≡ []) ⊎ IsMendable w design table
 
 -- no answer leaves a repair open where the budget is ample
 abbrev pub AmpleSettles : Type 0

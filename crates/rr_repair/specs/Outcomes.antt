@@ -2,9 +2,12 @@
 use Rattle.std.specs.Prelude.{◌≡◌, ◌⊎◌, ℕ, ◌*◌, ◌^◌, ◌<◌, List, []}
 use Rattle.rr_syntax.specs.Tree.{SourceText}
 use Rattle.rr_lex.specs.Tokens.{Lexeme}
+use Rattle.rr_grammar.specs.Trees.{IsTree}
 use Rattle.rr_choice.specs.declared.pick.Pick.{Pick}
-use Rattle.rr_choice.specs.Choices.{total_bits, IsChoice}
+use Rattle.rr_choice.specs.Choices.{cost, total_bits, IsChoice}
 use Rattle.rr_choice.specs.Sites.{Site}
+use Rattle.rr_instance.specs.Instances.{instance_source}
+use Rattle.rr_respell.specs.Printing.{printed}
 use Rattle.rr_trace.specs.Tables.{Table}
 use Rattle.rr_transition.specs.Cycles.{instance_design}
 use Rattle.rr_unroll.specs.Matches.{Matches}
@@ -33,6 +36,21 @@ pub record IsMendable (w : PlainRequest) (design table : List ℕ) : Type 0 wher
   pub choice : List Pick
   pub chosen : IsChoice sites choice
   pub matches : Matches (instance_design sites choice (design_of w source)) rows
+
+-- both are taken, and these bytes are the source with a choice of so many changes printed into it: their tree is its instance,
+-- which matches
+pub record IsMatchingSource (w : PlainRequest) (design table : List ℕ) (changes : ℕ) (bytes : List ℕ) : Type 0 where
+  pub tokens : List Lexeme
+  pub source : SourceText
+  pub sites : List Site
+  pub rows : Table
+  pub taken : IsTaken w design table tokens source sites rows
+  pub choice : List Pick
+  pub chosen : IsChoice sites choice
+  pub costs : cost choice ≡ changes
+  pub matches : Matches (instance_design sites choice (design_of w source)) rows
+  pub printed : bytes ≡ printed design tokens sites choice source
+  pub tree : IsTree bytes (instance_source sites choice source)
 
 -- both are taken, and no choice gives an instance that matches
 pub record IsUnmendable (w : PlainRequest) (design table : List ℕ) : Type 0 where
@@ -71,14 +89,15 @@ pub record IsDespaired (w : PlainRequest) (design table : List ℕ) (answer : An
   pub taken : IsTaken w design table tokens source sites rows
   pub is : IsBeyond w source sites rows answer
 
--- both files are taken, and the answer leaves open whether so many changes match
+-- both files are taken, and the answer leaves open whether so many changes match, and prints the source with one change more
+-- that were found to match, or nothing
 pub record IsLeftOpen (w : PlainRequest) (design table : List ℕ) (answer : Answer) : Type 0 where
   pub tokens : List Lexeme
   pub source : SourceText
   pub sites : List Site
   pub rows : Table
   pub taken : IsTaken w design table tokens source sites rows
-  pub is : IsOpen w source sites rows answer
+  pub is : IsOpen w design tokens source sites rows answer
 
 -- the design is printed as it is, and no file is written
 pub record IsAsItWas (design : List ℕ) (answer : Answer) : Type 0 where

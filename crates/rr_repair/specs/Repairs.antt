@@ -1,6 +1,7 @@
 -- What the repair of a design is, from the bytes of the design and of its table: the source with the fewest changes whose run
--- matches each known cell, or that no changes do, or that the search has spent its lines. No search stands in it.
-use Rattle.std.specs.Prelude.{◌≡◌, ◌⊎◌, ℕ, ◌-◌, ◌*◌, ◌<◌, ◌≤◌, min, Bool, List, [], length, map, Option}
+-- matches each known cell, or that no changes do, or that the search has spent its lines, with what it found by then. No
+-- search stands in it.
+use Rattle.std.specs.Prelude.{◌≡◌, ◌⊎◌, ℕ, ◌+◌, ◌-◌, ◌*◌, ◌<◌, ◌≤◌, min, Bool, List, [], length, map, Option}
 use Rattle.std.specs.List.{sum}
 use Rattle.rr_syntax.specs.Tree.{SourceText}
 use Rattle.rr_lex.specs.Tokens.{Lexeme}
@@ -37,7 +38,7 @@ use Rattle.rr_search.specs.Least.{Least, NoneMatches}
 use Rattle.rr_report.specs.Found.{Answer}
 use Rattle.rr_report.specs.Refusals.{Refusal, TooManyBytes, Input, Flawed}
 use Rattle.rr_answers.specs.Certified.{certificate}
-use Rattle.rr_answers.specs.Texts.{beyond_text, open_text, unchanged_text}
+use Rattle.rr_answers.specs.Texts.{beyond_text, found_text, open_text, unchanged_text}
 
 -- what is asked: how the table is read, the top and the clock, each given or not, the name of the certificate's files, and how
 -- many lines each of how many members of a search may learn for one question
@@ -125,9 +126,27 @@ pub record IsBeyond (w : PlainRequest) (source : SourceText) (sites : List Site)
   pub notes : answer.notes ≡ beyond_text (length sites)
   pub status : answer.status ≡ 1
 
+-- changes of all sites are left open, so nothing was found, and nothing is printed
+pub record IsNothingFound (w : PlainRequest) (sites : List Site) (bound : ℕ) (answer : Answer) : Type 0 where
+  pub all : bound ≡ length sites
+  pub printed : answer.out ≡ []
+  pub notes : answer.notes ≡ open_text w.budget bound
+
+-- fewer changes than there are sites are left open, and the instance of a choice of one change more matches: the source is
+-- printed with these changes, its tree is the instance, and the sites are reported; nothing says that no fewer changes match
+pub record IsFound (w : PlainRequest) (design : List ℕ) (tokens : List Lexeme) (source : SourceText) (sites : List Site) (rows : Table) (bound : ℕ) (answer : Answer) : Type 0 where
+  pub below : bound < length sites
+  pub choice : List Pick
+  pub chosen : IsChoice sites choice
+  pub costs : cost choice ≡ bound + 1
+  pub matches : Matches (instance_design sites choice (design_of w source)) rows
+  pub printed : answer.out ≡ printed design tokens sites choice source
+  pub tree : IsTree answer.out (instance_source sites choice source)
+  pub notes : answer.notes ≡ found_text w.budget bound tokens sites choice
+
 -- whether at most so many changes match is left open: each member has learned exactly as many fresh lines as it may, which are
--- written with the question, and nothing is printed
-pub record IsOpen (w : PlainRequest) (source : SourceText) (sites : List Site) (rows : Table) (answer : Answer) : Type 0 where
+-- written with the question; and a choice that matches is printed, or nothing was found
+pub record IsOpen (w : PlainRequest) (design : List ℕ) (tokens : List Lexeme) (source : SourceText) (sites : List Site) (rows : Table) (answer : Answer) : Type 0 where
   pub faulty : Matches (design_of w source) rows → ⊥
   pub bound : ℕ
   pub few : bound ≤ length sites
@@ -136,13 +155,12 @@ pub record IsOpen (w : PlainRequest) (source : SourceText) (sites : List Site) (
   pub faithful : Faithful circuit (design_of w source) sites rows bound
   pub spent : IsSpent (formula_of circuit) circuit.netlist.inputs w.members w.budget proof.lines
   pub files : answer.files ≡ certificate w.cert circuit proof
-  pub printed : answer.out ≡ []
-  pub notes : answer.notes ≡ open_text w.budget bound
+  pub found : IsNothingFound w sites bound answer ⊎ IsFound w design tokens source sites rows bound answer
   pub status : answer.status ≡ 2
 
 abbrev pub IsAnswer : PlainRequest → List ℕ → List Lexeme → SourceText → List Site → Table → Answer → Type 0
 IsAnswer w design tokens source sites rows answer =
-    IsUnchanged w design source rows answer ⊎ (IsRepaired w design tokens source sites rows answer ⊎ (IsBeyond w source sites rows answer ⊎ IsOpen w source sites rows answer))
+    IsUnchanged w design source rows answer ⊎ (IsRepaired w design tokens source sites rows answer ⊎ (IsBeyond w source sites rows answer ⊎ IsOpen w design tokens source sites rows answer))
 
 -- the answer for two files
 pub record AnswersRepair (w : PlainRequest) (design table : List ℕ) (answer : Answer) : Type 0 where

@@ -20,11 +20,11 @@ abbrev pub answer_status : Answer → ℕ
 answer_status Unchanged = 0
 answer_status (Repair choice k circuit journal) = 0
 answer_status (NoRepair circuit journal) = 1
-answer_status (Spent bound circuit journal) = 2
+answer_status (Spent bound circuit journal found) = 2
 
 -- .. and how many changes it makes
 abbrev pub changes_of : Answer → ℕ
 changes_of Unchanged = 0
 changes_of (Repair choice k circuit journal) = k
 changes_of (NoRepair circuit journal) = 0
-changes_of (Spent bound circuit journal) = 0
+changes_of (Spent bound circuit journal found) = 0

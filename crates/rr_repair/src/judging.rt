@@ -9,22 +9,24 @@ ghost use Rattle.rr_flat.specs.Clocks.{OneClock};
 ghost use Rattle.rr_elaborate.specs.Designs.{IsDesignOf, IsText};
 ghost use Rattle.rr_blast.specs.Circuits.{FitsArguments};
 ghost use Rattle.rr_transition.specs.Cycles.{Cycle, Design};
-ghost use Rattle.rr_search.specs.Answers.{AnswerIs, task_of};
+ghost use Rattle.rr_search.specs.Answers.{AnswerIs, IsLeftOpen, task_of};
 ghost use Rattle.rr_respell.specs.Laws.{AreNamed};
 ghost use Rattle.rr_run.specs.Rows.{ReadsTable};
 ghost use Rattle.rr_run.specs.Runs.{InOrder};
 ghost use Rattle.rr_trace.specs.View.{plain_table};
 ghost use Rattle.rr_report.specs.Views.{plain_answer, StopsWhere};
-ghost use Rattle.rr_repair.specs.Repairs.{AnswersRepair, CountsRepair, IsAnswer, IsCounted, IsSited, RefusesRepair, design_of};
+ghost use Rattle.rr_repair.specs.Repairs.{AnswersRepair, CountsRepair, IsAnswer, IsCounted, IsOpen, IsSited, RefusesRepair, design_of};
 ghost use Rattle.rr_repair.specs.Views.{answer_status, plain_request};
 
 use crate::counted::{Counted, changes_of};
 use crate::request::Request;
 use crate::working::{count_row, work_of};
 use bumpalo::Bump;
-use rr_answers::{beyond, left_open, repaired, unchanged};
+use rr_answers::{beyond, found_open, left_open, repaired, unchanged};
 use rr_blast::transition;
-use rr_choice::SiteList;
+use rr_choice::{Choice, SiteList};
+use rr_circuit::Circuit;
+use rr_derive::Journal;
 use rr_registers::register_bits;
 use rr_report::{Found, Refusal, Stop, stop_of};
 use rr_run::{LawfulDesign, Limit, Refusal as RunRefusal, RunFault, lawful_design, read_rows};
@@ -66,6 +68,48 @@ fn cycle_of(
     }
     let cycle = transition(alloc, &design.flat, &design.order, list)?;
     Ok(cycle)
+}
+
+/// What is to be done where so many changes are left open: the source is printed with the choice that was
+/// found to match, or nothing is printed where none was.
+fn told_open<'b>(
+    alloc: Global,
+    bytes: &[u8],
+    design: &LawfulDesign<'_>,
+    job: &Job<'_>,
+    request: &Request<'_>,
+    bound: u32,
+    circuit: &Circuit,
+    journal: &Journal,
+    found: &Option<Choice>,
+) -> Result<Found<'b>, AllocError>
+    requires small { length bytes.now < 2 ^ 32 }
+    requires text { IsText bytes.now (lexemes design.now.tokens.now) (plain_source design.now.source.now) }
+    requires few { length job.now.list.now ≤ 1024 }
+    requires named { AreNamed job.now.list.now }
+    requires members { job.now.members ≡ request.now.members }
+    requires budget { job.now.budget ≡ request.now.budget }
+    requires left { IsLeftOpen (design_of (plain_request request.now) (plain_source design.now.source.now)) (task_of job.now) bound circuit.now journal.now.lines found.now }
+    ensures answer { IfOk result (λ found. IsOpen (plain_request request.now) bytes.entry.now (lexemes design.now.tokens.now) (plain_source design.now.source.now) job.now.list.now (plain_table job.now.table.now) (plain_answer found)) }
+    ensures status { IfOk result (λ found. found.status ≡ 2) }
+{
+    let budget = request.budget;
+    let cert = request.cert;
+    match found {
+        Some(choice) => {
+            let source = design.source;
+            let list = job.list;
+            let tokens = design.tokens;
+            let told = found_open(
+                alloc, bytes, tokens, source, list, choice, budget, bound, cert, circuit, journal,
+            )?;
+            Ok(told)
+        }
+        None => {
+            let told = left_open(alloc, budget, bound, cert, circuit, journal)?;
+            Ok(told)
+        }
+    }
 }
 
 /// The answer of a search over the sites of a design, carried into what is to be done; so many proposals
@@ -115,11 +159,10 @@ fn told<'b>(
             bound,
             circuit,
             journal,
-        } => {
-            let cert = request.cert;
-            let found = left_open(alloc, request.budget, *bound, cert, circuit, journal)?;
-            Ok(found)
-        }
+            found,
+        } => told_open(
+            alloc, bytes, design, job, request, *bound, circuit, journal, found,
+        ),
     }
 }
 

@@ -1,5 +1,5 @@
 //! Laws of what files come to, as contracts of functions that do nothing.
-ghost use Rattle.rr_repair.specs.Laws.{AmpleSettles, EachAnswer, MatchingIsMendable, MatchingStays, MendableOrNot, OneRefusal, OneTaking, TakenOrRefused};
+ghost use Rattle.rr_repair.specs.Laws.{AmpleSettles, EachAnswer, MatchingIsMendable, MatchingStays, MendableOrNot, OneRefusal, OneTaking, PrintedIsMendable, PrintsFound, TakenOrRefused};
 
 /// Two files are taken in one way or refused by one refusal, but for the byte that is told of a text
 /// without a tree; and not some choice matches where none does.
@@ -12,10 +12,13 @@ pub fn repair_outcomes()
 {}
 
 /// Each answer has status 0 where some choice matches, 1 where none does, or 2 where it leaves this
-/// open; a design that matches as it is is printed as it is; and none is left open where each member may
-/// learn more than c * 3^c lines, for the c bits that write a choice.
+/// open, and then it prints nothing or a source whose tree is an instance that matches; a design that
+/// matches as it is is printed as it is; and none is left open where each member may learn more than
+/// c * 3^c lines, for the c bits that write a choice.
 pub fn repair_answers()
     ensures each { EachAnswer }
+    ensures found { PrintsFound }
+    ensures printed { PrintedIsMendable }
     ensures stays { MatchingStays }
     ensures settles { AmpleSettles }
 {}

@@ -1,10 +1,10 @@
 //! The repair of a design: from the bytes of a design and of its table to what is to be printed, reported
 //! and written, or the first refusal. It is right where the answer prints the source with the fewest
 //! changes whose run matches each known cell, with a certificate that fewer do not; or shows that no
-//! changes do; or says which question was left open. It stands on `rr_sites` for the design and its
-//! sites, `rr_blast` for its cycle, `rr_search` for the search, and `rr_answers` for what is done. Its laws say
-//! that what a design and its table come to is decided by their bytes alone, and that each answer tells it or
-//! leaves it open.
+//! changes do; or says which question was left open, and prints the source with the changes that were found
+//! to match by then. It stands on `rr_sites` for the design and its sites, `rr_blast` for its cycle,
+//! `rr_search` for the search, and `rr_answers` for what is done. Its laws say that what a design and its
+//! table come to is decided by their bytes alone, and that each answer tells it or leaves it open.
 #![tactic(auto)]
 
 mod counted;

@@ -4,8 +4,8 @@ ghost use Rattle.std.specs.Prelude.{◌≡◌};
 
 use crate::designs::{
     CELLS, COPY, COPY_TABLE, COUNTER, COUNTER_TABLE, GATE, GATE_TABLE, INSTANCES, INSTANCES_TABLE,
-    INVERTED, INVERTED_TABLE, JOINED_TABLE, LOAD, LOAD_TABLE, MISSING, MISSING_TABLE, SET,
-    SET_TABLE, TWO, TWO_TABLE, WIRE, WIRE_TABLE,
+    INVERTED, INVERTED_TABLE, JOINED_TABLE, LOAD, LOAD_TABLE, LOCK, LOCK_TABLE, MISSING,
+    MISSING_TABLE, RESETS, RESETS_TABLE, SET, SET_TABLE, TWO, TWO_TABLE, WIRE, WIRE_TABLE,
 };
 use bumpalo::Bump;
 use rr_repair::{Request, repair};
@@ -239,6 +239,54 @@ fn where_nothing_helps_a_certificate_says_so(rt: HostRuntime) -> Result<(), Fail
             assert!(rt; found.files[1].bytes() == "p cnf 0 1\n0\n".as_bytes());
             assert!(rt; found.files[2].name() == "c.lrat");
             assert!(rt; found.files[2].bytes() == "2 0 1 0\n".as_bytes());
+            Ok(())
+        }
+    }
+}
+
+// One line is too few to show that one change does not mend both counters.
+#[test]
+fn what_was_found_at_a_spent_budget_is_printed(rt: HostRuntime) -> Result<(), Fail> {
+    let alloc = rt.alloc();
+    let arena = Bump::new(alloc);
+    match repair(
+        &rt,
+        alloc,
+        RESETS.as_bytes(),
+        RESETS_TABLE.as_bytes(),
+        &request(1, 1),
+        &arena,
+    ) {
+        Err(_) => Err(Fail::from("stopped")),
+        Ok(found) => {
+            let out =
+                "module m(input clk, input rst, output reg [3:0] p, output reg [3:0] q);\n  always @(posedge clk) if (rst) p <= 4'd0; else p <= p +  4'h1 ;\n  always @(posedge clk) if (rst) q <= 4'd0; else q <= q +  4'h1 ;\nendmodule\n";
+            let notes =
+                "budget spent 1 bound 1\nfound 2\nsite 3 literal 130 4'h1\nsite 7 literal 194 4'h1\n";
+            assert!(rt; does(&found, out, notes, 2));
+            assert!(rt; found.files.len() == 3);
+            Ok(())
+        }
+    }
+}
+
+// No values of the three literals make the output 1 in each row, and one line is too few to show it.
+#[test]
+fn where_nothing_was_found_nothing_is_printed(rt: HostRuntime) -> Result<(), Fail> {
+    let alloc = rt.alloc();
+    let arena = Bump::new(alloc);
+    match repair(
+        &rt,
+        alloc,
+        LOCK.as_bytes(),
+        LOCK_TABLE.as_bytes(),
+        &request(1, 1),
+        &arena,
+    ) {
+        Err(_) => Err(Fail::from("stopped")),
+        Ok(found) => {
+            assert!(rt; does(&found, "", "budget spent 1 bound 3\n", 2));
+            assert!(rt; found.files.len() == 3);
             Ok(())
         }
     }

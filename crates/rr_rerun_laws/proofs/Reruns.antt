@@ -1,5 +1,5 @@
 -- What a repair prints is run again as the table expects.
-use Rattle.std.proofs.Common.{◌≡◌, ◌∙◌, ◌⊎◌, inl, inr, ℕ, List, length, sym, ap, subst, refl, Bool, Option, Ok}
+use Rattle.std.proofs.Common.{◌≡◌, ◌≢◌, ◌∙◌, ◌⊎◌, inl, inr, ℕ, List, [], length, sym, ap, subst, refl, Bool, Option, Ok}
 use Rattle.rr_syntax.specs.Tree.{SourceText, IsSameSource}
 use Rattle.rr_lex.specs.Tokens.{Lexeme}
 use Rattle.rr_grammar.specs.Trees.{IsTree}
@@ -16,6 +16,7 @@ use Rattle.rr_elaborate.specs.Designs.{IsText}
 use Rattle.rr_elaborate.proofs.Once.{one_text}
 use Rattle.rr_lawful.proofs.ClockOnce.{one_clock}
 use Rattle.rr_instance.specs.Instances.{instance_source}
+use Rattle.rr_choice.specs.declared.pick.Pick.{Pick}
 use Rattle.rr_choice.specs.Sites.{Site}
 use Rattle.rr_flat_instance.specs.Flats.{instance_flat}
 use Rattle.rr_flat_instance.specs.Places.{SitesFit}
@@ -38,8 +39,8 @@ use Rattle.rr_run.specs.Runs.{IsRun}
 use Rattle.rr_run.proofs.Once.{one_run}
 use Rattle.rr_run.proofs.OwnFiles.{own_run}
 use Rattle.rr_report.specs.Found.{Answer}
-use Rattle.rr_repair.specs.Repairs.{IsRepaired, IsTaken, IsUnchanged, PlainRequest, design_of}
-use Rattle.rr_rerun_laws.specs.Reruns.{FileRunAgrees, FileRunsAgain, RunsRight, RunsAgain, RunAgrees}
+use Rattle.rr_repair.specs.Repairs.{IsFound, IsNothingFound, IsRepaired, IsTaken, IsUnchanged, PlainRequest, design_of}
+use Rattle.rr_rerun_laws.specs.Reruns.{FileRunAgrees, FileRunsAgain, FoundRunAgrees, FoundRunsAgain, RunsRight, RunsAgain, RunAgrees}
 use Rattle.rr_rerun_laws.proofs.Ports.{instance_reading, same_reading}
 
 -- a flat design of the text, with the clock, whose run agrees
@@ -117,18 +118,27 @@ module _ (w : PlainRequest) (design table : List ℕ) (ts : List Lexeme) (source
       let flat : flat_of tree w.top ≡ Ok taken.flat = ap (λ (t : SourceText). flat_of t w.top) same.1 ∙ taken.sited.tree.flat in
       told w answer.out table us tree taken.flat taken.clock taken.rising rows x flat taken.read (right_by w source rows taken.flat taken.clock taken.rising taken.sited.tree.flat taken.sited.one_clock u.matches)
 
-  -- printed with a choice
+  -- printed with a choice whose instance matches
+  with_choice : (out : List ℕ) (choice : List Pick) → Matches (design_of w (instance_source sites choice source)) rows → IsTree out (instance_source sites choice source) →
+      (us : List Lexeme) (tree : SourceText) → IsText out us tree → (text : List ℕ) × RunsRight w.kind out table w.top w.clock text
+  with_choice out choice matches its us tree x =
+      let same : IsSameSource (instance_source sites choice source) tree = unique_tree out (instance_source sites choice source) tree its (tree_of out us tree x) in
+      let G : Flat = instance_flat sites choice taken.flat in
+      let has : HasSameFlat tree w.top G = instances_of_trees sites choice source tree w.top taken.flat taken.sited.tree.flat fit.1 same in
+      let is : flat_of (instance_source sites choice source) w.top ≡ Ok G = instances_flatten sites choice source w.top taken.flat taken.sited.tree.flat fit.1 in
+      let clock : OneClock G w.clock taken.clock taken.rising = clock_stays taken.clock taken.rising taken.flat w.clock sites choice fit.0 taken.sited.one_clock in
+      let good : IsRight w G taken.clock taken.rising rows = right_by w (instance_source sites choice source) rows G taken.clock taken.rising is clock matches in
+      let read = same_reading w.kind G has.flat taken.clock taken.rising table rows has.same (instance_reading w.kind taken.flat sites choice taken.clock taken.rising table rows taken.read) in
+      told w out table us tree has.flat taken.clock taken.rising rows x has.is read (right_same w G has.flat taken.clock taken.rising rows has.same good)
+
   repaired : (answer : Answer) → IsRepaired w design ts source sites rows answer → (us : List Lexeme) (tree : SourceText) → IsText answer.out us tree →
       (text : List ℕ) × RunsRight w.kind answer.out table w.top w.clock text
-  repaired answer r us tree x =
-      let same : IsSameSource (instance_source sites r.choice source) tree = unique_tree answer.out (instance_source sites r.choice source) tree r.tree (tree_of answer.out us tree x) in
-      let G : Flat = instance_flat sites r.choice taken.flat in
-      let has : HasSameFlat tree w.top G = instances_of_trees sites r.choice source tree w.top taken.flat taken.sited.tree.flat fit.1 same in
-      let is : flat_of (instance_source sites r.choice source) w.top ≡ Ok G = instances_flatten sites r.choice source w.top taken.flat taken.sited.tree.flat fit.1 in
-      let clock : OneClock G w.clock taken.clock taken.rising = clock_stays taken.clock taken.rising taken.flat w.clock sites r.choice fit.0 taken.sited.one_clock in
-      let good : IsRight w G taken.clock taken.rising rows = right_by w (instance_source sites r.choice source) rows G taken.clock taken.rising is clock r.matches in
-      let read = same_reading w.kind G has.flat taken.clock taken.rising table rows has.same (instance_reading w.kind taken.flat sites r.choice taken.clock taken.rising table rows taken.read) in
-      told w answer.out table us tree has.flat taken.clock taken.rising rows x has.is read (right_same w G has.flat taken.clock taken.rising rows has.same good)
+  repaired answer r = with_choice answer.out r.choice r.matches r.tree
+
+  found : (answer : Answer) (bound : ℕ) → answer.out ≢ [] → IsNothingFound w sites bound answer ⊎ IsFound w design ts source sites rows bound answer →
+      (us : List Lexeme) (tree : SourceText) → IsText answer.out us tree → (text : List ℕ) × RunsRight w.kind answer.out table w.top w.clock text
+  found answer bound some (inl n) us tree x = absurd (some n.printed)
+  found answer bound some (inr f) us tree x = with_choice answer.out f.choice f.matches f.tree us tree x
 
 pub runs_again : RunsAgain
 runs_again w design table answer m us tree x = go m.is
@@ -149,11 +159,14 @@ is_run kind bytes table top word text r = record {
   gives = record { outputs = r.outputs; run = r.run; printed = r.printed };
 }
 
+-- the text of each run is the one that agrees
+agrees_by : (kind : TableKind) (bytes table : List ℕ) (top word : Option (List ℕ)) (text : List ℕ) → (again : (other : List ℕ) × RunsRight kind bytes table top word other) → IsRun kind bytes table top word text → RunsRight kind bytes table top word text
+agrees_by kind bytes table top word text again r =
+    let same : again.0 ≡ text = one_run kind bytes table top word again.0 text (is_run kind bytes table top word again.0 again.1) r in
+    subst (λ (t : List ℕ). RunsRight kind bytes table top word t) same again.1
+
 pub run_agrees : RunAgrees
-run_agrees w design table answer m text r =
-    let again = runs_again w design table answer m r.tokens r.design.design.tree r.design.design.text in
-    let same : again.0 ≡ text = one_run w.kind answer.out table w.top w.clock again.0 text (is_run w.kind answer.out table w.top w.clock again.0 again.1) r in
-    subst (λ (t : List ℕ). RunsRight w.kind answer.out table w.top w.clock t) same again.1
+run_agrees w design table answer m text r = agrees_by w.kind answer.out table w.top w.clock text (runs_again w design table answer m r.tokens r.design.design.tree r.design.design.text) r
 
 -- the same of the printed bytes as a file
 pub file_runs_again : FileRunsAgain
@@ -164,3 +177,10 @@ file_runs_again w design table answer m origins taken us tree x =
 pub file_run_agrees : FileRunAgrees
 file_run_agrees w design table answer m origins taken text f =
     run_agrees w design table answer m text ((own_run answer.out origins taken w.kind table w.top w.clock text).1 f)
+
+pub found_runs_again : FoundRunsAgain
+found_runs_again w design table answer o some us tree x = found w design table o.tokens o.source o.sites o.rows o.taken answer o.is.bound some o.is.found us tree x
+
+pub found_run_agrees : FoundRunAgrees
+found_run_agrees w design table answer o some text r =
+    agrees_by w.kind answer.out table w.top w.clock text (found_runs_again w design table answer o some r.tokens r.design.design.tree r.design.design.text) r

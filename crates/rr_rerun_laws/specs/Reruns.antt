@@ -1,5 +1,5 @@
 -- What a repair prints, read and run again.
-use Rattle.std.specs.Prelude.{◌≡◌, ℕ, List, length, Bool, Option}
+use Rattle.std.specs.Prelude.{◌≡◌, ◌≢◌, ℕ, List, [], length, Bool, Option}
 use Rattle.rr_directive.specs.declared.origin.Origin.{Origin}
 use Rattle.rr_directive.specs.Expand.{IsTaken}
 use Rattle.rr_syntax.specs.Tree.{SourceText}
@@ -17,7 +17,7 @@ use Rattle.rr_run.specs.Runs.{IsLawfulDesign, IsRun}
 use Rattle.rr_run.specs.Files.{IsFileRun}
 use Rattle.rr_report.specs.Found.{Answer}
 use Rattle.rr_repair.specs.Repairs.{PlainRequest}
-use Rattle.rr_repair.specs.Outcomes.{IsMended}
+use Rattle.rr_repair.specs.Outcomes.{IsLeftOpen, IsMended}
 
 -- the bytes are a lawful design, and the text is the table of the rows, read as a table of this kind, with the outputs of its run
 -- on them, which equal each known cell of the table
@@ -56,3 +56,13 @@ FileRunsAgain = (w : PlainRequest) (design table : List ℕ) (answer : Answer) �
 abbrev pub FileRunAgrees : Type 0
 FileRunAgrees = (w : PlainRequest) (design table : List ℕ) (answer : Answer) → IsMended w design table answer → (origins : List Origin) → IsTaken answer.out answer.out origins →
     (text : List ℕ) → IsFileRun w.kind answer.out table w.top w.clock text → RunsRight w.kind answer.out table w.top w.clock text
+
+-- The same of bytes that are printed where a repair is left open: no law and no table refuses them,
+abbrev pub FoundRunsAgain : Type 0
+FoundRunsAgain = (w : PlainRequest) (design table : List ℕ) (answer : Answer) → IsLeftOpen w design table answer → answer.out ≢ [] → (tokens : List Lexeme) (tree : SourceText) → IsText answer.out tokens tree →
+    (text : List ℕ) × RunsRight w.kind answer.out table w.top w.clock text
+
+-- and each run of them is such
+abbrev pub FoundRunAgrees : Type 0
+FoundRunAgrees = (w : PlainRequest) (design table : List ℕ) (answer : Answer) → IsLeftOpen w design table answer → answer.out ≢ [] → (text : List ℕ) → IsRun w.kind answer.out table w.top w.clock text →
+    RunsRight w.kind answer.out table w.top w.clock text

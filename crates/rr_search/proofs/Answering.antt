@@ -1,10 +1,12 @@
 -- from the outcomes of questions to the answers
-use Rattle.std.proofs.Common.{◌≡◌, ℕ, ◌-◌, ◌<◌, ◌≤◌, ◌↔◌, Bool, true, false, List, [], ◌∷◌, length, replicate, All, sym, subst, ◌∙◌, ap, arith}
+use Rattle.std.proofs.Common.{◌≡◌, ℕ, ◌+◌, ◌-◌, ◌<◌, ◌≤◌, ◌↔◌, Bool, true, false, List, [], ◌∷◌, length, replicate, All, sym, subst, ◌∙◌, ap, arith}
+use Rattle.std.specs.Prelude.{Option}
 use Rattle.std.proofs.lemmas.List.{get_or_default}
 use Rattle.std.proofs.lemmas.List.Sums.{count_by-le-length}
 use Rattle.rr_circuit.specs.Values.{OutputNetlist}
 use Rattle.rr_derive.specs.Derive.{Step}
 use Rattle.rr_encode.proofs.CodeLaws.{free_zeros, length_choice}
+use Rattle.rr_choice.specs.declared.pick.Choice.{Choice}
 use Rattle.rr_choice.specs.declared.pick.Pick.{Pick}
 use Rattle.rr_choice.specs.Choices.{cost, decode, total_bits, IsChoice}
 use Rattle.rr_choice.specs.Sites.{Site}
@@ -13,7 +15,7 @@ use Rattle.rr_transition.specs.Cycles.{Design, instance_design}
 use Rattle.rr_unroll.specs.Matches.{Matches}
 use Rattle.rr_search.specs.declared.answer.Answer.{Answer}
 use Rattle.rr_search.specs.declared.answer.Answer.TheVariants.{Unchanged, Repair, NoRepair, Spent}
-use Rattle.rr_search.specs.Answers.{Task, AnswerIs, IsOf, IsOpenBelow, IsUnchanged, IsFine, IsRefuted, IsRepair, IsBeyondRepair, IsLeftOpen, Mends}
+use Rattle.rr_search.specs.Answers.{Task, AnswerIs, IsOf, IsOpenBelow, IsUnchanged, IsFine, IsRefuted, IsRepair, IsBeyondRepair, IsFound, IsLeftOpen, FoundIs, Mends}
 use Rattle.rr_search.specs.Replies.{AreFaulty, IsClosed, IsMending, IsOpen, choice_at}
 use Rattle.rr_search.proofs.Chain.{same_design}
 
@@ -67,9 +69,18 @@ beyond t faulty bound e circuit lines closed j of = record {
   all = subst (λ n. IsRefuted j t n circuit lines) e (closed.refuted j of);
 }
 
+-- a choice that mends, of which fewer changes are asked
+pub found_by : (t : Task) (c : List Pick) → IsMending t c → (k : ℕ) → 1 ≤ k → k ≤ length t.sites → k ≡ cost c → (j : Design) → IsOf t j → IsFound j t (k - 1) c
+found_by t c m k some few e j of = record {
+  below = omega (arith, some, few);
+  choice = m.choice;
+  costs = omega (arith, e, some);
+  mends = m.mends j of;
+}
+
 pub left_open : (t : Task) → AreFaulty t → (bound : ℕ) → bound ≤ length t.sites → (circuit : OutputNetlist) (lines : List Step) → IsOpen t bound circuit lines →
-    (j : Design) → IsOf t j → IsLeftOpen j t bound circuit lines
-left_open t faulty bound few circuit lines left j of = record { faulty = faulty j of; few = few; faithful = left.faithful j of; spent = left.spent }
+    (found : Option Choice) → ((j : Design) → IsOf t j → FoundIs j t bound found) → (j : Design) → IsOf t j → IsLeftOpen j t bound circuit lines found
+left_open t faulty bound few circuit lines left found is j of = record { faulty = faulty j of; few = few; faithful = left.faithful j of; spent = left.spent; found = is j of }
 
 -- as many switches are off as there are bits
 pub judged_free : (t : Task) (j : Design) (bits : List Bool) (n : ℕ) (r : Bool) → bits ≡ replicate n false → ((r ≡ true) ↔ Matches (instance_design t.sites (decode t.sites bits) j) t.table) → ((r ≡ true) ↔ Matches j t.table)
@@ -82,14 +93,14 @@ pub unchanged_iff : (t : Task) (j : Design) (a : Answer) → AnswerIs t j a → 
 unchanged_iff t j Unchanged h = (λ u. h.matches, λ m. tt)
 unchanged_iff t j (Repair choice k circuit journal) h = (λ u. absurd u, λ m. h.faulty m)
 unchanged_iff t j (NoRepair circuit journal) h = (λ u. absurd u, λ m. h.faulty m)
-unchanged_iff t j (Spent bound circuit journal) h = (λ u. absurd u, λ m. h.faulty m)
+unchanged_iff t j (Spent bound circuit journal found) h = (λ u. absurd u, λ m. h.faulty m)
 
 -- what is left open below a number is left open below a greater one
 pub open_above : (a : Answer) (k n : ℕ) → k ≤ n → IsOpenBelow k a → IsOpenBelow n a
 open_above Unchanged k n l h = tt
 open_above (Repair choice cost circuit journal) k n l h = tt
 open_above (NoRepair circuit journal) k n l h = tt
-open_above (Spent bound circuit journal) k n l h = omega (arith, l, h)
+open_above (Spent bound circuit journal found) k n l h = omega (arith, l, h)
 
 -- what holds of the choice at each place holds of each choice
 each_choice : (P : List Pick → Type 0) (xs : List (List Pick)) → ((i : ℕ) → i < length xs → P (choice_at xs i)) → All P xs

@@ -1,6 +1,6 @@
 -- What a search for a least repair answers, and what each answer says of a design. The circuits are those of AIGER, their
 -- formulas those of Tseitin, and the lines those of LRAT.
-use Rattle.std.specs.Prelude.{◌≡◌, ℕ, ◌-◌, ◌<◌, ◌≤◌, List, length, map}
+use Rattle.std.specs.Prelude.{◌≡◌, ℕ, ◌+◌, ◌-◌, ◌<◌, ◌≤◌, List, length, map, Option, None, Some}
 use Rattle.rr_circuit.specs.Values.{OutputNetlist}
 use Rattle.rr_derive.specs.Derive.{Step, Refutes}
 use Rattle.rr_derive.specs.Lrat.{AreWritable}
@@ -83,13 +83,27 @@ pub record IsBeyondRepair (j : Design) (t : Task) (circuit : OutputNetlist) (lin
   pub none : NoneMatches j t.sites t.table
   pub all : IsRefuted j t (length t.sites) circuit lines
 
+-- fewer changes than there are sites are left open, and this choice of one change more mends the design; nothing says that it
+-- is least
+pub record IsFound (j : Design) (t : Task) (bound : ℕ) (c : List Pick) : Type 0 where
+  pub below : bound < length t.sites
+  pub choice : IsChoice t.sites c
+  pub costs : cost c ≡ bound + 1
+  pub mends : Mends j t c
+
+-- what was found where so many changes are left open: such a choice, or none, where these are changes of all sites
+abbrev pub FoundIs : Design → Task → ℕ → Option Choice → Type 0
+FoundIs j t bound None = bound ≡ length t.sites
+FoundIs j t bound (Some choice) = IsFound j t bound choice.picks.items
+
 -- the design does not match as it is, and the question whether so many changes mend it is open: each member has learned
 -- exactly as many fresh lines as it may, which derive from the question's formula
-pub record IsLeftOpen (j : Design) (t : Task) (bound : ℕ) (circuit : OutputNetlist) (lines : List Step) : Type 0 where
+pub record IsLeftOpen (j : Design) (t : Task) (bound : ℕ) (circuit : OutputNetlist) (lines : List Step) (found : Option Choice) : Type 0 where
   pub faulty : Matches j t.table → ⊥
   pub few : bound ≤ length t.sites
   pub faithful : Faithful circuit j t.sites t.table bound
   pub spent : IsSpent (formula_of circuit) circuit.netlist.inputs t.members t.budget lines
+  pub found : FoundIs j t bound found
 
 -- the design matches as it is, so the least cost is 0
 pub record IsFine (j : Design) (t : Task) : Type 0 where
@@ -101,18 +115,18 @@ abbrev pub AnswerIs : Task → Design → Answer → Type 0
 AnswerIs t j Unchanged = IsFine j t
 AnswerIs t j (Repair choice k circuit journal) = IsRepair j t choice.picks.items k circuit journal.lines
 AnswerIs t j (NoRepair circuit journal) = IsBeyondRepair j t circuit journal.lines
-AnswerIs t j (Spent bound circuit journal) = IsLeftOpen j t bound circuit journal.lines
+AnswerIs t j (Spent bound circuit journal found) = IsLeftOpen j t bound circuit journal.lines found
 
 -- the design is not to be changed
 abbrev pub IsUnchanged : Answer → Type 0
 IsUnchanged Unchanged = Unit {0}
 IsUnchanged (Repair choice k circuit journal) = ⊥
 IsUnchanged (NoRepair circuit journal) = ⊥
-IsUnchanged (Spent bound circuit journal) = ⊥
+IsUnchanged (Spent bound circuit journal found) = ⊥
 
 -- what is left open is whether fewer than k changes do
 abbrev pub IsOpenBelow : ℕ → Answer → Type 0
 IsOpenBelow k Unchanged = Unit {0}
 IsOpenBelow k (Repair choice cost circuit journal) = Unit {0}
 IsOpenBelow k (NoRepair circuit journal) = Unit {0}
-IsOpenBelow k (Spent bound circuit journal) = bound < k
+IsOpenBelow k (Spent bound circuit journal found) = bound < k

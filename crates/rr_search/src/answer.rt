@@ -37,10 +37,13 @@ pub enum Answer {
         journal: Journal,
     },
     /// Whether a cost of at most `bound` repairs it is left open; the circuit that asks so, and the joined
-    /// lines of all members, each of which has learned its budget.
+    /// lines of all members, each of which has learned its budget. Where `bound` is below the number of
+    /// sites, `found` is a choice of cost `bound + 1` that repairs it; where it is that number, `found` is
+    /// `None`.
     Spent {
         bound: u32,
         circuit: Circuit,
         journal: Journal,
+        found: Option<Choice>,
     },
 }

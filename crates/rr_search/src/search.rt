@@ -49,6 +49,7 @@ fn lower<R: Threads + Sync>(
                     bound: k - 1,
                     circuit,
                     journal,
+                    found: Some(best),
                 });
             }
         }
@@ -72,6 +73,7 @@ fn from_all<R: Threads + Sync>(rt: &R, alloc: Global, job: &Job) -> Result<Answe
             bound,
             circuit,
             journal,
+            found: None,
         }),
     }
 }
@@ -98,7 +100,8 @@ fn from_choice<R: Threads + Sync>(
 /// The least repair of the design that a job stands for. The design as it is is tested first, and then
 /// each proposal, over the whole table. Then bounds are asked downwards, from the cost of the cheapest
 /// proposal that mends the design less 1, or else from the number of sites; a choice that satisfies a
-/// question mends the design, and the next bound is its cost less 1. One question stands at a time.
+/// question mends the design, and the next bound is its cost less 1. One question stands at a time. Where
+/// its lines are spent, the cheapest choice that was found to mend the design goes with the answer.
 ///
 /// What is answered holds of every design that has the sites and the transition. The proposals are
 /// choices of the sites; what is left open is below the cost of each that mends the design.

@@ -281,13 +281,14 @@ fn always_one(alloc: Global) -> Result<Table, AllocError> {
     table_of(alloc, &[0, 1, 2, 3, 4, 5, 6, 7], &[1; 8])
 }
 
-/// The number of lines where the question for three changes is left open.
+/// The number of lines where the question for three changes is left open, and nothing was found.
 fn lines_left(answer: &Option<Answer>) -> Option<usize> {
     match answer {
         Some(
             Answer::Spent {
                 bound: 3,
                 journal,
+                found: None,
                 ..
             },
         ) => Some(journal.lines().len()),
@@ -304,6 +305,43 @@ fn a_spent_budget(rt: HostRuntime) -> Result<(), Fail> {
     assert!(rt; lines_left(&two) == Some(2));
     let four = of_three(&rt, rt.alloc(), &table, 1, 4)?;
     assert!(rt; lines_left(&four) == Some(4));
+    Ok(())
+}
+
+/// The table where the output of the second circuit is to be 1 for the inputs with at most one 1, so that
+/// at least two literals are to be changed.
+fn two_of_three(alloc: Global) -> Result<Table, AllocError> {
+    table_of(alloc, &[0, 1, 2, 4], &[1; 4])
+}
+
+/// The bound that is left open, and the number of changes that were found to mend.
+fn found_above(answer: &Option<Answer>) -> Option<(u32, usize)> {
+    match answer {
+        Some(
+            Answer::Spent {
+                bound,
+                found: Some(choice),
+                ..
+            },
+        ) => {
+            let changes = choice.picks.iter().filter(|pick| pick.on).count();
+            Some((*bound, changes))
+        }
+        _ => None,
+    }
+}
+
+// One line is too few for the question of three changes, two lines settle it and not that of one change,
+// and ten lines settle both.
+#[test]
+fn what_is_found_goes_with_a_spent_budget(rt: HostRuntime) -> Result<(), Fail> {
+    let table = two_of_three(rt.alloc())?;
+    let none = of_three(&rt, rt.alloc(), &table, 1, 1)?;
+    assert!(rt; lines_left(&none) == Some(1));
+    let some = of_three(&rt, rt.alloc(), &table, 2, 1)?;
+    assert!(rt; found_above(&some) == Some((1, 2)));
+    let all = of_three(&rt, rt.alloc(), &table, 10, 1)?;
+    assert!(rt; changes(&all) == Some(2));
     Ok(())
 }
 

@@ -1,5 +1,5 @@
 -- What follows from how a run ends.
-use Rattle.std.proofs.Common.{◌≡◌, ◌∙◌, ◌⊎◌, inl, inr, refl, sym, ap, subst, ◌<◌, ℕ, List, [], ◌∷◌, length, arith}
+use Rattle.std.proofs.Common.{◌≡◌, ◌∙◌, ◌⊎◌, inl, inr, refl, sym, ap, subst, ◌<◌, ◌+◌, ℕ, List, [], ◌∷◌, length, arith}
 use Rattle.std.specs.Prelude.{Option, Some, None, MatchOption}
 use Rattle.std.specs.Io.KnownBytes.{Appends}
 use Rattle.rr_edge.specs.Faults.{Faulted}
@@ -26,9 +26,9 @@ use Rattle.rr_effects.specs.Delivery.{Delivers, Reports, with_files}
 use Rattle.rr_answers.specs.Texts.{unchanged_text}
 use Rattle.rr_repair.specs.Repairs.{AnswersRepair, PlainRequest}
 use Rattle.rr_repair.specs.Laws.{TellsOutcome}
-use Rattle.rr_repair.specs.Outcomes.{IsAsItWas}
+use Rattle.rr_repair.specs.Outcomes.{IsAsItWas, IsMatchingSource}
 use Rattle.rr_repair.proofs.Once.{matching_mends}
-use Rattle.rr_repair.proofs.Told.{ample_settles, each_answer, matching_stays}
+use Rattle.rr_repair.proofs.Told.{ample_settles, each_answer, matching_stays, prints_found}
 use Rattle.rr_make.specs.Makes.{TellsMake}
 use Rattle.rr_make.proofs.Once.{each_make}
 use Rattle.rr_top.specs.Outcomes.{Outcome, mended, unmendable, ran, listed, checked, made, IsToldBy, Tells, outcome_status, verdict_status}
@@ -279,7 +279,7 @@ outcome_low (made text) = inl refl
 due_status : (plan : Plan) (told : Option Held) (answer : Answer) → Due (command_of_plan plan) told answer → (answer.status ≡ 0) ⊎ ((answer.status ≡ 1) ⊎ ((answer.status ≡ 2) × AsksRepair plan))
 due_status plan told answer due = elim ((one_in_table plan).answered due.files answer due.answers) [
   | inl (outcome, (comes, is)) ↦ elim (outcome_low outcome) [ inl e ↦ inl (is.status ∙ e) | inr e ↦ inr (inl (is.status ∙ e)) ]
-  | inr left ↦ inr (inr (((one_in_table plan).open_status due.files answer left).0, left_asks plan due.files answer left))
+  | inr left ↦ inr (inr ((one_in_table plan).open_status due.files answer left, left_asks plan due.files answer left))
 ]
 
 -- .. which is 2 at most
@@ -311,11 +311,32 @@ module _ (r : Execution) (answer : Answer) (shelf : HoldsFiles r answer) (out : 
         record { design = two.first; table = two.second; given = both_given; answer = answer; none = told.0; printed = rw told.0.is.printed at out; reported = notes; shelf = shelf }
     despairs_told (inr (inr told)) one = absurd (omega (arith, told.1, one))
 
+    -- what a repair prints that is left open
+    module _ (bound count : ℕ) where
+      nothing_put : bound ≡ count → ((bound ≡ count) × (answer.out ≡ [])) ⊎ ((bound < count) × IsMatchingSource w two.first two.second (bound + 1) answer.out) → Appends r.before.out r.after.out []
+      nothing_put all (inl n) = rw n.1 at out
+      nothing_put all (inr f) = absurd (omega (arith, all, f.0))
+
+      found_put : bound < count → ((bound ≡ count) × (answer.out ≡ [])) ⊎ ((bound < count) × IsMatchingSource w two.first two.second (bound + 1) answer.out)
+          → IsMatchingSource w two.first two.second (bound + 1) answer.out
+      found_put below (inl n) = absurd (omega (arith, below, n.0))
+      found_put below (inr f) = f.1
+
     opens_told : TellsOutcome w two.first two.second answer → answer.status ≡ 2 → IsUnsettled r d t w
     opens_told (inl told) left = absurd (omega (arith, told.1.1, left))
     opens_told (inr (inl told)) left = absurd (omega (arith, told.1.1, left))
-    opens_told (inr (inr told)) left =
-        record { design = two.first; table = two.second; given = both_given; answer = answer; left = told.0; printed = rw told.0.is.printed at out; reported = notes; shelf = shelf }
+    opens_told (inr (inr told)) left = record {
+      design = two.first;
+      table = two.second;
+      given = both_given;
+      answer = answer;
+      left = told.0;
+      printed = out;
+      unchanged = λ all. nothing_put told.0.is.bound (length told.0.sites) all (prints_found w two.first two.second answer told.0);
+      matching = λ below. found_put told.0.is.bound (length told.0.sites) below (prints_found w two.first two.second answer told.0);
+      reported = notes;
+      shelf = shelf;
+    }
 
     told_in : TellsOutcome w two.first two.second answer
     told_in = each_answer w two.first two.second answer two.holds
@@ -394,7 +415,7 @@ module _ (r : Execution) (answer : Answer) (shelf : HoldsFiles r answer) (out : 
   made_open_told : (s : ℕ) (c : List ℕ) → TellsMake s c answer → answer.status ≡ 2 → IsUndecided r s c
   made_open_told s c (inl told) left = absurd (omega (arith, told.1.1, left))
   made_open_told s c (inr (inl told)) left = absurd (omega (arith, told.1.1, left))
-  made_open_told s c (inr (inr told)) left = record { answer = answer; left = told.0; printed = rw told.0.is.printed at out; reported = notes; shelf = shelf }
+  made_open_told s c (inr (inr told)) left = record { answer = answer; left = told.0; printed = rw told.0.printed at out; reported = notes; shelf = shelf }
 
   mends_due : (plan : Plan) → Due (command_of_plan plan) r.before.held answer → answer.status ≡ 0 → HasDone r plan
   mends_due (repair d t cert top clock budget members) due zero =
@@ -549,7 +570,7 @@ module _ (r : Execution) (o : Option Plan) where
     open_follows : (v : Expected) (answer : Answer) → Judges (command_of_plan plan) held v → (due : Due (command_of_plan plan) (Some held) answer) → (command_of_plan plan).leaves_open due.files answer
         → r.status ≡ answer.status → Follows r v
     open_follows v answer judged due left s =
-        inr (inr (inr (s ∙ (one.open_status due.files answer left).0, open_expected (command_of_plan plan) one held due.files answer due.given left v judged)))
+        inr (inr (inr (s ∙ one.open_status due.files answer left, open_expected (command_of_plan plan) one held due.files answer due.given left v judged)))
 
     told_follows : (v : Expected) (answer : Answer) (outcome : Outcome) → Judges (command_of_plan plan) held v → (due : Due (command_of_plan plan) (Some held) answer)
         → (command_of_plan plan).comes_to due.files outcome → IsToldBy outcome answer → Appends r.before.out r.after.out answer.out → Appends r.notes_before r.notes_after answer.notes → r.status ≡ answer.status → Follows r v

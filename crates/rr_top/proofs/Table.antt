@@ -20,7 +20,7 @@ use Rattle.rr_repair.specs.Repairs.{AnswersRepair, IsTaken, RefusesRepair, Plain
 use Rattle.rr_repair.specs.Laws.{TellsOutcome}
 use Rattle.rr_repair.specs.Outcomes.{IsLeftOpen}
 use Rattle.rr_repair.proofs.Once.{mendable_or_not, one_refusal as one_repair_refusal, taken_or_refused}
-use Rattle.rr_repair.proofs.Told.{each_answer}
+use Rattle.rr_repair.proofs.Told.{each_answer, printed_is_mendable}
 use Rattle.rr_made.specs.Made.{made_design, made_table}
 use Rattle.rr_make.specs.Makes.{RefusesMake, TellsMake, made_request}
 use Rattle.rr_make.proofs.Once.{each_make, one_summary, summary_or_none}
@@ -128,13 +128,20 @@ module _ (d t : List ℕ) (w : PlainRequest) where
   ]
   repair_answered (x ∷ (y ∷ (z ∷ files))) answer a = absurd a
 
+  repair_printed : (files : List (List ℕ)) (answer : Answer) → WhereTwo files (λ x y. IsLeftOpen w x y answer) → (answer.out ≡ []) ⊎ WhereTwo files (λ x y. ComesToRepair w x y mended)
+  repair_printed [] answer a = absurd a
+  repair_printed (x ∷ []) answer a = absurd a
+  repair_printed (x ∷ (y ∷ [])) answer a = printed_is_mendable w x y answer a
+  repair_printed (x ∷ (y ∷ (z ∷ files))) answer a = absurd a
+
   repair_one : HasOneOutcome (repair_command d t w)
   repair_one = record {
     one_refusal = λ files a b p q. both files (λ x y. RefusesRepair w x y a) (λ x y. RefusesRepair w x y b) p q (λ x y u v. repair_refusals w x y a b u v);
     done_or_refused = λ files v a p q. both files (λ x y. ComesToRepair w x y v) (λ x y. RefusesRepair w x y a) p q (λ x y u r. repair_or_refused w x y v a u r);
     one_outcome = λ files v u p q. both files (λ x y. ComesToRepair w x y v) (λ x y. ComesToRepair w x y u) p q (λ x y a b. repair_outcome w x y v u a b);
     answered = repair_answered;
-    open_status = λ files answer a. of_two files (λ x y. IsLeftOpen w x y answer) a (λ x y u. (u.is.status, u.is.printed));
+    open_status = λ files answer a. of_two files (λ x y. IsLeftOpen w x y answer) a (λ x y u. u.is.status);
+    open_printed = repair_printed;
     open_or_refused = λ files answer a p q. both files (λ x y. IsLeftOpen w x y answer) (λ x y. RefusesRepair w x y a) p q (λ x y u r. not_refused w x y a u.taken r);
     open_outcome = λ files answer v p q. both files (λ x y. IsLeftOpen w x y answer) (λ x y. ComesToRepair w x y v) p q (λ x y u r. repair_alone w x y v r);
   }
@@ -185,6 +192,7 @@ module _ (d t : List ℕ) (top clock : Option (List ℕ)) where
     one_outcome = λ files v w p q. both files (λ x y. ComesToRun (kind_of t) top clock x y v) (λ x y. ComesToRun (kind_of t) top clock x y w) p q (λ x y u z. run_outcome (kind_of t) top clock x y v w u z);
     answered = λ files answer a. inl (each_two files answer (λ x y. AnswersRun (kind_of t) top clock x y answer) (λ x y v. ComesToRun (kind_of t) top clock x y v) a (λ x y u. run_told (kind_of t) top clock x y answer u));
     open_status = λ files answer left. absurd left;
+    open_printed = λ files answer left. absurd left;
     open_or_refused = λ files answer refusal left refused. left;
     open_outcome = λ files answer outcome left comes. absurd left;
   }
@@ -238,6 +246,7 @@ module _ (d : List ℕ) (top clock : Option (List ℕ)) where
     one_outcome = λ files v w p q. both_of_one files (λ x. ComesToSites top clock x v) (λ x. ComesToSites top clock x w) p q (λ x u z. sites_outcome top clock x v w u z);
     answered = λ files answer a. inl (told_of_one files answer (λ x. AnswersSites top clock x answer) (λ x v. ComesToSites top clock x v) a (λ x u. sites_told top clock x answer u));
     open_status = λ files answer left. absurd left;
+    open_printed = λ files answer left. absurd left;
     open_or_refused = λ files answer refusal left refused. left;
     open_outcome = λ files answer outcome left comes. absurd left;
   }
@@ -293,6 +302,7 @@ module _ (c f : List ℕ) where
     one_outcome = λ files v w p q. both files (λ x y. ComesToCheck x y v) (λ x y. ComesToCheck x y w) p q (λ x y u z. check_outcome x y v w u z);
     answered = λ files answer a. inl (each_two files answer (λ x y. AnswersCheck x y answer) (λ x y v. ComesToCheck x y v) a (λ x y u. check_told x y answer u));
     open_status = λ files answer left. absurd left;
+    open_printed = λ files answer left. absurd left;
     open_or_refused = λ files answer refusal left refused. left;
     open_outcome = λ files answer outcome left comes. absurd left;
   }
@@ -351,8 +361,9 @@ module _ (seed : ℕ) (cert : List ℕ) where
     done_or_refused = λ files v a p q. make_or_refused v a p q;
     one_outcome = λ files v w p q. make_outcome v w p q;
     answered = λ files answer a. make_told files answer (each_make seed cert answer a);
-    open_status = λ files answer left. (left.is.status, left.is.printed);
-    open_or_refused = λ files answer a left refused. make_not_refused a left.taken refused;
+    open_status = λ files answer left. left.status;
+    open_printed = λ files answer left. inl left.printed;
+    open_or_refused = λ files answer a left refused. make_not_refused a left.left.taken refused;
     open_outcome = λ files answer v left comes. make_alone v comes;
   }
 

@@ -227,13 +227,15 @@ abbrev pub TellsOrLeavesOpen : Command → List (List ℕ) → Answer → Type 0
 TellsOrLeavesOpen command files answer = ((outcome : Outcome) × (command.comes_to files outcome × IsToldBy outcome answer)) ⊎ command.leaves_open files answer
 
 -- Files decide a command once: it has one refusal for them, or it comes to one outcome by them, which each of its answers
--- tells, but for those that leave open which outcome of a repair it is: these have status 2 and print nothing.
+-- tells, but for those that leave open which outcome of a repair it is: these have status 2, and print nothing where no choice
+-- matches.
 pub record HasOneOutcome (command : Command) : Type 0 where
   pub one_refusal : (files : List (List ℕ)) (a b : Refusal) → command.refuses files a → command.refuses files b → IsSameRefusal a b
   pub done_or_refused : (files : List (List ℕ)) (outcome : Outcome) (refusal : Refusal) → command.comes_to files outcome → command.refuses files refusal → ⊥
   pub one_outcome : (files : List (List ℕ)) (v w : Outcome) → command.comes_to files v → command.comes_to files w → v ≡ w
   pub answered : (files : List (List ℕ)) (answer : Answer) → command.answers files answer → TellsOrLeavesOpen command files answer
-  pub open_status : (files : List (List ℕ)) (answer : Answer) → command.leaves_open files answer → (answer.status ≡ 2) × (answer.out ≡ [])
+  pub open_status : (files : List (List ℕ)) (answer : Answer) → command.leaves_open files answer → answer.status ≡ 2
+  pub open_printed : (files : List (List ℕ)) (answer : Answer) → command.leaves_open files answer → (answer.out ≡ []) ⊎ command.comes_to files mended
   pub open_or_refused : (files : List (List ℕ)) (answer : Answer) (refusal : Refusal) → command.leaves_open files answer → command.refuses files refusal → ⊥
   pub open_outcome : (files : List (List ℕ)) (answer : Answer) (outcome : Outcome) → command.leaves_open files answer → command.comes_to files outcome → IsOfRepair outcome
 

@@ -1,5 +1,5 @@
 -- How a run ends, what it reports, and its status.
-use Rattle.std.specs.Prelude.{◌≡◌, ◌≢◌, ◌⊎◌, ◌<◌, ℕ, List, [], ◌∷◌, length, take, Option, Some, None, MatchOption, ⊤}
+use Rattle.std.specs.Prelude.{◌≡◌, ◌≢◌, ◌⊎◌, ◌<◌, ◌+◌, ℕ, List, [], ◌∷◌, length, take, Option, Some, None, MatchOption, ⊤}
 use Rattle.std.specs.Io.KnownBytes.{Appends}
 use Rattle.rr_edge.specs.Held.{Held}
 use Rattle.rr_edge.specs.Faults.{Faulted, NoFault}
@@ -26,7 +26,7 @@ use Rattle.rr_effects.specs.Reads.{AbsentAt, Gave, IsRead}
 use Rattle.rr_effects.specs.Delivery.{Reports, StopsAtWrite, file_at, with_files}
 use Rattle.rr_answers.specs.Texts.{unchanged_text}
 use Rattle.rr_repair.specs.Repairs.{PlainRequest}
-use Rattle.rr_repair.specs.Outcomes.{IsAmple, IsDespaired, IsLeftOpen, IsMatching, IsMended}
+use Rattle.rr_repair.specs.Outcomes.{IsAmple, IsDespaired, IsLeftOpen, IsMatching, IsMatchingSource, IsMended}
 use Rattle.rr_made.specs.Made.{made_design, made_table}
 use Rattle.rr_make.specs.Makes.{IsMadeCount, IsMadeOpen, IsUnmade, made_request, summary}
 use Rattle.rr_top.specs.Outcomes.{Outcome, mended, unmendable, ran, listed, checked, made}
@@ -96,15 +96,19 @@ pub record IsBeyondRepair (r : Execution) (design_name table_name : List ℕ) (w
   pub reported : Appends r.notes_before r.notes_after answer.notes
   pub shelf : HoldsFiles r answer
 
--- Status 2 of `repair`: the design and the table were read, whether so many changes match is left open, nothing was put out,
--- and the shelf holds the question with the fresh lines that each member learned.
+-- Status 2 of `repair`: the design and the table were read, whether so many changes match is left open, and the shelf holds the
+-- question with the fresh lines that each member learned. Where these are changes of all sites, nothing was put out; where they
+-- are fewer, the output has grown by exactly the source with a choice of one change more printed into it, whose tree is the
+-- choice's instance, which matches every known cell.
 pub record IsUnsettled (r : Execution) (design_name table_name : List ℕ) (w : PlainRequest) : Type 0 where
   pub design : List ℕ
   pub table : List ℕ
   pub given : BothGiven r.before.held design_name table_name design table
   pub answer : Answer
   pub left : IsLeftOpen w design table answer
-  pub printed : Appends r.before.out r.after.out []
+  pub printed : Appends r.before.out r.after.out answer.out
+  pub unchanged : left.is.bound ≡ length left.sites → Appends r.before.out r.after.out []
+  pub matching : left.is.bound < length left.sites → IsMatchingSource w design table (left.is.bound + 1) answer.out
   pub reported : Appends r.notes_before r.notes_after answer.notes
   pub shelf : HoldsFiles r answer
 
@@ -166,8 +170,9 @@ pub record IsNotMade (r : Execution) (seed : ℕ) (cert : List ℕ) : Type 0 whe
   pub reported : Appends r.notes_before r.notes_after answer.notes
   pub shelf : HoldsFiles r answer
 
--- Status 2 of `make`: whether so many changes match is left open, nothing was put out, and the shelf holds the question with
--- the fresh lines that each member learned.
+-- Status 2 of `make`: whether so many changes match is left open, nothing was put out, also where a choice was found that
+-- matches, the notes have grown by the report of a repair, and the shelf holds the question with the fresh lines that each
+-- member learned.
 pub record IsUndecided (r : Execution) (seed : ℕ) (cert : List ℕ) : Type 0 where
   pub answer : Answer
   pub left : IsMadeOpen seed cert answer

@@ -109,7 +109,8 @@ fn conduct<R: Threads + Sync, H: Shelf, K: Sink, E: Sink>(
 /// Runs the command that the arguments name, the first of which is the program's own name, over a shelf,
 /// an output and a report, and answers the program's status: 0 done, 1 no repair or a certificate that
 /// does not hold, 2 a repair that is left open, 3 refused input, 4 a fault or an absent name, 5 want of
-/// memory, 6 usage.
+/// memory, 6 usage. The output grows at no status but 0, 2 of `repair` where a choice was found that
+/// matches, 1 of `check`, and 4 where a put on the output or on the report failed.
 ///
 /// The commands are `repair DESIGN TABLE CERT`, `run DESIGN TABLE`, `sites DESIGN`,
 /// `check CIRCUIT PROOF` and `make SEED CERT`, which reads nothing. A TABLE whose name ends with `.vcd` is
@@ -135,12 +136,12 @@ pub fn run<R: Threads + Sync, H: Shelf, K: Sink, E: Sink>(
 
     // Status 0. Of `repair`: the bytes put out are the design as it is, which matches every known cell, and the shelf
     // stays; or they are printed from an instance of the design with k changes, whose tree they have, which matches
-    // every known cell, no instance with fewer does, and the shelf holds the refutation of fewer. Of `run`: the bytes put out are the table of the
-    // rows that were read with the outputs of the one run of the design on them. Of `sites`: the bytes put out are the
-    // lines of the sites of the design that was read. Of `check`: `accepted` is put out, and the proof that was read
-    // refutes the formula of the circuit that was read. Of `make`: the bytes put out are the summary of the seed, which
-    // tells the least number of changes with which its design matches its table, and the shelf holds the files of such a
-    // repair.
+    // every known cell, no instance with fewer does, and the shelf holds the refutation of fewer. Of `run`: the bytes put
+    // out are the table of the rows that were read with the outputs of the one run of the design on them. Of `sites`: the
+    // bytes put out are the lines of the sites of the design that was read. Of `check`: `accepted` is put out, and the proof
+    // that was read refutes the formula of the circuit that was read. Of `make`: the bytes put out are the summary of the
+    // seed, which tells the least number of changes with which its design matches its table, and the shelf holds the files
+    // of such a repair.
     ensures done { result ≡ 0 → WhereCommand (map string_bytes arguments.now) (HasDone
         (execution (map string_bytes arguments.now)
         (outside (H.told shelf.old) (H.faults shelf.old) (K.written out.old) (K.faults out.old))
@@ -159,8 +160,11 @@ pub fn run<R: Threads + Sync, H: Shelf, K: Sink, E: Sink>(
         (outside (H.told shelf.new) (H.faults shelf.new) (K.written out.new) (K.faults out.new))
         (E.written notes.old) (E.written notes.new) (E.faults notes.old) (E.faults notes.new) result)) }
 
-    // Status 2, of `repair` and `make` alone: whether so many changes match is open, nothing is put out, and the shelf holds the
-    // question, with as many fresh lines of each member as it may learn.
+    // Status 2, of `repair` and `make` alone: whether so many changes match is open, and the shelf holds the question, with as
+    // many fresh lines of each member as it may learn. Of `repair`: where these are changes of all sites, nothing is put out;
+    // where they are fewer, the bytes put out are printed from an instance of the design with one change more, whose tree they
+    // have, which matches every known cell, and nothing says that no instance with fewer does. Of `make`: nothing is put out,
+    // and what such a repair reports is reported.
     ensures left_open { result ≡ 2 → WhereCommand (map string_bytes arguments.now) (LeavesOpen
         (execution (map string_bytes arguments.now)
         (outside (H.told shelf.old) (H.faults shelf.old) (K.written out.old) (K.faults out.old))

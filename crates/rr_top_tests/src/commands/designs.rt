@@ -15,6 +15,17 @@ pub(crate) const RESETS: &str =
 
 pub(crate) const RESETS_TABLE: &str = "rst,p,q\n1,0,0\n0,0,0\n0,1,1\n0,2,2\n";
 
+/// The source with the two changes that a budget of one line finds.
+pub(crate) const FOUND_RESETS: &str =
+    "module m(input clk, input rst, output reg [3:0] p, output reg [3:0] q);\n  always @(posedge clk) if (rst) p <= 4'd0; else p <= p +  4'h1 ;\n  always @(posedge clk) if (rst) q <= 4'd0; else q <= q +  4'h1 ;\nendmodule\n";
+
+/// Its output is 1 where an input differs from its literal.
+pub(crate) const LOCK: &str =
+    "module m(input a, input b, input c, output y);\n  assign y = (a ^ 1'b0) | (b ^ 1'b0) | (c ^ 1'b0);\nendmodule\n";
+
+pub(crate) const LOCK_TABLE: &str =
+    "a,b,c,y\n0,0,0,1\n0,0,1,1\n0,1,0,1\n0,1,1,1\n1,0,0,1\n1,0,1,1\n1,1,0,1\n1,1,1,1\n";
+
 pub(crate) const WIRE: &str = "module m(input a, output y); assign y = a; endmodule\n";
 
 pub(crate) const WIRE_TABLE: &str = "a,y\n0,0\n0,1\n";

@@ -1,7 +1,6 @@
 //! Repairs whose certificates are checked and whose sources are run again.
 use crate::commands::designs::{
-    COUNTER, COUNTER_TABLE, RESETS, RESETS_TABLE, TRANSMITTER, TRANSMITTER_TABLE, TWO, TWO_TABLE,
-    WIRE, WIRE_TABLE,
+    COUNTER, COUNTER_TABLE, TRANSMITTER, TRANSMITTER_TABLE, TWO, TWO_TABLE, WIRE, WIRE_TABLE,
 };
 use crate::shelves::{Fails, NO_FAILS, NONE, command, leaves, shelf_of};
 use std::alloc::Global;
@@ -111,21 +110,6 @@ fn a_small_room(rt: HostRuntime) -> Result<(), Fail> {
     assert!(rt; shelf.held("c.aag").is_some());
     assert!(rt; shelf.held("c.cnf").is_some());
     assert!(rt; shelf.held("c.lrat").is_some());
-    Ok(())
-}
-
-// One line is too few to show that one change does not mend both counters.
-#[test]
-fn a_spent_budget(rt: HostRuntime) -> Result<(), Fail> {
-    let alloc = rt.alloc();
-    let mut shelf = shelf_of(alloc, NONE, RESETS, RESETS_TABLE)?;
-    let line = "rtl_repair repair d.v t.csv c --budget 1 --members 1";
-    let found = command(&rt, alloc, &mut shelf, line, NO_FAILS)?;
-    assert!(rt; leaves(&found, 2, "", "budget spent 1 bound 1\n"));
-    assert!(rt; shelf.held("c.lrat").is_some());
-    let check = "rtl_repair check c.aag c.lrat";
-    let verdict = command(&rt, alloc, &mut shelf, check, NO_FAILS)?;
-    assert!(rt; leaves(&verdict, 1, "no empty clause\n", ""));
     Ok(())
 }
 

@@ -1,8 +1,11 @@
 //! Each call of a repair failing in turn: what is printed, what is told, and which files are whole.
+use crate::commands::designs::{FOUND_RESETS, RESETS, RESETS_TABLE};
 use crate::hostile::designs::{COUNTER, COUNTER_TABLE, MENDED_COUNTER};
 use crate::shelves::{Fails, NO_FAILS, NONE, command, leaves, shelf_of};
 use rr_edge::MemoryShelf;
+use std::alloc::Global;
 use std::test::Fail;
+use std::thread::Threads;
 
 /// Which calls fail, and what is wanted: so many files of the certificate are whole.
 #[derive(Clone, Copy)]
@@ -93,11 +96,80 @@ const FAULTS: [Fault; 8] = [
     },
 ];
 
+/// Nothing fails, and the repair is left open with a choice that was found.
+const OPEN: Fault = Fault {
+    fails: NO_FAILS,
+    status: 2,
+    out: FOUND_RESETS,
+    notes: "budget spent 1 bound 1\nfound 2\nsite 3 literal 130 4'h1\nsite 7 literal 194 4'h1\n",
+    whole: 3,
+};
+
+/// One of the five writes of such a repair fails.
+const OF_OPEN: Fault = Fault {
+    status: 4,
+    out: "",
+    ..OPEN
+};
+
+const OPEN_FAULTS: [Fault; 6] = [
+    OPEN,
+    Fault {
+        fails: Fails {
+            shelf: 2,
+            ..NO_FAILS
+        },
+        notes: "fault write c.aag\n",
+        whole: 0,
+        ..OF_OPEN
+    },
+    Fault {
+        fails: Fails {
+            shelf: 3,
+            ..NO_FAILS
+        },
+        notes: "fault write c.cnf\n",
+        whole: 1,
+        ..OF_OPEN
+    },
+    Fault {
+        fails: Fails {
+            shelf: 4,
+            ..NO_FAILS
+        },
+        notes: "fault write c.lrat\n",
+        whole: 2,
+        ..OF_OPEN
+    },
+    Fault {
+        fails: Fails { out: 0, ..NO_FAILS },
+        notes: "fault out\n",
+        ..OF_OPEN
+    },
+    Fault {
+        fails: Fails {
+            notes: 0,
+            ..NO_FAILS
+        },
+        status: 4,
+        notes: "",
+        ..OPEN
+    },
+];
+
 const CERTIFICATE: [&str; 3] = ["c.aag", "c.cnf", "c.lrat"];
+
+/// A design, its table, and the line of its repair.
+#[derive(Clone, Copy)]
+struct Repair {
+    design: &'static str,
+    table: &'static str,
+    line: &'static str,
+}
 
 /// Whether so many files of the certificate are those of another shelf, the others are as before, and the design and the
 /// table are as they were.
-fn keeps(shelf: &MemoryShelf, fine: &MemoryShelf, whole: usize) -> bool {
+fn keeps(shelf: &MemoryShelf, fine: &MemoryShelf, whole: usize, repair: Repair) -> bool {
     for (held, name) in CERTIFICATE.iter().enumerate() {
         let due = if held < whole {
             fine.held(*name)
@@ -108,29 +180,54 @@ fn keeps(shelf: &MemoryShelf, fine: &MemoryShelf, whole: usize) -> bool {
             return false;
         }
     }
-    shelf.held("d.v") == Some(COUNTER.as_bytes())
-        && shelf.held("t.csv") == Some(COUNTER_TABLE.as_bytes())
+    shelf.held("d.v") == Some(repair.design.as_bytes())
+        && shelf.held("t.csv") == Some(repair.table.as_bytes())
 }
 
-const REPAIR: &str = "rtl_repair repair d.v t.csv c";
-
-#[test]
-fn each_call_fails_in_turn(rt: HostRuntime) -> Result<(), Fail> {
-    let alloc = rt.alloc();
-    let mut fine = shelf_of(alloc, NONE, COUNTER, COUNTER_TABLE)?;
-    command(&rt, alloc, &mut fine, REPAIR, NO_FAILS)?;
-    for case in FAULTS.iter() {
-        let mut shelf = shelf_of(alloc, case.fails.shelf, COUNTER, COUNTER_TABLE)?;
+/// The report of the first of these faults that does not end as it is to.
+fn first_wrong<R: Threads + Sync>(
+    rt: &R,
+    alloc: Global,
+    repair: Repair,
+    faults: &[Fault],
+) -> Result<Option<&'static str>, Fail> {
+    let mut fine = shelf_of(alloc, NONE, repair.design, repair.table)?;
+    command(rt, alloc, &mut fine, repair.line, NO_FAILS)?;
+    for case in faults.iter() {
+        let mut shelf = shelf_of(alloc, case.fails.shelf, repair.design, repair.table)?;
         for name in CERTIFICATE.iter() {
             shelf.place(*name, b"old")?;
         }
-        let found = command(&rt, alloc, &mut shelf, REPAIR, case.fails)?;
-        assert!(rt;
-            leaves(&found, case.status, case.out, case.notes),
-            "{}",
-            case.notes
-        );
-        assert!(rt; keeps(&shelf, &fine, case.whole), "{}", case.notes);
+        let found = command(rt, alloc, &mut shelf, repair.line, case.fails)?;
+        if !leaves(&found, case.status, case.out, case.notes)
+            || !keeps(&shelf, &fine, case.whole, repair)
+        {
+            return Ok(Some(case.notes));
+        }
     }
+    Ok(None)
+}
+
+#[test]
+fn each_call_fails_in_turn(rt: HostRuntime) -> Result<(), Fail> {
+    let repair = Repair {
+        design: COUNTER,
+        table: COUNTER_TABLE,
+        line: "rtl_repair repair d.v t.csv c",
+    };
+    let wrong = first_wrong(&rt, rt.alloc(), repair, &FAULTS)?;
+    assert!(rt; wrong.is_none(), "{}", wrong.unwrap_or(""));
+    Ok(())
+}
+
+#[test]
+fn each_write_of_an_open_repair_fails_in_turn(rt: HostRuntime) -> Result<(), Fail> {
+    let repair = Repair {
+        design: RESETS,
+        table: RESETS_TABLE,
+        line: "rtl_repair repair d.v t.csv c --budget 1 --members 1",
+    };
+    let wrong = first_wrong(&rt, rt.alloc(), repair, &OPEN_FAULTS)?;
+    assert!(rt; wrong.is_none(), "{}", wrong.unwrap_or(""));
     Ok(())
 }

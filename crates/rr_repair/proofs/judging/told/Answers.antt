@@ -1,4 +1,4 @@
-use Rattle.std.proofs.Common.{arith}
+use Rattle.std.proofs.Common.{inr, arith}
 use Rattle.rr_syntax.specs.View.{plain_source}
 use Rattle.rr_lex.specs.Tokens.{lexemes}
 use Rattle.rr_report.specs.Views.{plain_answer}
@@ -26,3 +26,6 @@ returns-in_ok-found-in-NoRepair-clause-answer c =
     let e = c.in_ok-found-in-NoRepair.ensures in
     beyond_told (plain_request c.args.request.now) c.args.bytes.now (lexemes c.args.design.now.tokens.now) (plain_source c.args.design.now.source.now) (task_of c.args.job.now) (plain_answer c.in_ok-found-in-NoRepair.found)
     _ c.in-NoRepair.circuit c.in-NoRepair.journal (rw c.in-NoRepair.is at c.requires.found) (plain_count c.sites-sites.result.now c.args.job.now.list.now c.sites-sites.ensures.same) e.files e.accepted e.printed e.notes e.status
+
+pub told_open-requires-clause-left : goal.told_open-requires-clause-left
+told_open-requires-clause-left c = rw c.in-Spent.is at c.requires.found

@@ -1,7 +1,7 @@
 use Rattle.std.proofs.Common.{string_bytes, arith}
 use Rattle.rr_lex.specs.Tokens.{lexemes}
 use Rattle.rr_changes.proofs.TextLaws.{Written-more, Written-all, got_again, plain_count, plain_here, site_here}
-use Rattle.rr_changes.proofs.lines.push_lines.Goals as goal
+use Rattle.rr_changes.proofs.lines.push_site_lines.Goals as goal
 
 -- src/lines.rt
 pub push_if_on-requires : goal.push_if_on-requires

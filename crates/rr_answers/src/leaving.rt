@@ -1,0 +1,118 @@
+//! The answers that leave a question open, with what was found to match or without.
+ghost use Rattle.std.specs.Prelude.{◌≡◌, ◌<◌, ◌^◌, [], IfOk, length, string_bytes};
+ghost use Rattle.rr_syntax.specs.Items.{NumberedSource};
+ghost use Rattle.rr_syntax.specs.View.{plain_source};
+ghost use Rattle.rr_lex.specs.Tokens.{lexemes, words_of, AreTokens};
+ghost use Rattle.rr_grammar.specs.Trees.{IsTree, Spells};
+ghost use Rattle.rr_instance.specs.Instances.{instance_source};
+ghost use Rattle.rr_report.specs.Views.{plain_answer};
+ghost use Rattle.rr_respell.specs.Laws.{AreNamed};
+ghost use Rattle.rr_respell.specs.Printing.{printed};
+ghost use Rattle.rr_answers.specs.Certified.{certificate as certificate_of};
+ghost use Rattle.rr_answers.specs.Texts.{found_line, found_text, open_text};
+
+use crate::certifying::certificate;
+use rr_changes::push_site_lines;
+use rr_choice::{Choice, SiteList, cost};
+use rr_circuit::Circuit;
+use rr_derive::Journal;
+use rr_patch::print;
+use rr_report::{Found, Piece, Text};
+use rr_syntax::{Source, Token};
+use std::alloc::{AllocError, Global};
+
+/// The report that each member has learned so many lines, and of which bound.
+fn open_notes(alloc: Global, budget: u32, bound: u32) -> Result<String, AllocError>
+    ensures { IfOk result (λ text. string_bytes text ≡ open_text budget bound) }
+{
+    format!(in alloc; "budget spent {budget} bound {bound}\n")
+}
+
+/// The line that tells how many changes were found.
+fn found_line(alloc: Global, changes: u32) -> Result<String, AllocError>
+    ensures { IfOk result (λ text. string_bytes text ≡ found_line changes) }
+{
+    format!(in alloc; "found {changes}\n")
+}
+
+/// The same report with a choice that was found to match: the number of its changes, and a line for each
+/// site that it switches on.
+fn found_notes(
+    alloc: Global,
+    tokens: &[Token<'_>],
+    list: &SiteList<'_>,
+    choice: &Choice,
+    budget: u32,
+    bound: u32,
+) -> Result<String, AllocError>
+    requires { length choice.now.picks.items < 2 ^ 32 }
+    ensures { IfOk result (λ text. string_bytes text ≡ found_text budget bound (lexemes tokens.now) list.now choice.now.picks.items) }
+{
+    let mut notes = open_notes(alloc, budget, bound)?;
+    let line = found_line(alloc, cost(choice))?;
+    notes.push_str(line.as_str())?;
+    push_site_lines(alloc, &mut notes, tokens, list, choice.picks.as_slice())?;
+    Ok(notes)
+}
+
+/// The answer that a question was left open and nothing was found, with its formula and what was learned.
+pub fn left_open<'b>(
+    alloc: Global,
+    budget: u32,
+    bound: u32,
+    cert: &str,
+    circuit: &Circuit,
+    journal: &Journal,
+) -> Result<Found<'b>, AllocError>
+    ensures files { IfOk result (λ found. (plain_answer found).files ≡ certificate_of cert.now circuit.now journal.now) }
+    ensures printed { IfOk result (λ found. (plain_answer found).out ≡ []) }
+    ensures notes { IfOk result (λ found. (plain_answer found).notes ≡ open_text budget bound) }
+    ensures status { IfOk result (λ found. (plain_answer found).status ≡ 2) }
+{
+    let files = certificate(alloc, cert, circuit, journal)?;
+    let notes = open_notes(alloc, budget, bound)?;
+    Ok(Found {
+        status: 2,
+        files,
+        out: Piece::Nothing,
+        notes: Text::Made(notes),
+    })
+}
+
+/// The answer that a question was left open, with its formula and what was learned, where a choice was
+/// found that matches: the source is printed with its changes, and its sites are reported.
+pub fn found_open<'b>(
+    alloc: Global,
+    bytes: &[u8],
+    tokens: &[Token<'_>],
+    source: &Source<'_>,
+    list: &SiteList<'_>,
+    choice: &Choice,
+    budget: u32,
+    bound: u32,
+    cert: &str,
+    circuit: &Circuit,
+    journal: &Journal,
+) -> Result<Found<'b>, AllocError>
+    requires small { length bytes.now < 2 ^ 32 }
+    requires tokens { AreTokens bytes.now (lexemes tokens.now) }
+    requires spells { Spells (words_of (lexemes tokens.now)) (plain_source source.now) }
+    requires numbered { NumberedSource (plain_source source.now) }
+    requires named { AreNamed list.now }
+    requires few { length choice.now.picks.items < 2 ^ 32 }
+    ensures files { IfOk result (λ found. (plain_answer found).files ≡ certificate_of cert.now circuit.now journal.now) }
+    ensures printed { IfOk result (λ found. (plain_answer found).out ≡ printed bytes.now (lexemes tokens.now) list.now choice.now.picks.items (plain_source source.now)) }
+    ensures tree { IfOk result (λ found. IsTree (plain_answer found).out (instance_source list.now choice.now.picks.items (plain_source source.now))) }
+    ensures notes { IfOk result (λ found. (plain_answer found).notes ≡ found_text budget bound (lexemes tokens.now) list.now choice.now.picks.items) }
+    ensures status { IfOk result (λ found. (plain_answer found).status ≡ 2) }
+{
+    let files = certificate(alloc, cert, circuit, journal)?;
+    let out = print(alloc, bytes, tokens, source, list, choice)?;
+    let notes = found_notes(alloc, tokens, list, choice, budget, bound)?;
+    Ok(Found {
+        status: 2,
+        files,
+        out: Piece::Made(out),
+        notes: Text::Made(notes),
+    })
+}
