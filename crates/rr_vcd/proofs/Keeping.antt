@@ -307,8 +307,8 @@ module _ (top : Top) (d : Declared) (s : ℕ) where
 
     pub closed_over : (full : Bool) (table : Table) (c : ClockProbe) (b : Bool) → x.probes.clock ≡ Some c → b ≡ probe_goes_over (plain_clock_probe c) (earlier told) told → b ≡ true
         → AreKept (ended top d s told ++ probe_row x.probes (earlier told) ∷ []) full table → AreKept (rows_of top d s told (moments told)) full table
-    closed_over full table c b e is yes k =
-        closed_by (probe_row x.probes (earlier told) ∷ []) full table (closing_one x.probes told c h.probes e ∙ ap (λ y. if y then probe_row x.probes (earlier told) ∷ [] else []) (sym is ∙ yes)) k
+    closed_over full table c b e is over k =
+        closed_by (probe_row x.probes (earlier told) ∷ []) full table (closing_one x.probes told c h.probes e ∙ ap (λ y. if y then probe_row x.probes (earlier told) ∷ [] else []) (sym is ∙ over)) k
 
     pub closed_not : (c : ClockProbe) (b : Bool) → x.probes.clock ≡ Some c → b ≡ probe_goes_over (plain_clock_probe c) (earlier told) told → b ≡ false → AreKept (rows_of top d s told (moments told)) x.full x.table
     closed_not c b e is not_over =

@@ -7,3 +7,4 @@ pub mod Slotting
 pub mod Keeping
 pub mod Unique
 pub mod Fitting
+pub mod Ending

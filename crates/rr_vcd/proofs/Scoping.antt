@@ -1,6 +1,6 @@
 -- Variables by scope, size and name, and the choice of a scope.
 use Rattle.std.proofs.Common.{◌≡◌, ◌⊎◌, inl, inr, ◌∙◌, sym, ℕ, zero, suc, ◌+◌, ◌<◌, ◌≤◌, Bool, true, false, not, ◌&&◌, ◌||◌, ◌==◌, cond, if◌then◌else◌, List, [], ◌∷◌, ◌++◌, length, get_or, take, map, Option, Some, None, option_map, is_some, refl, ap, subst, arith}
-use Rattle.std.specs.Prelude.{MatchOption, is_none}
+use Rattle.std.specs.Prelude.{MatchOption}
 use Rattle.std.specs.List.{list_all, list_any}
 use Rattle.std.proofs.lemmas.Bool.{cases_order}
 use Rattle.std.specs.Str.{bytes_eq}
@@ -204,18 +204,18 @@ pub Sought-whole : (top : Top) (d : Declared) (count : ℕ) (alone : Option ℕ)
 Sought-whole top d count alone s p q l = whole (record { inside = l; passes = and_both p q; earlier = s.none })
 
 -- none has every port
-pub Sought-all : (top : Top) (d : Declared) (count : ℕ) (alone : Option ℕ) → Sought top d count alone → count ≡ d.scopes → MatchOption alone (HasNone (has_inputs top d) count) (IsScope top d)
-Sought-all top d count None s e = s.first
-Sought-all top d count (Some t) s e = inputs_alone (subst (HasNone (has_ports top d)) e s.none) (subst (λ n. IsFirst (has_inputs top d) n t) e s.first)
+pub Sought-all : (top : Top) (d : Declared) (count n : ℕ) (alone : Option ℕ) → Sought top d count alone → count ≡ n → d.scopes ≡ n → MatchOption alone (HasNone (has_inputs top d) n) (IsScope top d)
+Sought-all top d count n None s e f = subst (HasNone (has_inputs top d)) e s.first
+Sought-all top d count n (Some t) s e f = inputs_alone (subst (HasNone (has_ports top d)) (e ∙ sym f) s.none) (subst (λ m. IsFirst (has_inputs top d) m t) (e ∙ sym f) s.first)
 
 pub ArePlaces-none : (places : List (Key × List ℕ)) → places ≡ [] → ArePlaces [] places
 unfolding place_at id_in
 ArePlaces-none places e s p = ap (place_at s p) e
 
-pub Sought-first' : (top : Top) (d : Declared) (count : ℕ) (alone : Option ℕ) → Sought top d count alone → is_none alone ≡ true → has_inputs top d count ≡ true → list_all (has_port d count) top.outputs ≡ false → Sought top d (count + 1) (Some count)
-Sought-first' top d count None s e p q = Sought-first top d count s p q
-Sought-first' top d count (Some t) s e p q = cc
+pub Sought-new : (top : Top) (d : Declared) (count : ℕ) (alone : Option ℕ) → Sought top d count alone → is_some alone ≡ false → has_inputs top d count ≡ true → list_all (has_port d count) top.outputs ≡ false → Sought top d (count + 1) (Some count)
+Sought-new top d count None s e p q = Sought-first top d count s p q
+Sought-new top d count (Some t) s e p q = cc
 
-pub Sought-later' : (top : Top) (d : Declared) (count : ℕ) (alone : Option ℕ) → Sought top d count alone → is_none alone ≡ false → has_inputs top d count ≡ true → list_all (has_port d count) top.outputs ≡ false → Sought top d (count + 1) alone
-Sought-later' top d count None s e p q = cc
-Sought-later' top d count (Some t) s e p q = Sought-later top d count t s p q
+pub Sought-kept : (top : Top) (d : Declared) (count : ℕ) (alone : Option ℕ) → Sought top d count alone → is_some alone ≡ true → has_inputs top d count ≡ true → list_all (has_port d count) top.outputs ≡ false → Sought top d (count + 1) alone
+Sought-kept top d count None s e p q = cc
+Sought-kept top d count (Some t) s e p q = Sought-later top d count t s p q

@@ -1,6 +1,6 @@
 -- The bits of identifiers, change by change.
-use Rattle.std.proofs.Common.{◌≡◌, ◌⊎◌, inl, inr, length, get_or, take, ◌∙◌, sym, ℕ, ◌+◌, ◌-◌, ◌<◌, ◌≤◌, Bool, true, false, not, ◌==◌, cond, if◌then◌else◌, List, [], ◌∷◌, ◌++◌, map, Option, Some, None, is_some, refl, ap, subst, arith}
-use Rattle.std.specs.Prelude.{IfSome, All}
+use Rattle.std.proofs.Common.{◌≡◌, ◌⊎◌, inl, inr, length, get_or, take, ◌∙◌, sym, ℕ, ◌+◌, ◌-◌, ◌<◌, ◌≤◌, Bool, true, false, not, ◌==◌, cond, if◌then◌else◌, List, [], ◌∷◌, ◌++◌, map, Option, Some, None, option_map, Result, Ok, Err, is_some, refl, ap, subst, arith}
+use Rattle.std.specs.Prelude.{IfSome, All, OnOk}
 use Rattle.std.proofs.lemmas.List.{take_more}
 use Rattle.std.proofs.lemmas.List.Elements.{All-nil, All-cons, All-append}
 use Rattle.std.specs.Str.{bytes_eq}
@@ -18,7 +18,9 @@ use Rattle.rr_vcd.specs.Values.{cell_of}
 use Rattle.rr_vcd.specs.Moments.{changed, last_change}
 use Rattle.rr_vcd.specs.Sampled.{cell_by}
 use Rattle.rr_vcd.specs.declared.probes.Probe.{Probe}
-use Rattle.rr_vcd.specs.View.{slot_at, before_moment, unseen, IsSlot, AreSlots, IsWatched, Watches}
+use Rattle.rr_vcd.specs.declared.probes.ClockProbe.{ClockProbe}
+use Rattle.rr_vcd.specs.declared.probes.Probes.{Probes}
+use Rattle.rr_vcd.specs.View.{slot_at, before_moment, unseen, IsSlot, AreSlots, IsWatched, Watches, WatchesClock, AreWatched, AreNarrow, plain_probe}
 use Rattle.rr_vcd.proofs.Telling.{last_more}
 
 -- an entry, with its key as its bytes
@@ -164,11 +166,18 @@ not_watched id slots e h = let g : is_some (slot_at id slots) ≡ false = ap is_
 
 -- watching
 
-pub watches_one : (old new : List (List ℕ × Slot)) (id : Bor (List ℕ)) (w : ℕ) → ((t : List ℕ) → slot_at t new ≡ (if bytes_eq t id.now then Some unseen else slot_at t old)) → Watches old new (record { id = Some id; width = w } ∷ [])
-watches_one old new id w put = record {
+abbrev IsKept : List (List ℕ × Slot) → Probe → Type 0
+IsKept slots y = IfSome y.id (λ id. is_some (slot_at id.now slots) ≡ true)
+
+there : (slots : List (List ℕ × Slot)) (o : Option (Bor (List ℕ))) (id : Bor (List ℕ)) → o ≡ Some id → is_some (slot_at id.now slots) ≡ true → IfSome o (λ x. is_some (slot_at x.now slots) ≡ true)
+there slots None id e h = tt
+there slots (Some x) id e h = let same : x ≡ id = cc in subst (λ z. is_some (slot_at z.now slots) ≡ true) (sym same) h
+
+pub watches_one : (old new : List (List ℕ × Slot)) (p : Probe) (id : Bor (List ℕ)) → p.id ≡ Some id → ((t : List ℕ) → slot_at t new ≡ (if bytes_eq t id.now then Some unseen else slot_at t old)) → Watches old new (p ∷ [])
+watches_one old new p id e put = record {
   kept = λ t. subst (λ o. IfSome o (λ s. (s ≡ unseen) ⊎ (slot_at t old ≡ Some s))) (sym (put t)) (kept (bytes_eq t id.now) (slot_at t old));
-  more = λ t e. ap is_some (put t) ∙ more (bytes_eq t id.now) (slot_at t old) e;
-  all = All-cons _ _ _ (ap is_some (put id.now) ∙ ap (λ b. is_some (if b then Some unseen else slot_at id.now old)) (bytes_same id.now id.now refl)) (All-nil _);
+  more = λ t h. ap is_some (put t) ∙ more (bytes_eq t id.now) (slot_at t old) h;
+  all = All-cons (IsKept new) p [] (there new p.id id e (ap is_some (put id.now) ∙ ap (λ b. is_some (if b then Some unseen else slot_at id.now old)) (bytes_same id.now id.now refl))) (All-nil (IsKept new));
 }
   where
     kept : (b : Bool) (o : Option Slot) → IfSome (if b then Some unseen else o) (λ s. (s ≡ unseen) ⊎ (o ≡ Some s))
@@ -176,18 +185,22 @@ watches_one old new id w put = record {
     kept false None = tt
     kept false (Some s) = inr refl
     more : (b : Bool) (o : Option Slot) → is_some o ≡ true → is_some (if b then Some unseen else o) ≡ true
-    more true o e = refl
-    more false o e = e
+    more true o h = refl
+    more false o h = h
 
 same_kept : (old : List (List ℕ × Slot)) (t : List ℕ) (o : Option Slot) → slot_at t old ≡ o → IfSome o (λ s. (s ≡ unseen) ⊎ (slot_at t old ≡ Some s))
 same_kept old t None e = tt
 same_kept old t (Some s) e = inr e
 
 pub watches_none : (old : List (List ℕ × Slot)) → Watches old old []
-watches_none old = record { kept = λ t. same_kept old t (slot_at t old) refl; more = λ t e. e; all = All-nil _ }
+watches_none old = record { kept = λ t. same_kept old t (slot_at t old) refl; more = λ t e. e; all = All-nil (IsKept old) }
 
-pub watches_bare : (old : List (List ℕ × Slot)) (w : ℕ) → Watches old old (record { id = None; width = w } ∷ [])
-watches_bare old w = record { kept = λ t. same_kept old t (slot_at t old) refl; more = λ t e. e; all = All-cons _ _ _ tt (All-nil _) }
+nowhere : (slots : List (List ℕ × Slot)) (o : Option (Bor (List ℕ))) → o ≡ None → IfSome o (λ x. is_some (slot_at x.now slots) ≡ true)
+nowhere slots None e = tt
+nowhere slots (Some x) e = cc
+
+pub watches_bare : (old : List (List ℕ × Slot)) (p : Probe) → p.id ≡ None → Watches old old (p ∷ [])
+watches_bare old p e = record { kept = λ t. same_kept old t (slot_at t old) refl; more = λ t h. h; all = All-cons (IsKept old) p [] (nowhere old p.id e) (All-nil (IsKept old)) }
 
 still_some : (mid new : List (List ℕ × Slot)) → ((id : List ℕ) → is_some (slot_at id mid) ≡ true → is_some (slot_at id new) ≡ true) → (o : Option (Bor (List ℕ)))
     → IfSome o (λ id. is_some (slot_at id.now mid) ≡ true) → IfSome o (λ id. is_some (slot_at id.now new) ≡ true)
@@ -203,7 +216,7 @@ pub watches_more : (old mid new : List (List ℕ × Slot)) (ps qs : List Probe) 
 watches_more old mid new ps qs a b = record {
   kept = λ t. go t (slot_at t new) (b.kept t) (slot_at t mid) refl (a.kept t);
   more = λ t e. b.more t (a.more t e);
-  all = All-append _ ps qs (all_still mid new ps b.more a.all) b.all;
+  all = All-append (IsKept new) ps qs (all_still mid new ps b.more a.all) b.all;
 }
   where
     go : (t : List ℕ) (n : Option Slot) → IfSome n (λ s. (s ≡ unseen) ⊎ (slot_at t mid ≡ Some s)) → (m : Option Slot) → slot_at t mid ≡ m → IfSome m (λ s. (s ≡ unseen) ⊎ (slot_at t old ≡ Some s))
@@ -225,3 +238,56 @@ fresh_slots old new ps e w id = go (slot_at id new) (w.kept id)
     go None h = tt
     go (Some s) (inl u) = subst (IsSlot id [] [] 0) (sym u) (unseen_is id)
     go (Some s) (inr f) = let bad : None ≡ Some s = ap (slot_at id) (sym e) ∙ f in cc
+
+-- the ports of a sampler
+
+one_watched : (slots : List (List ℕ × Slot)) (w : ℕ) (o : Option (Bor (List ℕ))) → IfSome o (λ x. is_some (slot_at x.now slots) ≡ true) → w ≤ 128 → IsWatched slots (option_map (λ t. t.now) o, w)
+one_watched slots w None h l = (tt, l)
+one_watched slots w (Some x) h l = (h, l)
+
+all_watched : (slots : List (List ℕ × Slot)) (ps : List Probe) → All (IsKept slots) ps → All (λ y. y.width ≤ 128) ps → All (λ y. IsWatched slots (plain_probe y)) ps
+all_watched slots ps a b k p l = one_watched slots (get_or ps k p).width (get_or ps k p).id (a k p l) (b k p l)
+
+clock_watched : (old mid new : List (List ℕ × Slot)) (o : Option ClockProbe) → WatchesClock old mid o → ((id : List ℕ) → is_some (slot_at id mid) ≡ true → is_some (slot_at id new) ≡ true)
+    → IfSome o (λ c. c.probe.width ≤ 128) → IfSome o (λ c. IsWatched new (plain_probe c.probe))
+clock_watched old mid new None w more h = tt
+clock_watched old mid new (Some c) w more h = one_watched new c.probe.width c.probe.id (still_some mid new more c.probe.id (w.all 0 c.probe (omega arith))) h
+
+clock_fresh : (old new : List (List ℕ × Slot)) (o : Option ClockProbe) → WatchesClock old new o → (ps : List Probe) × Watches old new ps
+clock_fresh old new None w = ([], w)
+clock_fresh old new (Some c) w = (c.probe ∷ [], w)
+
+module _ (x : Probes) (s0 s1 s2 s3 : List (List ℕ × Slot)) (ins outs : List Probe) (clock : WatchesClock s0 s1 x.clock) (inputs : Watches s1 s2 ins) (outputs : Watches s2 s3 outs) (i : ins ≡ x.inputs.items) (o : outs ≡ x.outputs.items) where
+  pub new_watched : AreNarrow x → AreWatched s3 x
+  new_watched narrow = record {
+    clock = clock_watched s0 s1 s3 x.clock clock (λ id e. outputs.more id (inputs.more id e)) narrow.clock;
+    inputs = all_watched s3 x.inputs.items (subst (All (IsKept s3)) i (all_still s2 s3 ins outputs.more inputs.all)) narrow.inputs;
+    outputs = all_watched s3 x.outputs.items (subst (All (IsKept s3)) o outputs.all) narrow.outputs;
+  }
+
+  pub new_slots : s0 ≡ [] → AreSlots [] [] 0 s3
+  new_slots e =
+      let c = clock_fresh s0 s1 x.clock clock in
+      fresh_slots s0 s3 ((c.0 ++ ins) ++ outs) e (watches_more s0 s2 s3 (c.0 ++ ins) outs (watches_more s0 s1 s2 c.0 ins c.1 inputs) outputs)
+
+same_some : (old new : List (List ℕ × Slot)) → ((t : List ℕ) → is_some (slot_at t new) ≡ is_some (slot_at t old)) → (y : Option (List ℕ) × ℕ) → IsWatched old y → IsWatched new y
+same_some old new same y h = (go y.0 h.0, h.1)
+  where
+    go : (o : Option (List ℕ)) → IfSome o (λ id. is_some (slot_at id old) ≡ true) → IfSome o (λ id. is_some (slot_at id new) ≡ true)
+    go None k = tt
+    go (Some id) k = same id ∙ k
+
+pub still_watched : (old new : List (List ℕ × Slot)) (x : Probes) → ((t : List ℕ) → is_some (slot_at t new) ≡ is_some (slot_at t old)) → AreWatched old x → AreWatched new x
+still_watched old new x same h = record {
+  clock = go x.clock h.clock;
+  inputs = λ k p l. same_some old new same (plain_probe (get_or x.inputs.items k p)) (h.inputs k p l);
+  outputs = λ k p l. same_some old new same (plain_probe (get_or x.outputs.items k p)) (h.outputs k p l);
+}
+  where
+    go : (o : Option ClockProbe) → IfSome o (λ c. IsWatched old (plain_probe c.probe)) → IfSome o (λ c. IsWatched new (plain_probe c.probe))
+    go None k = tt
+    go (Some c) k = same_some old new same (plain_probe c.probe) k
+
+pub on_ok : {X E : Type 0} (P Q : Type 0) (r : Result X E) → (P → Q) → OnOk r P → OnOk r Q
+on_ok P Q (Ok x) f h = f h
+on_ok P Q (Err e) f h = tt

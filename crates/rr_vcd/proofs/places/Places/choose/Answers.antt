@@ -1,11 +1,11 @@
-use Rattle.std.proofs.Common.{◌≡◌, ◌∙◌, sym, ap, refl, arith, true, false, map, None, Some, Option, subst}
+use Rattle.std.proofs.Common.{◌≡◌, ◌∙◌, sym, ap, refl, arith, true, false, not, map, None, Some, Option, subst}
 use Rattle.std.specs.Prelude.{is_some}
 use Rattle.std.specs.List.{list_all}
 use Rattle.rr_vcd_text.specs.Dump.{Declared}
 use Rattle.rr_vcd.specs.Tops.{Top}
 use Rattle.rr_vcd.specs.Scopes.{has_port, has_inputs}
 use Rattle.rr_vcd.specs.View.{plain_port, plain_top, place_at, ArePlaces}
-use Rattle.rr_vcd.proofs.Scoping.{Sought, Sought-none, Sought-neither, Sought-first', Sought-later', Sought-whole, Sought-all, has_all_is}
+use Rattle.rr_vcd.proofs.Scoping.{Sought, Sought-none, Sought-neither, Sought-new, Sought-kept, Sought-whole, Sought-all, has_all_is}
 use Rattle.rr_vcd.proofs.places.Places.choose.Goals as goal
 use Rattle.rr_vcd.proofs.places.Places.choose.Goals.{then-has_all+else-has_all-2+then-is_none, then-has_all+else-has_all-2+else-is_none, else-has_all}
 
@@ -26,12 +26,12 @@ loop-scope-preserved c = λ d places.
     elim c.if-has_all.branch [
       | then-has_all+else-has_all-2+then-is_none w ↦
           let outputs = w.has_all-then-has_all.ensures ∙ (ap (list_all (λ x. is_some (place_at at (plain_port x) c.args.self.now))) w.as_slice-then-has_all.ensures.value ∙ has_all_is plain_port d at c.args.self.now places c.args.top.now.outputs.items) in
-          rw w.alone-is (Sought-first' (plain_top c.args.top.now) d at c.loop-scope.alone (c.loop-scope.invariant d places) (sym w.is_none.ensures ∙ w.if-is_none.true) (sym every ∙ w.if-has_all.true) (sym outputs ∙ w.if-has_all-2.false))
+          rw w.alone-is (Sought-new (plain_top c.args.top.now) d at c.loop-scope.alone (c.loop-scope.invariant d places) (w.is_none.ensures ∙ ap not w.if-is_none.true) (sym every ∙ w.if-has_all.true) (sym outputs ∙ w.if-has_all-2.false))
       | then-has_all+else-has_all-2+else-is_none w ↦
           let outputs = w.has_all-then-has_all.ensures ∙ (ap (list_all (λ x. is_some (place_at at (plain_port x) c.args.self.now))) w.as_slice-then-has_all.ensures.value ∙ has_all_is plain_port d at c.args.self.now places c.args.top.now.outputs.items) in
-          rw w.alone-is (Sought-later' (plain_top c.args.top.now) d at c.loop-scope.alone (c.loop-scope.invariant d places) (sym w.is_none.ensures ∙ w.if-is_none.false) (sym every ∙ w.if-has_all.true) (sym outputs ∙ w.if-has_all-2.false))
+          rw w.alone-is (Sought-kept (plain_top c.args.top.now) d at c.loop-scope.alone (c.loop-scope.invariant d places) (w.is_none.ensures ∙ ap not w.if-is_none.false) (sym every ∙ w.if-has_all.true) (sym outputs ∙ w.if-has_all-2.false))
       | else-has_all w ↦ rw w.alone-is (Sought-neither (plain_top c.args.top.now) d at c.loop-scope.alone (c.loop-scope.invariant d places) (sym every ∙ w.if-has_all.false))
     ]
 
 pub returns : goal.returns
-returns c = λ d places count. Sought-all _ d _ _ (c.loop-scope.invariant d places) (omega (arith, count))
+returns c = λ d places count. Sought-all _ d c.loop-scope.scope c.args.scopes _ (c.loop-scope.invariant d places) (omega (arith, c.loop-scope.auto.scope-end, c.loop-scope-test.false)) count

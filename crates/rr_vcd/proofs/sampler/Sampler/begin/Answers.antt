@@ -9,5 +9,5 @@ pub returns : goal.returns
 returns c = λ top d s told time h off.
     let same = c.in_ok-close.ensures.same in
     let kept = c.in_ok-close.ensures.rows top d s told h off c.if-not-self.false in
-    let m : c.in-Some.next ≡ c.args.self.now.moment + 1 = ? in
+    let m : c.in-Some.next ≡ c.args.self.now.moment + 1 = omega (arith, c.in-Some.ensures, same.moment) in
     told_next top d s told time c.args.self.now _ h off c.if-not-self.false kept same.off same.probes same.slots m same.begun
