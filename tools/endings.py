@@ -4,7 +4,7 @@ import re
 NUMBER = r"(0|[1-9]\d*)"
 NAMES = ("BadByte BadNumber OpenComment Directive Unsupported Syntax NoTop UnknownModule SelfInstance NameTwice UnknownName BadRange NotConstant PortMismatch TooWide TooMany TwoDrivers WrongAssign Race "
          "Latch Loop ClockUse TwoClocks BadTarget WildLabel NoHeader UnknownColumn ColumnTwice MissingInput RowLength BadCell CellTooLarge NotUtf8 BadCircuit BadProof RatLine").split()
-NUMBERED = {**dict(enumerate(NAMES, 1)), 38: "UnknownMacro", 39: "BadDirective", 40: "MacroLoop"}
+NUMBERED = {**dict(enumerate(NAMES, 1)), 38: "UnknownMacro", 39: "BadDirective", 40: "MacroLoop", 41: "BadVcd", 42: "NoScope"}
 LIMITS = "bytes rows sites instances depth flatbits work expanded".split()
 
 
@@ -26,7 +26,7 @@ def place(number):
         return f" row {NUMBER}"
     if number in (31, 32):
         return f" row {NUMBER} column {NUMBER}"
-    return "" if number == 33 else f" line {NUMBER}"
+    return "" if number in (33, 42) else f" line {NUMBER}"
 
 
 GUARD = r"(!\(E\)|\(E\) (&&|\|\|) !?[!-~]+)"

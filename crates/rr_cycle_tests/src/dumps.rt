@@ -10,7 +10,9 @@ const COUNTER: &str =
 
 /// A dump of three cycles with this name for the clock and this last change, which ends in no line feed.
 fn dump_of(alloc: Global, clock: &str, last: &str) -> Result<String, AllocError> {
-    format!(in alloc; "$timescale 1ns $end\n$scope module tb $end\n$var wire 1 ! {clock} $end\n$var wire 1 \" rst $end\n$var wire 4 # q [3:0] $end\n$upscope $end\n$enddefinitions $end\n#0\n$dumpvars\n0!\n1\"\nbx #\n$end\n#5\n1!\nb0 #\n#8\n0\"\n#10\n0!\n#15\n1!\nb1 #\n#20\n0!\n#25\n1!\n{last}\n")
+    format!(in alloc;
+        "$timescale 1ns $end\n$scope module tb $end\n$var wire 1 ! {clock} $end\n$var wire 1 \" rst $end\n$var wire 4 # q [3:0] $end\n$upscope $end\n$enddefinitions $end\n#0\n$dumpvars\n0!\n1\"\nbx #\n$end\n#5\n1!\nb0 #\n#8\n0\"\n#10\n0!\n#15\n1!\nb1 #\n#20\n0!\n#25\n1!\n{last}\n"
+    )
 }
 
 /// Whether the run of the counter on a table of a kind gives this, or is refused by this.
@@ -59,7 +61,14 @@ fn refusals_of_dumps(rt: HostRuntime) -> Result<(), Fail> {
 fn kinds_of_tables(rt: HostRuntime) -> Result<(), Fail> {
     let alloc = rt.alloc();
     let dump = dump_of(alloc, "clk", "b10 #")?;
-    assert!(rt; tells(alloc, TableKind::Csv, dump.as_str(), "27 UnknownColumn row 0 column 0")?);
+    assert!(rt;
+        tells(
+            alloc,
+            TableKind::Csv,
+            dump.as_str(),
+            "27 UnknownColumn row 0 column 0"
+        )?
+    );
     assert!(rt; tells(alloc, TableKind::Vcd, "rst,q\n1,0\n", "41 BadVcd line 1")?);
     Ok(())
 }

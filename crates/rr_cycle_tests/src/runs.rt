@@ -1,6 +1,8 @@
 //! Lawful designs, runs of small ones on tables, and the first refusal where there is none, by its text.
 use bumpalo::Bump;
-use rr_run::{Fault, LawfulDesign, Limit, Refusal, RunFault, TableKind, lawful_design, read_rows, run_files};
+use rr_run::{
+    Fault, LawfulDesign, Limit, Refusal, RunFault, TableKind, lawful_design, read_rows, run_files,
+};
 use std::alloc::{AllocError, Global};
 use std::test::Fail;
 

@@ -304,8 +304,9 @@ fn judge_sites<'b, 'a, R: Threads + Sync>(
 
 /// The repair of a design of at most 1,048,576 bytes by its table: what is to be printed, reported and
 /// written, and, where the status is 0, the least number of changes. Else the first refusal: of the design
-/// (1 to 25), that it has more than 1,024 sites (16), of the table (33, 26 to 32 and 16, or of a dump 41, 42
-/// and 16), and that the rows times the bits of all signals are more than 262,144 (16). Names in a refusal live in the arena.
+/// (1 to 25), that it has more than 1,024 sites (16), of the table (33, 26 to 32 and 16, or of a dump 41,
+/// 42 and 16), and that the rows times the bits of all signals are more than 262,144 (16). Names in a
+/// refusal live in the arena.
 pub fn repair_counted<'b, 'a, R: Threads + Sync>(
     rt: &R,
     alloc: Global,

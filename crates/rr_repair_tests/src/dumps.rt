@@ -13,13 +13,7 @@ const DUMP: &str =
     "$timescale 1ns $end\n$scope module tb $end\n$var wire 1 ! clk $end\n$var wire 1 \" rst $end\n$var wire 4 # q [3:0] $end\n$upscope $end\n$enddefinitions $end\n#0\n$dumpvars\n0!\n1\"\nbx #\n$end\n#5\n1!\nb0 #\n#8\n0\"\n#10\n0!\n#15\n1!\nb1 #\n#20\n0!\n#25\n1!\n";
 
 /// Whether the repair of the counter by a dump reports this with status 0, or is refused at this line.
-fn tells<R: Threads + Sync>(
-    rt: &R,
-    alloc: Global,
-    dump: &str,
-    notes: &str,
-    line: u64,
-) -> bool {
+fn tells<R: Threads + Sync>(rt: &R, alloc: Global, dump: &str, notes: &str, line: u64) -> bool {
     let arena = Bump::new(alloc);
     let request = Request {
         kind: TableKind::Vcd,

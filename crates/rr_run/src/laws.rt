@@ -8,8 +8,8 @@ ghost use Rattle.rr_run.specs.declared.rows.TableKind.{TableKind};
 ghost use Rattle.rr_run.specs.Refusals.{Refusal};
 ghost use Rattle.rr_run.specs.Runs.{IsLawfulDesign, IsRun, IsSameRefusal, Refuses, RefusesDesign};
 
-/// No bytes have two lawful designs, or one and a refusal; no design and table have two runs, or a run and a
-/// refusal, or two refusals, but for the byte that is told of a text without a tree.
+/// No bytes have two lawful designs, or one and a refusal; no design and table of one kind have two runs, or
+/// a run and a refusal, or two refusals, but for the byte that is told of a text without a tree.
 pub fn one_outcome()
     ensures one_design { (bytes : List ℕ) (top word : Option (List ℕ)) (ts us : List Lexeme) (f g : Flat) (c d : Option ℕ) (r s : Bool)
         → IsLawfulDesign bytes top word ts f c r → IsLawfulDesign bytes top word us g d s → (ts ≡ us) × ((f ≡ g) × ((c ≡ d) × (r ≡ s))) }
@@ -22,8 +22,8 @@ pub fn one_outcome()
         → Refuses kind bytes table top word a → Refuses kind bytes table top word b → IsSameRefusal a b }
 {}
 
-/// No file has two lawful designs, or one and a refusal; no file and table have two runs, or a run and a
-/// refusal, or two refusals, but for the byte that is told of a text without a tree.
+/// No file has two lawful designs, or one and a refusal; no file and table of one kind have two runs, or a run
+/// and a refusal, or two refusals, but for the byte that is told of a text without a tree.
 pub fn one_file_outcome()
     ensures one_design { (file : List ℕ) (top word : Option (List ℕ)) (ts us : List Lexeme) (f g : Flat) (c d : Option ℕ) (r s : Bool)
         → IsFileDesign file top word ts f c r → IsFileDesign file top word us g d s → (ts ≡ us) × ((f ≡ g) × ((c ≡ d) × (r ≡ s))) }

@@ -16,6 +16,6 @@ pub use design::{LawfulDesign, lawful_design};
 pub use fault::{Fault, Refusal, RunFault};
 pub use file::file_design;
 pub use laws::{files_run_as_texts, one_file_outcome, one_outcome};
-pub use rr_flat::Limit;
 pub use rows::{TableKind, read_rows};
+pub use rr_flat::Limit;
 pub use run::run_files;

@@ -62,8 +62,8 @@ fn repair_files<'b, 'a, R: Threads + Sync>(
     repair(rt, alloc, design, table, request, arena)
 }
 
-/// The answer of `run` for the bytes of a design, whose directives are expanded, and of its table, which is of
-/// this kind.
+/// The answer of `run` for the bytes of a design, whose directives are expanded, and of its table, which
+/// is of this kind.
 fn simulate<'b, 'a>(
     alloc: Global,
     design: &[u8],
@@ -283,7 +283,10 @@ pub(crate) fn answer_files<'a, R: Threads + Sync, H: Shelf, K: Sink>(
             conclude(alloc, answer, shelf, out)
         }
         Command::Run {
-            table, top, clock, ..
+            table,
+            top,
+            clock,
+            ..
         } => {
             let answer = simulate_files(alloc, &files, table, top, clock, arena);
             conclude(alloc, answer, shelf, out)

@@ -16,7 +16,9 @@ const RUN: &str = "rst,q\n1,0\n0,0\n0,2\n";
 
 /// A dump of three cycles of one that counts by one, with this name for the clock and this last change.
 fn dump_of(alloc: Global, clock: &str, last: &str) -> Result<String, AllocError> {
-    format!(in alloc; "$timescale 1ns $end\n$scope module tb $end\n$var wire 1 ! {clock} $end\n$var wire 1 \" rst $end\n$var wire 4 # q [3:0] $end\n$upscope $end\n$enddefinitions $end\n#0\n$dumpvars\n0!\n1\"\nbx #\n$end\n#5\n1!\nb0 #\n#8\n0\"\n#10\n0!\n#15\n1!\nb1 #\n#20\n0!\n#25\n1!\n{last}\n")
+    format!(in alloc;
+        "$timescale 1ns $end\n$scope module tb $end\n$var wire 1 ! {clock} $end\n$var wire 1 \" rst $end\n$var wire 4 # q [3:0] $end\n$upscope $end\n$enddefinitions $end\n#0\n$dumpvars\n0!\n1\"\nbx #\n$end\n#5\n1!\nb0 #\n#8\n0\"\n#10\n0!\n#15\n1!\nb1 #\n#20\n0!\n#25\n1!\n{last}\n"
+    )
 }
 
 /// What a command leaves, where a dump has this name.
