@@ -1,5 +1,5 @@
 -- What a dump gives: its table, or why there is none.
-use Rattle.std.proofs.Common.{◌≡◌, ◌⊎◌, inl, inr, ◌∙◌, sym, ℕ, ◌<◌, ◌≤◌, Bool, List, [], ◌∷◌, ◌++◌, length, Option, Some, None, Result, Ok, Err, refl, ap, subst}
+use Rattle.std.proofs.Common.{◌≡◌, inl, inr, sym, ℕ, Bool, List, [], ◌∷◌, ◌++◌, Option, Some, None, Result, Ok, Err, refl, ap, subst}
 use Rattle.std.specs.Prelude.{MatchResult, MatchOption, IsErrAnd}
 use Rattle.rr_flat.specs.Plain.{Flat}
 use Rattle.rr_vcd_text.specs.Dump.{Declared, Told, IsDump}
@@ -12,7 +12,6 @@ use Rattle.rr_vcd_text.specs.declared.fault.DumpFault.TheVariants as dump
 use Rattle.rr_trace.specs.declared.table.Table.{Table}
 use Rattle.rr_trace.specs.View.{plain_table}
 use Rattle.rr_vcd.specs.declared.fault.VcdFault.{VcdFault}
-use Rattle.rr_vcd.specs.declared.fault.VcdFault.TheVariants.{BadVcd, NoScope, TooMany, Memory}
 use Rattle.rr_vcd.specs.Tops.{Top, top_of}
 use Rattle.rr_vcd.specs.Moments.{valued}
 use Rattle.rr_vcd.specs.Scopes.{IsScope, HasNone, has_inputs}

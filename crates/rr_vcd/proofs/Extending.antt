@@ -2,11 +2,11 @@
 use Rattle.std.proofs.Common.{◌≡◌, ℕ, zero, suc, ◌||◌, ◌==◌, append-nil, ◌+◌, ◌-◌, ◌*◌, ◌<◌, ◌≤◌, ◌^◌, ◌%◌, Bool, true, false, List, [], ◌∷◌, ◌++◌, length, take, drop, map, get_or, Option, Some, None, refl, sym, ◌∙◌, ap, subst, arith, if◌then◌else◌, append_assoc}
 use Rattle.std.specs.Prelude.{replicate, slice_get}
 use Rattle.std.proofs.Math.Seq.{drop-append-add, take-length}
-use Rattle.std.proofs.lemmas.List.{length-replicate, replicate-append-replicate, length-map, map-append, drop-map, take-append-drop, length-drop, length-append, take_more, drop-drop}
+use Rattle.std.proofs.lemmas.List.{length-replicate, replicate-append-replicate, length-map, map-append, take-append-drop, length-drop, length-append, take_more, drop-drop}
 use Rattle.std.proofs.Math.Nat.{mod-le, mod-eq_of_lt, pow-le-pow_right}
 use Rattle.rr_trace.specs.declared.cell.Cell.{Cell}
-use Rattle.rr_vcd.specs.Values.{binary_from, binary, is_one, is_known, extension, extended, cell_of_digits, cell_of}
-use Rattle.rr_vcd.proofs.Binary.{bit, binary_low, binary_next, binary_bound, low_more}
+use Rattle.rr_vcd.specs.Values.{binary_from, binary, is_one, is_known, extension, extended, cell_of}
+use Rattle.rr_vcd.proofs.Binary.{bit, binary_low, binary_next, low_more}
 
 -- the digits of so many places, before the highest are left out
 abbrev pub whole : ℕ → List ℕ → List ℕ

@@ -1,5 +1,5 @@
 -- A sampled table fits its ports.
-use Rattle.std.proofs.Common.{◌≡◌, ℕ, zero, suc, ◌<◌, ◌≤◌, ◌^◌, Bool, List, [], ◌∷◌, length, map, Option, Some, None, refl, sym, ◌∙◌, ap, subst, arith}
+use Rattle.std.proofs.Common.{ℕ, ◌<◌, ◌^◌, Bool, List, [], ◌∷◌, length, map, Option, Some, None, sym, ◌∙◌, ap, subst}
 use Rattle.std.specs.List.{All}
 use Rattle.std.proofs.lemmas.List.{length-map}
 use Rattle.std.proofs.lemmas.List.Elements.{All-nil, All-cons}
@@ -8,13 +8,12 @@ use Rattle.rr_flat.specs.Plain.{Flat}
 use Rattle.rr_flat.specs.Inputs.{row_inputs}
 use Rattle.rr_vcd_text.specs.Dump.{Declared, Told}
 use Rattle.rr_trace.specs.declared.cell.Cell.{Cell}
-use Rattle.rr_trace.specs.Rows.{Row}
 use Rattle.rr_trace.specs.Tables.{Table, table_of_rows}
-use Rattle.rr_vcd.specs.Tops.{Top, Port, port_of, top_of}
+use Rattle.rr_vcd.specs.Tops.{port_of, top_of}
 use Rattle.rr_vcd.specs.Values.{cell_of, binary, extended, is_one, is_known}
 use Rattle.rr_vcd.specs.Moments.{last_change, up_to, valued}
 use Rattle.rr_vcd.specs.Scopes.{id_in}
-use Rattle.rr_vcd.specs.Sampled.{cell_by, cell_in, row_after, rows_of, sampled, IsSampled}
+use Rattle.rr_vcd.specs.Sampled.{cell_by, cell_in, row_after, sampled, IsSampled}
 use Rattle.rr_vcd.specs.Fits.{widths, AreValues, AreCells, FitsPorts}
 use Rattle.rr_vcd.proofs.Binary.{binary_bound}
 use Rattle.rr_vcd.proofs.Extending.{length_extended}

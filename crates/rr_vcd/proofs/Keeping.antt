@@ -1,25 +1,20 @@
 -- Rows that are kept, and what a sampler was told.
-use Rattle.std.proofs.Common.{◌≡◌, ◌∙◌, sym, ℕ, zero, suc, ◌+◌, ◌-◌, ◌<◌, ◌≤◌, Bool, true, false, not, ◌&&◌, ◌||◌, ◌==◌, if◌then◌else◌, List, [], ◌∷◌, ◌++◌, length, map, Option, Some, None, option_map, refl, ap, subst, arith, nat_lt, nat_le, append-nil}
+use Rattle.std.proofs.Common.{◌≡◌, ◌∙◌, sym, ℕ, ◌+◌, ◌-◌, ◌<◌, ◌≤◌, Bool, true, false, not, ◌&&◌, ◌||◌, if◌then◌else◌, List, [], ◌∷◌, ◌++◌, length, map, Option, Some, None, option_map, refl, ap, subst, arith, nat_lt, nat_le, append-nil}
 use Rattle.std.specs.List.{list_any}
-use Rattle.std.specs.Prelude.{Vec, All, IfSome}
+use Rattle.std.specs.Prelude.{Vec, IfSome}
 use Rattle.std.specs.declared.alloc.Global.{Global}
 use Rattle.std.proofs.lemmas.Bool.Decides.{nat_tests}
 use Rattle.std.proofs.lemmas.List.{length-append, length-map, map-append}
-use Rattle.rr_vcd_text.specs.Dump.{Declared, Told, Nothing, Moment, Change, Off}
+use Rattle.rr_vcd_text.specs.Dump.{Declared, Told, Moment, Off}
 use Rattle.rr_trace.specs.declared.cell.Cell.{Cell}
 use Rattle.rr_trace.specs.declared.table.Table.{Table}
-use Rattle.rr_trace.specs.Cells.{unknown_cell}
 use Rattle.rr_trace.specs.Rows.{Row}
-use Rattle.rr_trace.specs.Tables.{table_of_rows}
-use Rattle.rr_trace.specs.View.{plain_table}
-use Rattle.rr_vcd.specs.declared.probes.Probe.{Probe}
 use Rattle.rr_vcd.specs.declared.probes.ClockProbe.{ClockProbe}
 use Rattle.rr_vcd.specs.declared.probes.Probes.{Probes}
 use Rattle.rr_vcd.specs.declared.sampler.Sampler.{Sampler}
 use Rattle.rr_vcd.specs.declared.slots.Slot.{Slot}
 use Rattle.rr_vcd.specs.Tops.{Top, Clock, Port}
-use Rattle.rr_vcd.specs.Values.{cell_of}
-use Rattle.rr_vcd.specs.Moments.{is_moment, is_off, moments, up_to, before_off, valued, changed, last_change}
+use Rattle.rr_vcd.specs.Moments.{is_moment, is_off, moments, up_to, valued}
 use Rattle.rr_vcd.specs.Scopes.{id_in}
 use Rattle.rr_vcd.specs.Sampled.{cell_by, cell_in, row_behind, goes_over, is_level, rows_of}
 use Rattle.rr_vcd.specs.View.{plain_probe, probe_in, plain_clock_probe, clock_in, cells_by, probe_row, probe_goes_over, earlier, AreProbes, AreWatched, AreSlots, AreCurrent, AreKept, HasRows, IsTold, IsWatched}
@@ -120,6 +115,7 @@ module _ (top : Top) (d : Declared) (s : ℕ) where
     where
       is : rows_of top d s told (moments told - 1) ≡ ended top d s told
       is = sym (ended_is top d s told off)
+
       by_order : (clock : Clock) → top.clock ≡ Some clock → (b : Bool) → nat_le (moments told) 1 ≡ b → rows_of top d s told (moments told) ≡ ended top d s told ++ closing (Some clock) told
       by_order clock e true h =
           let few : moments told ≤ 1 = grind (arith, nat_tests) in
@@ -128,6 +124,7 @@ module _ (top : Top) (d : Declared) (s : ℕ) where
           let more : 1 < moments told = grind (arith, nat_tests) in
           close_one top d s told clock e more ∙ (ap (λ xs. xs ++ (if goes_over d s clock (up_to (moments told - 2) told) told then row_behind top d s (up_to (moments told - 2) told) ∷ [] else [])) is
           ∙ ap (λ x. ended top d s told ++ (if goes_over d s clock x told then row_behind top d s x ∷ [] else [])) (sym (earlier_is told more)))
+
       go : (c : Option Clock) → top.clock ≡ c → rows_of top d s told (moments told) ≡ ended top d s told ++ closing c told
       go None e = close_all top d s told e l ∙ ap (λ xs. xs ++ row_behind top d s told ∷ []) is
       go (Some clock) e = by_order clock e (nat_le (moments told) 1) refl
@@ -199,7 +196,7 @@ module _ (top : Top) (d : Declared) (s : ℕ) where
         off = o ∙ sym (off_more told Off ∙ ap (λ b. b || true) no_off);
         current = off_current (told ++ Off ∷ []) y y.off o;
         kept = subst (λ z. AreKept (ended top d s (told ++ Off ∷ [])) z y.table) (sym f) (subst (λ z. AreKept (ended top d s (told ++ Off ∷ [])) x.full z) (sym t)
-        (kept_is _ _ x.full x.table (sym (ended_ends top d s told no_off)) h.kept));
+            (kept_is _ _ x.full x.table (sym (ended_ends top d s told no_off)) h.kept));
       }
 
   -- a construct that neither ends dumping nor begins a moment
@@ -219,7 +216,7 @@ module _ (top : Top) (d : Declared) (s : ℕ) where
             (m ∙ (c.1.0 ∙ ap (λ n. n - 1) (sym same)))
             (g ∙ (c.1.1 ∙ ap (nat_lt 0) (sym same)));
         kept = subst (λ z. AreKept (ended top d s (told ++ t ∷ [])) z y.table) (sym f) (subst (λ z. AreKept (ended top d s (told ++ t ∷ [])) x.full z) (sym tb)
-        (kept_is _ _ x.full x.table (sym (ended_same top d s told t no_off stays plain)) h.kept));
+            (kept_is _ _ x.full x.table (sym (ended_same top d s told t no_off stays plain)) h.kept));
       }
 
   -- the first moment begins

@@ -1,16 +1,15 @@
 -- The rows of what is told so far.
-use Rattle.std.proofs.Common.{◌≡◌, ℕ, zero, suc, ◌+◌, ◌-◌, ◌<◌, ◌≤◌, Bool, true, false, not, ◌&&◌, List, [], ◌∷◌, ◌++◌, length, map, refl, sym, ◌∙◌, ap, subst, arith, if◌then◌else◌, cond, Option, Some, None, nat_le, append-nil, add-one}
+use Rattle.std.proofs.Common.{◌≡◌, ℕ, zero, suc, ◌+◌, ◌-◌, ◌<◌, ◌≤◌, Bool, true, false, List, [], ◌∷◌, ◌++◌, map, refl, sym, ◌∙◌, ap, arith, if◌then◌else◌, cond, Option, Some, None, nat_le}
 use Rattle.std.specs.List.{filter, list_any, range_with_len}
 use Rattle.std.proofs.lemmas.Bool.Decides.{nat_tests}
 use Rattle.std.proofs.lemmas.List.{map-append}
 use Rattle.std.proofs.lemmas.List.Elements.{filter-append}
-use Rattle.rr_vcd_text.specs.Dump.{Told, Nothing, Moment, Change, Off, Declared}
+use Rattle.rr_vcd_text.specs.Dump.{Told, Moment, Off, Declared}
 use Rattle.rr_trace.specs.Rows.{Row}
 use Rattle.rr_vcd.specs.View.{earlier}
-use Rattle.rr_vcd.specs.Tops.{Top, Clock, Port}
+use Rattle.rr_vcd.specs.Tops.{Top, Clock}
 use Rattle.rr_vcd.specs.Moments.{is_moment, is_off, moments, before, up_to, before_off, valued}
-use Rattle.rr_vcd.specs.Sampled.{cell_by, cell_in, row_behind, row_after, goes_over, is_edge, sampled, rows_of}
-use Rattle.rr_vcd.specs.Scopes.{id_in}
+use Rattle.rr_vcd.specs.Sampled.{row_behind, row_after, goes_over, is_edge, sampled, rows_of}
 use Rattle.rr_vcd.proofs.Telling.{moments_more, before_all, up_to_more, up_to_time, before_time, off_more, before_off_same, before_off_all, before_off_ends, off_fewer}
 
 -- rows by places that are alike are alike
@@ -60,7 +59,7 @@ module _ (top : Top) (d : Declared) (s : ℕ) where
           let r : range_with_len 0 (moments told) ≡ range_with_len 0 (moments told - 1) ++ (0 + (moments told - 1)) ∷ [] = ap (range_with_len 0) m ∙ range_more 0 (moments told - 1) in
           let u : up_to (0 + (moments told - 1)) told ≡ told = before_all (suc (0 + (moments told - 1))) told (omega arith) in
           ap (map (row_after top d s told)) r ∙ (map-append (row_after top d s told) (range_with_len 0 (moments told - 1)) ((0 + (moments told - 1)) ∷ [])
-              ∙ ap (λ x. rows_by None told (moments told - 1) ++ row_behind top d s x ∷ []) u)
+          ∙ ap (λ x. rows_by None told (moments told - 1) ++ row_behind top d s x ∷ []) u)
 
   abbrev last_row : List Told → Clock → ℕ → List Row
   last_row told clock at = if goes_over d s clock (up_to at told) told then row_behind top d s (up_to at told) ∷ [] else []
@@ -84,7 +83,7 @@ module _ (top : Top) (d : Declared) (s : ℕ) where
       ap (filter (is_edge d s clock told)) r ∙ filter-append (is_edge d s clock told) (range_with_len 0 ((moments told - 1) - 1)) (at ∷ []) in
       ap (map (row_after top d s told)) f
       ∙ (map-append (row_after top d s told) (filter (is_edge d s clock told) (range_with_len 0 ((moments told - 1) - 1))) (filter (is_edge d s clock told) (at ∷ []))
-          ∙ ap (λ xs. rows_by (Some clock) told (moments told - 1) ++ xs) (one_row told clock at (omega arith)))
+      ∙ ap (λ xs. rows_by (Some clock) told (moments told - 1) ++ xs) (one_row told clock at (omega arith)))
 
   -- with a clock a moment gives one where the clock goes over its edge
   pub close_one : (told : List Told) (clock : Clock) → top.clock ≡ Some clock → 1 < moments told

@@ -1,5 +1,5 @@
 -- Variables by scope, size and name, and the choice of a scope.
-use Rattle.std.proofs.Common.{◌≡◌, ◌⊎◌, inl, inr, ◌∙◌, sym, ℕ, zero, suc, ◌+◌, ◌<◌, ◌≤◌, Bool, true, false, not, ◌&&◌, ◌||◌, ◌==◌, cond, if◌then◌else◌, List, [], ◌∷◌, ◌++◌, length, get_or, take, map, Option, Some, None, option_map, is_some, refl, ap, subst, arith}
+use Rattle.std.proofs.Common.{◌≡◌, ◌⊎◌, inl, inr, ◌∙◌, sym, ℕ, ◌+◌, ◌<◌, Bool, true, false, ◌&&◌, ◌||◌, ◌==◌, cond, if◌then◌else◌, List, [], ◌∷◌, ◌++◌, length, get_or, take, map, Option, Some, None, option_map, is_some, refl, ap, subst, arith}
 use Rattle.std.specs.Prelude.{MatchOption}
 use Rattle.std.specs.List.{list_all, list_any}
 use Rattle.std.proofs.lemmas.Bool.{cases_order}
@@ -16,7 +16,7 @@ use Rattle.rr_vcd_text.proofs.Rooming.{same_bytes, bytes_same, and_left, and_rig
 use Rattle.rr_vcd.specs.declared.places.Key.{Key}
 use Rattle.rr_vcd.specs.contracts.places.KeyPartialEq.TheImpl.{eq-value}
 use Rattle.rr_vcd.specs.Tops.{Port, Top}
-use Rattle.rr_vcd.specs.Scopes.{bare_name, is_scope, stands_for, id_in, has_port, has_inputs, has_ports, IsFirst, HasNone, IsScope, whole, inputs_alone}
+use Rattle.rr_vcd.specs.Scopes.{bare_name, stands_for, id_in, has_port, has_inputs, has_ports, IsFirst, HasNone, IsScope, whole, inputs_alone}
 use Rattle.rr_vcd.specs.View.{is_key, place_at, ArePlaces}
 
 -- an entry, with its identifier as its bytes

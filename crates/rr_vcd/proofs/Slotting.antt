@@ -1,22 +1,18 @@
 -- The bits of identifiers, change by change.
-use Rattle.std.proofs.Common.{◌≡◌, ◌⊎◌, inl, inr, length, get_or, take, ◌∙◌, sym, ℕ, ◌+◌, ◌-◌, ◌<◌, ◌≤◌, Bool, true, false, not, ◌==◌, cond, if◌then◌else◌, List, [], ◌∷◌, ◌++◌, map, Option, Some, None, option_map, Result, Ok, Err, is_some, refl, ap, subst, arith}
+use Rattle.std.proofs.Common.{◌≡◌, ◌⊎◌, inl, inr, length, get_or, take, ◌∙◌, sym, ℕ, ◌+◌, ◌<◌, ◌≤◌, Bool, true, false, ◌==◌, cond, if◌then◌else◌, List, [], ◌∷◌, ◌++◌, map, Option, Some, None, option_map, Result, Ok, Err, is_some, refl, ap, subst, arith}
 use Rattle.std.specs.Prelude.{IfSome, All, OnOk}
 use Rattle.std.proofs.lemmas.List.{take_more}
 use Rattle.std.proofs.lemmas.List.Elements.{All-nil, All-cons, All-append}
 use Rattle.std.specs.Str.{bytes_eq}
 use Rattle.std.specs.Map.{lookup as looked_up}
 use Rattle.std.proofs.lemmas.Bool.Decides.{nat_tests}
-use Rattle.std.proofs.lemmas.List.Sums.{fold-append}
 use Rattle.indexmap.specs.IndexMap.{insert_entry}
 use denote.Ref.{Bor}
-use Rattle.rr_vcd_text.specs.Dump.{Told, Nothing, Moment, Change, Off}
+use Rattle.rr_vcd_text.specs.Dump.{Told, Moment, Change}
 use Rattle.rr_vcd_text.proofs.Rooming.{same_bytes, bytes_same}
-use Rattle.rr_trace.specs.declared.cell.Cell.{Cell}
-use Rattle.rr_trace.specs.Cells.{unknown_cell}
 use Rattle.rr_vcd.specs.declared.slots.Slot.{Slot}
 use Rattle.rr_vcd.specs.Values.{cell_of}
 use Rattle.rr_vcd.specs.Moments.{changed, last_change}
-use Rattle.rr_vcd.specs.Sampled.{cell_by}
 use Rattle.rr_vcd.specs.declared.probes.Probe.{Probe}
 use Rattle.rr_vcd.specs.declared.probes.ClockProbe.{ClockProbe}
 use Rattle.rr_vcd.specs.declared.probes.Probes.{Probes}
@@ -184,6 +180,7 @@ watches_one old new p id e put = record {
     kept true o = inl refl
     kept false None = tt
     kept false (Some s) = inr refl
+
     more : (b : Bool) (o : Option Slot) → is_some o ≡ true → is_some (if b then Some unseen else o) ≡ true
     more true o h = refl
     more false o h = h

@@ -1,13 +1,13 @@
 -- Moments of what is told, construct by construct.
-use Rattle.std.proofs.Common.{◌≡◌, ℕ, zero, suc, ◌+◌, ◌-◌, ◌<◌, ◌≤◌, Bool, true, false, not, ◌||◌, List, [], ◌∷◌, ◌++◌, length, take, refl, sym, ◌∙◌, ap, subst, arith, if◌then◌else◌, cond, Option, Some, None, fold, ◌==◌}
+use Rattle.std.proofs.Common.{◌≡◌, ℕ, zero, suc, ◌+◌, ◌<◌, ◌≤◌, Bool, true, false, ◌||◌, List, [], ◌∷◌, ◌++◌, length, refl, sym, ◌∙◌, ap, arith, if◌then◌else◌, None, ◌==◌}
 use Rattle.std.specs.List.{filter, list_any}
-use Rattle.std.proofs.lemmas.List.{length-append, append-nil}
+use Rattle.std.proofs.lemmas.List.{length-append}
 use Rattle.std.proofs.lemmas.List.Elements.{filter-append}
 use Rattle.std.proofs.lemmas.List.Sums.{fold-append}
 use Rattle.std.proofs.lemmas.List.Folds.{list_any-append}
 use Rattle.std.proofs.lemmas.Bool.Decides.{nat_tests}
 use Rattle.rr_vcd_text.specs.Dump.{Told, Nothing, Moment, Change, Off}
-use Rattle.rr_vcd.specs.Moments.{is_moment, is_off, moments, before, up_to, changed, last_change, before_off, valued}
+use Rattle.rr_vcd.specs.Moments.{is_moment, is_off, moments, before, up_to, changed, last_change, before_off}
 
 pub moments_more : (told : List Told) (t : Told) → moments (told ++ t ∷ []) ≡ moments told + (if is_moment t then 1 else 0)
 moments_more told t = ap length (filter-append is_moment told (t ∷ [])) ∙ (length-append (filter is_moment told) (filter is_moment (t ∷ [])) ∙ ap (λ n. moments told + n) (one t))

@@ -2,9 +2,8 @@
 use Rattle.std.proofs.Common.{◌≡◌, ◌⊎◌, inl, inr, ℕ, ◌<◌, ◌≤◌, Bool, true, false, ◌&&◌, List, length, Option, refl, sym, ◌∙◌, ap, subst, arith}
 use Rattle.std.proofs.lemmas.Bool.{cases_order}
 use Rattle.rr_flat.specs.Plain.{Flat}
-use Rattle.rr_flat.specs.declared.fault.Limit.TheVariants.{Rows}
-use Rattle.rr_vcd_text.specs.Dump.{Declared, Told, IsDump}
-use Rattle.rr_vcd_text.proofs.Once.{Same, one_dump, dump_or_line, one_line}
+use Rattle.rr_vcd_text.specs.Dump.{Declared}
+use Rattle.rr_vcd_text.proofs.Once.{one_dump, dump_or_line, one_line}
 use Rattle.rr_trace.specs.Rows.{Row}
 use Rattle.rr_trace.specs.Tables.{Table, table_of_rows}
 use Rattle.rr_vcd.specs.declared.fault.VcdFault.{VcdFault}
@@ -13,7 +12,7 @@ use Rattle.rr_vcd.specs.Tops.{Top, top_of}
 use Rattle.rr_vcd.specs.Moments.{valued}
 use Rattle.rr_vcd.specs.Scopes.{IsFirst, HasNone, IsScope, whole, inputs_alone, has_ports, has_inputs}
 use Rattle.rr_vcd.specs.Sampled.{Samples, IsSampled, rows_of}
-use Rattle.rr_vcd.specs.Faults.{LacksScope, PassesRows, RefusesVcd}
+use Rattle.rr_vcd.specs.Faults.{LacksScope, RefusesVcd}
 
 clash : {b : Bool} → b ≡ true → b ≡ false → ⊥
 clash p q = cc
@@ -46,7 +45,7 @@ one_rows top bytes rows other x y =
     let chosen : IsScope top x.declared y.scope = subst (λ d. IsScope top d y.scope) (sym same.declared) y.chosen in
     let scope = one_scope top x.declared x.scope y.scope x.chosen chosen in
     x.are ∙ (ap (λ d. rows_of top d x.scope x.told (valued x.told)) same.declared
-        ∙ (ap (λ s. rows_of top y.declared s x.told (valued x.told)) scope ∙ (ap (λ t. rows_of top y.declared y.scope t (valued t)) same.tells ∙ sym y.are)))
+    ∙ (ap (λ s. rows_of top y.declared s x.told (valued x.told)) scope ∙ (ap (λ t. rows_of top y.declared y.scope t (valued t)) same.tells ∙ sym y.are)))
 
 rows_or_none : (top : Top) (bytes : List ℕ) (rows : List Row) → Samples top bytes rows → LacksScope top bytes → ⊥
 rows_or_none top bytes rows x y =

@@ -1,6 +1,6 @@
 -- The table that is sampled from a value change dump (IEEE 1364-2005 section 18.2) for the ports of a flat design's top: a
 -- row for each edge of the clock, with the values before it; without a clock a row for each moment.
-use Rattle.std.specs.Prelude.{ℕ, ◌+◌, ◌-◌, ◌≡◌, ◌<◌, ◌≤◌, List, length, map, Bool, not, ◌&&◌, ◌==◌, Option, Some, None, if◌then◌else◌}
+use Rattle.std.specs.Prelude.{ℕ, ◌+◌, ◌-◌, ◌≡◌, ◌≤◌, List, length, map, Bool, not, ◌&&◌, ◌==◌, Option, Some, None, if◌then◌else◌}
 use Rattle.std.specs.List.{filter, range_with_len}
 use Rattle.rr_flat.specs.Plain.{Flat}
 use Rattle.rr_vcd_text.specs.Dump.{Declared, Told, IsDump}

@@ -26,13 +26,7 @@ fn extending(digits: &[u8]) -> u128
 {
     match digits.first() {
         None => u128::MAX,
-        Some(digit) => {
-            if is_known(*digit) {
-                u128::MAX
-            } else {
-                0
-            }
-        }
+        Some(digit) => { if is_known(*digit) { u128::MAX } else { 0 } }
     }
 }
 

@@ -104,9 +104,7 @@ impl<'a> Places<'a> {
     fn has_all(&self, scope: u32, ports: &[Port]) -> bool
         ensures { result ≡ list_all (λ p. is_some (place_at scope (plain_port p) self.now)) ports.now }
     {
-        ports
-            .iter()
-            .all(|port| self.find(scope, *port).is_some())
+        ports.iter().all(|port| self.find(scope, *port).is_some())
     }
 
     /// The scope in which ports are looked up: of so many the first that has every input and every

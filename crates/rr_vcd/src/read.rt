@@ -29,11 +29,7 @@ fn skip(changes: Changes) -> Result<(), DumpFault>
 }
 
 /// The table of a body, of which nothing was read.
-fn sample<'a>(
-    alloc: Global,
-    changes: Changes<'a>,
-    sampler: Sampler<'a>,
-) -> Result<Table, VcdFault>
+fn sample<'a>(alloc: Global, changes: Changes<'a>, sampler: Sampler<'a>) -> Result<Table, VcdFault>
     ensures { (bytes : List ℕ) (top : Top) (d : PlainDeclared) (s : ℕ) → IsReading bytes d [] changes.entry → IsTold top d s [] sampler.entry → MatchResult result (IsTable bytes top d s) (StopsTable bytes top d s) }
 {
     let mut changes = changes;
@@ -53,12 +49,7 @@ fn sample<'a>(
 /// one a row for each moment, with the values after it; values from the moment of the first `$dumpoff` on
 /// are not read. Unknown bits of an input are 0, and an output that the scope does not have is known
 /// nowhere. The clock, where there is one, is one of the design's inputs.
-pub fn read_vcd(
-    alloc: Global,
-    bytes: &[u8],
-    flat: &Flat,
-    order: &Order,
-) -> Result<Table, VcdFault>
+pub fn read_vcd(alloc: Global, bytes: &[u8], flat: &Flat, order: &Order) -> Result<Table, VcdFault>
     ensures { MatchResult result
         (λ table. IsSampled (plain_flat flat.now) order.now.clock order.now.rising bytes.now (plain_table table))
         (RefusesVcd (plain_flat flat.now) order.now.clock order.now.rising bytes.now) }

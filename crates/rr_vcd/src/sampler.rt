@@ -60,10 +60,7 @@ fn watch_all<'a>(slots: &mut Slots<'a>, probes: &[Probe<'a>]) -> Result<(), Allo
     Ok(())
 }
 
-fn watch_clock<'a>(
-    slots: &mut Slots<'a>,
-    clock: Option<ClockProbe<'a>>,
-) -> Result<(), AllocError>
+fn watch_clock<'a>(slots: &mut Slots<'a>, clock: Option<ClockProbe<'a>>) -> Result<(), AllocError>
     ensures { OnOk result (WatchesClock slots.old slots.new clock.entry) }
 {
     match clock {

@@ -6,10 +6,12 @@ use rr_vcd::{Limit, Table, VcdFault, one_sample, read_vcd};
 use std::alloc::{AllocError, Global};
 use std::test::Fail;
 
-const COUNTER: &str = "module counter(input clk, input rst, output reg [3:0] q); always @(posedge clk) if (rst) q <= 4'd0; else q <= q + 4'd2; endmodule";
+const COUNTER: &str =
+    "module counter(input clk, input rst, output reg [3:0] q); always @(posedge clk) if (rst) q <= 4'd0; else q <= q + 4'd2; endmodule";
 
 /// The counter's dump of three cycles, which counts by one.
-const CYCLES: &[u8] = b"$timescale 1ns $end\n$scope module tb $end\n$var wire 1 ! clk $end\n$var wire 1 \" rst $end\n$var wire 4 # q [3:0] $end\n$upscope $end\n$enddefinitions $end\n#0\n$dumpvars\n0!\n1\"\nbx #\n$end\n#5\n1!\nb0 #\n#8\n0\"\n#10\n0!\n#15\n1!\nb1 #\n#20\n0!\n#25\n1!\nb10 #\n";
+const CYCLES: &[u8] =
+    b"$timescale 1ns $end\n$scope module tb $end\n$var wire 1 ! clk $end\n$var wire 1 \" rst $end\n$var wire 4 # q [3:0] $end\n$upscope $end\n$enddefinitions $end\n#0\n$dumpvars\n0!\n1\"\nbx #\n$end\n#5\n1!\nb0 #\n#8\n0\"\n#10\n0!\n#15\n1!\nb1 #\n#20\n0!\n#25\n1!\nb10 #\n";
 
 /// The table of a dump for the design of a text, with this clock and edge.
 fn read(
@@ -50,19 +52,35 @@ fn text_of(alloc: Global, table: &Table) -> Result<String, AllocError> {
 }
 
 /// The rows of a dump for the counter, as text; or the refusal.
-fn rows(
-    alloc: Global,
-    clock: Option<u32>,
-    rising: bool,
-    bytes: &[u8],
-) -> Result<String, VcdFault> {
+fn rows(alloc: Global, clock: Option<u32>, rising: bool, bytes: &[u8]) -> Result<String, VcdFault> {
     let table = read(alloc, COUNTER, clock, rising, bytes)?;
     Ok(text_of(alloc, &table)?)
 }
 
+/// A declaration by a letter: `(` and `)` open and close a scope, and each letter declares a variable.
+fn piece(letter: u8) -> &'static [u8] {
+    match letter {
+        b'(' => b"$scope module m $end ",
+        b')' => b"$upscope $end ",
+        b'c' => b"$var wire 1 ! clk $end ",
+        b'r' => b"$var wire 1 \" rst $end ",
+        b'q' => b"$var reg 4 # \\q [3:0] $end ",
+        b'C' => b"$var wire 1 % clk $end ",
+        b'R' => b"$var wire 1 & rst $end ",
+        b'Q' => b"$var reg 4 $ q $end ",
+        b'w' => b"$var reg 8 # q $end ",
+        b's' => b"$var wire 1 ! rst $end ",
+        _ => b"",
+    }
+}
+
+/// The dump of these declarations and this body.
 fn joined(alloc: Global, head: &[u8], body: &[u8]) -> Result<Vec<u8>, AllocError> {
     let mut text = Vec::new(alloc);
-    text.extend_from_slice(head)?;
+    for letter in head.iter() {
+        text.extend_from_slice(piece(*letter))?;
+    }
+    text.extend_from_slice(b"$enddefinitions $end\n".as_slice())?;
     text.extend_from_slice(body)?;
     Ok(text)
 }
@@ -79,83 +97,64 @@ fn counter(rt: HostRuntime) -> Result<(), Fail> {
         Err(fault) => assert!(rt; false, "{fault:?}"),
         Ok(text) => assert!(rt; text.as_str() == "0 0/15 ; 0 1/15 ; ", "{text}"),
     }
-    match rows(alloc, None, true, CYCLES) {
+    match rows(
+        alloc,
+        None,
+        true,
+        b"$scope module m $end $var wire 1 ! clk $end $var wire 1 ! rst $end $enddefinitions $end 1! #1 #2 x!",
+    ) {
         Err(fault) => assert!(rt; false, "{fault:?}"),
-        Ok(text) => assert!(rt;
-            text.as_str()
-                == "0 1 0/0 ; 1 1 0/15 ; 1 0 0/15 ; 0 0 0/15 ; 1 0 1/15 ; 0 0 1/15 ; 1 0 2/15 ; ",
-            "{text}"
-        ),
+        Ok(text) => assert!(rt; text.as_str() == "1 1 0/0 ; 0 0 0/0 ; ", "{text}"),
     }
     Ok(())
 }
 
-const PLAIN: &[u8] = b"$scope module m $end $var wire 1 ! clk $end $var wire 1 \" rst $end $var reg 4 # q [3:0] $end $upscope $end $enddefinitions $end\n";
-
-/// Changes of the counter, and the rows that they give.
-const BODIES: [(&[u8], &str); 13] = [
-    (b"#0 0! 1\" bx # #5 1! b0 # #8 0\" #10 0! #15 1! b1 #", "1 0/0 ; 0 0/15 ; "),
-    // No edge from x, from z, or in the first moment.
-    (b"#0 1\" #5 1! b0 # #8 0\" #10 0! #15 1! b1 #", "0 0/15 ; "),
-    (b"#0 z! 1\" #5 1! b0 #", ""),
-    (b"0! #0 1! 1\"", ""),
-    (b"0! 1\"", ""),
+/// Declarations, changes, and the rows that they give.
+const CASES: [(&[u8], &[u8], &str); 18] = [
+    (
+        b"(crq)",
+        b"#0 0! 1\" bx # #5 1! b0 # #8 0\" #10 0! #15 1!",
+        "1 0/0 ; 0 0/15 ; ",
+    ),
+    // No edge from x, from z, in the first moment or before it.
+    (b"(crq)", b"#0 1\" #5 1! b0 # #10 0! #15 1!", "1 0/15 ; "),
+    (b"(crq)", b"#0 z! 1\" #5 1!", ""),
+    (b"(crq)", b"0! #0 1!", ""),
     // Up and down within a moment, and a clock that is 1 from the start.
-    (b"0! #0 1\" #5 1! 0! #6 1!", "1 0/0 ; "),
-    (b"#0 1! 1\" #5 0! 0\" #6 1!", "0 0/0 ; "),
+    (b"(crq)", b"0! #0 1\" #5 1! 0! #6 1!", "1 0/0 ; "),
+    (b"(crq)", b"#0 1! 1\" #5 0! 0\" #6 1!", "0 0/0 ; "),
     // Digits that are missing, and unknown ones.
-    (b"#0 0! x\" b10x # #5 1!", "0 4/14 ; "),
-    (b"#0 0! 1\" bx1 # #5 1! B0 #", "1 1/1 ; "),
-    (b"#0 0! 1\" b1Z10 # #5 1! #6 0! bz # #7 1!", "1 10/11 ; 1 0/0 ; "),
+    (b"(crq)", b"#0 0! x\" b10x # #5 1!", "0 4/14 ; "),
+    (b"(crq)", b"#0 0! 1\" bx1 # #5 1! B0 #", "1 1/1 ; "),
     // The moment in which dumping ends is not read, nor what follows.
-    (b"#0 0! 1\" #5 1! #10 0! #15 1! $dumpoff x! $end #20 $dumpon 0! $end #25 1!", "1 0/0 ; "),
-    (b"$dumpoff $end #0 0! #5 1!", ""),
-    (b"", ""),
-];
-
-#[test]
-fn bodies(rt: HostRuntime) -> Result<(), Fail> {
-    let alloc = rt.alloc();
-    for (body, expected) in BODIES.iter() {
-        let bytes = joined(alloc, PLAIN, body)?;
-        match rows(alloc, Some(0), true, bytes.as_slice()) {
-            Err(fault) => assert!(rt; false, "{fault:?} for {expected}"),
-            Ok(text) => assert!(rt; text.as_str() == *expected, "{text} for {expected}"),
-        }
-    }
-    Ok(())
-}
-
-const BODY: &[u8] =
-    b" $enddefinitions $end #0 0! 1\" bx # #5 1! b0 # #8 0\" #10 0! #15 1! b1 #";
-
-/// Declarations, and the rows that the changes above give with them.
-const HEADS: [(&[u8], &str); 9] = [
-    // The name may begin with a backslash; of two variables the first counts.
-    (b"$scope module m $end $var wire 1 ! \\clk $end $var wire 1 \" rst $end $var reg 4 # \\q [3:0] $end $var reg 4 % q $end", "1 0/0 ; 0 0/15 ; "),
+    (
+        b"(crq)",
+        b"#0 0! 1\" #5 1! #6 0! #7 1! $dumpoff #8 0! #9 1!",
+        "1 0/0 ; ",
+    ),
+    (b"(crq)", b"$dumpoff #0 0! #5 1!", ""),
     // A test bench with the inputs alone stands above the design.
-    (b"$scope module tb $end $var wire 1 % clk $end $var wire 1 & rst $end $scope module dut $end $var wire 1 ! clk $end $var wire 1 \" rst $end $var reg 4 # q $end $upscope $end $upscope $end", "1 0/0 ; 0 0/15 ; "),
+    (b"(CR(crq))", b"#0 0! 1\" b1 # #5 1!", "1 1/15 ; "),
     // No scope has the output, and the first with the inputs is taken.
-    (b"$var reg 4 # q $end $scope module a $end $var wire 1 ! clk $end $var wire 1 \" rst $end $upscope $end $scope module b $end $var wire 1 % clk $end $var wire 1 & rst $end $upscope $end", "1 0/0 ; 0 0/0 ; "),
-    // Of two scopes with all ports the first.
-    (b"$scope module a $end $var wire 1 ! clk $end $var wire 1 \" rst $end $var reg 4 # q $end $upscope $end $scope module b $end $var wire 1 % clk $end $var wire 1 & rst $end $var reg 4 # q $end $upscope $end", "1 0/0 ; 0 0/15 ; "),
+    (b"q(cr)(CR)", b"#0 0! 1\" b1 # #5 1!", "1 0/0 ; "),
+    // Of two scopes with all ports the first, and of two variables.
+    (b"(crqQ)(CRQ)", b"#0 0! 1\" b1 # #5 1!", "1 1/15 ; "),
     // A scope that is opened again is another one.
-    (b"$scope module m $end $var wire 1 ! clk $end $var wire 1 \" rst $end $upscope $end $scope module m $end $var reg 4 # q $end $upscope $end", "1 0/0 ; 0 0/0 ; "),
+    (b"(cr)(q)", b"#0 0! 1\" b1 # #5 1!", "1 0/0 ; "),
     // A variable behind an inner scope is one of the outer.
-    (b"$scope module m $end $var wire 1 ! clk $end $scope task t $end $var wire 1 % rst $end $upscope $end $var wire 1 \" rst $end $var reg 4 # q $end", "1 0/0 ; 0 0/15 ; "),
-    // Another size is another variable.
-    (b"$scope module m $end $var wire 1 ! clk $end $var wire 1 \" rst $end $var reg 8 # q $end", "1 0/0 ; 0 0/0 ; "),
-    // Two ports share an identifier.
-    (b"$scope module m $end $var wire 1 ! clk $end $var wire 1 ! rst $end $var reg 4 # q $end $var wire 1 \" w $end", "0 0/0 ; 0 0/15 ; "),
-    // Two variables of one identifier, of which one is the port.
-    (b"$scope module m $end $var wire 1 ! clk $end $var wire 1 \" rst $end $var wire 9 # wide $end $var reg 4 # q $end", "1 0/0 ; 0 0/15 ; "),
+    (b"(c(R)rq)", b"#0 0! 1\" b1 # #5 1!", "1 1/15 ; "),
+    // Another size is another variable, of the same identifier or not.
+    (b"(crw)", b"#0 0! 1\" b1 # #5 1!", "1 0/0 ; "),
+    (b"(crwq)", b"#0 0! 1\" b1 # #5 1!", "1 1/15 ; "),
+    // Two ports share an identifier; `$` and `#` begin other words too.
+    (b"(csQ)", b"#0 0! b1 $ #5 1!", "0 1/15 ; "),
 ];
 
 #[test]
-fn heads(rt: HostRuntime) -> Result<(), Fail> {
+fn cases(rt: HostRuntime) -> Result<(), Fail> {
     let alloc = rt.alloc();
-    for (head, expected) in HEADS.iter() {
-        let bytes = joined(alloc, head, BODY)?;
+    for (head, body, expected) in CASES.iter() {
+        let bytes = joined(alloc, head, body)?;
         match rows(alloc, Some(0), true, bytes.as_slice()) {
             Err(fault) => assert!(rt; false, "{fault:?} for {expected}"),
             Ok(text) => assert!(rt; text.as_str() == *expected, "{text} for {expected}"),
@@ -164,60 +163,28 @@ fn heads(rt: HostRuntime) -> Result<(), Fail> {
     Ok(())
 }
 
-/// Identifiers that are the first bytes of other constructs.
-const IDENTIFIERS: &[u8] = b"$scope module m $end $var wire 1 $ clk $end $var wire 1 ' rst $end $var reg 4 # q [3:0] $end $upscope $end $enddefinitions $end\n#0 0$ 1' bx # #5 1$ b0 # #8 0' #10 0$ #15 1$ b1 #";
-
-#[test]
-fn identifiers(rt: HostRuntime) -> Result<(), Fail> {
-    match rows(rt.alloc(), Some(0), true, IDENTIFIERS) {
-        Err(fault) => assert!(rt; false, "{fault:?}"),
-        Ok(text) => assert!(rt; text.as_str() == "1 0/0 ; 0 0/15 ; ", "{text}"),
-    }
-    Ok(())
-}
-
-/// A wide port, whose values are extended by what comes first.
-const WIDE: &[u8] = b"$scope module m $end $var wire 128 ! a $end $var wire 128 \" y $end $enddefinitions $end #0 b1 ! bx0 \" #1 b10000000000000000000000000000000000000000000000000000000000000000000000000000000000000000000000000000000000000000000000000000000 ! b0 \"";
-
-#[test]
-fn wide(rt: HostRuntime) -> Result<(), Fail> {
-    let alloc = rt.alloc();
-    let design = "module m(input [127:0] a, output [127:0] y); endmodule";
-    match read(alloc, design, None, true, WIDE) {
-        Err(fault) => assert!(rt; false, "{fault:?}"),
-        Ok(table) => {
-            let text = text_of(alloc, &table)?;
-            assert!(rt;
-                text.as_str()
-                    == "1 0/1 ; 170141183460469231731687303715884105728 0/340282366920938463463374607431768211455 ; ",
-                "{text}"
-            );
-        }
-    }
-    Ok(())
-}
-
-/// Texts without a table, and their refusals.
-const FAULTS: [(&[u8], VcdFault); 6] = [
-    (b"$scope module tb $end\n$var wire 1 ! ck $end $var wire 1 \" rst $end $enddefinitions $end", VcdFault::NoScope),
-    (b"$scope module m $end $var wire 1 ! clk $end $upscope $end $scope module m $end $var wire 1 \" rst $end $enddefinitions $end", VcdFault::NoScope),
-    (b"$enddefinitions $end #0 #1", VcdFault::NoScope),
+/// Declarations and changes without a table, and their refusals.
+const FAULTS: [(&[u8], &[u8], VcdFault); 5] = [
+    (b"(c)(r)q", b"#1 #2", VcdFault::NoScope),
+    (b"cr", b"", VcdFault::NoScope),
     // The form comes before the scope.
-    (b"$enddefinitions $end #1 #1", VcdFault::BadVcd(1)),
-    (b"$enddefinitions $end\n$dumpoff\n#1\n1!", VcdFault::BadVcd(4)),
-    (b"", VcdFault::BadVcd(1)),
+    (b"(c)", b"#1\n#1", VcdFault::BadVcd(3)),
+    (b"(cr)", b"$dumpoff\n#1\n1\"\n1#", VcdFault::BadVcd(5)),
+    (b"(cr", b"#1\nb11 !", VcdFault::BadVcd(3)),
 ];
 
 #[test]
 fn faults(rt: HostRuntime) -> Result<(), Fail> {
     let alloc = rt.alloc();
-    for (text, fault) in FAULTS.iter() {
-        match read(alloc, COUNTER, Some(0), true, text) {
+    for (head, body, fault) in FAULTS.iter() {
+        let text = joined(alloc, head, body)?;
+        match read(alloc, COUNTER, Some(0), true, text.as_slice()) {
             Ok(_) => assert!(rt; false, "a table for {fault:?}"),
             Err(found) => assert!(rt; found == *fault, "{found:?} for {fault:?}"),
         }
     }
-    let mut short = joined(alloc, CYCLES, b"")?;
+    let mut short = Vec::new(alloc);
+    short.extend_from_slice(CYCLES)?;
     let length = short.len().saturating_sub(3);
     short.truncate(length);
     short.push(b'\n')?;
@@ -231,7 +198,9 @@ fn faults(rt: HostRuntime) -> Result<(), Fail> {
 /// A dump of so many moments, the times of which are their numbers.
 fn moments(alloc: Global, count: u32) -> Result<Vec<u8>, AllocError> {
     let mut text = Vec::new(alloc);
-    text.extend_from_slice(b"$scope module m $end $var wire 1 ! a $end $enddefinitions $end".as_slice())?;
+    text.extend_from_slice(
+        b"$scope module m $end $var wire 1 ! a $end $enddefinitions $end".as_slice(),
+    )?;
     for time in 0..count {
         let word = format!(in alloc; " #{time}")?;
         text.extend_from_slice(word.as_bytes())?;
@@ -251,7 +220,10 @@ fn limit(rt: HostRuntime) -> Result<(), Fail> {
     let mut past = moments(alloc, 65_537)?;
     match read(alloc, design, None, true, past.as_slice()) {
         Ok(_) => assert!(rt; false, "a table"),
-        Err(found) => assert!(rt; found == VcdFault::TooMany(Limit::Rows, 65_537), "{found:?}"),
+        Err(found) => assert!(rt;
+            found == VcdFault::TooMany(Limit::Rows, 65_537),
+            "{found:?}"
+        ),
     }
     past.extend_from_slice(b"\n\n1\"".as_slice())?;
     match read(alloc, design, None, true, past.as_slice()) {

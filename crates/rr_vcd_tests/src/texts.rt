@@ -3,7 +3,8 @@ use rr_vcd_text::{DumpFault, Told, one_reading, read_head};
 use std::alloc::Global;
 use std::test::Fail;
 
-const DUMP: &[u8] = b"$version by hand $end $scope module m $end $var reg 4 # q [3:0] $end\n$upscope $end $enddefinitions $end\n#7 $dumpvars b1x #\n$end $comment # $end r0.5 # $dumpoff #12 b1 #";
+const DUMP: &[u8] =
+    b"$version by hand $end $scope module m $end $var reg 4 # q [3:0] $end\n$upscope $end $enddefinitions $end\n#7 $dumpvars b1x #\n$end $comment # $end r0.5 # $dumpoff #12 b1 #";
 
 /// The number of moments, the sum of their times, the number of changes and of their digits, and how
 /// many times dumping ends.

@@ -1,4 +1,4 @@
-use Rattle.std.proofs.Common.{◌≡◌, ◌-◌, ◌^◌, ◌∙◌, sym, ap, if◌then◌else◌}
+use Rattle.std.proofs.Common.{◌-◌, ◌^◌, ◌∙◌, sym, ap, if◌then◌else◌}
 use Rattle.std.specs.Option.{option_copied}
 use Rattle.rr_vcd.proofs.Extending.{extension_known, extension_none}
 use Rattle.rr_vcd.proofs.cell.extending.Goals as goal

@@ -1,4 +1,4 @@
-use Rattle.std.proofs.Common.{◌≡◌, ◌∙◌, refl, ap, arith, rules, Bool, true, false}
+use Rattle.std.proofs.Common.{arith, rules}
 use Rattle.rr_vcd.proofs.Extending.{Reads-none, Reads-more, Reads-all}
 use Rattle.rr_vcd.proofs.cell.wide_cell.Goals as goal
 

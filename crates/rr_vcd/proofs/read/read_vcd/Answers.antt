@@ -1,4 +1,4 @@
-use Rattle.std.proofs.Common.{◌≡◌, ◌∙◌, sym, ap, map, subst, refl}
+use Rattle.std.proofs.Common.{map, subst, refl}
 use Rattle.rr_flat.specs.View.{plain_flat}
 use Rattle.rr_trace.specs.View.{plain_table}
 use Rattle.rr_vcd_text.specs.View.{plain_declared, plain_variable}

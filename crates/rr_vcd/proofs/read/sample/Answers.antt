@@ -1,4 +1,3 @@
-use Rattle.std.proofs.Common.{◌≡◌}
 use Rattle.rr_vcd.specs.View.{IsTable, StopsTable}
 use Rattle.rr_vcd.specs.Faults.{of_dump}
 use Rattle.rr_vcd.proofs.Ending.{read_some, read_none, stops_text, finish_is, fails}

@@ -1,4 +1,3 @@
-use Rattle.std.proofs.Common.{refl}
 use Rattle.rr_vcd.proofs.Slotting.{watches_none, watches_next}
 use Rattle.rr_vcd.proofs.sampler.watch_all.Goals as goal
 

@@ -14,8 +14,8 @@ returns-then-contains_key c =
     let there : is_some (place_at key.scope (as_port key) c.args.self.now) ≡ true =
     rw (← c.self.view_is) (ap is_some same ∙ (some_map (looked_up ((eq-value).it key) c.self.inside.ids.entries) ∙ (sym c.contains_key.ensures ∙ c.if-contains_key.true))) in
     λ s p. stays_placed key c.args.variable.id.now c.args.self.now there s p
-        ∙ ap (λ b. if is_some (place_at s p c.args.self.now) then place_at s p c.args.self.now else if b then Some c.args.variable.id.now else None)
-        (stands_is c.args.variable key c.in-Some.is c.bare_name.ensures refl s p)
+    ∙ ap (λ b. if is_some (place_at s p c.args.self.now) then place_at s p c.args.self.now else if b then Some c.args.variable.id.now else None)
+    (stands_is c.args.variable key c.in-Some.is c.bare_name.ensures refl s p)
 
 pub returns : goal.returns
 returns c =

@@ -1,11 +1,8 @@
-use Rattle.std.proofs.Common.{◌≡◌, ◌∙◌, sym, ap, refl, arith, true, false, not, map, None, Some, Option, subst}
+use Rattle.std.proofs.Common.{◌∙◌, sym, ap, arith, not}
 use Rattle.std.specs.Prelude.{is_some}
 use Rattle.std.specs.List.{list_all}
-use Rattle.rr_vcd_text.specs.Dump.{Declared}
-use Rattle.rr_vcd.specs.Tops.{Top}
-use Rattle.rr_vcd.specs.Scopes.{has_port, has_inputs}
-use Rattle.rr_vcd.specs.View.{plain_port, plain_top, place_at, ArePlaces}
-use Rattle.rr_vcd.proofs.Scoping.{Sought, Sought-none, Sought-neither, Sought-new, Sought-kept, Sought-whole, Sought-all, has_all_is}
+use Rattle.rr_vcd.specs.View.{plain_port, plain_top, place_at}
+use Rattle.rr_vcd.proofs.Scoping.{Sought-none, Sought-neither, Sought-new, Sought-kept, Sought-whole, Sought-all, has_all_is}
 use Rattle.rr_vcd.proofs.places.Places.choose.Goals as goal
 use Rattle.rr_vcd.proofs.places.Places.choose.Goals.{then-has_all+else-has_all-2+then-is_none, then-has_all+else-has_all-2+else-is_none, else-has_all}
 

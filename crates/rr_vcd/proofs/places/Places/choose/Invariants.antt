@@ -1,5 +1,4 @@
 use Rattle.rr_vcd_text.specs.Dump.{Declared}
-use Rattle.std.proofs.Common.{◌≡◌}
 use Rattle.rr_vcd.specs.View.{ArePlaces, plain_top}
 use Rattle.rr_vcd.proofs.Scoping.{Sought}
 use Rattle.rr_vcd.proofs.places.Places.choose.Given as goal

@@ -1,8 +1,7 @@
-use Rattle.std.proofs.Common.{◌≡◌, ◌∙◌, sym, ap, option_map}
+use Rattle.std.proofs.Common.{◌∙◌, sym, ap, option_map}
 use Rattle.rr_vcd.specs.declared.places.Key.{Key}
 use Rattle.rr_vcd.specs.contracts.places.KeyPartialEq.TheImpl.{eq-value}
-use Rattle.rr_vcd.specs.View.{place_at}
-use Rattle.rr_vcd.proofs.Scoping.{key_eq, same_place, placed}
+use Rattle.rr_vcd.proofs.Scoping.{key_eq, same_place}
 use Rattle.rr_vcd.proofs.places.Places.find.Goals as goal
 
 pub returns : goal.returns

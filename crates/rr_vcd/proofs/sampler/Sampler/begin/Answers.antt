@@ -1,4 +1,4 @@
-use Rattle.std.proofs.Common.{◌≡◌, ◌+◌, ◌∙◌, sym, ap, refl, arith}
+use Rattle.std.proofs.Common.{◌≡◌, ◌+◌, refl, arith}
 use Rattle.rr_vcd.proofs.Keeping.{told_first, told_next}
 use Rattle.rr_vcd.proofs.sampler.Sampler.begin.Goals as goal
 

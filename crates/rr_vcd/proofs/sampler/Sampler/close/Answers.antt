@@ -1,4 +1,3 @@
-use Rattle.std.proofs.Common.{◌≡◌, ◌∙◌, sym, ap, refl}
 use Rattle.rr_vcd.specs.View.{earlier}
 use Rattle.rr_vcd.proofs.Sampling.{ended}
 use Rattle.rr_vcd.proofs.Keeping.{closed_full, closed_all, closed_over, closed_not, current_slots, kept_rows, watched_clock}

@@ -1,6 +1,5 @@
-use Rattle.std.proofs.Common.{◌≡◌, ◌∙◌, sym, ap, Bool, true, false, not, ◌&&◌, refl}
-use Rattle.rr_vcd.specs.Sampled.{is_level, cell_by}
-use Rattle.rr_vcd.specs.View.{plain_probe}
+use Rattle.std.proofs.Common.{◌≡◌, ◌∙◌, sym, ap, Bool, true, false, not, ◌&&◌}
+use Rattle.rr_vcd.specs.Sampled.{is_level}
 use Rattle.rr_vcd.proofs.sampler.Sampler.goes_over.Goals as goal
 
 both : (a b c : Bool) → a ≡ true → b ≡ c → b ≡ (a && c)

@@ -1,6 +1,6 @@
-use Rattle.std.proofs.Common.{◌≡◌, ◌∙◌, sym, ap, refl, subst}
+use Rattle.std.proofs.Common.{ap, refl}
 use Rattle.rr_vcd_text.specs.View.{plain_told}
-use Rattle.rr_vcd_text.specs.Dump.{Nothing, Moment, Change, Off}
+use Rattle.rr_vcd_text.specs.Dump.{Nothing, Change}
 use Rattle.rr_vcd.specs.View.{earlier}
 use Rattle.rr_vcd.proofs.Slotting.{slots_still, still_watched}
 use Rattle.rr_vcd.proofs.Keeping.{told_off, told_ends, told_still}

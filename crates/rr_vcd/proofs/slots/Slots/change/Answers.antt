@@ -1,4 +1,4 @@
-use Rattle.std.proofs.Common.{◌≡◌, ◌∙◌, sym, refl}
+use Rattle.std.proofs.Common.{◌∙◌, sym, refl}
 use Rattle.rr_vcd.proofs.Slotting.{slots_changed, slots_skipped, on_ok}
 use Rattle.rr_vcd.proofs.slots.Slots.change.Goals as goal
 
