@@ -113,7 +113,7 @@ module _ (w : PlainRequest) (design : List ℕ) (tokens : List Lexeme) (source :
     (bound : ℕ) (circuit : OutputNetlist) (p : Proof) (files : answer.files ≡ certificate w.cert circuit p) (status : answer.status ≡ 2) where
   left_told : (choice : Option Choice) → search.IsLeftOpen (design_of w source) t bound circuit p.lines choice → IsNothingFound w t.sites bound answer ⊎ IsFound w design tokens source t.sites t.table bound answer
       → IsOpen w design tokens source t.sites t.table answer
-  left_told choice l found = record {
+  left_told choice l what = record {
     faulty = l.faulty;
     bound = bound;
     few = l.few;
@@ -124,7 +124,7 @@ module _ (w : PlainRequest) (design : List ℕ) (tokens : List Lexeme) (source :
         subst (λ (n : ℕ). IsSpent (formula_of circuit) circuit.netlist.inputs w.members n p.lines) budget
         (subst (λ (n : ℕ). IsSpent (formula_of circuit) circuit.netlist.inputs n t.budget p.lines) members l.spent);
     files = files;
-    found = found;
+    found = what;
     status = status;
   }
 

@@ -98,12 +98,12 @@ FoundIs j t bound (Some choice) = IsFound j t bound choice.picks.items
 
 -- the design does not match as it is, and the question whether so many changes mend it is open: each member has learned
 -- exactly as many fresh lines as it may, which derive from the question's formula
-pub record IsLeftOpen (j : Design) (t : Task) (bound : ℕ) (circuit : OutputNetlist) (lines : List Step) (found : Option Choice) : Type 0 where
+pub record IsLeftOpen (j : Design) (t : Task) (bound : ℕ) (circuit : OutputNetlist) (lines : List Step) (choice : Option Choice) : Type 0 where
   pub faulty : Matches j t.table → ⊥
   pub few : bound ≤ length t.sites
   pub faithful : Faithful circuit j t.sites t.table bound
   pub spent : IsSpent (formula_of circuit) circuit.netlist.inputs t.members t.budget lines
-  pub found : FoundIs j t bound found
+  pub found : FoundIs j t bound choice
 
 -- the design matches as it is, so the least cost is 0
 pub record IsFine (j : Design) (t : Task) : Type 0 where
