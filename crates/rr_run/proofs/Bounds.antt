@@ -14,24 +14,24 @@ use Rattle.rr_run.specs.Runs.{IsBroken}
 -- ---- tokens
 rise_room : (from end : ℕ) (ts : List Lexeme) → Rise from end ts → from ≤ end
 rise_room from end [] r = r
-rise_room from end (t ∷ ts) r = omega (arith, r.0, r.1.0, rise_room t.end end ts r.1.1)
+rise_room from end (t ∷ ts) r = omega (arith, r.0, r.1, rise_room t.end end ts r.2)
 
 rise_start : (from end k : ℕ) (ts : List Lexeme) → Rise from end ts → start_of ts k ≤ end
 rise_start from end k [] r = omega arith
-rise_start from end zero (t ∷ ts) r = omega (arith, r.1.0, rise_room t.end end ts r.1.1)
-rise_start from end (suc k) (t ∷ ts) r = rise_start t.end end k ts r.1.1
+rise_start from end zero (t ∷ ts) r = omega (arith, r.1, rise_room t.end end ts r.2)
+rise_start from end (suc k) (t ∷ ts) r = rise_start t.end end k ts r.2
 
 starts_within : (bytes : List ℕ) (ts : List Lexeme) (k : ℕ) → AreTokens bytes ts → start_of ts k ≤ length bytes
 starts_within bytes ts k are = rise_start 0 (length bytes) k ts (lex_rise bytes ts are)
 
 -- ---- where reading stops
-read_room : (end at : ℕ) (rest bs : List ℕ) (ts : List Lexeme) → Read end rest at bs ts → end + length rest ≡ at + length bs
-read_room end at rest bs ts (here a b e f) = omega (arith, e, ap length f)
-read_room end at rest bs ts (white a b text after us e w r) = omega (arith, ap length e, length-append text after, read_room end (a + length text) rest after us r)
-read_room end at rest bs ts (token a b text after w us e s r) = omega (arith, ap length e, length-append text after, read_room end (a + length text) rest after us r)
+read_room : (end : ℕ) (rest : List ℕ) (at : ℕ) (bs : List ℕ) (ts : List Lexeme) → Read end rest at bs ts → end + length rest ≡ at + length bs
+read_room end rest at bs ts (here a b e f) = omega (arith, e, ap length f)
+read_room end rest at bs ts (white a b text after us e w r) = omega (arith, ap length e, length-append text after, read_room end rest (a + length text) after us r)
+read_room end rest at bs ts (token a b text after w us e s r) = omega (arith, ap length e, length-append text after, read_room end rest (a + length text) after us r)
 
 pub fault_within : (bytes : List ℕ) (w : Wrong) (at : ℕ) → IsFirstFault bytes w at → at ≤ length bytes
-fault_within bytes w at f = omega (arith, read_room at 0 f.1.0 bytes f.0 f.1.1.0)
+fault_within bytes w at f = omega (arith, read_room at f.1 0 bytes f.0 f.2)
 
 pub outside_within : (bytes : List ℕ) (at : ℕ) → IsUnsupported bytes at → at ≤ length bytes
 outside_within bytes at u = omega (arith, u.starts, starts_within bytes u.tokens u.at u.lexed)

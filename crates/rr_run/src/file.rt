@@ -51,7 +51,7 @@ fn told_at(fault: Fault, expanded: &Expanded, size: u32, at: u32) -> u32
 
 /// A refusal of the expansion of a file of this size, told at its place in the file.
 fn placed<'a>(expanded: &Expanded, size: u32, refusal: Refusal<'a>) -> Refusal<'a>
-    ensures { plain_refusal result ≡ placed_in expanded.now.origins.items size (plain_refusal refusal) }
+    ensures { plain_refusal result ≡ placed_in expanded.now.origins.items size (plain_refusal refusal.entry) }
 {
     match refusal {
         Refusal::At(fault, at) => Refusal::At(fault, told_at(fault, expanded, size, at)),
@@ -62,7 +62,7 @@ fn placed<'a>(expanded: &Expanded, size: u32, refusal: Refusal<'a>) -> Refusal<'
 /// Why there is nothing, told at its place in the file.
 fn fault_placed<'a>(expanded: &Expanded, size: u32, fault: RunFault<'a>) -> RunFault<'a>
     ensures { (file text : List ℕ) (top word : Option (List ℕ)) → IsTaken file text expanded.now.origins.items → length file ≡ size
-        → StopsWhere (RefusesDesign text top word) fault → StopsWhere (RefusesFileDesign file top word) result }
+        → StopsWhere (RefusesDesign text top word) fault.entry → StopsWhere (RefusesFileDesign file top word) result }
 {
     match fault {
         RunFault::Refused(refusal) => RunFault::Refused(placed(expanded, size, refusal)),
