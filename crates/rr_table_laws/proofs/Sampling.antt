@@ -1,5 +1,5 @@
 -- A table that is sampled from a dump is one for the outputs.
-use Rattle.std.proofs.Common.{◌≡◌, ℕ, List, [], ◌∷◌, Bool, Option}
+use Rattle.std.proofs.Common.{ℕ, List, [], ◌∷◌, Bool, Option}
 use Rattle.rr_flat.specs.Plain.{Flat}
 use Rattle.rr_trace.specs.declared.cell.Cell.{Cell}
 use Rattle.rr_trace.specs.Tables.{Table}
