@@ -50,7 +50,15 @@ fn outputs_of(
         return Ok(None);
     }
     let arena = Bump::new(alloc);
-    let Ok(run) = run_files(alloc, text, TableKind::Csv, table.as_bytes(), None, None, &arena) else {
+    let Ok(run) = run_files(
+        alloc,
+        text,
+        TableKind::Csv,
+        table.as_bytes(),
+        None,
+        None,
+        &arena,
+    ) else {
         return Ok(None);
     };
     match read_rows(alloc, design, TableKind::Csv, run.as_slice()) {

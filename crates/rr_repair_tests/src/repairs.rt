@@ -316,8 +316,32 @@ fn a_cell_above_its_width_is_refused(rt: HostRuntime) -> Result<(), Fail> {
 #[test]
 fn of_several_the_nearest(rt: HostRuntime) -> Result<(), Fail> {
     let alloc = rt.alloc();
-    assert!(rt; reports(&rt, alloc, STEPS, STEPS_TABLE, "repaired 1\nsite 4 literal 125 4'h1\n")?);
-    assert!(rt; reports(&rt, alloc, VALUE, VALUE_TABLE, "repaired 1\nsite 0 literal 58 4'h7\n")?);
-    assert!(rt; reports(&rt, alloc, NAMES, NAMES_TABLE, "repaired 1\nsite 2 guard 129 (E) && go\n")?);
+    assert!(rt;
+        reports(
+            &rt,
+            alloc,
+            STEPS,
+            STEPS_TABLE,
+            "repaired 1\nsite 4 literal 125 4'h1\n"
+        )?
+    );
+    assert!(rt;
+        reports(
+            &rt,
+            alloc,
+            VALUE,
+            VALUE_TABLE,
+            "repaired 1\nsite 0 literal 58 4'h7\n"
+        )?
+    );
+    assert!(rt;
+        reports(
+            &rt,
+            alloc,
+            NAMES,
+            NAMES_TABLE,
+            "repaired 1\nsite 2 guard 129 (E) && go\n"
+        )?
+    );
     Ok(())
 }

@@ -254,8 +254,8 @@ fn windows<R: Threads + Sync>(
         let end = end_of(transition, table, from, own, failed);
         let len = end.saturating_sub(from);
         if let Some(mended) = find(
-        rt, alloc, transition, table, list, near, from, len, 0, BUDGET,
-    )? {
+            rt, alloc, transition, table, list, near, from, len, 0, BUDGET,
+        )? {
             match tested(alloc, transition, table, list, near, mended, found)? {
                 Tried::Whole(choice) => return Ok(Some(choice)),
                 Tried::Missed(row) => failed = failed.max(row),
