@@ -7,11 +7,14 @@ const DUMP: &[u8] =
     b"$version by hand $end $scope module m $end $var reg 4 # q [3:0] $end\n$upscope $end $enddefinitions $end\n#7 $dumpvars b1x #\n$end $comment # $end r0.5 # $dumpoff #12 b1 #";
 
 /// The number of moments, the sum of their times, the number of changes and of their digits, and how
-/// many times dumping ends.
+/// many times dumping ends, of at most 32 constructs.
 fn counts(alloc: Global, bytes: &[u8]) -> Result<(u32, u64, u32, u64, u32), DumpFault> {
     let mut dump = read_head(alloc, bytes)?;
     let mut counts = (0u32, 0u64, 0u32, 0u64, 0u32);
-    while let Some(told) = dump.changes.next()? {
+    for _ in 0..32u32 {
+        let Some(told) = dump.changes.next()? else {
+            return Ok(counts);
+        };
         match told {
             Told::Nothing => {}
             Told::Moment(time) => {
