@@ -1,5 +1,5 @@
 -- A fault of a text is told at a byte of the text, or at its end.
-use Rattle.std.proofs.Common.{◌≡◌, ℕ, zero, suc, ◌+◌, ◌<◌, ◌≤◌, List, [], ◌∷◌, ◌++◌, length, Option, arith, inl, inr, ap, sym, subst, refl}
+use Rattle.std.proofs.Common.{◌≡◌, ℕ, zero, suc, ◌+◌, ◌≤◌, List, [], ◌∷◌, length, Option, arith, ap, sym, subst}
 use Rattle.std.proofs.lemmas.List.{length-append}
 use Rattle.rr_lex.specs.Tokens.{Lexeme, AreTokens, IsFirstFault, Read, here, white, token, Rise}
 use Rattle.rr_lex.specs.declared.piece.Wrong.{Wrong}

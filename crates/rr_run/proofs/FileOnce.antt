@@ -11,7 +11,7 @@ use Rattle.rr_flat.specs.Plain.{Flat}
 use Rattle.rr_run.specs.declared.fault.Fault.TheVariants as fault
 use Rattle.rr_run.specs.declared.rows.TableKind.{TableKind}
 use Rattle.rr_run.specs.Refusals.{Refusal, At, Expanded, NotUtf8}
-use Rattle.rr_run.specs.Runs.{HasNoTable, IsLawfulDesign, IsRun, IsSameRefusal, Refuses, RefusesDesign}
+use Rattle.rr_run.specs.Runs.{IsLawfulDesign, IsRun, IsSameRefusal, Refuses}
 use Rattle.rr_run.specs.Files.{HasNoDesign, HasNoFileTable, IsFileDesign, IsFileRun, RefusesExpansion, RefusesFile, RefusesFileDesign, place, placed}
 use Rattle.rr_run.proofs.Once.{lawful_or_refusal, one_lawful, one_refused, one_run, run_or_refusal}
 

@@ -11,7 +11,7 @@ use Rattle.rr_run.specs.declared.fault.RunFault.{RunFault}
 use Rattle.rr_run.specs.declared.fault.RunFault.TheVariants as run_fault
 use Rattle.rr_run.specs.declared.rows.TableKind.{TableKind}
 use Rattle.rr_run.specs.Refusals.{Refusal, StopsWhere, plain_refusal}
-use Rattle.rr_run.specs.Runs.{IsLawfulDesign, IsRun, Refuses, RefusesDesign}
+use Rattle.rr_run.specs.Runs.{IsRun, Refuses, RefusesDesign}
 use Rattle.rr_run.specs.Files.{IsFileDesign, IsFileRun, RefusesFile, RefusesFileDesign, placed}
 use Rattle.rr_run.proofs.Once.{lawful_or_refusal}
 

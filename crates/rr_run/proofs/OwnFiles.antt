@@ -1,10 +1,9 @@
 -- A file that is its own expansion runs as the text that it is.
-use Rattle.std.proofs.Common.{◌≡◌, ◌∙◌, ◌≤◌, ◌<◌, ℕ, List, length, nat_lt, Bool, true, false, if◌then◌else◌, Option, refl, ap, sym, subst, arith, inl, inr}
+use Rattle.std.proofs.Common.{◌≡◌, ◌∙◌, ◌≤◌, ℕ, List, length, Option, refl, ap, sym, subst, arith, inl, inr}
 use Rattle.std.proofs.lemmas.Bool.{cases_lt, le-ltb, lt-ltb}
 use Rattle.rr_directive.specs.declared.origin.Origin.{Origin}
-use Rattle.rr_directive.specs.Expand.{IsTaken, bytes_of, origins_of}
+use Rattle.rr_directive.specs.Expand.{IsTaken}
 use Rattle.rr_directive.specs.Laws.{AreOwn}
-use Rattle.rr_directive.specs.Places.{offset_at}
 use Rattle.rr_directive.proofs.Outputs.{same_length}
 use Rattle.rr_directive.proofs.PlainPlaces.{no_backticks, plain_taken}
 use Rattle.rr_flat.specs.Signals.{Text}
@@ -13,10 +12,10 @@ use Rattle.rr_lex.specs.declared.piece.Wrong.TheVariants as wrong
 use Rattle.rr_run.specs.declared.fault.Fault.{Fault}
 use Rattle.rr_run.specs.declared.fault.Fault.TheVariants as fault
 use Rattle.rr_run.specs.declared.rows.TableKind.{TableKind}
-use Rattle.rr_run.specs.Refusals.{Refusal, At, TooMany, Expanded, NoHeader, UnknownColumn, ColumnTwice, MissingInput, RowLength, BadCell, CellTooLarge, NotUtf8, BadVcd, NoScope}
+use Rattle.rr_run.specs.Refusals.{Refusal, At}
 use Rattle.rr_run.specs.Runs.{HasNoTable, IsAt, IsRun, IsSameRefusal, Refuses, RefusesDesign}
-use Rattle.rr_run.specs.Files.{IsFileRun, RefusesFile, place, placed, told_at}
-use Rattle.rr_run.specs.Laws.{HasSameRuns, IsRefusedAlike, OwnRefusal, OwnRun, PlainRun}
+use Rattle.rr_run.specs.Files.{RefusesFile, place, placed, told_at}
+use Rattle.rr_run.specs.Laws.{OwnRefusal, OwnRun, PlainRun}
 use Rattle.rr_run.proofs.Bounds.{broken_within, fault_within, flaw_within, outside_within}
 use Rattle.rr_run.proofs.FileOnce.{expanded_or_not, one_text}
 

@@ -1,5 +1,5 @@
 -- A file that is its own expansion runs as the text that it is.
-use Rattle.std.specs.Prelude.{ℕ, ◌≡◌, ◌≢◌, ◌≤◌, List, length, Option}
+use Rattle.std.specs.Prelude.{ℕ, ◌≢◌, ◌≤◌, List, length, Option}
 use Rattle.std.specs.List.{All}
 use Rattle.rr_directive.specs.declared.origin.Origin.{Origin}
 use Rattle.rr_directive.specs.Expand.{IsTaken}
