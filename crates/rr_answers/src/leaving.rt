@@ -25,7 +25,8 @@ use std::alloc::{AllocError, Global};
 fn open_notes(alloc: Global, budget: u32, bound: u32) -> Result<String, AllocError>
     ensures { IfOk result (λ text. string_bytes text ≡ open_text budget bound) }
 {
-    format!(in alloc; "budget spent {budget} bound {bound}\n")
+    let text = format!(in alloc; "budget spent {budget} bound {bound}\n")?;
+    Ok(text)
 }
 
 /// The line that tells how many changes were found.
