@@ -12,6 +12,7 @@ use Rattle.rr_elaborate.proofs.Once.{one_text as one_tree}
 use Rattle.rr_choice.specs.Sites.{Site}
 use Rattle.rr_lawful.proofs.ClockOnce.{one_clock}
 use Rattle.rr_run.specs.Refusals.{Refusal, TooMany}
+use Rattle.rr_run.specs.declared.rows.TableKind.TheVariants as kind
 use Rattle.rr_run.specs.Runs.{IsLawfulDesign, IsSameRefusal, RefusesDesign}
 use Rattle.rr_run.proofs.Once.{lawful_or_refusal, one_refused}
 use Rattle.rr_site_laws.proofs.Same.{one_list as one_listing}
@@ -54,7 +55,7 @@ module _ (bytes : List ℕ) (top word : Option Text) where
       omega (arith, n, few, many)
 
   pub one_refusal : (a b : Refusal) → RefusesSites bytes top word a → RefusesSites bytes top word b → IsSameRefusal a b
-  one_refusal a b (inl p) (inl q) = one_refused bytes [] top word a b (inl p) (inl q)
+  one_refusal a b (inl p) (inl q) = one_refused kind.Csv bytes [] top word a b (inl p) (inl q)
   one_refusal a b (inl p) (inr q) = absurd (not_refused q.tokens q.sites a q.has p)
   one_refusal a b (inr p) (inl q) = absurd (not_refused p.tokens p.sites b p.has q)
   one_refusal a b (inr p) (inr q) =
