@@ -1,7 +1,8 @@
 //! Dumps for small designs, with their rows or their refusal.
 use bumpalo::Bump;
 use rr_elaborate::elaborate;
-use rr_flat::Order;
+use rr_flat::{Flat, Order};
+use rr_trace::Cell;
 use rr_vcd::{Limit, Table, VcdFault, one_sample, read_vcd};
 use std::alloc::{AllocError, Global};
 use std::test::Fail;
@@ -13,7 +14,11 @@ const COUNTER: &str =
 const CYCLES: &[u8] =
     b"$timescale 1ns $end\n$scope module tb $end\n$var wire 1 ! clk $end\n$var wire 1 \" rst $end\n$var wire 4 # q [3:0] $end\n$upscope $end\n$enddefinitions $end\n#0\n$dumpvars\n0!\n1\"\nbx #\n$end\n#5\n1!\nb0 #\n#8\n0\"\n#10\n0!\n#15\n1!\nb1 #\n#20\n0!\n#25\n1!\nb10 #\n";
 
-/// The table of a dump for the design of a text, with this clock and edge.
+/// A dump of two moments, without the output, in which both inputs have one identifier.
+const MOMENTS: &[u8] =
+    b"$scope module m $end $var wire 1 ! clk $end $var wire 1 ! rst $end $enddefinitions $end 1! #1 #2 x!";
+
+/// The table of a dump for the design of a text of at most 2^20 bytes, with this clock and edge.
 fn read(
     alloc: Global,
     design: &str,
@@ -21,40 +26,79 @@ fn read(
     rising: bool,
     bytes: &[u8],
 ) -> Result<Table, VcdFault> {
+    if design.len() > 1_048_576 {
+        return Err(VcdFault::Memory);
+    }
     let arena = Bump::new(alloc);
+    match elaborate(alloc, design.as_bytes(), None, &arena) {
+        Ok(design) => read_order(alloc, &design.flat, clock, rising, bytes),
+        Err(_) => Err(VcdFault::Memory),
+    }
+}
+
+/// The table of a dump for a flat design, with this clock and edge.
+fn read_order(
+    alloc: Global,
+    flat: &Flat,
+    clock: Option<u32>,
+    rising: bool,
+    bytes: &[u8],
+) -> Result<Table, VcdFault> {
     let order = Order {
         clock,
         rising,
         steps: Vec::new(alloc),
     };
-    if design.len() > 1_048_576 {
-        return Err(VcdFault::Memory);
-    }
-    match elaborate(alloc, design.as_bytes(), None, &arena) {
-        Ok(design) => read_vcd(alloc, bytes, &design.flat, &order),
-        Err(_) => Err(VcdFault::Memory),
-    }
+    read_vcd(alloc, bytes, flat, &order)
 }
 
-/// The rows, each with the inputs in decimal, and for each output its bits and which are known.
-fn text_of(alloc: Global, table: &Table) -> Result<String, AllocError> {
-    let mut text = String::new(alloc);
-    for (inputs, expected) in table.inputs.iter().zip(table.expected.iter()) {
-        for value in inputs.iter() {
-            write!(text, "{value} ")?;
-        }
-        for cell in expected.iter() {
-            write!(text, "{}/{} ", cell.value, cell.known)?;
-        }
-        text.push_str("; ")?;
+/// Writes the inputs of a row in decimal.
+fn write_inputs(text: &mut String, inputs: &[u128]) -> Result<(), AllocError> {
+    for value in inputs {
+        write!(text, "{value} ")?;
     }
-    Ok(text)
+    Ok(())
+}
+
+/// Writes for each output of a row its bits and which are known.
+fn write_outputs(text: &mut String, outputs: &[Cell]) -> Result<(), AllocError> {
+    for cell in outputs {
+        write!(text, "{}/{} ", cell.value, cell.known)?;
+    }
+    text.push_str("; ")
+}
+
+/// Writes the rows.
+fn write_rows(text: &mut String, table: &Table) -> Result<(), AllocError> {
+    for (inputs, outputs) in table.inputs.iter().zip(table.expected.iter()) {
+        write_inputs(text, inputs.as_slice())?;
+        write_outputs(text, outputs.as_slice())?;
+    }
+    Ok(())
 }
 
 /// The rows of a dump for the counter, as text; or the refusal.
 fn rows(alloc: Global, clock: Option<u32>, rising: bool, bytes: &[u8]) -> Result<String, VcdFault> {
     let table = read(alloc, COUNTER, clock, rising, bytes)?;
-    Ok(text_of(alloc, &table)?)
+    let mut text = String::new(alloc);
+    write_rows(&mut text, &table)?;
+    Ok(text)
+}
+
+/// Whether a dump for the counter has these rows.
+fn gives(alloc: Global, clock: Option<u32>, rising: bool, bytes: &[u8], expected: &str) -> bool {
+    match rows(alloc, clock, rising, bytes) {
+        Ok(text) => text.as_str() == expected,
+        Err(_) => false,
+    }
+}
+
+/// Why a dump for the counter, with its clock, has no table.
+fn fault_of(alloc: Global, bytes: &[u8]) -> Option<VcdFault> {
+    match read(alloc, COUNTER, Some(0), true, bytes) {
+        Ok(_) => None,
+        Err(fault) => Some(fault),
+    }
 }
 
 /// A declaration by a letter: `(` and `)` open and close a scope, and each letter declares a variable.
@@ -88,25 +132,15 @@ fn joined(alloc: Global, head: &[u8], body: &[u8]) -> Result<Vec<u8>, AllocError
 #[test]
 fn counter(rt: HostRuntime) -> Result<(), Fail> {
     let alloc = rt.alloc();
-    one_sample();
-    match rows(alloc, Some(0), true, CYCLES) {
-        Err(fault) => assert!(rt; false, "{fault:?}"),
-        Ok(text) => assert!(rt; text.as_str() == "1 0/0 ; 0 0/15 ; 0 1/15 ; ", "{text}"),
-    }
-    match rows(alloc, Some(0), false, CYCLES) {
-        Err(fault) => assert!(rt; false, "{fault:?}"),
-        Ok(text) => assert!(rt; text.as_str() == "0 0/15 ; 0 1/15 ; ", "{text}"),
-    }
-    match rows(
-        alloc,
-        None,
-        true,
-        b"$scope module m $end $var wire 1 ! clk $end $var wire 1 ! rst $end $enddefinitions $end 1! #1 #2 x!",
-    ) {
-        Err(fault) => assert!(rt; false, "{fault:?}"),
-        Ok(text) => assert!(rt; text.as_str() == "1 1 0/0 ; 0 0 0/0 ; ", "{text}"),
-    }
+    assert!(rt; gives(alloc, Some(0), true, CYCLES, "1 0/0 ; 0 0/15 ; 0 1/15 ; "));
+    assert!(rt; gives(alloc, Some(0), false, CYCLES, "0 0/15 ; 0 1/15 ; "));
+    assert!(rt; gives(alloc, None, true, MOMENTS, "1 1 0/0 ; 0 0 0/0 ; "));
     Ok(())
+}
+
+#[test]
+fn laws(_rt: HostRuntime) {
+    one_sample();
 }
 
 /// Declarations, changes, and the rows that they give.
@@ -150,15 +184,17 @@ const CASES: [(&[u8], &[u8], &str); 18] = [
     (b"(csQ)", b"#0 0! b1 $ #5 1!", "0 1/15 ; "),
 ];
 
+/// Whether the dump of these declarations and this body has these rows.
+fn is_case(alloc: Global, head: &[u8], body: &[u8], expected: &str) -> Result<bool, AllocError> {
+    let bytes = joined(alloc, head, body)?;
+    Ok(gives(alloc, Some(0), true, bytes.as_slice(), expected))
+}
+
 #[test]
 fn cases(rt: HostRuntime) -> Result<(), Fail> {
     let alloc = rt.alloc();
     for (head, body, expected) in CASES.iter() {
-        let bytes = joined(alloc, head, body)?;
-        match rows(alloc, Some(0), true, bytes.as_slice()) {
-            Err(fault) => assert!(rt; false, "{fault:?} for {expected}"),
-            Ok(text) => assert!(rt; text.as_str() == *expected, "{text} for {expected}"),
-        }
+        assert!(rt; is_case(alloc, head, body, expected)?, "{expected}");
     }
     Ok(())
 }
@@ -173,62 +209,69 @@ const FAULTS: [(&[u8], &[u8], VcdFault); 5] = [
     (b"(cr", b"#1\nb11 !", VcdFault::BadVcd(3)),
 ];
 
+/// Why the dump of these declarations and this body has no table.
+fn case_fault(alloc: Global, head: &[u8], body: &[u8]) -> Result<Option<VcdFault>, AllocError> {
+    let bytes = joined(alloc, head, body)?;
+    Ok(fault_of(alloc, bytes.as_slice()))
+}
+
 #[test]
 fn faults(rt: HostRuntime) -> Result<(), Fail> {
     let alloc = rt.alloc();
     for (head, body, fault) in FAULTS.iter() {
-        let text = joined(alloc, head, body)?;
-        match read(alloc, COUNTER, Some(0), true, text.as_slice()) {
-            Ok(_) => assert!(rt; false, "a table for {fault:?}"),
-            Err(found) => assert!(rt; found == *fault, "{found:?} for {fault:?}"),
-        }
-    }
-    let mut short = Vec::new(alloc);
-    short.extend_from_slice(CYCLES)?;
-    let length = short.len().saturating_sub(3);
-    short.truncate(length);
-    short.push(b'\n')?;
-    match read(alloc, COUNTER, Some(0), true, short.as_slice()) {
-        Ok(_) => assert!(rt; false, "a table"),
-        Err(found) => assert!(rt; found == VcdFault::BadVcd(28), "{found:?}"),
+        assert!(rt; case_fault(alloc, head, body)? == Some(*fault), "{fault:?}");
     }
     Ok(())
 }
 
-/// A dump of so many moments, the times of which are their numbers.
-fn moments(alloc: Global, count: u32) -> Result<Vec<u8>, AllocError> {
-    let mut text = Vec::new(alloc);
-    text.extend_from_slice(
-        b"$scope module m $end $var wire 1 ! a $end $enddefinitions $end".as_slice(),
-    )?;
+/// A text without its last three bytes.
+fn cut(bytes: &[u8]) -> &[u8] {
+    let (kept, _) = bytes.split_at(bytes.len().saturating_sub(3));
+    kept
+}
+
+/// The last change of the cycles without its identifier.
+#[test]
+fn cut_short(rt: HostRuntime) -> Result<(), Fail> {
+    assert!(rt; fault_of(rt.alloc(), cut(CYCLES)) == Some(VcdFault::BadVcd(28)));
+    Ok(())
+}
+
+/// Writes so many moments, the times of which are their numbers.
+fn write_moments(text: &mut String, count: u32) -> Result<(), AllocError> {
     for time in 0..count {
-        let word = format!(in alloc; " #{time}")?;
-        text.extend_from_slice(word.as_bytes())?;
+        write!(text, " #{time}")?;
     }
+    Ok(())
+}
+
+/// A dump of so many moments, and this behind them.
+fn moments(alloc: Global, count: u32, behind: &str) -> Result<String, AllocError> {
+    let mut text = String::new(alloc);
+    text.push_str("$scope module m $end $var wire 1 ! a $end $enddefinitions $end")?;
+    write_moments(&mut text, count)?;
+    text.push_str(behind)?;
     Ok(text)
+}
+
+/// The number of rows for a design of one input, of a dump of so many moments, and this behind them.
+fn length_of(alloc: Global, count: u32, behind: &str) -> Result<usize, VcdFault> {
+    let text = moments(alloc, count, behind)?;
+    let table = read(
+        alloc,
+        "module m(input a); endmodule",
+        None,
+        true,
+        text.as_bytes(),
+    )?;
+    Ok(table.inputs.len())
 }
 
 #[test]
 fn limit(rt: HostRuntime) -> Result<(), Fail> {
     let alloc = rt.alloc();
-    let design = "module m(input a); endmodule";
-    let most = moments(alloc, 65_536)?;
-    match read(alloc, design, None, true, most.as_slice()) {
-        Err(fault) => assert!(rt; false, "{fault:?}"),
-        Ok(table) => assert!(rt; table.inputs.len() == 65_536),
-    }
-    let mut past = moments(alloc, 65_537)?;
-    match read(alloc, design, None, true, past.as_slice()) {
-        Ok(_) => assert!(rt; false, "a table"),
-        Err(found) => assert!(rt;
-            found == VcdFault::TooMany(Limit::Rows, 65_537),
-            "{found:?}"
-        ),
-    }
-    past.extend_from_slice(b"\n\n1\"".as_slice())?;
-    match read(alloc, design, None, true, past.as_slice()) {
-        Ok(_) => assert!(rt; false, "a table"),
-        Err(found) => assert!(rt; found == VcdFault::BadVcd(3), "{found:?}"),
-    }
+    assert!(rt; length_of(alloc, 65_536, "") == Ok(65_536));
+    assert!(rt; length_of(alloc, 65_537, "") == Err(VcdFault::TooMany(Limit::Rows, 65_537)));
+    assert!(rt; length_of(alloc, 65_537, "\n\n1\"") == Err(VcdFault::BadVcd(3)));
     Ok(())
 }

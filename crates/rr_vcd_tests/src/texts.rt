@@ -1,58 +1,100 @@
 //! The constructs of a dump as text.
-use rr_vcd_text::{DumpFault, Told, one_reading, read_head};
+use rr_vcd_text::{Changes, Declared, DumpFault, Told, one_reading, read_head};
 use std::alloc::Global;
 use std::test::Fail;
+
+/// The number of moments, the sum of their times, the number of changes of `#`, that of the digits of all
+/// changes, and how many times dumping ends.
+type Counts = (u32, u64, u32, u64, u32);
 
 const DUMP: &[u8] =
     b"$version by hand $end $scope module m $end $var reg 4 # q [3:0] $end\n$upscope $end $enddefinitions $end\n#7 $dumpvars b1x #\n$end $comment # $end r0.5 # $dumpoff #12 b1 #";
 
-/// The number of moments, the sum of their times, the number of changes and of their digits, and how
-/// many times dumping ends, of at most 32 constructs.
-fn counts(alloc: Global, bytes: &[u8]) -> Result<(u32, u64, u32, u64, u32), DumpFault> {
-    let mut dump = read_head(alloc, bytes)?;
-    let mut counts = (0u32, 0u64, 0u32, 0u64, 0u32);
+/// The counts with one construct more.
+fn counted(counts: Counts, told: Told) -> Counts {
+    let (moments, times, changes, digits, ends) = counts;
+    match told {
+        Told::Nothing => counts,
+        Told::Moment(time) => (
+            moments.saturating_add(1),
+            times.saturating_add(time),
+            changes,
+            digits,
+            ends,
+        ),
+        Told::Change { id, digits: more } => (
+            moments,
+            times,
+            changes.saturating_add(u32::from(id == b"#".as_slice())),
+            digits.saturating_add(more.len() as u64),
+            ends,
+        ),
+        Told::Off => (moments, times, changes, digits, ends.saturating_add(1)),
+    }
+}
+
+/// The counts of at most 32 constructs.
+fn counts_of(changes: &mut Changes) -> Result<Counts, DumpFault> {
+    let mut counts = (0, 0, 0, 0, 0);
     for _ in 0..32u32 {
-        let Some(told) = dump.changes.next()? else {
-            return Ok(counts);
-        };
-        match told {
-            Told::Nothing => {}
-            Told::Moment(time) => {
-                counts.0 = counts.0.saturating_add(1);
-                counts.1 = counts.1.saturating_add(time);
-            }
-            Told::Change { id, digits } => {
-                if id == b"#".as_slice() {
-                    counts.2 = counts.2.saturating_add(1);
-                }
-                counts.3 = counts.3.saturating_add(digits.len() as u64);
-            }
-            Told::Off => counts.4 = counts.4.saturating_add(1),
+        match changes.next()? {
+            Some(told) => counts = counted(counts, told),
+            None => break,
         }
     }
     Ok(counts)
 }
 
+/// The counts of a dump, of at most 32 constructs.
+fn counts(alloc: Global, bytes: &[u8]) -> Result<Counts, DumpFault> {
+    let mut dump = read_head(alloc, bytes)?;
+    counts_of(&mut dump.changes)
+}
+
+/// Whether there is one scope, which is closed, and `q` alone in it, of four bits.
+fn is_of_q(declared: &Declared) -> bool {
+    if declared.scopes != 1 || !declared.opened.is_empty() {
+        return false;
+    }
+    match declared.variables.as_slice() {
+        [q] => q.id == b"#".as_slice()
+            && q.name == b"q".as_slice()
+            && q.size == 4
+            && q.scope == Some(0),
+        _ => false,
+    }
+}
+
+/// Whether a dump declares `q` so.
+fn declares_q(alloc: Global, bytes: &[u8]) -> bool {
+    match read_head(alloc, bytes) {
+        Ok(dump) => is_of_q(&dump.declared),
+        Err(_) => false,
+    }
+}
+
+/// The line at which a text breaks the form; 0 for a dump, and where memory is wanting.
+fn line_of(alloc: Global, bytes: &[u8]) -> u64 {
+    match counts(alloc, bytes) {
+        Err(DumpFault::BadVcd(line)) => line,
+        _ => 0,
+    }
+}
+
 #[test]
 fn constructs(rt: HostRuntime) -> Result<(), Fail> {
     let alloc = rt.alloc();
-    one_reading();
-    match read_head(alloc, DUMP) {
-        Err(fault) => assert!(rt; false, "{fault:?}"),
-        Ok(dump) => {
-            let variables = dump.declared.variables.as_slice();
-            assert!(rt; dump.declared.scopes == 1 && dump.declared.opened.is_empty());
-            assert!(rt; variables.len() == 1);
-            let q = variables[0];
-            assert!(rt; q.id == b"#".as_slice() && q.name == b"q".as_slice());
-            assert!(rt; q.size == 4 && q.scope == Some(0));
-        }
-    }
+    assert!(rt; declares_q(alloc, DUMP));
     match counts(alloc, DUMP) {
         Err(fault) => assert!(rt; false, "{fault:?}"),
         Ok(found) => assert!(rt; found == (2, 19, 2, 3, 1), "{found:?}"),
     }
     Ok(())
+}
+
+#[test]
+fn laws(_rt: HostRuntime) {
+    one_reading();
 }
 
 /// Texts that break the form, and the lines at which they do.
@@ -67,12 +109,10 @@ const LINES: [(&[u8], u64); 6] = [
 
 #[test]
 fn lines(rt: HostRuntime) -> Result<(), Fail> {
+    let alloc = rt.alloc();
     for (text, line) in LINES.iter() {
-        match counts(rt.alloc(), text) {
-            Err(DumpFault::BadVcd(found)) => assert!(rt; found == *line, "{found} for {line}"),
-            Err(DumpFault::Memory) => assert!(rt; false, "memory at {line}"),
-            Ok(_) => assert!(rt; false, "a dump at {line}"),
-        }
+        let found = line_of(alloc, text);
+        assert!(rt; found == *line, "{found} for {line}");
     }
     Ok(())
 }
