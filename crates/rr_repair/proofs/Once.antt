@@ -57,8 +57,8 @@ module _ (w : PlainRequest) (design : List ℕ) where
     one_rows : {f g : Flat} {c d : Option ℕ} {r s : Bool} {x y : Table} → f ≡ g → c ≡ d → r ≡ s → ReadsTable w.kind f c r table x → ReadsTable w.kind g d s table y → x ≡ y
     one_rows {f} {g} {c} {d} {r} {s} {x} {y} p q e a b = one_reading w.kind g d s table x y (moved_reading w.kind table x p q e a) b
 
-    no_rows : {f g : Flat} {c d : Option ℕ} {r s : Bool} {x : Table} {X : Type 0} (refusal : RunRefusal) → f ≡ g → c ≡ d → r ≡ s → ReadsTable w.kind f c r table x → RefusesTable w.kind g d s table refusal → X
-    no_rows {f} {g} {c} {d} {r} {s} {x} refusal p q e a refuses = absurd (read_or_refused w.kind g d s table x refusal (moved_reading w.kind table x p q e a) refuses)
+    no_rows : {f g : Flat} {c d : Option ℕ} {r s : Bool} {X : Type 0} (x : Table) (refusal : RunRefusal) → f ≡ g → c ≡ d → r ≡ s → ReadsTable w.kind f c r table x → RefusesTable w.kind g d s table refusal → X
+    no_rows {f} {g} {c} {d} {r} {s} x refusal p q e a refuses = absurd (read_or_refused w.kind g d s table x refusal (moved_reading w.kind table x p q e a) refuses)
 
     same_work : {f g : Flat} {x y : Table} → f ≡ g → x ≡ y → work_of f x ≡ work_of g y
     same_work {f} {g} {x} {y} p q = ap (λ (h : Flat). work_of h x) p ∙ ap (λ (t : Table). work_of g t) q
@@ -68,7 +68,7 @@ module _ (w : PlainRequest) (design : List ℕ) where
 
     -- ---- refusals
     rows_or_none : {X : Type 0} (r s : RunRefusal) → HasMuchWork w design table r → HasNoTable w design table s → X
-    rows_or_none r s m n = let one = one_sited m.sited n.sited in no_rows s one.flat one.clock one.rising m.read n.refused
+    rows_or_none r s m n = let one = one_sited m.sited n.sited in no_rows m.rows s one.flat one.clock one.rising m.read n.refused
 
     one_work : (r s : RunRefusal) → HasMuchWork w design table r → HasMuchWork w design table s → r ≡ s
     one_work r s p q =
@@ -102,9 +102,9 @@ module _ (w : PlainRequest) (design : List ℕ) where
         absurd (omega (arith, works, small, much))
 
     not_both : {ts : List Lexeme} {a : SourceText} {ss : List Site} {x : Table} (r : RunRefusal) → IsTaken w design table ts a ss x → Refuses w design table r → ⊥
-    not_both r t (inl p) = not_refused r t.sited p
-    not_both r t (inr (inl n)) = let one = one_sited t.sited n.sited in no_rows r one.flat one.clock one.rising t.read n.refused
-    not_both r t (inr (inr m)) = much_or_little r t m
+    not_both {x = x} r t (inl p) = not_refused r t.sited p
+    not_both {x = x} r t (inr (inl n)) = let one = one_sited t.sited n.sited in no_rows x r one.flat one.clock one.rising t.read n.refused
+    not_both {x = x} r t (inr (inr m)) = much_or_little r t m
 
 pub one_taking : OneTaking
 one_taking w design table ts us a b ss rs x y p q = one_pair w design table p q
