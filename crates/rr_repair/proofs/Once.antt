@@ -57,8 +57,8 @@ module _ (w : PlainRequest) (design : List ℕ) where
     one_rows : {f g : Flat} {c d : Option ℕ} {r s : Bool} {x y : Table} → f ≡ g → c ≡ d → r ≡ s → ReadsTable w.kind f c r table x → ReadsTable w.kind g d s table y → x ≡ y
     one_rows {f} {g} {c} {d} {r} {s} {x} {y} p q e a b = one_reading w.kind g d s table x y (moved_reading w.kind table x p q e a) b
 
-    no_rows : {f g : Flat} {c d : Option ℕ} {r s : Bool} {x : Table} {X : Type 0} (refusal : RunRefusal) → f ≡ g → c ≡ d → r ≡ s → ReadsTable w.kind f c r table x → RefusesTable w.kind g d s table refusal → X
-    no_rows {f} {g} {c} {d} {r} {s} {x} refusal p q e a refuses = absurd (read_or_refused w.kind g d s table x refusal (moved_reading w.kind table x p q e a) refuses)
+    no_rows : {f g : Flat} {c d : Option ℕ} {r s : Bool} {X : Type 0} (x : Table) (refusal : RunRefusal) → f ≡ g → c ≡ d → r ≡ s → ReadsTable w.kind f c r table x → RefusesTable w.kind g d s table refusal → X
+    no_rows {f} {g} {c} {d} {r} {s} x refusal p q e a refuses = absurd (read_or_refused w.kind g d s table x refusal (moved_reading w.kind table x p q e a) refuses)
 
     same_work : {f g : Flat} {x y : Table} → f ≡ g → x ≡ y → work_of f x ≡ work_of g y
     same_work {f} {g} {x} {y} p q = ap (λ (h : Flat). work_of h x) p ∙ ap (λ (t : Table). work_of g t) q
@@ -68,12 +68,12 @@ module _ (w : PlainRequest) (design : List ℕ) where
 
     -- ---- refusals
     rows_or_none : {X : Type 0} (r s : RunRefusal) → HasMuchWork w design table r → HasNoTable w design table s → X
-    rows_or_none r s m n = let one = one_sited m.sited n.sited in no_rows s one.flat one.clock one.rising m.read n.refused
+    rows_or_none r s m n = let one = one_sited m.sited n.sited in no_rows m.rows s one.flat one.clock one.rising m.read n.refused
 
     one_work : (r s : RunRefusal) → HasMuchWork w design table r → HasMuchWork w design table s → r ≡ s
     one_work r s p q =
         let one = one_sited p.sited q.sited in
-        let rows = one_rows one.flat one.clock one.rising p.read q.read in
+        let rows : p.rows ≡ q.rows = one_rows one.flat one.clock one.rising p.read q.read in
         p.told ∙ (ap (λ (n : ℕ). TooMany limit.Work n) (same_work one.flat rows) ∙ sym q.told)
 
     one_refused_pair : (r s : RunRefusal) → Refuses w design table r → Refuses w design table s → IsSameRefusal r s
@@ -96,14 +96,15 @@ module _ (w : PlainRequest) (design : List ℕ) where
     much_or_little : {X : Type 0} {ts : List Lexeme} {a : SourceText} {ss : List Site} {x : Table} (r : RunRefusal) → IsTaken w design table ts a ss x → HasMuchWork w design table r → X
     much_or_little {ts = ts} {a = a} {ss = ss} {x = x} r t m =
         let one = one_sited t.sited m.sited in
-        let works : work_of t.flat x ≡ work_of m.flat m.rows = same_work one.flat (one_rows one.flat one.clock one.rising t.read m.read) in
+        let rows : x ≡ m.rows = one_rows one.flat one.clock one.rising t.read m.read in
+        let works : work_of t.flat x ≡ work_of m.flat m.rows = same_work one.flat rows in
         let small = t.small in
         let much = m.much in
         absurd (omega (arith, works, small, much))
 
     not_both : {ts : List Lexeme} {a : SourceText} {ss : List Site} {x : Table} (r : RunRefusal) → IsTaken w design table ts a ss x → Refuses w design table r → ⊥
     not_both r t (inl p) = not_refused r t.sited p
-    not_both r t (inr (inl n)) = let one = one_sited t.sited n.sited in no_rows r one.flat one.clock one.rising t.read n.refused
+    not_both {x = x} r t (inr (inl n)) = let one = one_sited t.sited n.sited in no_rows x r one.flat one.clock one.rising t.read n.refused
     not_both r t (inr (inr m)) = much_or_little r t m
 
 pub one_taking : OneTaking
