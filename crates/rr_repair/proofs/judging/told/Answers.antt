@@ -1,4 +1,5 @@
 use Rattle.std.proofs.Common.{inr, arith}
+use Rattle.std.proofs.lemmas.Result.{IfOk-weaker}
 use Rattle.rr_syntax.specs.View.{plain_source}
 use Rattle.rr_lex.specs.Tokens.{lexemes}
 use Rattle.rr_report.specs.Views.{plain_answer}
@@ -29,3 +30,6 @@ returns-in_ok-found-in-NoRepair-clause-answer c =
 
 pub told_open-requires-clause-left : goal.told_open-requires-clause-left
 told_open-requires-clause-left c = rw c.in-Spent.is at c.requires.found
+
+pub returns-in-Spent-clause-answer : goal.returns-in-Spent-clause-answer
+returns-in-Spent-clause-answer c = IfOk-weaker c.told_open.result _ _ (λ f o. inr (inr (inr o))) c.told_open.ensures.answer
