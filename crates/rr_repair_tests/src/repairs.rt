@@ -72,11 +72,11 @@ fn reports<R: Threads + Sync>(
     design: &str,
     table: &str,
     notes: &str,
-) -> Result<bool, Fail> {
-    let arena = Bump::new(alloc);
+) -> bool {
     if design.len() > 1000 {
-        return Err(Fail::from("a text too long"));
+        return false;
     }
+    let arena = Bump::new(alloc);
     match repair(
         rt,
         alloc,
@@ -85,8 +85,8 @@ fn reports<R: Threads + Sync>(
         &request(1000, 2),
         &arena,
     ) {
-        Err(_) => Err(Fail::from("stopped")),
-        Ok(found) => Ok(found.notes.as_bytes().starts_with(notes.as_bytes())),
+        Err(_) => false,
+        Ok(found) => found.notes.as_bytes().starts_with(notes.as_bytes()),
     }
 }
 
@@ -102,7 +102,7 @@ fn of_several_the_plainest(rt: HostRuntime) -> Result<(), Fail> {
             SET,
             SET_TABLE,
             "repaired 1\nsite 3 literal 96 1'h1\n"
-        )?
+        )
     );
     assert!(rt;
         reports(
@@ -111,7 +111,7 @@ fn of_several_the_plainest(rt: HostRuntime) -> Result<(), Fail> {
             LOAD,
             LOAD_TABLE,
             "repaired 1\nsite 1 guard 81 !(E)\n"
-        )?
+        )
     );
     assert!(rt;
         reports(
@@ -120,7 +120,7 @@ fn of_several_the_plainest(rt: HostRuntime) -> Result<(), Fail> {
             LOAD,
             JOINED_TABLE,
             "repaired 1\nsite 1 guard 81 (E) || "
-        )?
+        )
     );
     assert!(rt;
         reports(
@@ -129,7 +129,7 @@ fn of_several_the_plainest(rt: HostRuntime) -> Result<(), Fail> {
             COPY,
             COPY_TABLE,
             "repaired 1\nsite 0 overwrite 68 if (1'h1) q <= 1'h1;\n"
-        )?
+        )
     );
     Ok(())
 }
@@ -245,52 +245,49 @@ fn where_nothing_helps_a_certificate_says_so(rt: HostRuntime) -> Result<(), Fail
     }
 }
 
-// One line is too few to show that one change does not mend both counters.
-#[test]
-fn what_was_found_at_a_spent_budget_is_printed(rt: HostRuntime) -> Result<(), Fail> {
-    let alloc = rt.alloc();
+/// Whether the repair by one line of one member is left open, prints this, reports this and writes three files.
+fn leaves_open<R: Threads + Sync>(
+    rt: &R,
+    alloc: Global,
+    design: &str,
+    table: &str,
+    out: &str,
+    notes: &str,
+) -> bool {
+    if design.len() > 1000 {
+        return false;
+    }
     let arena = Bump::new(alloc);
     match repair(
-        &rt,
+        rt,
         alloc,
-        RESETS.as_bytes(),
-        RESETS_TABLE.as_bytes(),
+        design.as_bytes(),
+        table.as_bytes(),
         &request(1, 1),
         &arena,
     ) {
-        Err(_) => Err(Fail::from("stopped")),
-        Ok(found) => {
-            let out =
-                "module m(input clk, input rst, output reg [3:0] p, output reg [3:0] q);\n  always @(posedge clk) if (rst) p <= 4'd0; else p <= p +  4'h1 ;\n  always @(posedge clk) if (rst) q <= 4'd0; else q <= q +  4'h1 ;\nendmodule\n";
-            let notes =
-                "budget spent 1 bound 1\nfound 2\nsite 3 literal 130 4'h1\nsite 7 literal 194 4'h1\n";
-            assert!(rt; does(&found, out, notes, 2));
-            assert!(rt; found.files.len() == 3);
-            Ok(())
-        }
+        Err(_) => false,
+        Ok(found) => does(&found, out, notes, 2) && found.files.len() == 3,
     }
+}
+
+// One line is too few to show that one change does not mend both counters.
+#[test]
+fn what_was_found_at_a_spent_budget_is_printed(rt: HostRuntime) -> Result<(), Fail> {
+    let out =
+        "module m(input clk, input rst, output reg [3:0] p, output reg [3:0] q);\n  always @(posedge clk) if (rst) p <= 4'd0; else p <= p +  4'h1 ;\n  always @(posedge clk) if (rst) q <= 4'd0; else q <= q +  4'h1 ;\nendmodule\n";
+    let notes =
+        "budget spent 1 bound 1\nfound 2\nsite 3 literal 130 4'h1\nsite 7 literal 194 4'h1\n";
+    assert!(rt; leaves_open(&rt, rt.alloc(), RESETS, RESETS_TABLE, out, notes));
+    Ok(())
 }
 
 // No values of the three literals make the output 1 in each row, and one line is too few to show it.
 #[test]
 fn where_nothing_was_found_nothing_is_printed(rt: HostRuntime) -> Result<(), Fail> {
-    let alloc = rt.alloc();
-    let arena = Bump::new(alloc);
-    match repair(
-        &rt,
-        alloc,
-        LOCK.as_bytes(),
-        LOCK_TABLE.as_bytes(),
-        &request(1, 1),
-        &arena,
-    ) {
-        Err(_) => Err(Fail::from("stopped")),
-        Ok(found) => {
-            assert!(rt; does(&found, "", "budget spent 1 bound 3\n", 2));
-            assert!(rt; found.files.len() == 3);
-            Ok(())
-        }
-    }
+    let notes = "budget spent 1 bound 3\n";
+    assert!(rt; leaves_open(&rt, rt.alloc(), LOCK, LOCK_TABLE, "", notes));
+    Ok(())
 }
 
 #[test]
@@ -323,7 +320,7 @@ fn of_several_the_nearest(rt: HostRuntime) -> Result<(), Fail> {
             STEPS,
             STEPS_TABLE,
             "repaired 1\nsite 4 literal 125 4'h1\n"
-        )?
+        )
     );
     assert!(rt;
         reports(
@@ -332,7 +329,7 @@ fn of_several_the_nearest(rt: HostRuntime) -> Result<(), Fail> {
             VALUE,
             VALUE_TABLE,
             "repaired 1\nsite 0 literal 58 4'h7\n"
-        )?
+        )
     );
     assert!(rt;
         reports(
@@ -341,7 +338,7 @@ fn of_several_the_nearest(rt: HostRuntime) -> Result<(), Fail> {
             NAMES,
             NAMES_TABLE,
             "repaired 1\nsite 2 guard 129 (E) && go\n"
-        )?
+        )
     );
     Ok(())
 }

@@ -296,15 +296,28 @@ fn lines_left(answer: &Option<Answer>) -> Option<usize> {
     }
 }
 
+/// The same of the second circuit and a table.
+fn lines_of<R: Threads + Sync>(
+    rt: &R,
+    alloc: Global,
+    table: &Table,
+    budget: u32,
+    members: u32,
+) -> Result<Option<usize>, Fail>
+    requires budget { 1 ≤ budget }
+    requires some { 1 ≤ members }
+    requires most { members ≤ 8 }
+{
+    let answer = of_three(rt, alloc, table, budget, members)?;
+    Ok(lines_left(&answer))
+}
+
 #[test]
 fn a_spent_budget(rt: HostRuntime) -> Result<(), Fail> {
     let table = always_one(rt.alloc())?;
-    let one = of_three(&rt, rt.alloc(), &table, 1, 1)?;
-    assert!(rt; lines_left(&one) == Some(1));
-    let two = of_three(&rt, rt.alloc(), &table, 1, 2)?;
-    assert!(rt; lines_left(&two) == Some(2));
-    let four = of_three(&rt, rt.alloc(), &table, 1, 4)?;
-    assert!(rt; lines_left(&four) == Some(4));
+    assert!(rt; lines_of(&rt, rt.alloc(), &table, 1, 1)? == Some(1));
+    assert!(rt; lines_of(&rt, rt.alloc(), &table, 1, 2)? == Some(2));
+    assert!(rt; lines_of(&rt, rt.alloc(), &table, 1, 4)? == Some(4));
     Ok(())
 }
 
@@ -331,17 +344,46 @@ fn found_above(answer: &Option<Answer>) -> Option<(u32, usize)> {
     }
 }
 
+/// The same of the second circuit and a table.
+fn found_of<R: Threads + Sync>(
+    rt: &R,
+    alloc: Global,
+    table: &Table,
+    budget: u32,
+    members: u32,
+) -> Result<Option<(u32, usize)>, Fail>
+    requires budget { 1 ≤ budget }
+    requires some { 1 ≤ members }
+    requires most { members ≤ 8 }
+{
+    let answer = of_three(rt, alloc, table, budget, members)?;
+    Ok(found_above(&answer))
+}
+
+/// The number of changes of the second circuit.
+fn changes_of<R: Threads + Sync>(
+    rt: &R,
+    alloc: Global,
+    table: &Table,
+    budget: u32,
+    members: u32,
+) -> Result<Option<u32>, Fail>
+    requires budget { 1 ≤ budget }
+    requires some { 1 ≤ members }
+    requires most { members ≤ 8 }
+{
+    let answer = of_three(rt, alloc, table, budget, members)?;
+    Ok(changes(&answer))
+}
+
 // One line is too few for the question of three changes, two lines settle it and not that of one change,
 // and ten lines settle both.
 #[test]
 fn what_is_found_goes_with_a_spent_budget(rt: HostRuntime) -> Result<(), Fail> {
     let table = two_of_three(rt.alloc())?;
-    let none = of_three(&rt, rt.alloc(), &table, 1, 1)?;
-    assert!(rt; lines_left(&none) == Some(1));
-    let some = of_three(&rt, rt.alloc(), &table, 2, 1)?;
-    assert!(rt; found_above(&some) == Some((1, 2)));
-    let all = of_three(&rt, rt.alloc(), &table, 10, 1)?;
-    assert!(rt; changes(&all) == Some(2));
+    assert!(rt; lines_of(&rt, rt.alloc(), &table, 1, 1)? == Some(1));
+    assert!(rt; found_of(&rt, rt.alloc(), &table, 2, 1)? == Some((1, 2)));
+    assert!(rt; changes_of(&rt, rt.alloc(), &table, 10, 1)? == Some(2));
     Ok(())
 }
 

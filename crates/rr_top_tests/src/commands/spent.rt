@@ -3,8 +3,9 @@
 use crate::commands::designs::{
     FOUND_RESETS, LOCK, LOCK_TABLE, RESETS, RESETS_TABLE, TWO, TWO_TABLE,
 };
-use crate::shelves::{NO_FAILS, NONE, command, leaves, shelf_of};
-use std::alloc::Global;
+use crate::shelves::{Left, NO_FAILS, NONE, command, leaves, shelf_of};
+use rr_edge::MemoryShelf;
+use std::alloc::{AllocError, Global};
 use std::test::Fail;
 use std::thread::Threads;
 
@@ -41,35 +42,58 @@ fn where_nothing_was_found_nothing_is_printed(rt: HostRuntime) -> Result<(), Fai
     Ok(())
 }
 
-/// Whether a report tells a choice of one change more than is left open.
-fn tells_found(alloc: Global, notes: &[u8]) -> Result<bool, Fail> {
+/// Whether a report tells a choice of one change more than this bound, which is left open.
+fn tells_bound(alloc: Global, notes: &[u8], bound: u32) -> Result<bool, AllocError> {
+    let changes = bound.saturating_add(1);
+    let text = format!(in alloc; "budget spent 1 bound {bound}\nfound {changes}\nsite ")?;
+    Ok(notes.starts_with(text.as_bytes()))
+}
+
+/// The same for some bound below 9.
+fn tells_found(alloc: Global, notes: &[u8]) -> Result<bool, AllocError> {
     for bound in 0..9u32 {
-        let changes = bound + 1;
-        let text = format!(in alloc; "budget spent 1 bound {bound}\nfound {changes}\nsite ")?;
-        if notes.starts_with(text.as_bytes()) {
+        if tells_bound(alloc, notes, bound)? {
             return Ok(true);
         }
     }
     Ok(false)
 }
 
-/// Whether a repair by one line ends with status 0, or with status 2 and a choice that was found; and what it
-/// prints then runs as the table expects, whose cells are all known.
+/// Whether a repair by one line ended with status 0, or with status 2 and a choice that was found.
+fn is_found(alloc: Global, found: &Left) -> Result<bool, AllocError> {
+    match found.status {
+        0 => Ok(true),
+        2 => tells_found(alloc, found.notes.as_slice()),
+        _ => Ok(false),
+    }
+}
+
+/// Whether a source runs as the table expects, whose cells are all known.
+fn runs_as<R: Threads + Sync>(
+    rt: &R,
+    alloc: Global,
+    shelf: &mut MemoryShelf,
+    source: &[u8],
+    table: &str,
+) -> Result<bool, AllocError> {
+    shelf.place("r.v", source)?;
+    let again = command(rt, alloc, shelf, "rtl_repair run r.v t.csv", NO_FAILS)?;
+    Ok(leaves(&again, 0, table, ""))
+}
+
+/// Whether a repair by one line ends so; and what it prints then runs as the table expects.
 fn runs_again<R: Threads + Sync>(
     rt: &R,
     alloc: Global,
     design: &str,
     table: &str,
-) -> Result<bool, Fail> {
+) -> Result<bool, AllocError> {
     let mut shelf = shelf_of(alloc, NONE, design, table)?;
     let found = command(rt, alloc, &mut shelf, ONE_LINE, NO_FAILS)?;
-    let told = tells_found(alloc, found.notes.as_slice())?;
-    if found.status != 0 && (found.status != 2 || !told) {
+    if !is_found(alloc, &found)? {
         return Ok(false);
     }
-    shelf.place("r.v", found.out.as_slice())?;
-    let again = command(rt, alloc, &mut shelf, "rtl_repair run r.v t.csv", NO_FAILS)?;
-    Ok(leaves(&again, 0, table, ""))
+    runs_as(rt, alloc, &mut shelf, found.out.as_slice(), table)
 }
 
 #[test]

@@ -3,7 +3,7 @@ use crate::commands::designs::{FOUND_RESETS, RESETS, RESETS_TABLE};
 use crate::hostile::designs::{COUNTER, COUNTER_TABLE, MENDED_COUNTER};
 use crate::shelves::{Fails, NO_FAILS, NONE, command, leaves, shelf_of};
 use rr_edge::MemoryShelf;
-use std::alloc::Global;
+use std::alloc::{AllocError, Global};
 use std::test::Fail;
 use std::thread::Threads;
 
@@ -184,24 +184,39 @@ fn keeps(shelf: &MemoryShelf, fine: &MemoryShelf, whole: usize, repair: Repair) 
         && shelf.held("t.csv") == Some(repair.table.as_bytes())
 }
 
+/// The shelf of a repair with an old certificate, of which the call with this number fails.
+fn old_shelf(alloc: Global, fails: u64, repair: Repair) -> Result<MemoryShelf, AllocError> {
+    let mut shelf = shelf_of(alloc, fails, repair.design, repair.table)?;
+    for name in CERTIFICATE.iter() {
+        shelf.place(*name, b"old")?;
+    }
+    Ok(shelf)
+}
+
+/// Whether a repair with this fault ends as it is to, where this is the shelf of one without a fault.
+fn ends_right<R: Threads + Sync>(
+    rt: &R,
+    alloc: Global,
+    repair: Repair,
+    case: &Fault,
+    fine: &MemoryShelf,
+) -> Result<bool, AllocError> {
+    let mut shelf = old_shelf(alloc, case.fails.shelf, repair)?;
+    let found = command(rt, alloc, &mut shelf, repair.line, case.fails)?;
+    Ok(leaves(&found, case.status, case.out, case.notes) && keeps(&shelf, fine, case.whole, repair))
+}
+
 /// The report of the first of these faults that does not end as it is to.
 fn first_wrong<R: Threads + Sync>(
     rt: &R,
     alloc: Global,
     repair: Repair,
     faults: &[Fault],
-) -> Result<Option<&'static str>, Fail> {
+) -> Result<Option<&'static str>, AllocError> {
     let mut fine = shelf_of(alloc, NONE, repair.design, repair.table)?;
     command(rt, alloc, &mut fine, repair.line, NO_FAILS)?;
     for case in faults.iter() {
-        let mut shelf = shelf_of(alloc, case.fails.shelf, repair.design, repair.table)?;
-        for name in CERTIFICATE.iter() {
-            shelf.place(*name, b"old")?;
-        }
-        let found = command(rt, alloc, &mut shelf, repair.line, case.fails)?;
-        if !leaves(&found, case.status, case.out, case.notes)
-            || !keeps(&shelf, &fine, case.whole, repair)
-        {
+        if !ends_right(rt, alloc, repair, case, &fine)? {
             return Ok(Some(case.notes));
         }
     }
