@@ -235,14 +235,16 @@ HEAD = '$scope module tb $end\n$var wire 1 ! clk $end\n$var wire 1 " rst $end\n$
 def long_dump(changes):
     """A dump of 16 MiB with so many changes of another variable in each half cycle, and at most 65,000 cycles."""
     pieces, size, at = [HEAD, '#0\n0!\n1"\nbx #\n'], 0, 0
-    while size < LARGE - 4000 and at < 130_000:
+    while at < 130_000:
         at += 1
         text = f"#{at}\n{at % 2}!\n" + f"b{at:b} $\n" * changes
         if at == 2:
             text += '0"\n'
-        pieces.append(text)
         size += len(text)
-    return "".join(pieces)[:LARGE]
+        if size > LARGE - 400:
+            break
+        pieces.append(text)
+    return "".join(pieces)
 
 
 def large(program, folder):
