@@ -5,7 +5,7 @@ use Rattle.std.proofs.lemmas.List.{append_assoc, append-nil, length-drop, drop-d
 use Rattle.std.proofs.lemmas.Bool.{and_parts, or_left, and_right, lt-ltb, le-ltb}
 use Rattle.std.proofs.lemmas.Bool.Decides.{nat_tests}
 use Rattle.std.proofs.Math.Seq.{drop-append_seam}
-use Rattle.rr_directive.specs.Bytes.{is, within, begins, past, is_printable, is_dark, is_letter, is_space, is_name_byte, is_in_line}
+use Rattle.rr_directive.specs.Bytes.{is, within, begins, past, is_printable, is_letter, is_space, is_name_byte, is_in_line}
 use Rattle.rr_directive.specs.declared.piece.Kind.{Kind}
 use Rattle.rr_directive.specs.declared.piece.Kind.TheVariants as kind
 use Rattle.rr_directive.specs.declared.piece.Directive.{Directive}
@@ -55,14 +55,9 @@ pub closed_ends : (a b at : ℕ) (bs : List ℕ) → length bs ≤ at → closed
 unfolding closed
 closed_ends a b at bs l = rw (drop_all at bs l) refl
 
-pub escaped_yes : (at k : ℕ) (bs : List ℕ) → begins (is 92) (drop at bs) ≡ true → begins is_printable (drop (at + 1) bs) ≡ true → k ≡ at + 1 + prefix_len is_printable (drop (at + 1) bs) →
-    not (begins is_dark (drop k bs)) ≡ is_escaped (drop at bs)
+pub escaped_here : (at : ℕ) (bs : List ℕ) → begins (is 92) (drop at bs) ≡ true → begins is_printable (drop (at + 1) bs) ≡ is_escaped (drop at bs)
 unfolding is_escaped
-escaped_yes at k bs b h e = rw (b, drop-drop 1 at bs, h, drop-drop (prefix_len is_printable (drop (at + 1) bs)) (at + 1) bs, ← e) refl
-
-pub escaped_no : (at : ℕ) (bs : List ℕ) → begins (is 92) (drop at bs) ≡ true → begins is_printable (drop (at + 1) bs) ≡ false → false ≡ is_escaped (drop at bs)
-unfolding is_escaped
-escaped_no at bs b h = rw (b, drop-drop 1 at bs, h) refl
+escaped_here at bs b = rw (b, drop-drop 1 at bs) refl
 
 pub escaped_none : (at : ℕ) (bs : List ℕ) → begins (is 92) (drop at bs) ≡ false → false ≡ is_escaped (drop at bs)
 unfolding is_escaped
@@ -323,9 +318,8 @@ plain_there at end bs l m h t e = let s : end - at ≡ 1 = omega arith in rw (l,
 pub escaped_room : (at : ℕ) (bs : List ℕ) → is_escaped (drop at bs) ≡ true → at + 1 < length bs
 unfolding is_escaped
 escaped_room at bs h =
-    let a = begins is_printable (drop 1 (drop at bs)) in
-    let b = not (begins is_dark (past is_printable (drop 1 (drop at bs)))) in
-    let k : a ≡ true = (and_parts a b (and_parts (begins (is 92) (drop at bs)) (a && b) h).1).0 in begins_length is_printable (at + 1) bs (rw (drop-drop 1 at bs) at k)
+    let k : begins is_printable (drop 1 (drop at bs)) ≡ true = (and_parts (begins (is 92) (drop at bs)) (begins is_printable (drop 1 (drop at bs))) h).1 in
+    begins_length is_printable (at + 1) bs (rw (drop-drop 1 at bs) at k)
 
 -- ---- what an edit leaves as it is: a byte before a blank is a unit of its own, and an escaped name ends at a blank
 two_no : (a c b : ℕ) (bs : List ℕ) → (32 == c) ≡ false → begins_with a c (b ∷ (32 ∷ bs)) ≡ false
@@ -345,16 +339,13 @@ printables : (name bs : List ℕ) → list_all is_printable name ≡ true → pr
 printables [] bs h = refl
 printables (b ∷ name) bs h = let k = and_parts (is_printable b) (list_all is_printable name) h in rw k.0 (omega (arith, printables name bs k.1))
 
-behind_printables : (name bs : List ℕ) → list_all is_printable name ≡ true → past is_printable (name ++ (32 ∷ bs)) ≡ 32 ∷ bs
-behind_printables name bs h = rw (printables name bs h) (drop-append_seam name (32 ∷ bs))
-
 printable_there : (name bs : List ℕ) → begins is_printable name ≡ true → begins is_printable (name ++ bs) ≡ true
 printable_there [] bs k = absurd (cc)
 printable_there (b ∷ name) bs k = k
 
 pub escaped_alone : (name bs : List ℕ) → list_all is_printable name ≡ true → begins is_printable name ≡ true → is_escaped (92 ∷ (name ++ (32 ∷ bs))) ≡ true
 unfolding is_escaped
-escaped_alone name bs h k = rw (printable_there name (32 ∷ bs) k, behind_printables name bs h) refl
+escaped_alone name bs h k = rw (printable_there name (32 ∷ bs) k) refl
 
 slash_no : (c : ℕ) (bs : List ℕ) → begins_with 47 c (92 ∷ bs) ≡ false
 unfolding begins_with

@@ -7,7 +7,7 @@ use Rattle.rr_directive.specs.declared.piece.Directive.{Directive}
 use Rattle.rr_directive.specs.declared.piece.Directive.TheVariants as directive
 use Rattle.rr_directive.specs.declared.piece.Kind.{Kind}
 use Rattle.rr_directive.specs.declared.piece.Kind.TheVariants as kind
-use Rattle.rr_directive.specs.Bytes.{is, begins, past, is_letter, is_name_byte, is_printable, is_dark, is_space, is_in_line}
+use Rattle.rr_directive.specs.Bytes.{is, begins, past, is_letter, is_name_byte, is_printable, is_space, is_in_line}
 
 -- A unit: what it is, its name, whether `(` stands directly after the name, the text that it defines, and how many bytes it has.
 -- The name is that of a use, or the one that a directive takes, where it has one.
@@ -29,9 +29,9 @@ unfoldable pub closed : ℕ → ℕ → List ℕ → ℕ
 closed a b [] = 0
 closed a b (x ∷ xs) = if x == a && begins (is b) xs then 2 else 1 + closed a b xs
 
--- \ and one or more bytes 33 to 126, and then a blank or the end (section 3.7.1)
+-- \ and one or more bytes 33 to 126, up to the first other byte, whatever that is (section 3.7.1)
 unfoldable pub is_escaped : List ℕ → Bool
-is_escaped bs = begins (is 92) bs && (begins is_printable (drop 1 bs) && not (begins is_dark (past is_printable (drop 1 bs))))
+is_escaped bs = begins (is 92) bs && begins is_printable (drop 1 bs)
 
 -- the directives (section 19), of which five and `include stay as they are
 unfoldable pub directive_of : List ℕ → Option Directive

@@ -25,3 +25,4 @@ pub use expansion::expand;
 pub use fault::{DirectiveFault, Wrong};
 pub use laws::{one_expansion, plain_files_stay};
 pub use origin::Origin;
+pub use piece::{Directive, Kind};

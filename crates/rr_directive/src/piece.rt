@@ -13,7 +13,7 @@ use std::alloc::AllocError;
 
 /// A directive, by what it asks.
 #[derive(Clone, Copy, Debug, PartialEq, Eq)]
-pub(crate) enum Directive {
+pub enum Directive {
     /// It stays, with the rest of its line.
     Stays,
     Define,
@@ -27,7 +27,7 @@ pub(crate) enum Directive {
 
 /// What a unit is.
 #[derive(Clone, Copy, Debug, PartialEq, Eq)]
-pub(crate) enum Kind {
+pub enum Kind {
     Comment,
     Escaped,
     Plain,
@@ -270,17 +270,13 @@ fn named_piece(bytes: &[u8], at: usize, end: usize) -> Piece
     }
 }
 
-/// Whether an escaped name begins here: `\`, then bytes 33 to 126, and then a blank or the end.
-#[tactic(auto, using(crate::proofs::Facts::escaped_no, crate::proofs::Facts::escaped_none), unfolding(crate::specs::Bytes::member))]
+/// Whether an escaped name begins here: `\`, then bytes 33 to 126.
+#[tactic(auto, using(crate::proofs::Facts::escaped_none))]
 fn is_escaped(bytes: &[u8], at: usize) -> bool
     requires { at < length bytes.now }
     ensures { result ≡ is_escaped_of (drop at bytes.now) }
 {
-    if !has(bytes, at, 92) {
-        return false;
-    }
-    stands(bytes, at + 1, Class::Printable)
-        && !stands(bytes, past(bytes, at + 1, Class::Printable), Class::Dark)
+    has(bytes, at, 92) && stands(bytes, at + 1, Class::Printable)
 }
 
 /// The unit that begins here.

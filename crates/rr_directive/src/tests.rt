@@ -68,6 +68,7 @@ fn texts_are_given(rt: HostRuntime) {
     assert!(rt; gives(alloc, b"`define N \\a\n`N;", b" \n\\a;"));
     assert!(rt; gives(alloc, b"`define E\n4`E'd2", b" \n4'd2"));
     assert!(rt; gives(alloc, b"`undef A", b" "));
+    assert!(rt; gives(alloc, b"`define E\n\\x`E\xc8", b" \n\\x`E\xc8"));
 }
 
 /// Lines that end by CR and LF.

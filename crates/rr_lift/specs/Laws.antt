@@ -5,8 +5,8 @@ use Rattle.rr_directive.specs.declared.origin.Origin.{Origin}
 use Rattle.rr_directive.specs.Expand.{IsExpansion, IsTaken}
 use Rattle.rr_directive.specs.Laws.{AreOwn}
 use Rattle.rr_directive.specs.Places.{offset_at}
-use Rattle.rr_lift.specs.Edits.{Edit, edited, AreEdits}
-use Rattle.rr_lift.specs.Lifted.{exact_at, lifted, lifts}
+use Rattle.rr_edit.specs.Edits.{Edit, edited, AreEdits}
+use Rattle.rr_edit.specs.Lifted.{exact_at, lifted, lifts}
 
 -- where edits lift, the lifted file expands to the expansion with the edits made
 abbrev pub LiftExpands : Type 0

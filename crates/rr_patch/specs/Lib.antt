@@ -1,3 +1,4 @@
 pub mod Changes
 pub mod Walks
 pub mod Laws
+pub mod Edits

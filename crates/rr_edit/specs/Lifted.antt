@@ -3,7 +3,7 @@ use Rattle.std.specs.Prelude.{ℕ, ◌+◌, ◌-◌, ◌==◌, ◌&&◌, nat_lt,
 use Rattle.std.specs.List.{list_all, list_any}
 use Rattle.rr_directive.specs.declared.origin.Origin.{Origin}
 use Rattle.rr_directive.specs.Places.{no_origin, offset_at}
-use Rattle.rr_lift.specs.Edits.{Edit}
+use Rattle.rr_edit.specs.Edits.{Edit}
 
 abbrev pub exact_at : List Origin → ℕ → Bool
 exact_at origins k = (get_or origins k no_origin).exact

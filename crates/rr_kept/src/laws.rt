@@ -1,0 +1,9 @@
+//! Laws of kept sites, as contracts of functions that do nothing.
+ghost use Rattle.rr_kept.specs.Laws.{KeptAreNamed, KeptFit, KeptLift};
+
+/// All edits of each choice of kept sites lift; and kept sites have the names and widths of all.
+pub fn kept_laws()
+    ensures lift { KeptLift }
+    ensures named { KeptAreNamed }
+    ensures fit { KeptFit }
+{}
