@@ -1,24 +1,25 @@
 //! The answers that leave a question open, with what was found to match or without.
 ghost use Rattle.std.specs.Prelude.{◌≡◌, ◌<◌, ◌^◌, [], IfOk, length, string_bytes};
-ghost use Rattle.rr_syntax.specs.Items.{NumberedSource};
 ghost use Rattle.rr_syntax.specs.View.{plain_source};
-ghost use Rattle.rr_lex.specs.Tokens.{lexemes, words_of, AreTokens};
-ghost use Rattle.rr_grammar.specs.Trees.{IsTree, Spells};
+ghost use Rattle.rr_lex.specs.Tokens.{lexemes};
 ghost use Rattle.rr_instance.specs.Instances.{instance_source};
+ghost use Rattle.rr_kept.specs.Read.{IsRead};
+ghost use Rattle.rr_map.specs.Printed.{printed_file, printed_text, ExpandsTo};
+ghost use Rattle.rr_map.specs.Read.{source_file};
 ghost use Rattle.rr_report.specs.Views.{plain_answer};
-ghost use Rattle.rr_respell.specs.Laws.{AreNamed};
-ghost use Rattle.rr_respell.specs.Printing.{printed};
+ghost use Rattle.rr_run.specs.Files.{placed_tokens as placed_tokens_of};
 ghost use Rattle.rr_answers.specs.Certified.{certificate as certificate_of};
 ghost use Rattle.rr_answers.specs.Texts.{found_line, found_text, open_text};
 
+use crate::answering::tokens_in_file;
 use crate::certifying::certificate;
 use rr_changes::push_site_lines;
 use rr_choice::{Choice, SiteList, cost};
 use rr_circuit::Circuit;
 use rr_derive::Journal;
-use rr_patch::print;
+use rr_map::{ReadFile, print_file};
 use rr_report::{Found, Piece, Text};
-use rr_syntax::{Source, Token};
+use rr_syntax::Token;
 use std::alloc::{AllocError, Global};
 
 /// The report that each member has learned so many lines, and of which bound.
@@ -81,13 +82,11 @@ pub fn left_open<'b>(
 }
 
 /// The answer that a question was left open, with its formula and what was learned, where a choice was
-/// found that matches: the source is printed with its changes, and its sites are reported.
+/// found that matches: the file is printed with its changes, and its sites are reported with places in the
+/// file.
 pub fn found_open<'b>(
     alloc: Global,
-    bytes: &[u8],
-    tokens: &[Token<'_>],
-    source: &Source<'_>,
-    list: &SiteList<'_>,
+    read: &ReadFile<'_, '_>,
     choice: &Choice,
     budget: u32,
     bound: u32,
@@ -95,21 +94,18 @@ pub fn found_open<'b>(
     circuit: &Circuit,
     journal: &Journal,
 ) -> Result<Found<'b>, AllocError>
-    requires small { length bytes.now < 2 ^ 32 }
-    requires tokens { AreTokens bytes.now (lexemes tokens.now) }
-    requires spells { Spells (words_of (lexemes tokens.now)) (plain_source source.now) }
-    requires numbered { NumberedSource (plain_source source.now) }
-    requires named { AreNamed list.now }
+    requires read { IsRead read.now.file.now (source_file read.now) read.now.list.now }
     requires few { length choice.now.picks.items < 2 ^ 32 }
     ensures files { IfOk result (λ found. (plain_answer found).files ≡ certificate_of cert.now circuit.now journal.now) }
-    ensures printed { IfOk result (λ found. (plain_answer found).out ≡ printed bytes.now (lexemes tokens.now) list.now choice.now.picks.items (plain_source source.now)) }
-    ensures tree { IfOk result (λ found. IsTree (plain_answer found).out (instance_source list.now choice.now.picks.items (plain_source source.now))) }
-    ensures notes { IfOk result (λ found. (plain_answer found).notes ≡ found_text budget bound (lexemes tokens.now) list.now choice.now.picks.items) }
+    ensures printed { IfOk result (λ found. (plain_answer found).out ≡ printed_file read.now.file.now (source_file read.now) read.now.list.now choice.now.picks.items) }
+    ensures tree { IfOk result (λ found. ExpandsTo (plain_answer found).out (printed_text (source_file read.now) read.now.list.now choice.now.picks.items) (instance_source read.now.list.now choice.now.picks.items (plain_source read.now.source.now))) }
+    ensures notes { IfOk result (λ found. (plain_answer found).notes ≡ found_text budget bound (placed_tokens_of read.now.expanded.now.origins.items (length read.now.file.now) (lexemes read.now.tokens.now)) read.now.list.now choice.now.picks.items) }
     ensures status { IfOk result (λ found. (plain_answer found).status ≡ 2) }
 {
     let files = certificate(alloc, cert, circuit, journal)?;
-    let out = print(alloc, bytes, tokens, source, list, choice)?;
-    let notes = found_notes(alloc, tokens, list, choice, budget, bound)?;
+    let out = print_file(alloc, read, choice)?;
+    let tokens = tokens_in_file(alloc, read)?;
+    let notes = found_notes(alloc, tokens.as_slice(), read.list, choice, budget, bound)?;
     Ok(Found {
         status: 2,
         files,

@@ -1,7 +1,7 @@
 //! What is to be done for each answer of the search for a repair: what is printed and reported, and the
 //! three files of the certificate. It is right where they are the texts of the circuit, of its formula
-//! and of the lines that were learned, and the printed source has the instance as its tree. It stands on
-//! `rr_patch` for the source and on `rr_changes` for the report.
+//! and of the lines that were learned, and the printed file expands to a text whose tree is the instance. It
+//! stands on `rr_map` for the file and on `rr_changes` for the report.
 #![tactic(auto)]
 
 mod answering;

@@ -1,6 +1,6 @@
 -- A file with edits of its expansion made in the file itself.
-use Rattle.std.specs.Prelude.{ℕ, ◌+◌, ◌-◌, ◌==◌, ◌&&◌, nat_lt, Bool, List, [], ◌∷◌, ◌++◌, take, drop, get_or, if◌then◌else◌}
-use Rattle.std.specs.List.{list_all, list_any}
+use Rattle.std.specs.Prelude.{ℕ, ◌+◌, ◌-◌, ◌==◌, ◌&&◌, nat_lt, Bool, true, List, [], ◌∷◌, ◌++◌, take, drop, get_or, if◌then◌else◌}
+use Rattle.std.specs.List.{list_any}
 use Rattle.rr_directive.specs.declared.origin.Origin.{Origin}
 use Rattle.rr_directive.specs.Places.{no_origin, offset_at}
 use Rattle.rr_edit.specs.Edits.{Edit}
@@ -12,9 +12,20 @@ exact_at origins k = (get_or origins k no_origin).exact
 abbrev pub replaced : List Origin → Edit → List Origin
 replaced origins e = take (e.to - e.from) (drop e.from origins)
 
--- An edit lifts where all bytes that it replaces are exact and, where it replaces none, the byte before it is.
+-- whether an origin, if there is another behind it, is that of the byte before its byte in the file
+abbrev pub is_next : Origin → List Origin → Bool
+is_next o [] = true
+is_next o (p ∷ os) = p.offset == o.offset + 1
+
+-- exact bytes that stand in the file as in the text, one directly behind the other
+unfoldable pub adjoin : List Origin → Bool
+adjoin [] = true
+adjoin (o ∷ os) = o.exact && (is_next o os && adjoin os)
+
+-- An edit lifts where all bytes that it replaces are exact and stand in the file without others between them, and, where it
+-- replaces none, the byte before it is exact.
 abbrev pub lifts : List Origin → Edit → Bool
-lifts origins e = nat_lt 0 e.to && (exact_at origins (e.to - 1) && list_all (λ o. o.exact) (replaced origins e))
+lifts origins e = nat_lt 0 e.to && (exact_at origins (e.to - 1) && adjoin (replaced origins e))
 
 -- the byte at this place of the file is replaced by an edit
 abbrev pub replaces : List Origin → ℕ → Edit → Bool

@@ -4,5 +4,9 @@
 #![tactic(auto)]
 
 mod lifting;
+mod printing;
 
 pub use lifting::lift;
+pub use printing::{ReadFile, print_file};
+pub use rr_directive::place;
+pub use rr_kept::kept;

@@ -3,10 +3,8 @@ use Rattle.std.proofs.Common.{◌≡◌, ◌∙◌, inl, inr, ℕ, ◌<◌, ◌^
 use Rattle.std.proofs.lemmas.List.Sums.{sum_by-cons}
 use Rattle.std.proofs.Math.Pow.{ones_lt}
 use Rattle.rr_syntax.specs.Tree.{SourceText}
-use Rattle.rr_lex.specs.Tokens.{Lexeme}
 use Rattle.rr_flat.specs.Plain.{Flat}
 use Rattle.rr_flat.specs.declared.fault.Limit.TheVariants as limit
-use Rattle.rr_elaborate.proofs.Once.{one_text as one_tree}
 use Rattle.rr_choice.specs.declared.pick.Pick.{Pick}
 use Rattle.rr_choice.specs.Choices.{cost, IsChoice}
 use Rattle.rr_choice.specs.Sites.{Site, value_width}
@@ -16,41 +14,43 @@ use Rattle.rr_transition.specs.Cycles.{Design, instance_design}
 use Rattle.rr_unroll.specs.Matches.{Matches}
 use Rattle.rr_run.specs.Refusals.{Refusal as RunRefusal, TooMany}
 use Rattle.rr_run.specs.Rows.{ReadsTable, RefusesTable}
-use Rattle.rr_run.specs.Runs.{HasNoTable as HasNoRows, IsLawfulDesign, IsSameRefusal}
+use Rattle.rr_run.specs.Runs.{IsSameRefusal}
+use Rattle.rr_run.specs.Files.{HasNoFileTable, IsFileDesign, placed_tokens}
+use Rattle.rr_kept.specs.Read.{SourceFile}
 use Rattle.rr_run.proofs.Reading.{moved_reading, one_reading, read_or_refused}
-use Rattle.rr_run.proofs.Once.{one_lawful, one_refused}
+use Rattle.rr_run.proofs.FileOnce.{one_file_design, one_file_refused}
 use Rattle.rr_sites.specs.Lines.{site_lines}
-use Rattle.rr_sites.specs.Lists.{HasSites, RefusesSites}
-use Rattle.rr_sites.proofs.Once.{one_list, text_or_refusal, one_refusal as one_site_refusal}
+use Rattle.rr_sites.specs.Lists.{HasFileSites, RefusesSites}
+use Rattle.rr_sites.proofs.Once.{lawful_of as file_of, one_file, text_or_refusal, one_refusal as one_site_refusal}
 use Rattle.rr_repair.specs.Repairs.{HasMuchWork, HasNoTable, IsSited, IsTaken, Refuses, PlainRequest, design_of, work_of}
 use Rattle.rr_repair.specs.Laws.{IsOneTaking, OneTaking, OneRefusal, TakenOrRefused, MendableOrNot, MatchingIsMendable}
 
 module _ (w : PlainRequest) (design : List ℕ) where
   -- ---- a design with its sites
-  lawful_of : {ts : List Lexeme} {a : SourceText} {flat : Flat} {clock : Option ℕ} {rising : Bool} {ss : List Site} → IsSited w design ts a flat clock rising ss → IsLawfulDesign design w.top w.clock ts flat clock rising
-  lawful_of {ts} {a} {flat} {clock} {rising} {ss} s = record { design = record { tree = a; text = s.tree.text; flat = s.tree.flat }; lawful = s.lawful; one_clock = s.one_clock }
+  sites_of_it : {a : SourceFile} {flat : Flat} {clock : Option ℕ} {rising : Bool} {ss : List Site} → IsSited w design a flat clock rising ss → HasFileSites design w.top w.clock a ss
+  sites_of_it {a} {flat} {clock} {rising} {ss} s =
+      record { expansion = s.expansion; flat = flat; clock = clock; rising = rising; design = s.tree; lawful = s.lawful; one_clock = s.one_clock; listed = s.listed; are = s.are; kept = s.kept }
 
-  sites_of_it : {ts : List Lexeme} {a : SourceText} {flat : Flat} {clock : Option ℕ} {rising : Bool} {ss : List Site} → IsSited w design ts a flat clock rising ss → HasSites design w.top w.clock ts ss
-  sites_of_it {ts} {a} {flat} {clock} {rising} {ss} s = record { source = a; flat = flat; clock = clock; rising = rising; design = s.tree; lawful = s.lawful; one_clock = s.one_clock; are = s.are }
+  -- the lawful design of its expansion
+  lawful_of : {a : SourceFile} {flat : Flat} {clock : Option ℕ} {rising : Bool} {ss : List Site} → IsSited w design a flat clock rising ss → IsFileDesign design w.top w.clock a.tokens flat clock rising
+  lawful_of {a} {flat} {clock} {rising} {ss} s = file_of design w.top w.clock a ss (sites_of_it s)
 
-  record IsOneSited (ts us : List Lexeme) (a b : SourceText) (f g : Flat) (c d : Option ℕ) (r s : Bool) (ss rs : List Site) : Type 0 where
-    tokens : ts ≡ us
-    source : a ≡ b
+  record IsOneSited (a b : SourceFile) (f g : Flat) (c d : Option ℕ) (r s : Bool) (ss rs : List Site) : Type 0 where
+    file : a ≡ b
     flat : f ≡ g
     clock : c ≡ d
     rising : r ≡ s
     sites : ss ≡ rs
 
-  one_sited : {ts us : List Lexeme} {a b : SourceText} {f g : Flat} {c d : Option ℕ} {r s : Bool} {ss rs : List Site} → IsSited w design ts a f c r ss → IsSited w design us b g d s rs → IsOneSited ts us a b f g c d r s ss rs
-  one_sited {ts} {us} {a} {b} {f} {g} {c} {d} {r} {s} {ss} {rs} p q =
-      let lists = one_list design w.top w.clock ts us ss rs (sites_of_it p) (sites_of_it q) in
-      let trees = one_tree design ts us a b p.tree.text q.tree.text in
-      let lawful = one_lawful design w.top w.clock ts us f g c d r s (lawful_of p) (lawful_of q) in
-      record { tokens = lists.0; source = trees.1; flat = lawful.1.0; clock = lawful.1.1.0; rising = lawful.1.1.1; sites = lists.1 }
+  one_sited : {a b : SourceFile} {f g : Flat} {c d : Option ℕ} {r s : Bool} {ss rs : List Site} → IsSited w design a f c r ss → IsSited w design b g d s rs → IsOneSited a b f g c d r s ss rs
+  one_sited {a} {b} {f} {g} {c} {d} {r} {s} {ss} {rs} p q =
+      let lists = one_file design w.top w.clock a b ss rs (sites_of_it p) (sites_of_it q) in
+      let lawful = one_file_design design w.top w.clock a.tokens b.tokens f g c d r s (lawful_of p) (lawful_of q) in
+      record { file = lists.0; flat = lawful.1.0; clock = lawful.1.1.0; rising = lawful.1.1.1; sites = lists.1 }
 
-  not_refused : {ts : List Lexeme} {a : SourceText} {flat : Flat} {clock : Option ℕ} {rising : Bool} {ss : List Site} (r : RunRefusal) → IsSited w design ts a flat clock rising ss → RefusesSites design w.top w.clock r → ⊥
-  not_refused {ts} {a} {flat} {clock} {rising} {ss} r s refuses =
-      text_or_refusal design w.top w.clock (site_lines ts 0 ss) r (record { tokens = ts; sites = ss; has = sites_of_it s; told = (s.few, refl) }) refuses
+  not_refused : {a : SourceFile} {flat : Flat} {clock : Option ℕ} {rising : Bool} {ss : List Site} (r : RunRefusal) → IsSited w design a flat clock rising ss → RefusesSites design w.top w.clock r → ⊥
+  not_refused {a} {flat} {clock} {rising} {ss} r s refuses =
+      text_or_refusal design w.top w.clock (site_lines (placed_tokens a.origins (length design) a.tokens) 0 ss) r (record { read = a; sites = ss; has = sites_of_it s; told = (s.few, refl) }) refuses
 
   -- ---- its table
   module _ (table : List ℕ) where
@@ -63,8 +63,10 @@ module _ (w : PlainRequest) (design : List ℕ) where
     same_work : {f g : Flat} {x y : Table} → f ≡ g → x ≡ y → work_of f x ≡ work_of g y
     same_work {f} {g} {x} {y} p q = ap (λ (h : Flat). work_of h x) p ∙ ap (λ (t : Table). work_of g t) q
 
-    no_table_of : (r : RunRefusal) → HasNoTable w design table r → HasNoRows w.kind design table w.top w.clock r
-    no_table_of r n = record { tokens = n.tokens; flat = n.flat; clock = n.clock; rising = n.rising; design = lawful_of n.sited; refused = n.refused }
+    no_table_of : (r : RunRefusal) → HasNoTable w design table r → HasNoFileTable w.kind design table w.top w.clock r
+    no_table_of r n =
+        let d = lawful_of n.sited in
+        record { text = d.text; origins = d.origins; expansion = d.expansion; refused = record { tokens = n.file.tokens; flat = n.flat; clock = n.clock; rising = n.rising; design = d.design; refused = n.refused } }
 
     -- ---- refusals
     rows_or_none : {X : Type 0} (r s : RunRefusal) → HasMuchWork w design table r → HasNoTable w design table s → X
@@ -81,54 +83,54 @@ module _ (w : PlainRequest) (design : List ℕ) where
     one_refused_pair r s (inl p) (inr (inl q)) = absurd (not_refused r q.sited p)
     one_refused_pair r s (inl p) (inr (inr q)) = absurd (not_refused r q.sited p)
     one_refused_pair r s (inr (inl p)) (inl q) = absurd (not_refused s p.sited q)
-    one_refused_pair r s (inr (inl p)) (inr (inl q)) = one_refused w.kind design table w.top w.clock r s (inr (no_table_of r p)) (inr (no_table_of s q))
+    one_refused_pair r s (inr (inl p)) (inr (inl q)) = one_file_refused design w.top w.clock w.kind table r s (inr (no_table_of r p)) (inr (no_table_of s q))
     one_refused_pair r s (inr (inl p)) (inr (inr q)) = rows_or_none s r q p
     one_refused_pair r s (inr (inr p)) (inl q) = absurd (not_refused s p.sited q)
     one_refused_pair r s (inr (inr p)) (inr (inl q)) = rows_or_none r s p q
     one_refused_pair r s (inr (inr p)) (inr (inr q)) = inl (one_work r s p q)
 
     -- ---- files that are taken
-    one_pair : {ts us : List Lexeme} {a b : SourceText} {ss rs : List Site} {x y : Table} → IsTaken w design table ts a ss x → IsTaken w design table us b rs y → IsOneTaking ts us a b ss rs x y
-    one_pair {ts} {us} {a} {b} {ss} {rs} {x} {y} p q =
+    one_pair : {a b : SourceFile} {ss rs : List Site} {x y : Table} → IsTaken w design table a ss x → IsTaken w design table b rs y → IsOneTaking a b ss rs x y
+    one_pair {a} {b} {ss} {rs} {x} {y} p q =
         let one = one_sited p.sited q.sited in
-        record { tokens = one.tokens; source = one.source; sites = one.sites; rows = one_rows one.flat one.clock one.rising p.read q.read }
+        record { file = one.file; sites = one.sites; rows = one_rows one.flat one.clock one.rising p.read q.read }
 
-    much_or_little : {X : Type 0} {ts : List Lexeme} {a : SourceText} {ss : List Site} {x : Table} (r : RunRefusal) → IsTaken w design table ts a ss x → HasMuchWork w design table r → X
-    much_or_little {ts = ts} {a = a} {ss = ss} {x = x} r t m =
+    much_or_little : {X : Type 0} {a : SourceFile} {ss : List Site} {x : Table} (r : RunRefusal) → IsTaken w design table a ss x → HasMuchWork w design table r → X
+    much_or_little {a = a} {ss = ss} {x = x} r t m =
         let one = one_sited t.sited m.sited in
         let works : work_of t.flat x ≡ work_of m.flat m.rows = same_work one.flat (one_rows one.flat one.clock one.rising t.read m.read) in
         let small = t.small in
         let much = m.much in
         absurd (omega (arith, works, small, much))
 
-    not_both : {ts : List Lexeme} {a : SourceText} {ss : List Site} {x : Table} (r : RunRefusal) → IsTaken w design table ts a ss x → Refuses w design table r → ⊥
+    not_both : {a : SourceFile} {ss : List Site} {x : Table} (r : RunRefusal) → IsTaken w design table a ss x → Refuses w design table r → ⊥
     not_both {x = x} r t (inl p) = not_refused r t.sited p
     not_both {x = x} r t (inr (inl n)) = let one = one_sited t.sited n.sited in no_rows x r one.flat one.clock one.rising t.read n.refused
     not_both {x = x} r t (inr (inr m)) = much_or_little r t m
 
 pub one_taking : OneTaking
-one_taking w design table ts us a b ss rs x y p q = one_pair w design table p q
+one_taking w design table a b ss rs x y p q = one_pair w design table p q
 
 pub one_refusal : OneRefusal
 one_refusal w design table r s p q = one_refused_pair w design table r s p q
 
 pub taken_or_refused : TakenOrRefused
-taken_or_refused w design table ts a ss x r t p = not_both w design table r t p
+taken_or_refused w design table a ss x r t p = not_both w design table r t p
 
 -- ---- outcomes
 -- what matches of one way to take the files, matches of another
-pub moved_choice : (w : PlainRequest) {ts us : List Lexeme} {a b : SourceText} {ss rs : List Site} {x y : Table} (choice : List Pick) → IsOneTaking ts us a b ss rs x y → IsChoice ss choice →
-    Matches (instance_design ss choice (design_of w a)) x → IsChoice rs choice × Matches (instance_design rs choice (design_of w b)) y
-moved_choice w {ts} {us} {a} {b} {ss} {rs} {x} {y} choice one chosen matches =
+pub moved_choice : (w : PlainRequest) {a b : SourceFile} {ss rs : List Site} {x y : Table} (choice : List Pick) → IsOneTaking a b ss rs x y → IsChoice ss choice →
+    Matches (instance_design ss choice (design_of w a.source)) x → IsChoice rs choice × Matches (instance_design rs choice (design_of w b.source)) y
+moved_choice w {a} {b} {ss} {rs} {x} {y} choice one chosen matches =
     let sites = one.sites in
-    let first : Matches (instance_design rs choice (design_of w a)) x = subst (λ (l : List Site). Matches (instance_design l choice (design_of w a)) x) sites matches in
-    let second : Matches (instance_design rs choice (design_of w b)) x = subst (λ (t : SourceText). Matches (instance_design rs choice (design_of w t)) x) one.source first in
-    (subst (λ (l : List Site). IsChoice l choice) sites chosen, subst (λ (t : Table). Matches (instance_design rs choice (design_of w b)) t) one.rows second)
+    let first : Matches (instance_design rs choice (design_of w a.source)) x = subst (λ (l : List Site). Matches (instance_design l choice (design_of w a.source)) x) sites matches in
+    let second : Matches (instance_design rs choice (design_of w b.source)) x = subst (λ (t : SourceFile). Matches (instance_design rs choice (design_of w t.source)) x) one.file first in
+    (subst (λ (l : List Site). IsChoice l choice) sites chosen, subst (λ (t : Table). Matches (instance_design rs choice (design_of w b.source)) t) one.rows second)
 
-pub moved_matches : (w : PlainRequest) {ts us : List Lexeme} {a b : SourceText} {ss rs : List Site} {x y : Table} → IsOneTaking ts us a b ss rs x y → Matches (design_of w a) x → Matches (design_of w b) y
+pub moved_matches : (w : PlainRequest) {a b : SourceFile} {ss rs : List Site} {x y : Table} → IsOneTaking a b ss rs x y → Matches (design_of w a.source) x → Matches (design_of w b.source) y
 moved_matches w {a = a} {b = b} {x = x} {y = y} one matches =
-    let first : Matches (design_of w b) x = subst (λ (t : SourceText). Matches (design_of w t) x) one.source matches in
-    subst (λ (t : Table). Matches (design_of w b) t) one.rows first
+    let first : Matches (design_of w b.source) x = subst (λ (t : SourceFile). Matches (design_of w t.source) x) one.file matches in
+    subst (λ (t : Table). Matches (design_of w b.source) t) one.rows first
 
 pub mendable_or_not : MendableOrNot
 mendable_or_not w design table m n =
@@ -167,5 +169,5 @@ mends_as_it_is j ss x matches = (off_choice ss, (off_chosen ss, subst (λ (d : D
 
 pub matching_mends : MatchingIsMendable
 matching_mends w design table m =
-    let some = mends_as_it_is (design_of w m.source) m.sites m.rows m.matches in
-    record { tokens = m.tokens; source = m.source; sites = m.sites; rows = m.rows; taken = m.taken; choice = some.0; chosen = some.1.0; matches = some.1.1 }
+    let some = mends_as_it_is (design_of w m.file.source) m.sites m.rows m.matches in
+    record { file = m.file; sites = m.sites; rows = m.rows; taken = m.taken; choice = some.0; chosen = some.1.0; matches = some.1.1 }

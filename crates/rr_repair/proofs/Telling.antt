@@ -5,7 +5,6 @@ use Rattle.std.proofs.lemmas.List.{length-map}
 use Rattle.rr_syntax.specs.Tree.{SourceText}
 use Rattle.rr_syntax.specs.declared.site.Site.{Site as ArenaSite}
 use Rattle.rr_lex.specs.Tokens.{Lexeme}
-use Rattle.rr_grammar.specs.Trees.{IsTree}
 use Rattle.rr_circuit.specs.Aag.{aag}
 use Rattle.rr_circuit.specs.Values.{OutputNetlist}
 use Rattle.rr_tseitin.specs.Tseitin.{formula_of}
@@ -43,7 +42,12 @@ use Rattle.rr_respell.specs.Laws.{AreNamed}
 use Rattle.rr_elaborate.specs.Designs.{IsText}
 use Rattle.rr_walk.specs.Walk.{flat_of}
 use Rattle.rr_sites.specs.Lists.{AreSites}
-use Rattle.rr_respell.specs.Printing.{printed}
+use Rattle.rr_directive.specs.Expand.{IsExpansion}
+use Rattle.rr_kept.specs.Kept.{AreKept}
+use Rattle.rr_kept.specs.Read.{IsRead, SourceFile}
+use Rattle.rr_kept.proofs.Sublists.{kept_are_named}
+use Rattle.rr_map.specs.Printed.{printed_file, printed_text, ExpandsTo}
+use Rattle.rr_run.specs.Files.{placed_tokens}
 use Rattle.rr_changes.specs.Texts.{report}
 use Rattle.rr_report.specs.Found.{Answer}
 use Rattle.rr_report.specs.Views.{stop_from, StopsWhere}
@@ -72,30 +76,30 @@ choice_length (s ∷ ss) (p ∷ ps) h = ap suc (choice_length ss ps h.1)
 abbrev pub IsAcceptedWhere : OutputNetlist → Proof → Type 0
 IsAcceptedWhere circuit p = Refutes (formula_of circuit).clauses p.lines → AreWritable (formula_of circuit) p.lines → IsJudged (aag circuit) (lrat p) Accepted
 
-module _ (w : PlainRequest) (design : List ℕ) (tokens : List Lexeme) (source : SourceText) (t : Task) (answer : Answer) where
-  pub repair_told : (proposals : ℕ) (c : List Pick) (k : ℕ) (circuit : OutputNetlist) (p : Proof) → search.IsRepair (design_of w source) t c k circuit p.lines → answer.files ≡ certificate w.cert circuit p → IsAcceptedWhere circuit p
-      → answer.out ≡ printed design tokens t.sites c source → IsTree answer.out (instance_source t.sites c source) → answer.notes ≡ report tokens t.sites c proposals → answer.status ≡ 0
-      → IsAnswer w design tokens source t.sites t.table answer
+module _ (w : PlainRequest) (design : List ℕ) (file : SourceFile) (t : Task) (answer : Answer) where
+  pub repair_told : (proposals : ℕ) (c : List Pick) (k : ℕ) (circuit : OutputNetlist) (p : Proof) → search.IsRepair (design_of w file.source) t c k circuit p.lines → answer.files ≡ certificate w.cert circuit p → IsAcceptedWhere circuit p
+      → answer.out ≡ printed_file design file t.sites c → ExpandsTo answer.out (printed_text file t.sites c) (instance_source t.sites c file.source) → answer.notes ≡ report (placed_tokens file.origins (length design) file.tokens) t.sites c proposals → answer.status ≡ 0
+      → IsAnswer w design file t.sites t.table answer
   repair_told proposals c k circuit p r files accepted out tree notes status = inr (inl (record {
     faulty = r.faulty;
     choice = c;
     chosen = r.choice;
     some = subst (λ (n : ℕ). 1 ≤ n) (sym r.costs) r.some;
     matches = r.mends;
-    least = subst (λ (n : ℕ). Least (design_of w source) t.sites t.table n) (sym r.costs) r.least;
+    least = subst (λ (n : ℕ). Least (design_of w file.source) t.sites t.table n) (sym r.costs) r.least;
     printed = out;
     tree = tree;
     circuit = circuit;
     proof = p;
-    fewer = record { faithful = subst (λ (n : ℕ). Faithful circuit (design_of w source) t.sites t.table (n - 1)) (sym r.costs) r.fewer.faithful; refutes = r.fewer.refuted; accepted = accepted r.fewer.refuted r.fewer.lawful };
+    fewer = record { faithful = subst (λ (n : ℕ). Faithful circuit (design_of w file.source) t.sites t.table (n - 1)) (sym r.costs) r.fewer.faithful; refutes = r.fewer.refuted; accepted = accepted r.fewer.refuted r.fewer.lawful };
     files = files;
     proposals = proposals;
     notes = notes;
     status = status;
   }))
 
-  pub beyond_told : (n : ℕ) (circuit : OutputNetlist) (p : Proof) → search.IsBeyondRepair (design_of w source) t circuit p.lines → length t.sites ≡ n → answer.files ≡ certificate w.cert circuit p → IsAcceptedWhere circuit p
-      → answer.out ≡ [] → answer.notes ≡ beyond_text n → answer.status ≡ 1 → IsAnswer w design tokens source t.sites t.table answer
+  pub beyond_told : (n : ℕ) (circuit : OutputNetlist) (p : Proof) → search.IsBeyondRepair (design_of w file.source) t circuit p.lines → length t.sites ≡ n → answer.files ≡ certificate w.cert circuit p → IsAcceptedWhere circuit p
+      → answer.out ≡ [] → answer.notes ≡ beyond_text n → answer.status ≡ 1 → IsAnswer w design file t.sites t.table answer
   beyond_told n circuit p r e files accepted out notes status = inr (inr (inl (record {
     faulty = r.faulty;
     none = r.none;
@@ -109,10 +113,10 @@ module _ (w : PlainRequest) (design : List ℕ) (tokens : List Lexeme) (source :
   })))
 
 -- a question that is left open, by the members and the lines that were asked for
-module _ (w : PlainRequest) (design : List ℕ) (tokens : List Lexeme) (source : SourceText) (t : Task) (answer : Answer) (members : t.members ≡ w.members) (budget : t.budget ≡ w.budget)
+module _ (w : PlainRequest) (design : List ℕ) (file : SourceFile) (t : Task) (answer : Answer) (members : t.members ≡ w.members) (budget : t.budget ≡ w.budget)
     (bound : ℕ) (circuit : OutputNetlist) (p : Proof) (files : answer.files ≡ certificate w.cert circuit p) (status : answer.status ≡ 2) where
-  left_told : (choice : Option Choice) → search.IsLeftOpen (design_of w source) t bound circuit p.lines choice → IsNothingFound w t.sites bound answer ⊎ IsFound w design tokens source t.sites t.table bound answer
-      → IsOpen w design tokens source t.sites t.table answer
+  left_told : (choice : Option Choice) → search.IsLeftOpen (design_of w file.source) t bound circuit p.lines choice → IsNothingFound w t.sites bound answer ⊎ IsFound w design file t.sites t.table bound answer
+      → IsOpen w design file t.sites t.table answer
   left_told choice l what = record {
     faulty = l.faulty;
     bound = bound;
@@ -128,11 +132,12 @@ module _ (w : PlainRequest) (design : List ℕ) (tokens : List Lexeme) (source :
     status = status;
   }
 
-  pub nothing_told : search.IsLeftOpen (design_of w source) t bound circuit p.lines None → answer.out ≡ [] → answer.notes ≡ open_text w.budget bound → IsOpen w design tokens source t.sites t.table answer
+  pub nothing_told : search.IsLeftOpen (design_of w file.source) t bound circuit p.lines None → answer.out ≡ [] → answer.notes ≡ open_text w.budget bound → IsOpen w design file t.sites t.table answer
   nothing_told l out notes = left_told None l (inl (record { all = l.found; printed = out; notes = notes }))
 
-  pub found_told : (c : Choice) → search.IsLeftOpen (design_of w source) t bound circuit p.lines (Some c) → answer.out ≡ printed design tokens t.sites c.picks.items source
-      → IsTree answer.out (instance_source t.sites c.picks.items source) → answer.notes ≡ found_text w.budget bound tokens t.sites c.picks.items → IsOpen w design tokens source t.sites t.table answer
+  pub found_told : (c : Choice) → search.IsLeftOpen (design_of w file.source) t bound circuit p.lines (Some c) → answer.out ≡ printed_file design file t.sites c.picks.items
+      → ExpandsTo answer.out (printed_text file t.sites c.picks.items) (instance_source t.sites c.picks.items file.source)
+      → answer.notes ≡ found_text w.budget bound (placed_tokens file.origins (length design) file.tokens) t.sites c.picks.items → IsOpen w design file t.sites t.table answer
   found_told c l out tree notes = left_told (Some c) l (inr (record {
     below = l.found.below;
     choice = c.picks.items;
@@ -145,9 +150,9 @@ module _ (w : PlainRequest) (design : List ℕ) (tokens : List Lexeme) (source :
   }))
 
 -- the number of changes
-module _ (w : PlainRequest) (design : List ℕ) (tokens : List Lexeme) (source : SourceText) (t : Task) (told : Answer) where
-  pub counted_told : (answer : SearchAnswer) → search.AnswerIs t (design_of w source) answer → IsAnswer w design tokens source t.sites t.table told → told.status ≡ answer_status answer
-      → IsCounted w design tokens source t.sites t.table told (changes_of answer)
+module _ (w : PlainRequest) (design : List ℕ) (file : SourceFile) (t : Task) (told : Answer) where
+  pub counted_told : (answer : SearchAnswer) → search.AnswerIs t (design_of w file.source) answer → IsAnswer w design file t.sites t.table told → told.status ≡ answer_status answer
+      → IsCounted w design file t.sites t.table told (changes_of answer)
   counted_told found.Unchanged r is e = record { is = is; least = λ zero. r.least }
   counted_told (found.Repair choice k circuit journal) r is e = record { is = is; least = λ zero. r.least }
   counted_told (found.NoRepair circuit journal) r is e = record { is = is; least = λ zero. absurd (omega (arith, e, zero)) }
@@ -175,16 +180,15 @@ few_cycle flat clock ss s row x y es er ex ey l =
 
 -- refusals
 
-module _ (w : PlainRequest) (design table : List ℕ) (tokens : List Lexeme) (source : SourceText) (flat : Flat) (clock : Option ℕ) (rising : Bool) (sites : List Site) (sited : IsSited w design tokens source flat clock rising sites) where
+module _ (w : PlainRequest) (design table : List ℕ) (file : SourceFile) (flat : Flat) (clock : Option ℕ) (rising : Bool) (sites : List Site) (sited : IsSited w design file flat clock rising sites) where
   pub stops_table : (f : RunFault) → RunStops (RefusesTable w.kind flat clock rising table) f → StopsWhere (RefusesRepair w design table) (stop_from f)
-  stops_table (run_fault.Refused r) h = inr (inl (record { tokens = tokens; source = source; flat = flat; clock = clock; rising = rising; sites = sites; sited = sited; refused = h }))
+  stops_table (run_fault.Refused r) h = inr (inl (record { file = file; flat = flat; clock = clock; rising = rising; sites = sites; sited = sited; refused = h }))
   stops_table run_fault.Memory h = tt
 
   module _ (rows : Table) (read : ReadsTable w.kind flat clock rising table rows) (work : ℕ) (e : work ≡ work_of flat rows) where
     pub much_work : 262144 < work → Refuses w design table (TooMany limit.Work work)
     much_work l = inr (inr (record {
-      tokens = tokens;
-      source = source;
+      file = file;
       flat = flat;
       clock = clock;
       rising = rising;
@@ -196,22 +200,20 @@ module _ (w : PlainRequest) (design table : List ℕ) (tokens : List Lexeme) (so
       told = ap (λ (n : ℕ). TooMany limit.Work n) e;
     }))
 
-    answered : (answer : Answer) → work ≤ 262144 → IsAnswer w design tokens source sites rows answer → AnswersRepair w design table answer
+    answered : (answer : Answer) → work ≤ 262144 → IsAnswer w design file sites rows answer → AnswersRepair w design table answer
     answered answer l is = record {
-      tokens = tokens;
-      source = source;
+      file = file;
       sites = sites;
       rows = rows;
       taken = record { flat = flat; clock = clock; rising = rising; sited = sited; read = read; small = subst (λ (n : ℕ). n ≤ 262144) e l };
       is = is;
     }
 
-    pub counted : (answer : Answer) (changes : ℕ) → work ≤ 262144 → IsCounted w design tokens source sites rows answer changes → CountsRepair w design table answer changes
+    pub counted : (answer : Answer) (changes : ℕ) → work ≤ 262144 → IsCounted w design file sites rows answer changes → CountsRepair w design table answer changes
     counted answer changes l c = record {
       answers = answered answer l c.is;
       least = λ zero. record {
-        tokens = tokens;
-        source = source;
+        file = file;
         sites = sites;
         rows = rows;
         taken = record { flat = flat; clock = clock; rising = rising; sited = sited; read = read; small = subst (λ (n : ℕ). n ≤ 262144) e l };
@@ -229,6 +231,21 @@ rows_stand kind.Vcd j sites t y flat e clock rising bytes rows r = samples_stand
 pub task_of_design : (kind : TableKind) (t : Task) (j : Design) → Cycle j t.sites t.transition → (flat : Flat) → flat_of j.source j.top ≡ Ok flat → (clock : Option ℕ) (rising : Bool) (bytes : List ℕ) → ReadsTable kind flat clock rising bytes t.table → IsOf t j
 task_of_design kind t j y flat e clock rising bytes r = record { stands = y; fits = rows_stand kind j t.sites t.transition y flat e clock rising bytes t.table r }
 
-pub sites_named : (bytes : List ℕ) (ts : List Lexeme) (source : SourceText) (flat : Flat) (clock : Option ℕ) (ss : List Site) → IsText bytes ts source → AreSites source flat clock ss → AreNamed ss
+sites_named : (bytes : List ℕ) (ts : List Lexeme) (source : SourceText) (flat : Flat) (clock : Option ℕ) (ss : List Site) → IsText bytes ts source → AreSites source flat clock ss → AreNamed ss
 sites_named bytes ts source flat clock ss text are =
     subst AreNamed (sym are.2) (names_are_written bytes ts source text.lexed text.spells.tree.spells flat.scopes flat.owners are.0)
+
+-- a file that is read, with kept sites of its text
+pub read_with : (bytes : List ℕ) (file : SourceFile) (flat : Flat) (clock : Option ℕ) (ss : List Site) → length bytes < 2 ^ 32 → length file.text < 2 ^ 32 → IsExpansion bytes file.text file.origins →
+    IsText file.text file.tokens file.source → (listed : List Site) → AreSites file.source flat clock listed → AreKept file.origins file.tokens file.source listed ss → IsRead bytes file ss
+read_with bytes file flat clock ss size small e text listed are kept = record {
+  size = size;
+  small = small;
+  expansion = e;
+  tokens = text.lexed;
+  spells = text.spells.tree.spells;
+  numbered = text.spells.numbered;
+  listed = listed;
+  kept = kept;
+  named = kept_are_named file.origins file.tokens file.source listed ss kept (sites_named file.text file.tokens file.source flat clock listed text are);
+}

@@ -1,9 +1,8 @@
 -- Laws of repairs: two files come to one outcome or have one refusal, and each answer tells that outcome or leaves it open.
 use Rattle.std.specs.Prelude.{◌≡◌, ◌⊎◌, ℕ, ◌+◌, ◌<◌, List, [], length}
-use Rattle.rr_syntax.specs.Tree.{SourceText}
-use Rattle.rr_lex.specs.Tokens.{Lexeme}
 use Rattle.rr_choice.specs.Sites.{Site}
 use Rattle.rr_trace.specs.Tables.{Table}
+use Rattle.rr_kept.specs.Read.{SourceFile}
 use Rattle.rr_run.specs.Refusals.{Refusal as RunRefusal}
 use Rattle.rr_run.specs.Runs.{IsSameRefusal}
 use Rattle.rr_report.specs.Found.{Answer}
@@ -11,15 +10,14 @@ use Rattle.rr_repair.specs.Repairs.{AnswersRepair, IsTaken, Refuses, PlainReques
 use Rattle.rr_repair.specs.Outcomes.{IsAmple, IsAsItWas, IsDespaired, IsLeftOpen, IsMatching, IsMatchingSource, IsMendable, IsMended, IsUnmendable}
 
 -- two ways to take the files are one
-pub record IsOneTaking (ts us : List Lexeme) (a b : SourceText) (ss rs : List Site) (x y : Table) : Type 0 where
-  pub tokens : ts ≡ us
-  pub source : a ≡ b
+pub record IsOneTaking (a b : SourceFile) (ss rs : List Site) (x y : Table) : Type 0 where
+  pub file : a ≡ b
   pub sites : ss ≡ rs
   pub rows : x ≡ y
 
 abbrev pub OneTaking : Type 0
-OneTaking = (w : PlainRequest) (design table : List ℕ) (ts us : List Lexeme) (a b : SourceText) (ss rs : List Site) (x y : Table) →
-    IsTaken w design table ts a ss x → IsTaken w design table us b rs y → IsOneTaking ts us a b ss rs x y
+OneTaking = (w : PlainRequest) (design table : List ℕ) (a b : SourceFile) (ss rs : List Site) (x y : Table) →
+    IsTaken w design table a ss x → IsTaken w design table b rs y → IsOneTaking a b ss rs x y
 
 -- two refusals are one, but for the byte that is told of a text without a tree
 abbrev pub OneRefusal : Type 0
@@ -27,8 +25,8 @@ OneRefusal = (w : PlainRequest) (design table : List ℕ) (r s : RunRefusal) →
 
 -- files that are taken are not refused
 abbrev pub TakenOrRefused : Type 0
-TakenOrRefused = (w : PlainRequest) (design table : List ℕ) (ts : List Lexeme) (a : SourceText) (ss : List Site) (x : Table) (r : RunRefusal) →
-    IsTaken w design table ts a ss x → Refuses w design table r → ⊥
+TakenOrRefused = (w : PlainRequest) (design table : List ℕ) (a : SourceFile) (ss : List Site) (x : Table) (r : RunRefusal) →
+    IsTaken w design table a ss x → Refuses w design table r → ⊥
 
 abbrev pub MendableOrNot : Type 0
 MendableOrNot = (w : PlainRequest) (design table : List ℕ) → IsMendable w design table → IsUnmendable w design table → ⊥

@@ -4,8 +4,7 @@
 use Rattle.std.specs.Prelude.{◌≡◌, ◌⊎◌, ℕ, ◌+◌, ◌-◌, ◌*◌, ◌<◌, ◌≤◌, min, Bool, List, [], length, map, Option}
 use Rattle.std.specs.List.{sum}
 use Rattle.rr_syntax.specs.Tree.{SourceText}
-use Rattle.rr_lex.specs.Tokens.{Lexeme}
-use Rattle.rr_grammar.specs.Trees.{IsTree}
+use Rattle.rr_directive.specs.Expand.{IsTaken as IsExpanded}
 use Rattle.rr_flat.specs.Clocks.{OneClock}
 use Rattle.rr_flat.specs.Lawful.{Lawful}
 use Rattle.rr_flat.specs.Plain.{Flat}
@@ -19,6 +18,8 @@ use Rattle.rr_derive.specs.Lrat.{lrat}
 use Rattle.rr_check.specs.declared.verdict.Verdict.TheVariants.{Accepted}
 use Rattle.rr_certify.specs.Certificates.{IsJudged}
 use Rattle.rr_trace.specs.Tables.{Table}
+use Rattle.rr_run.specs.Files.{placed_tokens}
+use Rattle.rr_kept.specs.Read.{SourceFile}
 use Rattle.rr_run.specs.Refusals.{Refusal as RunRefusal, TooMany}
 use Rattle.rr_run.specs.Rows.{ReadsTable, RefusesTable}
 use Rattle.rr_run.specs.declared.rows.TableKind.{TableKind}
@@ -27,7 +28,8 @@ use Rattle.rr_choice.specs.Choices.{cost, IsChoice}
 use Rattle.rr_instance.specs.Instances.{instance_source}
 use Rattle.rr_choice.specs.Sites.{Site}
 use Rattle.rr_members.specs.Searched.{IsSpent}
-use Rattle.rr_respell.specs.Printing.{printed}
+use Rattle.rr_kept.specs.Kept.{AreKept}
+use Rattle.rr_map.specs.Printed.{printed_file, printed_text, ExpandsTo}
 use Rattle.rr_changes.specs.Texts.{report}
 use Rattle.rr_sites.specs.Lists.{AreSites, RefusesSites}
 use Rattle.rr_transition.specs.Cycles.{Design, instance_design}
@@ -58,20 +60,24 @@ flat_bits flat = sum (map (λ (s : Signal). s.width) flat.signals)
 abbrev pub work_of : Flat → Table → ℕ
 work_of flat rows = min (length rows.inputs * flat_bits flat) 18446744073709551615
 
--- the bytes of a design have these tokens, this tree and this lawful flat design, with at most 1,024 sites
-pub record IsSited (w : PlainRequest) (design : List ℕ) (tokens : List Lexeme) (source : SourceText) (flat : Flat) (clock : Option ℕ) (rising : Bool) (sites : List Site) : Type 0 where
-  pub tree : IsDesignOf design tokens source w.top flat
+-- the file of a design is read as this: it expands to the text of this lawful flat design, of whose sites these, at most 1,024, can
+-- be changed in the file
+pub record IsSited (w : PlainRequest) (design : List ℕ) (file : SourceFile) (flat : Flat) (clock : Option ℕ) (rising : Bool) (sites : List Site) : Type 0 where
+  pub expansion : IsExpanded design file.text file.origins
+  pub tree : IsDesignOf file.text file.tokens file.source w.top flat
   pub lawful : Lawful flat w.clock
   pub one_clock : OneClock flat w.clock clock rising
-  pub are : AreSites source flat clock sites
+  pub listed : List Site
+  pub are : AreSites file.source flat clock listed
+  pub kept : AreKept file.origins file.tokens file.source listed sites
   pub few : length sites ≤ 1024
 
 -- both files are taken: these are the design and its sites, and the rows of its table
-pub record IsTaken (w : PlainRequest) (design table : List ℕ) (tokens : List Lexeme) (source : SourceText) (sites : List Site) (rows : Table) : Type 0 where
+pub record IsTaken (w : PlainRequest) (design table : List ℕ) (file : SourceFile) (sites : List Site) (rows : Table) : Type 0 where
   pub flat : Flat
   pub clock : Option ℕ
   pub rising : Bool
-  pub sited : IsSited w design tokens source flat clock rising sites
+  pub sited : IsSited w design file flat clock rising sites
   pub read : ReadsTable w.kind flat clock rising table rows
   pub small : work_of flat rows ≤ 262144
 
@@ -95,23 +101,23 @@ pub record IsRefutation (j : Design) (sites : List Site) (rows : Table) (bound :
   pub refutes : Refutes (formula_of circuit).clauses proof.lines
   pub accepted : IsJudged (aag circuit) (lrat proof) Accepted
 
--- a choice of at least one change whose instance matches, and none of fewer changes does: the source is printed with these
--- changes, its tree is the instance, and the certificate of fewer changes is written
-pub record IsRepaired (w : PlainRequest) (design : List ℕ) (tokens : List Lexeme) (source : SourceText) (sites : List Site) (rows : Table) (answer : Answer) : Type 0 where
-  pub faulty : Matches (design_of w source) rows → ⊥
+-- a choice of at least one change whose instance matches, and none of fewer changes does: the file is printed with these changes;
+-- it expands to the expansion with these changes, whose tree is the instance; and the certificate of fewer changes is written
+pub record IsRepaired (w : PlainRequest) (design : List ℕ) (file : SourceFile) (sites : List Site) (rows : Table) (answer : Answer) : Type 0 where
+  pub faulty : Matches (design_of w file.source) rows → ⊥
   pub choice : List Pick
   pub chosen : IsChoice sites choice
   pub some : 1 ≤ cost choice
-  pub matches : Matches (instance_design sites choice (design_of w source)) rows
-  pub least : Least (design_of w source) sites rows (cost choice)
-  pub printed : answer.out ≡ printed design tokens sites choice source
-  pub tree : IsTree answer.out (instance_source sites choice source)
+  pub matches : Matches (instance_design sites choice (design_of w file.source)) rows
+  pub least : Least (design_of w file.source) sites rows (cost choice)
+  pub printed : answer.out ≡ printed_file design file sites choice
+  pub tree : ExpandsTo answer.out (printed_text file sites choice) (instance_source sites choice file.source)
   pub circuit : OutputNetlist
   pub proof : Proof
-  pub fewer : IsRefutation (design_of w source) sites rows (cost choice - 1) circuit proof
+  pub fewer : IsRefutation (design_of w file.source) sites rows (cost choice - 1) circuit proof
   pub files : answer.files ≡ certificate w.cert circuit proof
   pub proposals : ℕ
-  pub notes : answer.notes ≡ report tokens sites choice proposals
+  pub notes : answer.notes ≡ report (placed_tokens file.origins (length design) file.tokens) sites choice proposals
   pub status : answer.status ≡ 0
 
 -- no choice gives an instance that matches: the certificate of all changes is written, and nothing is printed
@@ -133,58 +139,57 @@ pub record IsNothingFound (w : PlainRequest) (sites : List Site) (bound : ℕ) (
   pub notes : answer.notes ≡ open_text w.budget bound
 
 -- fewer changes than there are sites are left open, and the instance of a choice of one change more matches: the source is
--- printed with these changes, its tree is the instance, and the sites are reported; nothing says that no fewer changes match
-pub record IsFound (w : PlainRequest) (design : List ℕ) (tokens : List Lexeme) (source : SourceText) (sites : List Site) (rows : Table) (bound : ℕ) (answer : Answer) : Type 0 where
+-- printed with these changes, the tree of its expansion is the instance, and the sites are reported; nothing says that no fewer
+-- changes match
+pub record IsFound (w : PlainRequest) (design : List ℕ) (file : SourceFile) (sites : List Site) (rows : Table) (bound : ℕ) (answer : Answer) : Type 0 where
   pub below : bound < length sites
   pub choice : List Pick
   pub chosen : IsChoice sites choice
   pub costs : cost choice ≡ bound + 1
-  pub matches : Matches (instance_design sites choice (design_of w source)) rows
-  pub printed : answer.out ≡ printed design tokens sites choice source
-  pub tree : IsTree answer.out (instance_source sites choice source)
-  pub notes : answer.notes ≡ found_text w.budget bound tokens sites choice
+  pub matches : Matches (instance_design sites choice (design_of w file.source)) rows
+  pub printed : answer.out ≡ printed_file design file sites choice
+  pub tree : ExpandsTo answer.out (printed_text file sites choice) (instance_source sites choice file.source)
+  pub notes : answer.notes ≡ found_text w.budget bound (placed_tokens file.origins (length design) file.tokens) sites choice
 
 -- whether at most so many changes match is left open: each member has learned exactly as many fresh lines as it may, which are
 -- written with the question; and a choice that matches is printed, or nothing was found
-pub record IsOpen (w : PlainRequest) (design : List ℕ) (tokens : List Lexeme) (source : SourceText) (sites : List Site) (rows : Table) (answer : Answer) : Type 0 where
-  pub faulty : Matches (design_of w source) rows → ⊥
+pub record IsOpen (w : PlainRequest) (design : List ℕ) (file : SourceFile) (sites : List Site) (rows : Table) (answer : Answer) : Type 0 where
+  pub faulty : Matches (design_of w file.source) rows → ⊥
   pub bound : ℕ
   pub few : bound ≤ length sites
   pub circuit : OutputNetlist
   pub proof : Proof
-  pub faithful : Faithful circuit (design_of w source) sites rows bound
+  pub faithful : Faithful circuit (design_of w file.source) sites rows bound
   pub spent : IsSpent (formula_of circuit) circuit.netlist.inputs w.members w.budget proof.lines
   pub files : answer.files ≡ certificate w.cert circuit proof
-  pub found : IsNothingFound w sites bound answer ⊎ IsFound w design tokens source sites rows bound answer
+  pub found : IsNothingFound w sites bound answer ⊎ IsFound w design file sites rows bound answer
   pub status : answer.status ≡ 2
 
-abbrev pub IsAnswer : PlainRequest → List ℕ → List Lexeme → SourceText → List Site → Table → Answer → Type 0
-IsAnswer w design tokens source sites rows answer =
-    IsUnchanged w design source rows answer ⊎ (IsRepaired w design tokens source sites rows answer ⊎ (IsBeyond w source sites rows answer ⊎ IsOpen w design tokens source sites rows answer))
+abbrev pub IsAnswer : PlainRequest → List ℕ → SourceFile → List Site → Table → Answer → Type 0
+IsAnswer w design file sites rows answer =
+    IsUnchanged w design file.source rows answer ⊎ (IsRepaired w design file sites rows answer ⊎ (IsBeyond w file.source sites rows answer ⊎ IsOpen w design file sites rows answer))
 
 -- the answer for two files
 pub record AnswersRepair (w : PlainRequest) (design table : List ℕ) (answer : Answer) : Type 0 where
-  pub tokens : List Lexeme
-  pub source : SourceText
+  pub file : SourceFile
   pub sites : List Site
   pub rows : Table
-  pub taken : IsTaken w design table tokens source sites rows
-  pub is : IsAnswer w design tokens source sites rows answer
+  pub taken : IsTaken w design table file sites rows
+  pub is : IsAnswer w design file sites rows answer
 
 -- ---- the number of changes
 -- an answer, and the least number of changes that match, where it has status 0
-pub record IsCounted (w : PlainRequest) (design : List ℕ) (tokens : List Lexeme) (source : SourceText) (sites : List Site) (rows : Table) (answer : Answer) (changes : ℕ) : Type 0 where
-  pub is : IsAnswer w design tokens source sites rows answer
-  pub least : answer.status ≡ 0 → Least (design_of w source) sites rows changes
+pub record IsCounted (w : PlainRequest) (design : List ℕ) (file : SourceFile) (sites : List Site) (rows : Table) (answer : Answer) (changes : ℕ) : Type 0 where
+  pub is : IsAnswer w design file sites rows answer
+  pub least : answer.status ≡ 0 → Least (design_of w file.source) sites rows changes
 
 -- both files are taken, and this is the least number of changes with which the design matches
 pub record IsLeastCount (w : PlainRequest) (design table : List ℕ) (changes : ℕ) : Type 0 where
-  pub tokens : List Lexeme
-  pub source : SourceText
+  pub file : SourceFile
   pub sites : List Site
   pub rows : Table
-  pub taken : IsTaken w design table tokens source sites rows
-  pub least : Least (design_of w source) sites rows changes
+  pub taken : IsTaken w design table file sites rows
+  pub least : Least (design_of w file.source) sites rows changes
 
 -- the answer for two files, and the least number of changes, where it has status 0
 pub record CountsRepair (w : PlainRequest) (design table : List ℕ) (answer : Answer) (changes : ℕ) : Type 0 where
@@ -195,24 +200,22 @@ pub record CountsRepair (w : PlainRequest) (design table : List ℕ) (answer : A
 
 -- the design is taken, and the table is none for its ports
 pub record HasNoTable (w : PlainRequest) (design table : List ℕ) (refusal : RunRefusal) : Type 0 where
-  pub tokens : List Lexeme
-  pub source : SourceText
+  pub file : SourceFile
   pub flat : Flat
   pub clock : Option ℕ
   pub rising : Bool
   pub sites : List Site
-  pub sited : IsSited w design tokens source flat clock rising sites
+  pub sited : IsSited w design file flat clock rising sites
   pub refused : RefusesTable w.kind flat clock rising table refusal
 
 -- the table has these rows, and the work is above 262,144, which the refusal tells
 pub record HasMuchWork (w : PlainRequest) (design table : List ℕ) (refusal : RunRefusal) : Type 0 where
-  pub tokens : List Lexeme
-  pub source : SourceText
+  pub file : SourceFile
   pub flat : Flat
   pub clock : Option ℕ
   pub rising : Bool
   pub sites : List Site
-  pub sited : IsSited w design tokens source flat clock rising sites
+  pub sited : IsSited w design file flat clock rising sites
   pub rows : Table
   pub read : ReadsTable w.kind flat clock rising table rows
   pub much : 262144 < work_of flat rows

@@ -1,6 +1,6 @@
 -- The run of a file with compiler directives (IEEE 1364-2005 section 19) is that of its expansion; and why there is none. A fault
 -- of the expansion is told at its place in the file.
-use Rattle.std.specs.Prelude.{ℕ, ◌≡◌, ◌⊎◌, Bool, List, length, nat_lt, Option, if◌then◌else◌}
+use Rattle.std.specs.Prelude.{ℕ, ◌≡◌, ◌⊎◌, Bool, List, length, map, nat_lt, Option, if◌then◌else◌}
 use Rattle.rr_directive.specs.declared.fault.DirectiveFault.TheVariants as directive
 use Rattle.rr_directive.specs.declared.origin.Origin.{Origin}
 use Rattle.rr_directive.specs.Expand.{Faults, IsTaken}
@@ -27,6 +27,13 @@ told_at what origins size at = place origins size at
 abbrev pub placed : List Origin → ℕ → Refusal → Refusal
 placed origins size (At what at) = At what (told_at what origins size at)
 placed origins size refusal = refusal
+
+-- the tokens of the expansion, with their places in the file
+abbrev pub placed_token : List Origin → ℕ → Lexeme → Lexeme
+placed_token origins size t = record { word = t.word; start = place origins size t.start; end = place origins size t.end }
+
+abbrev pub placed_tokens : List Origin → ℕ → List Lexeme → List Lexeme
+placed_tokens origins size ts = map (placed_token origins size) ts
 
 -- why a file has no expansion (sections 19.3 and 19.4): its first fault at a byte of the file, or that it passes the limit
 abbrev pub RefusesExpansion : List ℕ → Refusal → Type 0

@@ -14,7 +14,7 @@ mod run;
 
 pub use design::{LawfulDesign, lawful_design};
 pub use fault::{Fault, Refusal, RunFault};
-pub use file::file_design;
+pub use file::{FileDesign, file_design, placed_tokens};
 pub use laws::{files_run_as_texts, one_file_outcome, one_outcome};
 pub use rows::{TableKind, read_rows};
 pub use rr_flat::Limit;

@@ -76,6 +76,6 @@ pub fn run_files<'a>(
 {
     match file_design(alloc, design, top, clock, arena) {
         Err(fault) => Err(fault),
-        Ok(design) => run_on(alloc, &design, kind, table),
+        Ok(file) => run_on(alloc, &file.design, kind, table),
     }
 }

@@ -1,12 +1,12 @@
 -- What the design of a text gives a lister.
-use Rattle.std.proofs.Common.{◌≡◌, ◌∙◌, ℕ, ◌<◌, ◌^◌, Bool, List, length, Option, Result, Ok, Err, inl, inr, sym, subst, ap, arith}
+use Rattle.std.proofs.Common.{◌≡◌, ◌∙◌, ℕ, ◌<◌, ◌^◌, Bool, List, [], ◌∷◌, length, Option, Result, Ok, Err, inl, inr, sym, subst, ap, refl, arith}
 use Rattle.std.specs.Prelude.{IfOk, MatchResult}
 use Rattle.std.proofs.lemmas.List.{length-map}
 use Rattle.rr_syntax.specs.declared.token.Token.{Token}
 use Rattle.rr_syntax.specs.Items.{spell_source, WellFormedSource, NumberedSource}
 use Rattle.rr_syntax.specs.Tree.{SourceText}
 use Rattle.rr_syntax.specs.Words.{Word}
-use Rattle.rr_lex.specs.Tokens.{Lexeme, lexeme, lexemes}
+use Rattle.rr_lex.specs.Tokens.{Lexeme, lexeme, lexemes, words_of}
 use Rattle.rr_flat.specs.Clocks.{OneClock}
 use Rattle.rr_flat.specs.Lawful.{Lawful}
 use Rattle.rr_flat.specs.Plain.{Flat}
@@ -22,8 +22,12 @@ use Rattle.rr_run.specs.declared.fault.RunFault.{RunFault}
 use Rattle.rr_run.specs.declared.fault.RunFault.TheVariants as run_fault
 use Rattle.rr_run.specs.Refusals.{Refusal, plain_refusal, StopsWhere}
 use Rattle.rr_site_laws.proofs.Whole.{sites_are_right}
-use Rattle.rr_run.specs.Runs.{RefusesDesign}
-use Rattle.rr_sites.specs.Lists.{AreSites, HasSites, HasManySites, IsFewText, IsSiteText, RefusesMany, RefusesSites}
+use Rattle.rr_directive.specs.declared.origin.Origin.{Origin}
+use Rattle.rr_directive.specs.Expand.{IsTaken}
+use Rattle.rr_kept.specs.Kept.{AreKept}
+use Rattle.rr_kept.specs.Read.{SourceFile}
+use Rattle.rr_run.specs.Files.{RefusesFileDesign, placed_tokens}
+use Rattle.rr_sites.specs.Lists.{AreSites, HasFileSites, HasManySites, IsFewText, IsSiteText, RefusesMany, RefusesSites}
 
 -- what follows of an answer
 pub if_ok : {A E : Type 0} (P Q : A → Type 0) (r : Result A E) → ((a : A) → P a → Q a) → IfOk r P → IfOk r Q
@@ -63,22 +67,32 @@ module _ (bytes : List ℕ) (ts : List Lexeme) (source : SourceText) (top : Opti
   pub as_many : length (spell_source source) ≡ length ts
   as_many = ap (λ (ws : List Word). length ws) d.text.spells.tree.spells.spelled ∙ length-map ts (λ (t : Lexeme). t.word)
 
-  pub has : (word : Option Text) (clock : Option ℕ) (rising : Bool) → Lawful flat word → OneClock flat word clock rising → (ss : List Site) → AreSites source flat clock ss → HasSites bytes top word ts ss
-  has word clock rising l o ss a = record { source = source; flat = flat; clock = clock; rising = rising; design = d; lawful = l; one_clock = o; are = a }
+  -- .. and of the file that expands to the text
+  pub has : (file : List ℕ) (origins : List Origin) (word : Option Text) (clock : Option ℕ) (rising : Bool) → IsTaken file bytes origins → Lawful flat word → OneClock flat word clock rising → (listed ss : List Site) →
+      AreSites source flat clock listed → AreKept origins ts source listed ss → HasFileSites file top word (record { text = bytes; origins = origins; tokens = ts; source = source }) ss
+  has file origins word clock rising t l o listed ss a k =
+      record { expansion = t; flat = flat; clock = clock; rising = rising; design = d; lawful = l; one_clock = o; listed = listed; are = a; kept = k }
 
 pub few_words : (tokens : List Token) (n : ℕ) → n ≡ length (lexemes tokens) → length tokens < 2 ^ 32 → n < 2 ^ 32
 few_words tokens n e l = let m = length-map tokens lexeme in omega (arith, e, l, m)
 
--- the lines of a design's sites, or that they are too many
-module _ (bytes : List ℕ) (top word : Option Text) (ts : List Lexeme) (ss : List Site) (h : HasSites bytes top word ts ss) where
-  pub told : {V : Type 0} (items : V → List ℕ) (r : Result V RunFault) → MatchResult r (λ text. IsFewText ts ss (items text)) (StopsWhere (RefusesMany ss)) →
-      MatchResult r (λ text. IsSiteText bytes top word (items text)) (StopsWhere (HasManySites bytes top word))
-  told items r k =
-      matched (λ text. IsFewText ts ss (items text)) (λ text. IsSiteText bytes top word (items text)) (StopsWhere (RefusesMany ss)) (StopsWhere (HasManySites bytes top word)) r
-      (λ text f. record { tokens = ts; sites = ss; has = h; told = f }) (λ e f. stops_on (RefusesMany ss) (HasManySites bytes top word) e (λ a m. record { tokens = ts; sites = ss; has = h; told = m }) f) k
+-- the words of tokens that stand in the file
+pub placed_words : (origins : List Origin) (size : ℕ) (ts : List Lexeme) → words_of (placed_tokens origins size ts) ≡ words_of ts
+placed_words origins size [] = refl
+placed_words origins size (t ∷ ts) = ap (λ (ws : List Word). t.word ∷ ws) (placed_words origins size ts)
 
-pub refuses_design : (bytes : List ℕ) (top word : Option Text) (f : RunFault) → StopsWhere (RefusesDesign bytes top word) f → StopsWhere (RefusesSites bytes top word) f
-refuses_design bytes top word f h = stops_on (RefusesDesign bytes top word) (RefusesSites bytes top word) f (λ a r. inl r) h
+-- the lines of a file's sites, or that they are too many
+module _ (file : List ℕ) (top word : Option Text) (read : SourceFile) (ss : List Site) (h : HasFileSites file top word read ss) where
+  pub told : {V : Type 0} (items : V → List ℕ) (r : Result V RunFault) (ts : List Lexeme) → ts ≡ placed_tokens read.origins (length file) read.tokens →
+      MatchResult r (λ text. IsFewText ts ss (items text)) (StopsWhere (RefusesMany ss)) →
+      MatchResult r (λ text. IsSiteText file top word (items text)) (StopsWhere (HasManySites file top word))
+  told items r ts e k =
+      matched (λ text. IsFewText ts ss (items text)) (λ text. IsSiteText file top word (items text)) (StopsWhere (RefusesMany ss)) (StopsWhere (HasManySites file top word)) r
+      (λ text f. record { read = read; sites = ss; has = h; told = subst (λ (us : List Lexeme). IsFewText us ss (items text)) e f })
+      (λ e f. stops_on (RefusesMany ss) (HasManySites file top word) e (λ a m. record { read = read; sites = ss; has = h; told = m }) f) k
 
-pub refuses_many : {V : Type 0} (bytes : List ℕ) (top word : Option Text) (P : V → Type 0) (r : Result V RunFault) → MatchResult r P (StopsWhere (HasManySites bytes top word)) → MatchResult r P (StopsWhere (RefusesSites bytes top word))
-refuses_many bytes top word P r k = matched P P (StopsWhere (HasManySites bytes top word)) (StopsWhere (RefusesSites bytes top word)) r (λ text p. p) (λ e f. stops_on (HasManySites bytes top word) (RefusesSites bytes top word) e (λ a m. inr m) f) k
+pub refuses_design : (file : List ℕ) (top word : Option Text) (f : RunFault) → StopsWhere (RefusesFileDesign file top word) f → StopsWhere (RefusesSites file top word) f
+refuses_design file top word f h = stops_on (RefusesFileDesign file top word) (RefusesSites file top word) f (λ a r. inl r) h
+
+pub refuses_many : {V : Type 0} (file : List ℕ) (top word : Option Text) (P : V → Type 0) (r : Result V RunFault) → MatchResult r P (StopsWhere (HasManySites file top word)) → MatchResult r P (StopsWhere (RefusesSites file top word))
+refuses_many file top word P r k = matched P P (StopsWhere (HasManySites file top word)) (StopsWhere (RefusesSites file top word)) r (λ text p. p) (λ e f. stops_on (HasManySites file top word) (RefusesSites file top word) e (λ a m. inr m) f) k

@@ -1,6 +1,8 @@
--- The list of the sites of a text, and why there is none: the first fault of its design, or more than 1,024 sites.
+-- The list of the sites of a text; and of a file, whose directives are expanded, the list of those that can be changed in the file.
+-- Why a file has none: the first fault of its design, or more than 1,024 such sites.
 use Rattle.std.specs.Prelude.{◌≡◌, ◌⊎◌, ℕ, ◌<◌, ◌≤◌, Bool, List, length, Option}
 use Rattle.rr_syntax.specs.Tree.{SourceText}
+use Rattle.rr_directive.specs.Expand.{IsTaken}
 use Rattle.rr_lex.specs.Tokens.{Lexeme}
 use Rattle.rr_flat.specs.Clocks.{OneClock}
 use Rattle.rr_flat.specs.Lawful.{Lawful}
@@ -11,7 +13,9 @@ use Rattle.rr_clock.specs.Places.{Place, ArePlaces}
 use Rattle.rr_choice.specs.Sites.{Site}
 use Rattle.rr_listing.specs.Listing.{sites_of}
 use Rattle.rr_run.specs.Refusals.{Refusal, TooMany}
-use Rattle.rr_run.specs.Runs.{RefusesDesign}
+use Rattle.rr_run.specs.Files.{RefusesFileDesign, placed_tokens}
+use Rattle.rr_kept.specs.Kept.{AreKept}
+use Rattle.rr_kept.specs.Read.{SourceFile}
 use Rattle.rr_sites.specs.Lines.{site_lines}
 
 -- the sites of a source, in the modules that have instances in its flat design, where each such module has the names that lead to
@@ -30,6 +34,20 @@ pub record HasSites (bytes : List ℕ) (top word : Option (List ℕ)) (tokens : 
   pub one_clock : OneClock flat word clock rising
   pub are : AreSites source flat clock ss
 
+-- the file is read as this: its expansion is the text of a lawful design, and these are the sites of the text that can be changed
+-- in the file
+pub record HasFileSites (file : List ℕ) (top word : Option (List ℕ)) (read : SourceFile) (ss : List Site) : Type 0 where
+  pub expansion : IsTaken file read.text read.origins
+  pub flat : Flat
+  pub clock : Option ℕ
+  pub rising : Bool
+  pub design : IsDesignOf read.text read.tokens read.source top flat
+  pub lawful : Lawful flat word
+  pub one_clock : OneClock flat word clock rising
+  pub listed : List Site
+  pub are : AreSites read.source flat clock listed
+  pub kept : AreKept read.origins read.tokens read.source listed ss
+
 -- the lines of at most 1,024 sites, or the refusal that counts more
 abbrev pub IsFewText : List Lexeme → List Site → List ℕ → Type 0
 IsFewText ts ss text = (length ss ≤ 1024) × (text ≡ site_lines ts 0 ss)
@@ -37,20 +55,20 @@ IsFewText ts ss text = (length ss ≤ 1024) × (text ≡ site_lines ts 0 ss)
 abbrev pub RefusesMany : List Site → Refusal → Type 0
 RefusesMany ss refusal = (1024 < length ss) × (refusal ≡ TooMany limit.Sites (length ss))
 
--- their lines, where they are at most 1,024
-pub record IsSiteText (bytes : List ℕ) (top word : Option (List ℕ)) (text : List ℕ) : Type 0 where
-  pub tokens : List Lexeme
+-- their lines, where they are at most 1,024, with the places of their tokens in the file
+pub record IsSiteText (file : List ℕ) (top word : Option (List ℕ)) (text : List ℕ) : Type 0 where
+  pub read : SourceFile
   pub sites : List Site
-  pub has : HasSites bytes top word tokens sites
-  pub told : IsFewText tokens sites text
+  pub has : HasFileSites file top word read sites
+  pub told : IsFewText (placed_tokens read.origins (length file) read.tokens) sites text
 
 -- there are more, which the refusal counts
-pub record HasManySites (bytes : List ℕ) (top word : Option (List ℕ)) (refusal : Refusal) : Type 0 where
-  pub tokens : List Lexeme
+pub record HasManySites (file : List ℕ) (top word : Option (List ℕ)) (refusal : Refusal) : Type 0 where
+  pub read : SourceFile
   pub sites : List Site
-  pub has : HasSites bytes top word tokens sites
+  pub has : HasFileSites file top word read sites
   pub told : RefusesMany sites refusal
 
--- why a text has no list of sites: first what its design is refused for
+-- why a file has no list of sites: first what its design is refused for
 abbrev pub RefusesSites : List ℕ → Option (List ℕ) → Option (List ℕ) → Refusal → Type 0
-RefusesSites bytes top word refusal = RefusesDesign bytes top word refusal ⊎ HasManySites bytes top word refusal
+RefusesSites file top word refusal = RefusesFileDesign file top word refusal ⊎ HasManySites file top word refusal

@@ -9,4 +9,4 @@ mod lines;
 mod list;
 
 pub use laws::one_outcome;
-pub use list::{design_sites, list_sites};
+pub use list::{design_sites, file_sites, list_sites};

@@ -10,6 +10,9 @@ ghost use Rattle.rr_walk.specs.Walk.{flat_of};
 ghost use Rattle.rr_clock.specs.Clock.{IsClockInput};
 ghost use Rattle.rr_elaborate.specs.Designs.{IsDesignOf};
 ghost use Rattle.rr_lawful_instance.specs.Listed.{AreRight};
+ghost use Rattle.rr_directive.specs.Expand.{IsTaken};
+ghost use Rattle.rr_kept.specs.Kept.{AreKept};
+ghost use Rattle.rr_choice.specs.Sites.{Site};
 ghost use Rattle.rr_run.specs.Refusals.{StopsWhere};
 ghost use Rattle.rr_run.specs.Runs.{InOrder};
 ghost use Rattle.rr_sites.specs.Lists.{AreSites, HasManySites, IsFewText, IsSiteText, RefusesMany, RefusesSites};
@@ -19,7 +22,8 @@ use bumpalo::Bump;
 use rr_choice::SiteList;
 use rr_clock::clock_places;
 use rr_flat::Flat;
-use rr_run::{LawfulDesign, Limit, Refusal, RunFault, lawful_design};
+use rr_kept::kept;
+use rr_run::{FileDesign, LawfulDesign, Limit, Refusal, RunFault, file_design, placed_tokens};
 use rr_site_list::list_of;
 use rr_syntax::{Source, Token};
 use std::alloc::{AllocError, Global};
@@ -79,6 +83,27 @@ pub fn design_sites<'a>(
     )
 }
 
+/// The sites of the lawful design of a file that can be changed in the file, in the order of its text. They
+/// are such as the laws of the design's instances ask.
+pub fn file_sites<'a>(
+    alloc: Global,
+    file: &FileDesign<'a>,
+    arena: &'a Bump,
+) -> Result<SiteList<'a>, AllocError>
+    requires small { length file.now.expanded.text.items ≤ 1048576 }
+    requires tree { (top : Option (List ℕ)) × IsDesignOf file.now.expanded.text.items (lexemes file.now.design.tokens.now) (plain_source file.now.design.source.now) top (plain_flat file.now.design.flat) }
+    requires input { IsClockInput (plain_flat file.now.design.flat) file.now.design.order.clock }
+    requires fit { FitLiteralsSource (plain_source file.now.design.source.now) }
+    requires few { length file.now.design.tokens.now < 2 ^ 32 }
+    ensures kept { IfOk result (λ list. (listed : List Site) × (AreSites (plain_source file.now.design.source.now) (plain_flat file.now.design.flat) file.now.design.order.clock listed
+        × AreKept file.now.expanded.origins.items (lexemes file.now.design.tokens.now) (plain_source file.now.design.source.now) listed list)) }
+    ensures right { (word : Option (List ℕ)) → InOrder file.now.design.flat file.now.design.order word → IfOk result (λ list. AreRight (plain_source file.now.design.source.now) (plain_flat file.now.design.flat) word list) }
+{
+    let design = &file.design;
+    let listed = design_sites(alloc, design, arena)?;
+    kept(alloc, &file.expanded, design.tokens, design.source, &listed)
+}
+
 /// The lines of sites, or that they are too many.
 fn told<'a>(
     alloc: Global,
@@ -98,29 +123,37 @@ fn told<'a>(
     }
 }
 
-/// The lines of a design's sites, or that they are too many.
-fn list_design<'a>(
+/// The lines of the sites of a file of this size, or that they are too many.
+fn list_file<'a>(
     alloc: Global,
-    design: &LawfulDesign<'a>,
+    size: u32,
+    file: &FileDesign<'a>,
     arena: &'a Bump,
 ) -> Result<Vec<u8>, RunFault<'a>>
-    requires tree { (bytes : List ℕ) × ((top : Option (List ℕ)) × IsDesignOf bytes (lexemes design.now.tokens.now) (plain_source design.now.source.now) top (plain_flat design.now.flat)) }
-    requires input { IsClockInput (plain_flat design.now.flat) design.now.order.clock }
-    requires fit { FitLiteralsSource (plain_source design.now.source.now) }
-    requires few { length design.now.tokens.now < 2 ^ 32 }
-    ensures { (bytes : List ℕ) (top word : Option (List ℕ)) → IsDesignOf bytes (lexemes design.now.tokens.now) (plain_source design.now.source.now) top (plain_flat design.now.flat)
-        → InOrder design.now.flat design.now.order word → MatchResult result (λ text. IsSiteText bytes top word text.items) (StopsWhere (HasManySites bytes top word)) }
+    requires small { length file.now.expanded.text.items ≤ 1048576 }
+    requires tree { (top : Option (List ℕ)) × IsDesignOf file.now.expanded.text.items (lexemes file.now.design.tokens.now) (plain_source file.now.design.source.now) top (plain_flat file.now.design.flat) }
+    requires input { IsClockInput (plain_flat file.now.design.flat) file.now.design.order.clock }
+    requires fit { FitLiteralsSource (plain_source file.now.design.source.now) }
+    requires few { length file.now.design.tokens.now < 2 ^ 32 }
+    ensures { (bytes : List ℕ) (top word : Option (List ℕ)) → length bytes ≡ size → IsTaken bytes file.now.expanded.text.items file.now.expanded.origins.items
+        → IsDesignOf file.now.expanded.text.items (lexemes file.now.design.tokens.now) (plain_source file.now.design.source.now) top (plain_flat file.now.design.flat)
+        → InOrder file.now.design.flat file.now.design.order word → MatchResult result (λ text. IsSiteText bytes top word text.items) (StopsWhere (HasManySites bytes top word)) }
 {
-    match design_sites(alloc, design, arena) {
-        Ok(list) => told(alloc, design.tokens, &list),
+    let list = match file_sites(alloc, file, arena) {
+        Ok(list) => list,
+        Err(_) => return Err(RunFault::Memory),
+    };
+    match placed_tokens(alloc, &file.expanded, size, file.design.tokens) {
+        Ok(tokens) => told(alloc, tokens.as_slice(), &list),
         Err(_) => Err(RunFault::Memory),
     }
 }
 
-/// The lines of the sites of a text of at most 1,048,576 bytes with a top and a word for the clock, each
-/// given or not: `N literal OFFSET VALUE`, `N guard OFFSET guards G` and `N overwrite OFFSET NAME guards
-/// G`, numbered from 0; or the first refusal: of the design (1 to 15, 16, 17 to 25), then that there are
-/// more than 1,024 sites (16).
+/// The lines of the sites of a file of at most 1,048,576 bytes that can be changed in the file, with a top
+/// and a word for the clock, each given or not: `N literal OFFSET VALUE`, `N guard OFFSET guards G` and
+/// `N overwrite OFFSET NAME guards G`, numbered from 0, with places in the file; or the first refusal: of
+/// the directives (38 to 40 and 16), of the design (1 to 15, 16, 17 to 25), then that there are more than
+/// 1,024 such sites (16).
 pub fn list_sites<'a>(
     alloc: Global,
     bytes: &[u8],
@@ -133,8 +166,8 @@ pub fn list_sites<'a>(
         (λ text. IsSiteText bytes.now (option_map (λ n. n.now) top.entry) (option_map (λ w. w.now) clock.entry) text.items)
         (StopsWhere (RefusesSites bytes.now (option_map (λ n. n.now) top.entry) (option_map (λ w. w.now) clock.entry))) }
 {
-    match lawful_design(alloc, bytes, top, clock, arena) {
+    match file_design(alloc, bytes, top, clock, arena) {
         Err(fault) => Err(fault),
-        Ok(design) => list_design(alloc, &design, arena),
+        Ok(file) => list_file(alloc, bytes.len() as u32, &file, arena),
     }
 }

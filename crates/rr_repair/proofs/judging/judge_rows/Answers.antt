@@ -1,5 +1,4 @@
-use Rattle.rr_syntax.specs.View.{plain_source}
-use Rattle.rr_lex.specs.Tokens.{lexemes}
+use Rattle.rr_sites.specs.View.{source_file}
 use Rattle.rr_flat.specs.View.{plain_flat}
 use Rattle.rr_trace.specs.View.{plain_table}
 use Rattle.rr_report.specs.Views.{plain_answer}
@@ -10,10 +9,10 @@ use Rattle.rr_repair.proofs.judging.judge_rows.Goals as goal
 -- src/judging.rt
 pub returns-then-work-gt-WORK_LIMIT : goal.returns-then-work-gt-WORK_LIMIT
 returns-then-work-gt-WORK_LIMIT g c = λ table sited read.
-    much_work (plain_request c.args.request.now) c.args.bytes.now table (lexemes c.args.design.now.tokens.now) (plain_source c.args.design.now.source.now) (plain_flat c.args.design.now.flat)
-    c.args.design.now.order.clock c.args.design.now.order.rising c.args.list.now sited (plain_table c.args.rows.now) read c.work_of-work.result c.work_of-work.ensures c.if-work-gt-WORK_LIMIT.true
+    much_work (plain_request c.args.request.now) c.args.bytes.now table (source_file c.args.file.now) (plain_flat c.args.file.now.design.flat)
+    c.args.file.now.design.order.clock c.args.file.now.design.order.rising c.args.list.now sited (plain_table c.args.rows.now) read c.work_of-work.result c.work_of-work.ensures c.if-work-gt-WORK_LIMIT.true
 
 pub returns-in-Ok : goal.returns-in-Ok
 returns-in-Ok g c = λ table sited read.
-    counted (plain_request c.args.request.now) c.args.bytes.now table (lexemes c.args.design.now.tokens.now) (plain_source c.args.design.now.source.now) (plain_flat c.args.design.now.flat)
-    c.args.design.now.order.clock c.args.design.now.order.rising c.args.list.now sited (plain_table c.args.rows.now) read c.work_of-work.result c.work_of-work.ensures (plain_answer c.in-Ok.counted.found) c.in-Ok.counted.changes c.if-work-gt-WORK_LIMIT.false c.in-Ok.ensures
+    counted (plain_request c.args.request.now) c.args.bytes.now table (source_file c.args.file.now) (plain_flat c.args.file.now.design.flat)
+    c.args.file.now.design.order.clock c.args.file.now.design.order.rising c.args.list.now sited (plain_table c.args.rows.now) read c.work_of-work.result c.work_of-work.ensures (plain_answer c.in-Ok.counted.found) c.in-Ok.counted.changes c.if-work-gt-WORK_LIMIT.false c.in-Ok.ensures

@@ -1,11 +1,13 @@
-use Rattle.rr_syntax.specs.View.{plain_source}
-use Rattle.rr_lex.specs.Tokens.{lexemes}
+use Rattle.std.proofs.Common.{arith}
+use Rattle.rr_sites.specs.View.{source_file}
 use Rattle.rr_flat.specs.View.{plain_flat}
-use Rattle.rr_repair.proofs.Telling.{sites_named}
+use Rattle.rr_repair.proofs.Telling.{read_with}
 use Rattle.rr_repair.proofs.judging.judge_sites.Goals as goal
 
 -- src/judging.rt
-pub judge_table-requires-clause-named : goal.judge_table-requires-clause-named
-judge_table-requires-clause-named g c = λ κs o.
-    sites_named c.args.bytes.now (lexemes c.args.design.now.tokens.now) (plain_source c.args.design.now.source.now) (plain_flat c.args.design.now.flat) c.args.design.now.order.clock c.in-Ok.list c.requires.tree.text
-    c.in-Ok.ensures.list
+pub judge_table-requires-clause-given : goal.judge_table-requires-clause-given
+judge_table-requires-clause-given g c = λ κs o.
+    let k = c.in-Ok.ensures.kept in
+    let small = c.requires.text in
+    read_with c.args.bytes.now (source_file c.args.file.now) (plain_flat c.args.file.now.design.flat) c.args.file.now.design.order.clock c.in-Ok.list c.requires.small (omega (arith, small)) c.requires.expansion.expansion c.requires.tree.text
+    k.0 k.1.0 k.1.1

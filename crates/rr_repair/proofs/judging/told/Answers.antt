@@ -1,7 +1,6 @@
 use Rattle.std.proofs.Common.{inr, arith}
 use Rattle.std.proofs.lemmas.Result.{IfOk-weaker}
-use Rattle.rr_syntax.specs.View.{plain_source}
-use Rattle.rr_lex.specs.Tokens.{lexemes}
+use Rattle.rr_sites.specs.View.{source_file}
 use Rattle.rr_report.specs.Views.{plain_answer}
 use Rattle.rr_search.specs.Answers.{task_of}
 use Rattle.rr_repair.specs.Views.{plain_request}
@@ -19,13 +18,13 @@ repaired-requires-clause-few c =
 pub returns-in_ok-found-in-Repair-clause-answer : goal.returns-in_ok-found-in-Repair-clause-answer
 returns-in_ok-found-in-Repair-clause-answer c =
     let e = c.in_ok-found-in-Repair.ensures in
-    repair_told (plain_request c.args.request.now) c.args.bytes.now (lexemes c.args.design.now.tokens.now) (plain_source c.args.design.now.source.now) (task_of c.args.job.now) (plain_answer c.in_ok-found-in-Repair.found)
+    repair_told (plain_request c.args.request.now) c.args.bytes.now (source_file c.args.file.now) (task_of c.args.job.now) (plain_answer c.in_ok-found-in-Repair.found)
     c.args.tested c.in-Repair.choice.picks.items c.in-Repair.k c.in-Repair.circuit c.in-Repair.journal (rw c.in-Repair.is at c.requires.found) e.files e.accepted e.printed e.tree e.notes e.status
 
 pub returns-in_ok-found-in-NoRepair-clause-answer : goal.returns-in_ok-found-in-NoRepair-clause-answer
 returns-in_ok-found-in-NoRepair-clause-answer c =
     let e = c.in_ok-found-in-NoRepair.ensures in
-    beyond_told (plain_request c.args.request.now) c.args.bytes.now (lexemes c.args.design.now.tokens.now) (plain_source c.args.design.now.source.now) (task_of c.args.job.now) (plain_answer c.in_ok-found-in-NoRepair.found)
+    beyond_told (plain_request c.args.request.now) c.args.bytes.now (source_file c.args.file.now) (task_of c.args.job.now) (plain_answer c.in_ok-found-in-NoRepair.found)
     _ c.in-NoRepair.circuit c.in-NoRepair.journal (rw c.in-NoRepair.is at c.requires.found) (plain_count c.sites-sites.result.now c.args.job.now.list.now c.sites-sites.ensures.same) e.files e.accepted e.printed e.notes e.status
 
 pub told_open-requires-clause-left : goal.told_open-requires-clause-left

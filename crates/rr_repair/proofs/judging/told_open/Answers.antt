@@ -1,6 +1,5 @@
 use Rattle.std.proofs.Common.{arith}
-use Rattle.rr_syntax.specs.View.{plain_source}
-use Rattle.rr_lex.specs.Tokens.{lexemes}
+use Rattle.rr_sites.specs.View.{source_file}
 use Rattle.rr_report.specs.Views.{plain_answer}
 use Rattle.rr_search.specs.Answers.{task_of}
 use Rattle.rr_repair.specs.Views.{plain_request}
@@ -18,11 +17,11 @@ found_open-requires-clause-few c =
 pub returns-in_ok-told-in-Some-clause-answer : goal.returns-in_ok-told-in-Some-clause-answer
 returns-in_ok-told-in-Some-clause-answer c =
     let e = c.in_ok-told-in-Some.ensures in
-    found_told (plain_request c.args.request.now) c.args.bytes.now (lexemes c.args.design.now.tokens.now) (plain_source c.args.design.now.source.now) (task_of c.args.job.now) (plain_answer c.in_ok-told-in-Some.told)
+    found_told (plain_request c.args.request.now) c.args.bytes.now (source_file c.args.file.now) (task_of c.args.job.now) (plain_answer c.in_ok-told-in-Some.told)
     c.requires.members c.requires.budget c.args.bound c.args.circuit.now c.args.journal.now e.files e.status c.in-Some.choice (rw c.in-Some.is at c.requires.left) e.printed e.tree e.notes
 
 pub returns-in_ok-told-in-None-clause-answer : goal.returns-in_ok-told-in-None-clause-answer
 returns-in_ok-told-in-None-clause-answer c =
     let e = c.in_ok-told-in-None.ensures in
-    nothing_told (plain_request c.args.request.now) c.args.bytes.now (lexemes c.args.design.now.tokens.now) (plain_source c.args.design.now.source.now) (task_of c.args.job.now) (plain_answer c.in_ok-told-in-None.told)
+    nothing_told (plain_request c.args.request.now) c.args.bytes.now (source_file c.args.file.now) (task_of c.args.job.now) (plain_answer c.in_ok-told-in-None.told)
     c.requires.members c.requires.budget c.args.bound c.args.circuit.now c.args.journal.now e.files e.status (rw c.in-None.is at c.requires.left) e.printed e.notes

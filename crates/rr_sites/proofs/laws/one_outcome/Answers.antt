@@ -1,8 +1,11 @@
-use Rattle.rr_sites.proofs.Once.{one_list, one_text, text_or_refusal, one_refusal}
+use Rattle.rr_sites.proofs.Once.{one_file, one_list, one_text, text_or_refusal, one_refusal}
 use Rattle.rr_sites.proofs.laws.one_outcome.Goals as goal
 
 pub returns-clause-one_list : goal.returns-clause-one_list
 returns-clause-one_list c = one_list
+
+pub returns-clause-one_file : goal.returns-clause-one_file
+returns-clause-one_file c = one_file
 
 pub returns-clause-one_text : goal.returns-clause-one_text
 returns-clause-one_text c = one_text
