@@ -1,8 +1,7 @@
 -- A seed has one summary, and each answer tells it, or that there is none, or leaves this open.
 use Rattle.std.proofs.Common.{◌≡◌, ◌∙◌, inl, inr, ℕ, ◌≤◌, List, sym, ap, subst, arith}
 use Rattle.rr_choice.specs.Sites.{Site}
-use Rattle.rr_syntax.specs.Tree.{SourceText}
-use Rattle.rr_lex.specs.Tokens.{Lexeme}
+use Rattle.rr_kept.specs.Read.{SourceFile}
 use Rattle.rr_trace.specs.Tables.{Table}
 use Rattle.rr_made.specs.Made.{made_design, made_table}
 use Rattle.rr_report.specs.Found.{Answer}
@@ -15,23 +14,22 @@ use Rattle.rr_make.specs.Makes.{EachMake, IsNeverMade, IsUnmade, OneSummary, Sum
 
 module _ (w : PlainRequest) (design table : List ℕ) where
   -- a least count is no more than the cost of a choice that mends the other way to take the files
-  below : {ts us : List Lexeme} {a b : SourceText} {ss rs : List Site} {x y : Table} (k n : ℕ) → IsOneTaking ts us a b ss rs x y → Least (design_of w a) ss x k → Least (design_of w b) rs y n → n ≤ k
+  below : {a b : SourceFile} {ss rs : List Site} {x y : Table} (k n : ℕ) → IsOneTaking a b ss rs x y → Least (design_of w a.source) ss x k → Least (design_of w b.source) rs y n → n ≤ k
   below k n one p q =
       let moved = moved_choice w p.reached.0 one p.reached.1.0 p.reached.1.1.1 in
       subst (λ (m : ℕ). n ≤ m) p.reached.1.1.0 (q.least p.reached.0 moved.0 moved.1)
 
   pub one_count : (k n : ℕ) → IsLeastCount w design table k → IsLeastCount w design table n → k ≡ n
   one_count k n p q =
-      let one = one_taking w design table p.tokens q.tokens p.source q.source p.sites q.sites p.rows q.rows p.taken q.taken in
-      let other = one_taking w design table q.tokens p.tokens q.source p.source q.sites p.sites q.rows p.rows q.taken p.taken in
+      let one = one_taking w design table p.file q.file p.sites q.sites p.rows q.rows p.taken q.taken in
+      let other = one_taking w design table q.file p.file q.sites p.sites q.rows p.rows q.taken p.taken in
       let low = below k n one p.least q.least in
       let high = below n k other q.least p.least in
       omega (arith, low, high)
 
   pub count_mends : (k : ℕ) → IsLeastCount w design table k → IsMendable w design table
   count_mends k p = record {
-    tokens = p.tokens;
-    source = p.source;
+    file = p.file;
     sites = p.sites;
     rows = p.rows;
     taken = p.taken;
@@ -49,7 +47,7 @@ summary_or_none seed cert text (k, (t, p)) none =
     mendable_or_not (made_request cert) (made_design seed) (made_table seed) (count_mends (made_request cert) (made_design seed) (made_table seed) k p) none
 
 never_made : (seed : ℕ) (cert : List ℕ) (answer : Answer) → IsUnmade seed cert answer → IsNeverMade seed cert
-never_made seed cert answer u = record { tokens = u.tokens; source = u.source; sites = u.sites; rows = u.rows; taken = u.taken; none = u.is.none }
+never_made seed cert answer u = record { file = u.file; sites = u.sites; rows = u.rows; taken = u.taken; none = u.is.none }
 
 pub each_make : EachMake
 each_make seed cert answer (inl m) = inl (m, ((m.changes, (m.printed, m.least)), m.status))

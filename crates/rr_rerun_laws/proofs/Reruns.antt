@@ -1,6 +1,9 @@
 -- What a repair prints is run again as the table expects.
 use Rattle.std.proofs.Common.{◌≡◌, ◌≢◌, ◌∙◌, ◌⊎◌, inl, inr, ℕ, List, [], length, sym, ap, subst, refl, Bool, Option, Ok}
 use Rattle.rr_syntax.specs.Tree.{SourceText, IsSameSource}
+use Rattle.rr_directive.specs.declared.origin.Origin.{Origin}
+use Rattle.rr_directive.specs.Expand.{IsExpansion, IsTaken as IsExpanded}
+use Rattle.rr_directive.proofs.Faults.{one_expansion}
 use Rattle.rr_lex.specs.Tokens.{Lexeme}
 use Rattle.rr_grammar.specs.Trees.{IsTree}
 use Rattle.rr_grammar.proofs.OneSource.{unique_tree}
@@ -32,12 +35,14 @@ use Rattle.rr_trace.specs.Tops.{ports_of}
 use Rattle.rr_trace.specs.Written.{table_text}
 use Rattle.rr_cycle.specs.Cycles.{Run}
 use Rattle.rr_unroll.specs.Matches.{Matches}
-use Rattle.rr_sites.proofs.Given.{formed, numbered, right}
+use Rattle.rr_sites.proofs.Given.{formed, kept_right, numbered, right}
 use Rattle.rr_run.specs.declared.rows.TableKind.{TableKind}
 use Rattle.rr_run.specs.Rows.{ReadsTable}
 use Rattle.rr_run.specs.Runs.{IsRun}
 use Rattle.rr_run.proofs.Once.{one_run}
-use Rattle.rr_run.proofs.OwnFiles.{own_run}
+use Rattle.rr_run.specs.Files.{IsFileRun}
+use Rattle.rr_kept.specs.Read.{SourceFile}
+use Rattle.rr_map.specs.Printed.{printed_text, ExpandsTo}
 use Rattle.rr_report.specs.Found.{Answer}
 use Rattle.rr_repair.specs.Repairs.{IsFound, IsNothingFound, IsRepaired, IsTaken, IsUnchanged, PlainRequest, design_of}
 use Rattle.rr_rerun_laws.specs.Reruns.{FileRunAgrees, FileRunsAgain, FoundFileRunAgrees, FoundFileRunsAgain, FoundRunAgrees, FoundRunsAgain, RunsRight, RunsAgain, RunAgrees}
@@ -101,51 +106,55 @@ told w bytes table ts tree flat clock rising rows x e read r = (
 tree_of : (bytes : List ℕ) (ts : List Lexeme) (tree : SourceText) → IsText bytes ts tree → IsTree bytes tree
 tree_of bytes ts tree x = record { tokens = ts; are = x.lexed; spells = x.spells.tree.spells }
 
-module _ (w : PlainRequest) (design table : List ℕ) (ts : List Lexeme) (source : SourceText) (sites : List Site) (rows : Table) (taken : IsTaken w design table ts source sites rows) where
-  its_right : AreRight source taken.flat w.clock sites
+module _ (w : PlainRequest) (design table : List ℕ) (file : SourceFile) (sites : List Site) (rows : Table) (taken : IsTaken w design table file sites rows) where
+  its_right : AreRight file.source taken.flat w.clock sites
   its_right =
-      right source w.top taken.flat (formed design ts source w.top taken.flat taken.sited.tree) (numbered design ts source w.top taken.flat taken.sited.tree) taken.sited.tree.flat w.clock taken.clock taken.rising taken.sited.are.0 taken.sited.lawful taken.sited.one_clock taken.sited.are.1 sites taken.sited.are.2
+      let d = taken.sited.tree in
+      kept_right file.origins file.tokens file.source taken.flat w.clock taken.sited.listed sites taken.sited.kept
+      (right file.source w.top taken.flat (formed file.text file.tokens file.source w.top taken.flat d) (numbered file.text file.tokens file.source w.top taken.flat d) d.flat w.clock taken.clock taken.rising taken.sited.are.0 taken.sited.lawful taken.sited.one_clock taken.sited.are.1 taken.sited.listed taken.sited.are.2)
 
-  fit : AreSitesOf taken.flat w.clock sites × SitesFit sites source taken.flat
-  fit = listed_are_sites source w.top taken.flat w.clock sites taken.sited.tree.flat taken.sited.lawful.targets its_right
+  fit : AreSitesOf taken.flat w.clock sites × SitesFit sites file.source taken.flat
+  fit = listed_are_sites file.source w.top taken.flat w.clock sites taken.sited.tree.flat taken.sited.lawful.targets its_right
 
   -- printed as it is
-  unchanged : (answer : Answer) → IsUnchanged w design source rows answer → (us : List Lexeme) (tree : SourceText) → IsText answer.out us tree →
-      (text : List ℕ) × RunsRight w.kind answer.out table w.top w.clock text
-  unchanged answer u us tree x =
-      let again : IsText design us tree = subst (λ (b : List ℕ). IsText b us tree) u.printed x in
-      let same = one_text design us ts tree source again taken.sited.tree.text in
+  unchanged : (answer : Answer) → IsUnchanged w design file.source rows answer → (again : List ℕ) (origins : List Origin) → IsExpansion answer.out again origins → (us : List Lexeme) (tree : SourceText) → IsText again us tree →
+      (text : List ℕ) × RunsRight w.kind again table w.top w.clock text
+  unchanged answer u again origins e us tree x =
+      let its : IsExpansion design again origins = subst (λ (b : List ℕ). IsExpansion b again origins) u.printed e in
+      let texts : again ≡ file.text = (one_expansion design again file.text origins file.origins its taken.sited.expansion.expansion).0 in
+      let same = one_text file.text us file.tokens tree file.source (subst (λ (b : List ℕ). IsText b us tree) texts x) taken.sited.tree.text in
       let flat : flat_of tree w.top ≡ Ok taken.flat = ap (λ (t : SourceText). flat_of t w.top) same.1 ∙ taken.sited.tree.flat in
-      told w answer.out table us tree taken.flat taken.clock taken.rising rows x flat taken.read (right_by w source rows taken.flat taken.clock taken.rising taken.sited.tree.flat taken.sited.one_clock u.matches)
+      told w again table us tree taken.flat taken.clock taken.rising rows x flat taken.read (right_by w file.source rows taken.flat taken.clock taken.rising taken.sited.tree.flat taken.sited.one_clock u.matches)
 
   -- printed with a choice whose instance matches
-  with_choice : (out : List ℕ) (choice : List Pick) → Matches (design_of w (instance_source sites choice source)) rows → IsTree out (instance_source sites choice source) →
-      (us : List Lexeme) (tree : SourceText) → IsText out us tree → (text : List ℕ) × RunsRight w.kind out table w.top w.clock text
-  with_choice out choice matches its us tree x =
-      let same : IsSameSource (instance_source sites choice source) tree = unique_tree out (instance_source sites choice source) tree its (tree_of out us tree x) in
+  with_choice : (out printed : List ℕ) (choice : List Pick) → Matches (design_of w (instance_source sites choice file.source)) rows → ExpandsTo out printed (instance_source sites choice file.source) →
+      (again : List ℕ) (origins : List Origin) → IsExpansion out again origins → (us : List Lexeme) (tree : SourceText) → IsText again us tree → (text : List ℕ) × RunsRight w.kind again table w.top w.clock text
+  with_choice out printed choice matches its again origins e us tree x =
+      let texts : printed ≡ again = (one_expansion out printed again its.origins origins its.expansion e).0 in
+      let same : IsSameSource (instance_source sites choice file.source) tree = unique_tree again (instance_source sites choice file.source) tree (subst (λ (b : List ℕ). IsTree b (instance_source sites choice file.source)) texts its.tree) (tree_of again us tree x) in
       let G : Flat = instance_flat sites choice taken.flat in
-      let has : HasSameFlat tree w.top G = instances_of_trees sites choice source tree w.top taken.flat taken.sited.tree.flat fit.1 same in
-      let is : flat_of (instance_source sites choice source) w.top ≡ Ok G = instances_flatten sites choice source w.top taken.flat taken.sited.tree.flat fit.1 in
+      let has : HasSameFlat tree w.top G = instances_of_trees sites choice file.source tree w.top taken.flat taken.sited.tree.flat fit.1 same in
+      let is : flat_of (instance_source sites choice file.source) w.top ≡ Ok G = instances_flatten sites choice file.source w.top taken.flat taken.sited.tree.flat fit.1 in
       let clock : OneClock G w.clock taken.clock taken.rising = clock_stays taken.clock taken.rising taken.flat w.clock sites choice fit.0 taken.sited.one_clock in
-      let good : IsRight w G taken.clock taken.rising rows = right_by w (instance_source sites choice source) rows G taken.clock taken.rising is clock matches in
+      let good : IsRight w G taken.clock taken.rising rows = right_by w (instance_source sites choice file.source) rows G taken.clock taken.rising is clock matches in
       let read = same_reading w.kind G has.flat taken.clock taken.rising table rows has.same (instance_reading w.kind taken.flat sites choice taken.clock taken.rising table rows taken.read) in
-      told w out table us tree has.flat taken.clock taken.rising rows x has.is read (right_same w G has.flat taken.clock taken.rising rows has.same good)
+      told w again table us tree has.flat taken.clock taken.rising rows x has.is read (right_same w G has.flat taken.clock taken.rising rows has.same good)
 
-  repaired : (answer : Answer) → IsRepaired w design ts source sites rows answer → (us : List Lexeme) (tree : SourceText) → IsText answer.out us tree →
-      (text : List ℕ) × RunsRight w.kind answer.out table w.top w.clock text
-  repaired answer r = with_choice answer.out r.choice r.matches r.tree
+  repaired : (answer : Answer) → IsRepaired w design file sites rows answer → (again : List ℕ) (origins : List Origin) → IsExpansion answer.out again origins → (us : List Lexeme) (tree : SourceText) → IsText again us tree →
+      (text : List ℕ) × RunsRight w.kind again table w.top w.clock text
+  repaired answer r = with_choice answer.out (printed_text file sites r.choice) r.choice r.matches r.tree
 
-  found : (answer : Answer) (bound : ℕ) → answer.out ≢ [] → IsNothingFound w sites bound answer ⊎ IsFound w design ts source sites rows bound answer →
-      (us : List Lexeme) (tree : SourceText) → IsText answer.out us tree → (text : List ℕ) × RunsRight w.kind answer.out table w.top w.clock text
-  found answer bound some (inl n) us tree x = absurd (some n.printed)
-  found answer bound some (inr f) us tree x = with_choice answer.out f.choice f.matches f.tree us tree x
+  found : (answer : Answer) (bound : ℕ) → answer.out ≢ [] → IsNothingFound w sites bound answer ⊎ IsFound w design file sites rows bound answer →
+      (again : List ℕ) (origins : List Origin) → IsExpansion answer.out again origins → (us : List Lexeme) (tree : SourceText) → IsText again us tree → (text : List ℕ) × RunsRight w.kind again table w.top w.clock text
+  found answer bound some (inl n) again origins e us tree x = absurd (some n.printed)
+  found answer bound some (inr f) again origins e us tree x = with_choice answer.out (printed_text file sites f.choice) f.choice f.matches f.tree again origins e us tree x
 
 pub runs_again : RunsAgain
-runs_again w design table answer m us tree x = go m.is
+runs_again w design table answer m again origins e us tree x = go m.is
   where
-    go : IsUnchanged w design m.source m.rows answer ⊎ IsRepaired w design m.tokens m.source m.sites m.rows answer → (text : List ℕ) × RunsRight w.kind answer.out table w.top w.clock text
-    go (inl u) = unchanged w design table m.tokens m.source m.sites m.rows m.taken answer u us tree x
-    go (inr r) = repaired w design table m.tokens m.source m.sites m.rows m.taken answer r us tree x
+    go : IsUnchanged w design m.file.source m.rows answer ⊎ IsRepaired w design m.file m.sites m.rows answer → (text : List ℕ) × RunsRight w.kind again table w.top w.clock text
+    go (inl u) = unchanged w design table m.file m.sites m.rows m.taken answer u again origins e us tree x
+    go (inr r) = repaired w design table m.file m.sites m.rows m.taken answer r again origins e us tree x
 
 is_run : (kind : TableKind) (bytes table : List ℕ) (top word : Option (List ℕ)) (text : List ℕ) → RunsRight kind bytes table top word text → IsRun kind bytes table top word text
 is_run kind bytes table top word text r = record {
@@ -167,30 +176,32 @@ agrees_by kind bytes table top word text again r =
     subst (λ (t : List ℕ). RunsRight kind bytes table top word t) same again.1
 
 pub run_agrees : RunAgrees
-run_agrees w design table answer m text r = agrees_by w.kind answer.out table w.top w.clock text (runs_again w design table answer m r.tokens r.design.design.tree r.design.design.text) r
+run_agrees w design table answer m again origins e text r =
+    agrees_by w.kind again table w.top w.clock text (runs_again w design table answer m again origins e r.tokens r.design.design.tree r.design.design.text) r
 
 pub found_runs_again : FoundRunsAgain
-found_runs_again w design table answer o some us tree x = found w design table o.tokens o.source o.sites o.rows o.taken answer o.is.bound some o.is.found us tree x
+found_runs_again w design table answer o some again origins e us tree x = found w design table o.file o.sites o.rows o.taken answer o.is.bound some o.is.found again origins e us tree x
 
 pub found_run_agrees : FoundRunAgrees
-found_run_agrees w design table answer o some text r =
-    agrees_by w.kind answer.out table w.top w.clock text (found_runs_again w design table answer o some r.tokens r.design.design.tree r.design.design.text) r
+found_run_agrees w design table answer o some again origins e text r =
+    agrees_by w.kind again table w.top w.clock text (found_runs_again w design table answer o some again origins e r.tokens r.design.design.tree r.design.design.text) r
 
 -- the same of the printed bytes as a file
+file_run : (kind : TableKind) (bytes again table : List ℕ) (origins : List Origin) (top word : Option (List ℕ)) (text : List ℕ) → IsExpanded bytes again origins → RunsRight kind again table top word text → IsFileRun kind bytes table top word text
+file_run kind bytes again table origins top word text taken r = record { text = again; origins = origins; expansion = taken; run = is_run kind again table top word text r }
+
 pub file_runs_again : FileRunsAgain
-file_runs_again w design table answer m origins taken us tree x =
-    let r = runs_again w design table answer m us tree x in
-    (r.0, ((own_run answer.out origins taken w.kind table w.top w.clock r.0).0 (is_run w.kind answer.out table w.top w.clock r.0 r.1), r.1))
+file_runs_again w design table answer m again origins taken us tree x =
+    let r = runs_again w design table answer m again origins taken.expansion us tree x in
+    (r.0, (file_run w.kind answer.out again table origins w.top w.clock r.0 taken r.1, r.1))
 
 pub file_run_agrees : FileRunAgrees
-file_run_agrees w design table answer m origins taken text f =
-    run_agrees w design table answer m text ((own_run answer.out origins taken w.kind table w.top w.clock text).1 f)
+file_run_agrees w design table answer m text f = run_agrees w design table answer m f.text f.origins f.expansion.expansion text f.run
 
 pub found_file_runs_again : FoundFileRunsAgain
-found_file_runs_again w design table answer o some origins taken us tree x =
-    let r = found_runs_again w design table answer o some us tree x in
-    (r.0, ((own_run answer.out origins taken w.kind table w.top w.clock r.0).0 (is_run w.kind answer.out table w.top w.clock r.0 r.1), r.1))
+found_file_runs_again w design table answer o some again origins taken us tree x =
+    let r = found_runs_again w design table answer o some again origins taken.expansion us tree x in
+    (r.0, (file_run w.kind answer.out again table origins w.top w.clock r.0 taken r.1, r.1))
 
 pub found_file_run_agrees : FoundFileRunAgrees
-found_file_run_agrees w design table answer o some origins taken text f =
-    found_run_agrees w design table answer o some text ((own_run answer.out origins taken w.kind table w.top w.clock text).1 f)
+found_file_run_agrees w design table answer o some text f = found_run_agrees w design table answer o some f.text f.origins f.expansion.expansion text f.run

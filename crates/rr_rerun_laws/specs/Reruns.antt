@@ -1,7 +1,7 @@
 -- What a repair prints, read and run again.
 use Rattle.std.specs.Prelude.{◌≡◌, ◌≢◌, ℕ, List, [], length, Bool, Option}
 use Rattle.rr_directive.specs.declared.origin.Origin.{Origin}
-use Rattle.rr_directive.specs.Expand.{IsTaken}
+use Rattle.rr_directive.specs.Expand.{IsExpansion, IsTaken}
 use Rattle.rr_syntax.specs.Tree.{SourceText}
 use Rattle.rr_lex.specs.Tokens.{Lexeme}
 use Rattle.rr_flat.specs.Plain.{Flat}
@@ -34,45 +34,44 @@ pub record RunsRight (kind : TableKind) (bytes table : List ℕ) (top word : Opt
   pub printed : text ≡ table_text (ports_of flat clock) rows.inputs outputs
   pub agree : AgreeRows rows.expected outputs (length rows.expected)
 
--- Printed bytes that are read as a text, which is so where its tree is at most 500 deep, have such a run: no law and no table
--- refuses them.
+-- The printed bytes expand to a text. Where that is read as a text, which is so where its tree is at most 500 deep, it has such a
+-- run: no law and no table refuses it.
 abbrev pub RunsAgain : Type 0
-RunsAgain = (w : PlainRequest) (design table : List ℕ) (answer : Answer) → IsMended w design table answer → (tokens : List Lexeme) (tree : SourceText) → IsText answer.out tokens tree →
-    (text : List ℕ) × RunsRight w.kind answer.out table w.top w.clock text
+RunsAgain = (w : PlainRequest) (design table : List ℕ) (answer : Answer) → IsMended w design table answer → (again : List ℕ) (origins : List Origin) → IsExpansion answer.out again origins →
+    (tokens : List Lexeme) (tree : SourceText) → IsText again tokens tree → (text : List ℕ) × RunsRight w.kind again table w.top w.clock text
 
--- and each run of them is such
+-- and each run of it is such
 abbrev pub RunAgrees : Type 0
-RunAgrees = (w : PlainRequest) (design table : List ℕ) (answer : Answer) → IsMended w design table answer → (text : List ℕ) → IsRun w.kind answer.out table w.top w.clock text →
-    RunsRight w.kind answer.out table w.top w.clock text
+RunAgrees = (w : PlainRequest) (design table : List ℕ) (answer : Answer) → IsMended w design table answer → (again : List ℕ) (origins : List Origin) → IsExpansion answer.out again origins →
+    (text : List ℕ) → IsRun w.kind again table w.top w.clock text → RunsRight w.kind again table w.top w.clock text
 
 -- The same of bytes that are printed where a repair is left open: no law and no table refuses them,
 abbrev pub FoundRunsAgain : Type 0
-FoundRunsAgain = (w : PlainRequest) (design table : List ℕ) (answer : Answer) → IsLeftOpen w design table answer → answer.out ≢ [] → (tokens : List Lexeme) (tree : SourceText) → IsText answer.out tokens tree →
-    (text : List ℕ) × RunsRight w.kind answer.out table w.top w.clock text
+FoundRunsAgain = (w : PlainRequest) (design table : List ℕ) (answer : Answer) → IsLeftOpen w design table answer → answer.out ≢ [] → (again : List ℕ) (origins : List Origin) → IsExpansion answer.out again origins →
+    (tokens : List Lexeme) (tree : SourceText) → IsText again tokens tree → (text : List ℕ) × RunsRight w.kind again table w.top w.clock text
 
--- and each run of them is such
+-- and each run of their expansion is such
 abbrev pub FoundRunAgrees : Type 0
-FoundRunAgrees = (w : PlainRequest) (design table : List ℕ) (answer : Answer) → IsLeftOpen w design table answer → answer.out ≢ [] → (text : List ℕ) → IsRun w.kind answer.out table w.top w.clock text →
-    RunsRight w.kind answer.out table w.top w.clock text
+FoundRunAgrees = (w : PlainRequest) (design table : List ℕ) (answer : Answer) → IsLeftOpen w design table answer → answer.out ≢ [] → (again : List ℕ) (origins : List Origin) → IsExpansion answer.out again origins →
+    (text : List ℕ) → IsRun w.kind again table w.top w.clock text → RunsRight w.kind again table w.top w.clock text
 
--- The command `run` expands directives. Where the printed bytes are their own expansion, as bytes without a backtick are, it gives
--- such a run of them
+-- The command `run` expands directives. Where the expansion of the printed bytes is within the limit, it gives such a run of them
 abbrev pub FileRunsAgain : Type 0
-FileRunsAgain = (w : PlainRequest) (design table : List ℕ) (answer : Answer) → IsMended w design table answer → (origins : List Origin) → IsTaken answer.out answer.out origins →
-    (tokens : List Lexeme) (tree : SourceText) → IsText answer.out tokens tree →
-    (text : List ℕ) × (IsFileRun w.kind answer.out table w.top w.clock text × RunsRight w.kind answer.out table w.top w.clock text)
+FileRunsAgain = (w : PlainRequest) (design table : List ℕ) (answer : Answer) → IsMended w design table answer → (again : List ℕ) (origins : List Origin) → IsTaken answer.out again origins →
+    (tokens : List Lexeme) (tree : SourceText) → IsText again tokens tree →
+    (text : List ℕ) × (IsFileRun w.kind answer.out table w.top w.clock text × RunsRight w.kind again table w.top w.clock text)
 
 -- and each run of them as a file is such
 abbrev pub FileRunAgrees : Type 0
-FileRunAgrees = (w : PlainRequest) (design table : List ℕ) (answer : Answer) → IsMended w design table answer → (origins : List Origin) → IsTaken answer.out answer.out origins →
-    (text : List ℕ) → IsFileRun w.kind answer.out table w.top w.clock text → RunsRight w.kind answer.out table w.top w.clock text
+FileRunAgrees = (w : PlainRequest) (design table : List ℕ) (answer : Answer) → IsMended w design table answer →
+    (text : List ℕ) → (run : IsFileRun w.kind answer.out table w.top w.clock text) → RunsRight w.kind run.text table w.top w.clock text
 
 -- So it is with what is printed where a repair is left open
 abbrev pub FoundFileRunsAgain : Type 0
-FoundFileRunsAgain = (w : PlainRequest) (design table : List ℕ) (answer : Answer) → IsLeftOpen w design table answer → answer.out ≢ [] → (origins : List Origin) → IsTaken answer.out answer.out origins →
-    (tokens : List Lexeme) (tree : SourceText) → IsText answer.out tokens tree →
-    (text : List ℕ) × (IsFileRun w.kind answer.out table w.top w.clock text × RunsRight w.kind answer.out table w.top w.clock text)
+FoundFileRunsAgain = (w : PlainRequest) (design table : List ℕ) (answer : Answer) → IsLeftOpen w design table answer → answer.out ≢ [] → (again : List ℕ) (origins : List Origin) → IsTaken answer.out again origins →
+    (tokens : List Lexeme) (tree : SourceText) → IsText again tokens tree →
+    (text : List ℕ) × (IsFileRun w.kind answer.out table w.top w.clock text × RunsRight w.kind again table w.top w.clock text)
 
 abbrev pub FoundFileRunAgrees : Type 0
-FoundFileRunAgrees = (w : PlainRequest) (design table : List ℕ) (answer : Answer) → IsLeftOpen w design table answer → answer.out ≢ [] → (origins : List Origin) → IsTaken answer.out answer.out origins →
-    (text : List ℕ) → IsFileRun w.kind answer.out table w.top w.clock text → RunsRight w.kind answer.out table w.top w.clock text
+FoundFileRunAgrees = (w : PlainRequest) (design table : List ℕ) (answer : Answer) → IsLeftOpen w design table answer → answer.out ≢ [] →
+    (text : List ℕ) → (run : IsFileRun w.kind answer.out table w.top w.clock text) → RunsRight w.kind run.text table w.top w.clock text

@@ -57,6 +57,15 @@ right source top flat w n d word clock rising places l o p ss e =
     subst (λ (xs : List Site). AreRight source flat word xs) (sym e)
     (sites_are_right source top flat word clock rising places (record { formed = w; numbered = n; design = d; targets = l.targets; one_clock = o; told = p }))
 
+-- so are those of them that are kept
+pub kept_right : (origins : List Origin) (ts : List Lexeme) (source : SourceText) (flat : Flat) (word : Option Text) (listed ss : List Site) → AreKept origins ts source listed ss →
+    AreRight source flat word listed → AreRight source flat word ss
+kept_right origins ts source flat word listed ss k r = record {
+  formed = r.formed;
+  numbered = r.numbered;
+  each = subst (λ (xs : List Site). AllByRecursion (λ s. KindIsRight source flat word s.token s.kind) xs) (sym k) (filter_all (λ (s : Site). KindIsRight source flat word s.token s.kind) (is_kept origins ts source) listed r.each);
+}
+
 module _ (bytes : List ℕ) (ts : List Lexeme) (source : SourceText) (top : Option Text) (flat : Flat) (d : IsDesignOf bytes ts source top flat) where
   pub formed : WellFormedSource source
   formed = d.text.spells.tree.spells.well

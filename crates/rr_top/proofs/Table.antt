@@ -1,8 +1,7 @@
 -- Each command of the table has one outcome, and all but `repair` and `make` write no file.
 use Rattle.std.proofs.Common.{◌≡◌, ◌∙◌, ◌⊎◌, inl, inr, ℕ, List, [], ◌∷◌, refl, ap, Option}
 use Rattle.rr_words.specs.Plan.{Plan, repair, run, sites, check, make}
-use Rattle.rr_syntax.specs.Tree.{SourceText}
-use Rattle.rr_lex.specs.Tokens.{Lexeme}
+use Rattle.rr_kept.specs.Read.{SourceFile}
 use Rattle.rr_choice.specs.Sites.{Site}
 use Rattle.rr_trace.specs.Tables.{Table}
 use Rattle.rr_run.specs.declared.rows.TableKind.{TableKind}
@@ -72,10 +71,10 @@ module _ (w : PlainRequest) (design table : List ℕ) where
   repair_refusals (Input r) (Flawed f n) p q = absurd q
   repair_refusals (Input r) (Input s) p q = inr (r, (s, (refl, (refl, one_repair_refusal w design table r s p q))))
 
-  not_refused : {ts : List Lexeme} {source : SourceText} {ss : List Site} {rows : Table} (a : Refusal) → IsTaken w design table ts source ss rows → RefusesRepair w design table a → ⊥
+  not_refused : {file : SourceFile} {ss : List Site} {rows : Table} (a : Refusal) → IsTaken w design table file ss rows → RefusesRepair w design table a → ⊥
   not_refused (TooManyBytes n) taken r = r
   not_refused (Flawed f n) taken r = r
-  not_refused {ts} {source} {ss} {rows} (Input refusal) taken r = taken_or_refused w design table ts source ss rows refusal taken r
+  not_refused {file} {ss} {rows} (Input refusal) taken r = taken_or_refused w design table file ss rows refusal taken r
 
   repair_or_refused : (v : Outcome) (a : Refusal) → ComesToRepair w design table v → RefusesRepair w design table a → ⊥
   repair_or_refused mended a u r = not_refused a u.taken r
@@ -312,7 +311,7 @@ module _ (c f : List ℕ) where
 
 -- ---- `make`
 module _ (seed : ℕ) (cert : List ℕ) where
-  make_not_refused : {ts : List Lexeme} {source : SourceText} {ss : List Site} {rows : Table} (a : Refusal) → IsTaken (made_request cert) (made_design seed) (made_table seed) ts source ss rows
+  make_not_refused : {file : SourceFile} {ss : List Site} {rows : Table} (a : Refusal) → IsTaken (made_request cert) (made_design seed) (made_table seed) file ss rows
       → RefusesMake seed cert a → ⊥
   make_not_refused a taken r = not_refused (made_request cert) (made_design seed) (made_table seed) a taken r
 

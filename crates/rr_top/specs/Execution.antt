@@ -71,8 +71,8 @@ pub record HoldsFiles (r : Execution) (answer : Answer) : Type 0 where
   pub held : r.after.held ≡ with_files r.before.held answer.files
   pub faults : r.after.faults ≡ r.before.faults
 
--- Status 0 of `repair`: the design and the table were read, the output has grown by exactly the source as it is, or with a
--- choice printed into it whose instance matches every known cell and costs least; the notes have grown by the report of this
+-- Status 0 of `repair`: the design and the table were read, the output has grown by exactly the file as it is, or with a choice
+-- printed into it: the tree of its expansion is the choice's instance, which matches every known cell and costs least; the notes have grown by the report of this
 -- choice, and the shelf holds the certificate that fewer changes do not match.
 pub record IsRepaired (r : Execution) (design_name table_name : List ℕ) (w : PlainRequest) : Type 0 where
   pub design : List ℕ
@@ -98,8 +98,8 @@ pub record IsBeyondRepair (r : Execution) (design_name table_name : List ℕ) (w
 
 -- Status 2 of `repair`: the design and the table were read, whether so many changes match is left open, and the shelf holds the
 -- question with the fresh lines that each member learned. Where these are changes of all sites, nothing was put out; where they
--- are fewer, the output has grown by exactly the source with a choice of one change more printed into it, whose tree is the
--- choice's instance, which matches every known cell.
+-- are fewer, the output has grown by exactly the file with a choice of one change more printed into it; the tree of its expansion
+-- is the choice's instance, which matches every known cell.
 pub record IsUnsettled (r : Execution) (design_name table_name : List ℕ) (w : PlainRequest) : Type 0 where
   pub design : List ℕ
   pub table : List ℕ
