@@ -18,7 +18,7 @@ use Rattle.rr_place_laws.proofs.ToldSites.{sites_spelled}
 use Rattle.rr_site_laws.proofs.Fit.{places_rise}
 use Rattle.rr_sites.specs.Lists.{HasSites}
 use Rattle.rr_sites.proofs.Given.{formed, numbered}
-use Rattle.rr_list_laws.specs.Exact.{AreExactly, ListsAreExact}
+use Rattle.rr_list_laws.specs.Exact.{AreExactly, FileListsAreExact, ListsAreExact}
 
 pub lists_are_exact : ListsAreExact
 lists_are_exact bytes top word tokens ss h =
@@ -43,3 +43,8 @@ lists_are_exact bytes top word tokens ss h =
       once = subst (λ (l : List Site). (j k : ℕ) (d : Site) → j < k → k < length l → get_or l j d ≡ get_or l k d → ⊥) (sym e) (sites_stand_once source scopes owners places g);
       spelled = λ s k. subst (λ (ws : List Word). IsSpelled ws k.is) h.design.text.spells.tree.spells.spelled (sites_spelled source scopes owners places g s k);
     }
+
+pub file_lists_are_exact : FileListsAreExact
+file_lists_are_exact file top word read ss h =
+    lists_are_exact read.text top word read.tokens h.listed
+    (record { source = read.source; flat = h.flat; clock = h.clock; rising = h.rising; design = h.design; lawful = h.lawful; one_clock = h.one_clock; are = h.are })

@@ -8,7 +8,8 @@ use Rattle.rr_clock.specs.Places.{Place, ArePlaces}
 use Rattle.rr_place_laws.specs.Kinds.{IsSite}
 use Rattle.rr_place_laws.specs.Order.{ComesBefore, Ordered}
 use Rattle.rr_place_laws.specs.Spelled.{IsSpelled}
-use Rattle.rr_sites.specs.Lists.{HasSites}
+use Rattle.rr_kept.specs.Read.{SourceFile}
+use Rattle.rr_sites.specs.Lists.{HasFileSites, HasSites}
 
 -- with the names that lead to the clock in an instance, it has exactly the sites of the modules that have instances, in their
 -- order, each once; and the tokens from that of a site on are the literal, the condition or the body
@@ -24,3 +25,8 @@ pub record AreExactly (source : SourceText) (flat : Flat) (clock : Option ℕ) (
 abbrev pub ListsAreExact : Type 0
 ListsAreExact =
     (bytes : List ℕ) (top word : Option (List ℕ)) (tokens : List Lexeme) (ss : List Site) → (h : HasSites bytes top word tokens ss) → AreExactly h.source h.flat h.clock tokens ss
+
+-- and of the list of which those are told that can be changed in a file
+abbrev pub FileListsAreExact : Type 0
+FileListsAreExact =
+    (file : List ℕ) (top word : Option (List ℕ)) (read : SourceFile) (ss : List Site) → (h : HasFileSites file top word read ss) → AreExactly read.source h.flat h.clock read.tokens h.listed
