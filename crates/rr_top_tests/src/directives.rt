@@ -1,5 +1,7 @@
-//! Designs with compiler directives: `run` expands them, `repair` and `sites` refuse them.
+//! Designs with compiler directives: they are expanded, and changes are made in the file.
+use crate::repairs::{Case, check};
 use crate::runs::{prints, refuses};
+use crate::shelves::NONE;
 
 const WORDS: &str = "rtl_repair run d.v t.csv";
 
@@ -7,6 +9,16 @@ const STEP: &str =
     "`define STEP 4'd2\nmodule m(input clk, output reg [3:0] q);\n  always @(posedge clk) q <= q + `STEP;\nendmodule\n";
 
 const STEPS: &str = "q\n0\n1\n2\n3\n";
+
+/// A counter by two whose other literal stands in a macro, in a branch that is taken.
+const COUNTER: &str = "`define ZERO 4'd0\n`ifdef FAST\n`else\nmodule counter(input clk, input rst, output reg [3:0] q);\n  always @(posedge clk)\n    if (rst) q <= `ZERO;\n    else q <= q + 4'd2;\nendmodule\n`endif\n";
+
+/// Files that have no expansion.
+const FAULTS: [(&str, &str); 3] = [
+    ("`A", "refused 38 UnknownMacro at 0\n"),
+    ("`ifdef A", "refused 39 BadDirective at 0\n"),
+    ("`define A `A\n`A", "refused 40 MacroLoop at 13\n"),
+];
 
 /// Files that `run` refuses for their directives, or for what they expand to, at a byte of the file.
 const REFUSED: [(&str, &str); 8] = [
@@ -51,9 +63,76 @@ fn run_refuses_directives(rt: HostRuntime) {
     }
 }
 
+/// The step stands in a macro: only the last assignment of the register can be made in the file.
 #[test]
-fn others_do_not_expand(rt: HostRuntime) {
-    let notes = "refused 4 Directive at 0\n";
-    refuses(&rt, "rtl_repair repair d.v t.csv c", STEP, STEPS, notes);
-    refuses(&rt, "rtl_repair sites d.v", STEP, STEPS, notes);
+fn sites_of_the_file_are_listed(rt: HostRuntime) {
+    prints(
+        &rt,
+        "rtl_repair sites d.v",
+        STEP,
+        "",
+        "0 overwrite 83 q guards 0\n",
+    );
+    prints(
+        &rt,
+        "rtl_repair sites d.v",
+        COUNTER,
+        "",
+        "0 overwrite 122 q guards 1\n1 guard 126 guards 1\n2 literal 161 4'h2\n",
+    );
+}
+
+/// A name is cut nowhere: the condition ends within what the file reads as one, so no guard is put behind it.
+#[test]
+fn names_are_not_cut(rt: HostRuntime) {
+    prints(
+        &rt,
+        "rtl_repair sites d.v",
+        "`define Y */\nmodule m(input clk,input s,input a,output reg q);always @(posedge clk) if((* \\z*)a/*c `Y ) q<=1'b1;endmodule",
+        "",
+        "0 overwrite 84 q guards 3\n1 literal 107 1'h1\n",
+    );
+}
+
+/// A step in a macro is no site, and no other change makes the counter right.
+const IN_A_MACRO: Case = Case {
+    words: "rtl_repair repair d.v t.csv c",
+    design: STEP,
+    table: STEPS,
+    shelf_fails: NONE,
+    out_fails: NONE,
+    notes_fails: NONE,
+    room: 1000,
+    status: 1,
+    out: "",
+    notes: "no repair\nsites 1\n",
+    certified: 3,
+};
+
+/// The macro and the branches stay as they stood.
+const BESIDE_MACROS: Case = Case {
+    design: COUNTER,
+    table: "rst,q\n1,0\n0,0\n0,1\n0,2\n0,3\n",
+    status: 0,
+    out: "`define ZERO 4'd0\n`ifdef FAST\n`else\nmodule counter(input clk, input rst, output reg [3:0] q);\n  always @(posedge clk)\n    if (rst) q <= `ZERO;\n    else q <= q +  4'h1 ;\nendmodule\n`endif\n",
+    notes: "repaired 1\nsite 2 literal 161 4'h1\nproposals 1\n",
+    ..IN_A_MACRO
+};
+
+#[test]
+fn a_step_in_a_macro_stays(rt: HostRuntime) {
+    check(&rt, &IN_A_MACRO);
+}
+
+#[test]
+fn files_are_repaired(rt: HostRuntime) {
+    check(&rt, &BESIDE_MACROS);
+}
+
+#[test]
+fn all_refuse_directives(rt: HostRuntime) {
+    for (design, notes) in FAULTS.iter() {
+        refuses(&rt, "rtl_repair repair d.v t.csv c", *design, "", *notes);
+        refuses(&rt, "rtl_repair sites d.v", *design, "", *notes);
+    }
 }
