@@ -3,9 +3,9 @@ use Rattle.std.proofs.Common.{◌≡◌, ◌∙◌, inl, inr, ℕ, List, [], sym
 use Rattle.rr_made.specs.Made.{made_design, made_table}
 use Rattle.rr_report.specs.Found.{Answer, File}
 use Rattle.rr_repair.specs.Repairs.{CountsRepair}
-use Rattle.rr_repair.specs.Laws.{TellsOutcome}
-use Rattle.rr_repair.specs.Outcomes.{IsDespaired}
-use Rattle.rr_repair.proofs.Told.{each_answer}
+use Rattle.rr_outcomes.specs.Laws.{TellsOutcome}
+use Rattle.rr_outcomes.specs.Outcomes.{IsDespaired}
+use Rattle.rr_outcomes.proofs.Told.{each_answer}
 use Rattle.rr_make.specs.Makes.{AnswersMake, made_request, summary}
 
 -- an answer that agrees with a repair's in all that is told

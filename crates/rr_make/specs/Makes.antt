@@ -6,7 +6,7 @@ use Rattle.rr_run.specs.declared.rows.TableKind.TheVariants.{Csv}
 use Rattle.rr_report.specs.Found.{Answer}
 use Rattle.rr_report.specs.Refusals.{Refusal}
 use Rattle.rr_repair.specs.Repairs.{IsLeastCount, RefusesRepair, PlainRequest}
-use Rattle.rr_repair.specs.Outcomes.{IsDespaired, IsLeftOpen, IsMended, IsUnmendable}
+use Rattle.rr_outcomes.specs.Outcomes.{IsDespaired, IsLeftOpen, IsMended, IsUnmendable}
 
 -- what is asked: a table of comma-separated values, the top and the clock that the design tells, and 4 members of 20,000 lines
 abbrev pub made_request : List ℕ → PlainRequest

@@ -1,4 +1,2 @@
 mod Counting
 mod Telling
-pub mod Once
-pub mod Told

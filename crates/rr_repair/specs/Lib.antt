@@ -1,4 +1,2 @@
 pub mod Repairs
 pub mod Views
-pub mod Laws
-pub mod Outcomes

@@ -3,17 +3,14 @@
 //! changes whose run matches each known cell, with a certificate that fewer do not; or shows that no
 //! changes do; or says which question was left open, and prints the source with the changes that were found
 //! to match by then. It stands on `rr_sites` for the design and its sites, `rr_blast` for its cycle,
-//! `rr_search` for the search, and `rr_answers` for what is done. Its laws say that what a design and its
-//! table come to is decided by their bytes alone, and that each answer tells it or leaves it open.
+//! `rr_search` for the search, and `rr_answers` for what is done.
 #![tactic(auto)]
 
 mod counted;
 mod judging;
-mod laws;
 mod request;
 mod working;
 
 pub use counted::Counted;
 pub use judging::{repair, repair_counted};
-pub use laws::{repair_answers, repair_outcomes};
 pub use request::Request;

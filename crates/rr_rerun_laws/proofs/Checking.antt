@@ -12,7 +12,7 @@ use Rattle.rr_certify.proofs.Certified.{same_verdict}
 use Rattle.rr_report.specs.Found.{Answer, File}
 use Rattle.rr_answers.specs.Certified.{certificate}
 use Rattle.rr_repair.specs.Repairs.{PlainRequest}
-use Rattle.rr_repair.specs.Outcomes.{IsDespaired, IsMended}
+use Rattle.rr_outcomes.specs.Outcomes.{IsDespaired, IsMended}
 use Rattle.rr_rerun_laws.specs.Checks.{AreAccepted}
 
 written : (cert : List ℕ) (files : List File) (circuit : OutputNetlist) (proof : Proof) → files ≡ certificate cert circuit proof → IsJudged (aag circuit) (lrat proof) Accepted → AreAccepted cert files

@@ -5,7 +5,7 @@ use Rattle.rr_check.specs.declared.verdict.Verdict.TheVariants.{Accepted}
 use Rattle.rr_certify.specs.Certificates.{IsJudged}
 use Rattle.rr_report.specs.Found.{Answer, File}
 use Rattle.rr_repair.specs.Repairs.{PlainRequest}
-use Rattle.rr_repair.specs.Outcomes.{IsDespaired, IsMended}
+use Rattle.rr_outcomes.specs.Outcomes.{IsDespaired, IsMended}
 
 -- the files of a certificate with this name: a circuit, a formula and a proof; circuit and proof have one verdict, that the
 -- proof is accepted

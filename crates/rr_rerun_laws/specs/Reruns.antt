@@ -17,7 +17,7 @@ use Rattle.rr_run.specs.Runs.{IsLawfulDesign, IsRun}
 use Rattle.rr_run.specs.Files.{IsFileRun}
 use Rattle.rr_report.specs.Found.{Answer}
 use Rattle.rr_repair.specs.Repairs.{PlainRequest}
-use Rattle.rr_repair.specs.Outcomes.{IsLeftOpen, IsMended}
+use Rattle.rr_outcomes.specs.Outcomes.{IsLeftOpen, IsMended}
 
 -- the bytes are a lawful design, and the text is the table of the rows, read as a table of this kind, with the outputs of its run
 -- on them, which equal each known cell of the table

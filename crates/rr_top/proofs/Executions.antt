@@ -25,10 +25,10 @@ use Rattle.rr_effects.specs.Reads.{AbsentAt, Gave, Given}
 use Rattle.rr_effects.specs.Delivery.{Delivers, Reports, with_files}
 use Rattle.rr_answers.specs.Texts.{unchanged_text}
 use Rattle.rr_repair.specs.Repairs.{AnswersRepair, PlainRequest}
-use Rattle.rr_repair.specs.Laws.{TellsOutcome}
-use Rattle.rr_repair.specs.Outcomes.{IsAsItWas, IsMatchingSource}
-use Rattle.rr_repair.proofs.Once.{matching_mends}
-use Rattle.rr_repair.proofs.Told.{ample_settles, each_answer, matching_stays, prints_found}
+use Rattle.rr_outcomes.specs.Laws.{TellsOutcome}
+use Rattle.rr_outcomes.specs.Outcomes.{IsAsItWas, IsMatchingSource}
+use Rattle.rr_outcomes.proofs.Once.{matching_mends}
+use Rattle.rr_outcomes.proofs.Told.{ample_settles, each_answer, matching_stays, prints_found}
 use Rattle.rr_make.specs.Makes.{TellsMake}
 use Rattle.rr_make.proofs.Once.{each_make}
 use Rattle.rr_top.specs.Outcomes.{Outcome, mended, unmendable, ran, listed, checked, made, IsToldBy, Tells, outcome_status, verdict_status}

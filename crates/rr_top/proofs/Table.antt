@@ -16,10 +16,10 @@ use Rattle.rr_check.specs.declared.verdict.Verdict.{Verdict}
 use Rattle.rr_report.specs.Found.{Answer}
 use Rattle.rr_report.specs.Refusals.{Refusal, TooManyBytes, Input, Flawed}
 use Rattle.rr_repair.specs.Repairs.{AnswersRepair, IsTaken, RefusesRepair, PlainRequest}
-use Rattle.rr_repair.specs.Laws.{TellsOutcome}
-use Rattle.rr_repair.specs.Outcomes.{IsLeftOpen}
-use Rattle.rr_repair.proofs.Once.{mendable_or_not, one_refusal as one_repair_refusal, taken_or_refused}
-use Rattle.rr_repair.proofs.Told.{each_answer, printed_is_mendable}
+use Rattle.rr_outcomes.specs.Laws.{TellsOutcome}
+use Rattle.rr_outcomes.specs.Outcomes.{IsLeftOpen}
+use Rattle.rr_outcomes.proofs.Once.{mendable_or_not, one_refusal as one_repair_refusal, taken_or_refused}
+use Rattle.rr_outcomes.proofs.Told.{each_answer, printed_is_mendable}
 use Rattle.rr_made.specs.Made.{made_design, made_table}
 use Rattle.rr_make.specs.Makes.{RefusesMake, TellsMake, made_request}
 use Rattle.rr_make.proofs.Once.{each_make, one_summary, summary_or_none}

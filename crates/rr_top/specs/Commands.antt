@@ -14,7 +14,7 @@ use Rattle.rr_report.specs.Found.{Answer}
 use Rattle.rr_report.specs.Refusals.{Refusal, TooManyBytes, Input, Flawed}
 use Rattle.rr_effects.specs.Reads.{Gave, Given, RefusesReads}
 use Rattle.rr_repair.specs.Repairs.{AnswersRepair, RefusesRepair, PlainRequest}
-use Rattle.rr_repair.specs.Outcomes.{IsLeftOpen, IsMendable, IsUnmendable}
+use Rattle.rr_outcomes.specs.Outcomes.{IsLeftOpen, IsMendable, IsUnmendable}
 use Rattle.rr_make.specs.Makes.{AnswersMake, IsMadeOpen, IsNeverMade, IsSummary, RefusesMake}
 use Rattle.rr_top.specs.Kinds.{kind_of}
 use Rattle.rr_top.specs.Outcomes.{Outcome, mended, unmendable, ran, listed, checked, made, IsToldBy, verdict_status}

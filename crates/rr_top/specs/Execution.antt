@@ -26,7 +26,7 @@ use Rattle.rr_effects.specs.Reads.{AbsentAt, Gave, IsRead}
 use Rattle.rr_effects.specs.Delivery.{Reports, StopsAtWrite, file_at, with_files}
 use Rattle.rr_answers.specs.Texts.{unchanged_text}
 use Rattle.rr_repair.specs.Repairs.{PlainRequest}
-use Rattle.rr_repair.specs.Outcomes.{IsAmple, IsDespaired, IsLeftOpen, IsMatching, IsMatchingSource, IsMended}
+use Rattle.rr_outcomes.specs.Outcomes.{IsAmple, IsDespaired, IsLeftOpen, IsMatching, IsMatchingSource, IsMended}
 use Rattle.rr_made.specs.Made.{made_design, made_table}
 use Rattle.rr_make.specs.Makes.{IsMadeCount, IsMadeOpen, IsUnmade, made_request, summary}
 use Rattle.rr_top.specs.Outcomes.{Outcome, mended, unmendable, ran, listed, checked, made}

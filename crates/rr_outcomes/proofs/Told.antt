@@ -7,9 +7,9 @@ use Rattle.rr_trace.specs.Tables.{Table}
 use Rattle.rr_unroll.specs.Matches.{Matches}
 use Rattle.rr_report.specs.Found.{Answer}
 use Rattle.rr_repair.specs.Repairs.{IsAnswer, IsBeyond, IsFound, IsNothingFound, IsOpen, IsRepaired, IsTaken, IsUnchanged, PlainRequest, design_of}
-use Rattle.rr_repair.specs.Outcomes.{IsAsItWas, IsMatchingSource}
-use Rattle.rr_repair.specs.Laws.{AmpleSettles, EachAnswer, MatchingStays, PrintedIsMendable, PrintsFound, TellsOutcome}
-use Rattle.rr_repair.proofs.Once.{matching_mends, moved_matches, one_taking}
+use Rattle.rr_outcomes.specs.Outcomes.{IsAsItWas, IsMatchingSource}
+use Rattle.rr_outcomes.specs.Laws.{AmpleSettles, EachAnswer, MatchingStays, PrintedIsMendable, PrintsFound, TellsOutcome}
+use Rattle.rr_outcomes.proofs.Once.{matching_mends, moved_matches, one_taking}
 
 module _ (w : PlainRequest) (design table : List ℕ) (answer : Answer) (a : SourceFile) (ss : List Site) (x : Table) (taken : IsTaken w design table a ss x) where
   of_unchanged : IsUnchanged w design a.source x answer → TellsOutcome w design table answer

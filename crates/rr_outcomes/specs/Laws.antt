@@ -6,8 +6,8 @@ use Rattle.rr_kept.specs.Read.{SourceFile}
 use Rattle.rr_run.specs.Refusals.{Refusal as RunRefusal}
 use Rattle.rr_run.specs.Runs.{IsSameRefusal}
 use Rattle.rr_report.specs.Found.{Answer}
-use Rattle.rr_repair.specs.Repairs.{AnswersRepair, IsTaken, Refuses, PlainRequest}
-use Rattle.rr_repair.specs.Outcomes.{IsAmple, IsAsItWas, IsDespaired, IsLeftOpen, IsMatching, IsMatchingSource, IsMendable, IsMended, IsUnmendable}
+use Rattle.rr_repair.specs.Repairs.{AnswersRepair, CountsRepair, IsLeastCount, IsTaken, Refuses, PlainRequest}
+use Rattle.rr_outcomes.specs.Outcomes.{IsAmple, IsAsItWas, IsDespaired, IsLeftOpen, IsMatching, IsMatchingSource, IsMendable, IsMended, IsUnmendable}
 
 -- two ways to take the files are one
 pub record IsOneTaking (a b : SourceFile) (ss rs : List Site) (x y : Table) : Type 0 where
@@ -60,3 +60,22 @@ AmpleSettles = (w : PlainRequest) (design table : List ℕ) (answer : Answer) �
 -- where the design matches as it is, each answer prints it so
 abbrev pub MatchingStays : Type 0
 MatchingStays = (w : PlainRequest) (design table : List ℕ) (answer : Answer) → IsMatching w design table → AnswersRepair w design table answer → IsAsItWas design answer
+
+-- two requests that read the files in one way: the budget, the members and the name of the certificate may differ
+pub record AreAlike (v w : PlainRequest) : Type 0 where
+  pub kind : v.kind ≡ w.kind
+  pub top : v.top ≡ w.top
+  pub clock : v.clock ≡ w.clock
+
+-- by both the files have one least number of changes
+abbrev pub OneCount : Type 0
+OneCount = (v w : PlainRequest) (design table : List ℕ) (k n : ℕ) → AreAlike v w → IsLeastCount v design table k → IsLeastCount w design table n → k ≡ n
+
+-- and not by one some changes match, and none by the other
+abbrev pub OneVerdict : Type 0
+OneVerdict = (v w : PlainRequest) (design table : List ℕ) → AreAlike v w → IsMendable v design table → IsUnmendable w design table → ⊥
+
+-- so answers of status 0 have one number of changes, and none has status 1 beside them
+abbrev pub CountsAgree : Type 0
+CountsAgree = (v w : PlainRequest) (design table : List ℕ) (a b : Answer) (k n : ℕ) → AreAlike v w → CountsRepair v design table a k → CountsRepair w design table b n → a.status ≡ 0 →
+    (b.status ≡ 0 → k ≡ n) × (b.status ≡ 1 → ⊥)

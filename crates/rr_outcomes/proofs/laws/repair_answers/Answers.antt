@@ -1,5 +1,5 @@
-use Rattle.rr_repair.proofs.Told.{ample_settles, each_answer, matching_stays, printed_is_mendable, prints_found}
-use Rattle.rr_repair.proofs.laws.repair_answers.Goals as goal
+use Rattle.rr_outcomes.proofs.Told.{ample_settles, each_answer, matching_stays, printed_is_mendable, prints_found}
+use Rattle.rr_outcomes.proofs.laws.repair_answers.Goals as goal
 
 pub returns-clause-each : goal.returns-clause-each
 returns-clause-each c = each_answer

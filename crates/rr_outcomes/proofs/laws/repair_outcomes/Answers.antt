@@ -1,5 +1,5 @@
-use Rattle.rr_repair.proofs.Once.{one_taking, one_refusal, taken_or_refused, mendable_or_not, matching_mends}
-use Rattle.rr_repair.proofs.laws.repair_outcomes.Goals as goal
+use Rattle.rr_outcomes.proofs.Once.{one_taking, one_refusal, taken_or_refused, mendable_or_not, matching_mends}
+use Rattle.rr_outcomes.proofs.laws.repair_outcomes.Goals as goal
 
 pub returns-clause-taking : goal.returns-clause-taking
 returns-clause-taking c = one_taking

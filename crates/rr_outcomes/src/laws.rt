@@ -1,5 +1,5 @@
 //! Laws of what files come to, as contracts of functions that do nothing.
-ghost use Rattle.rr_repair.specs.Laws.{AmpleSettles, EachAnswer, MatchingIsMendable, MatchingStays, MendableOrNot, OneRefusal, OneTaking, PrintedIsMendable, PrintsFound, TakenOrRefused};
+ghost use Rattle.rr_outcomes.specs.Laws.{AmpleSettles, CountsAgree, EachAnswer, MatchingIsMendable, MatchingStays, MendableOrNot, OneCount, OneRefusal, OneTaking, OneVerdict, PrintedIsMendable, PrintsFound, TakenOrRefused};
 
 /// Two files are taken in one way or refused by one refusal, but for the byte that is told of a text
 /// without a tree; and not some choice matches where none does.
@@ -21,4 +21,13 @@ pub fn repair_answers()
     ensures printed { PrintedIsMendable }
     ensures stays { MatchingStays }
     ensures settles { AmpleSettles }
+{}
+
+/// The least number of changes depends on nothing but the files, the kind of the table, the top and the
+/// clock: not on the budget, the members or the name of the certificate. So two answers with status 0 have
+/// one number of changes, and none has status 1 where another has status 0.
+pub fn repair_counts()
+    ensures count { OneCount }
+    ensures verdict { OneVerdict }
+    ensures answers { CountsAgree }
 {}

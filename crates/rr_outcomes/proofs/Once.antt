@@ -23,7 +23,7 @@ use Rattle.rr_sites.specs.Lines.{site_lines}
 use Rattle.rr_sites.specs.Lists.{HasFileSites, RefusesSites}
 use Rattle.rr_sites.proofs.Once.{lawful_of as file_of, one_file, text_or_refusal, one_refusal as one_site_refusal}
 use Rattle.rr_repair.specs.Repairs.{HasMuchWork, HasNoTable, IsSited, IsTaken, Refuses, PlainRequest, design_of, work_of}
-use Rattle.rr_repair.specs.Laws.{IsOneTaking, OneTaking, OneRefusal, TakenOrRefused, MendableOrNot, MatchingIsMendable}
+use Rattle.rr_outcomes.specs.Laws.{IsOneTaking, OneTaking, OneRefusal, TakenOrRefused, MendableOrNot, MatchingIsMendable}
 
 module _ (w : PlainRequest) (design : List ℕ) where
   -- ---- a design with its sites
