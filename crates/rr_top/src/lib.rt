@@ -114,9 +114,8 @@ fn conduct<R: Threads + Sync, H: Shelf, K: Sink, E: Sink>(
 ///
 /// The commands are `repair DESIGN TABLE CERT`, `run DESIGN TABLE`, `sites DESIGN`,
 /// `check CIRCUIT PROOF` and `make SEED CERT`, which reads nothing. A TABLE whose name ends with `.vcd` is
-/// read as a value change dump. Only `repair` and `make` write to the shelf: the files `CERT.aag`,
-/// `CERT.cnf` and `CERT.lrat`. Only `run` expands the compiler directives of its design; the others refuse
-/// what they would have to expand.
+/// read as a value change dump. The compiler directives of a DESIGN are expanded, and changes are made in
+/// the file. Only `repair` and `make` write to the shelf: the files `CERT.aag`, `CERT.cnf` and `CERT.lrat`.
 pub fn run<R: Threads + Sync, H: Shelf, K: Sink, E: Sink>(
     rt: &R,
     alloc: Global,
@@ -135,7 +134,7 @@ pub fn run<R: Threads + Sync, H: Shelf, K: Sink, E: Sink>(
     ensures kept { AsksNoRepair (map string_bytes arguments.now) → H.told shelf.new ≡ H.told shelf.old }
 
     // Status 0. Of `repair`: the bytes put out are the design as it is, which matches every known cell, and the shelf
-    // stays; or they are printed from an instance of the design with k changes, whose tree they have, which matches
+    // stays; or they are the file with k changes made in it, whose expansion has as its tree an instance that matches
     // every known cell, no instance with fewer does, and the shelf holds the refutation of fewer. Of `run`: the bytes put
     // out are the table of the rows that were read with the outputs of the one run of the design on them. Of `sites`: the
     // bytes put out are the lines of the sites of the design that was read. Of `check`: `accepted` is put out, and the proof
@@ -162,8 +161,8 @@ pub fn run<R: Threads + Sync, H: Shelf, K: Sink, E: Sink>(
 
     // Status 2, of `repair` and `make` alone: whether so many changes match is open, and the shelf holds the question, with as
     // many fresh lines of each member as it may learn. Of `repair`: where these are changes of all sites, nothing is put out;
-    // where they are fewer, the bytes put out are printed from an instance of the design with one change more, whose tree they
-    // have, which matches every known cell, and nothing says that no instance with fewer does. Of `make`: nothing is put out,
+    // where they are fewer, the bytes put out are the file with one change more made in it, whose expansion has as its tree an
+    // instance that matches every known cell, and nothing says that no instance with fewer does. Of `make`: nothing is put out,
     // and what such a repair reports is reported.
     ensures left_open { result ≡ 2 → WhereCommand (map string_bytes arguments.now) (LeavesOpen
         (execution (map string_bytes arguments.now)
