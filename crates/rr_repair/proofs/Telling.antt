@@ -45,7 +45,7 @@ use Rattle.rr_sites.specs.Lists.{AreSites}
 use Rattle.rr_directive.specs.Expand.{IsExpansion}
 use Rattle.rr_kept.specs.Kept.{AreKept}
 use Rattle.rr_kept.specs.Read.{IsRead, SourceFile}
-use Rattle.rr_kept.proofs.Sublists.{kept_are_named}
+use Rattle.rr_kept.proofs.Together.{kept_are_named}
 use Rattle.rr_map.specs.Printed.{printed_file, printed_text, ExpandsTo}
 use Rattle.rr_run.specs.Files.{placed_tokens}
 use Rattle.rr_changes.specs.Texts.{report}

@@ -2,6 +2,7 @@
 use Rattle.std.proofs.Common.{◌≡◌, ◌∙◌, ℕ, ◌<◌, ◌^◌, Bool, List, [], ◌∷◌, length, Option, Result, Ok, Err, inl, inr, sym, subst, ap, refl, arith}
 use Rattle.std.specs.Prelude.{IfOk, MatchResult}
 use Rattle.std.proofs.lemmas.List.{length-map}
+use Rattle.std.proofs.lemmas.List.Elements.{All-from_recursion, recursion_from_All}
 use Rattle.rr_syntax.specs.declared.token.Token.{Token}
 use Rattle.rr_syntax.specs.Items.{spell_source, WellFormedSource, NumberedSource}
 use Rattle.rr_syntax.specs.Tree.{SourceText}
@@ -15,7 +16,7 @@ use Rattle.rr_walk.specs.Walk.{flat_of}
 use Rattle.rr_elaborate.specs.Designs.{IsDesignOf}
 use Rattle.rr_clock.specs.Places.{Place, ArePlaces}
 use Rattle.rr_choice.specs.Sites.{Site}
-use Rattle.rr_lawful_instance.specs.Listed.{AreRight}
+use Rattle.rr_lawful_instance.specs.Listed.{AreRight, KindIsRight}
 use Rattle.rr_expr.specs.Scopes.{Names}
 use Rattle.rr_listing.specs.Listing.{AreFitScopes, sites_of}
 use Rattle.rr_run.specs.declared.fault.RunFault.{RunFault}
@@ -25,6 +26,7 @@ use Rattle.rr_site_laws.proofs.Whole.{sites_are_right}
 use Rattle.rr_directive.specs.declared.origin.Origin.{Origin}
 use Rattle.rr_directive.specs.Expand.{IsTaken}
 use Rattle.rr_kept.specs.Kept.{AreKept}
+use Rattle.rr_kept.proofs.Together.{kept_all}
 use Rattle.rr_kept.specs.Read.{SourceFile}
 use Rattle.rr_run.specs.Files.{RefusesFileDesign, placed_tokens}
 use Rattle.rr_sites.specs.Lists.{AreSites, HasFileSites, HasManySites, IsFewText, IsSiteText, RefusesMany, RefusesSites}
@@ -63,7 +65,9 @@ pub kept_right : (origins : List Origin) (ts : List Lexeme) (source : SourceText
 kept_right origins ts source flat word listed ss k r = record {
   formed = r.formed;
   numbered = r.numbered;
-  each = subst (λ (xs : List Site). AllByRecursion (λ s. KindIsRight source flat word s.token s.kind) xs) (sym k) (filter_all (λ (s : Site). KindIsRight source flat word s.token s.kind) (is_kept origins ts source) listed r.each);
+  each =
+      recursion_from_All (λ (s : Site). KindIsRight source flat word s.token s.kind) ss
+      (kept_all (λ (s : Site). KindIsRight source flat word s.token s.kind) origins ts source listed ss k (All-from_recursion (λ (s : Site). KindIsRight source flat word s.token s.kind) listed r.each));
 }
 
 module _ (bytes : List ℕ) (ts : List Lexeme) (source : SourceText) (top : Option Text) (flat : Flat) (d : IsDesignOf bytes ts source top flat) where
