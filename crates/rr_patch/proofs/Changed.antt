@@ -2,12 +2,16 @@
 use Rattle.std.proofs.Common.{◌≡◌, ◌⊎◌, inl, inr, ℕ, zero, suc, ◌+◌, ◌-◌, ◌<◌, ◌≤◌, ◌==◌, ◌&&◌, not, Bool, true, false, if◌then◌else◌, List, [], ◌∷◌, ◌++◌, take, drop, get_or, Option, Some, None, refl, sym, ◌∙◌, ap, ap₂, subst, length, append-nil, arith, add-one, drop-cons, length-drop}
 use Rattle.std.proofs.lemmas.Bool.{eq-eqb, eqb-true, cases_Bool}
 use Rattle.rr_lex.specs.Tokens.{Lexeme, words_of}
-use Rattle.rr_lex.specs.Patch.{New, token_text, run_end, run_text, patched}
+use Rattle.rr_lex.specs.Patch.{New, token_text, run_end}
 use Rattle.rr_respell.specs.Pieces.{Piece, Kept, Replaced, Put, source_words, run_of, edits}
 use Rattle.std.proofs.lemmas.List.Elements.{All-rest, All-tail}
-use Rattle.std.proofs.lemmas.List.{append_assoc, drop-drop, take_all}
+use Rattle.std.proofs.lemmas.List.{append_assoc, map-append, take_all}
 use Rattle.rr_patch.specs.declared.change.Change.{Change as Made}
-use Rattle.rr_patch.specs.Changes.{plain_added, plain_change, plain_changes, IsFitAdded, AreFit, Change, changes, is_over_at, is_before_at, over_at, after_over, run_at, after_run, changed}
+use Rattle.rr_patch.specs.Changes.{plain_added, plain_change, plain_changes, IsFitAdded, AreFit, Change, changes, is_over_at, is_before_at, over_at, after_over, run_at, after_run, made_edits}
+use Rattle.rr_edit.specs.declared.edit.Edit.{Edit as MadeEdit}
+use Rattle.rr_edit.specs.Edits.{Edit}
+use Rattle.rr_edit.specs.View.{plain_edit, plain_edits}
+use Rattle.rr_patch.specs.Edits.{byte_edits, replaced_edit, run_edit}
 use Rattle.rr_respell.proofs.PrintedTree.{no_words, same_rest}
 
 same_place : (k : ℕ) → (k == k) ≡ true
@@ -100,39 +104,36 @@ rest_is k (Put n ∷ xs) =
     ap (λ t. if t then after_run k (changes k xs) else record { place = k; over = false; new = n } ∷ changes k xs) (same_place k) ∙ rest_is k xs
 
 -- a token with what follows it
-one_more : (k at : ℕ) (bs : List ℕ) (t : Lexeme) (ts : List Lexeme) (o : Option New) (cs ds : List Change) (xs : List Piece) →
+one_more : (k : ℕ) (t : Lexeme) (ts : List Lexeme) (o : Option New) (cs ds : List Change) (xs : List Piece) →
     over_at k cs ≡ o → after_over k cs ≡ ds → ds ≡ changes (k + 1) xs →
-    changed (k + 1) t.end (drop (t.end - at) bs) ts (changes (k + 1) (past xs)) ≡ patched t.end (drop (t.end - at) bs) ts (edits xs) →
-    changed k at bs (t ∷ ts) cs ≡ patched at bs (t ∷ ts) (record { text = o; run = run_of xs } ∷ edits xs)
-unfolding changed
-one_more k at bs t ts o cs ds xs e f g h =
+    made_edits (k + 1) ts (changes (k + 1) (past xs)) ≡ byte_edits ts (edits xs) →
+    made_edits k (t ∷ ts) cs ≡ byte_edits (t ∷ ts) (record { text = o; run = run_of xs } ∷ edits xs)
+unfolding made_edits byte_edits
+one_more k t ts o cs ds xs e f g h =
     let r : run_at (k + 1) (after_over k cs) ≡ run_of xs = ap (run_at (k + 1)) (f ∙ g) ∙ run_is (k + 1) xs in
     let a : after_run (k + 1) (after_over k cs) ≡ changes (k + 1) (past xs) = ap (after_run (k + 1)) (f ∙ g) ∙ rest_is (k + 1) xs in
-    let old : List ℕ = take (t.end - t.start) (drop (t.start - at) bs) in
-    append_assoc (take (t.start - at) bs) (token_text (over_at k cs) old ++ run_text (run_at (k + 1) (after_over k cs))) _
-    ∙ ap (λ (l : List ℕ). take (t.start - at) bs ++ l)
-    (append_assoc (token_text (over_at k cs) old) (run_text (run_at (k + 1) (after_over k cs))) _
-    ∙ ap₂ (λ (x y : List ℕ). x ++ y) (ap (λ (x : Option New). token_text x old) e)
-    (ap₂ (λ (x y : List ℕ). x ++ y) (ap run_text r) (ap (changed (k + 1) t.end (drop (t.end - at) bs) ts) a ∙ h)))
+    append_assoc (replaced_edit (over_at k cs) t) (run_edit (run_at (k + 1) (after_over k cs)) t) _
+    ∙ ap₂ (λ (x y : List Edit). x ++ y) (ap (λ (x : Option New). replaced_edit x t) e)
+    (ap₂ (λ (x y : List Edit). x ++ y) (ap (λ (x : List New). run_edit x t) r) (ap (made_edits (k + 1) ts) a ∙ h))
 
 put_run : {A : Type 0} (n : New) (ns : List New) → n ∷ ns ≡ [] → A
 put_run n ns e = absurd (cc e)
 
-pub changed_is : (k at : ℕ) (bs : List ℕ) (ts : List Lexeme) (xs : List Piece) → run_of xs ≡ [] → words_of ts ≡ source_words xs → changed k at bs ts (changes k xs) ≡ patched at bs ts (edits xs)
-unfolding changed changes source_words edits run_of over_at after_over
-changed_is k at bs [] xs r e = refl
-changed_is k at bs (t ∷ ts) [] r e = no_words t.word (words_of ts) (sym e)
-changed_is k at bs (t ∷ ts) (Kept w ∷ xs) r e =
+pub made_is : (k : ℕ) (ts : List Lexeme) (xs : List Piece) → run_of xs ≡ [] → words_of ts ≡ source_words xs → made_edits k ts (changes k xs) ≡ byte_edits ts (edits xs)
+unfolding made_edits changes source_words edits run_of over_at after_over byte_edits
+made_is k [] xs r e = refl
+made_is k (t ∷ ts) [] r e = no_words t.word (words_of ts) (sym e)
+made_is k (t ∷ ts) (Kept w ∷ xs) r e =
     let b : Behind k (changes (k + 1) xs) = behind k (k + 1) xs (omega arith) in
-    let next = changed_is (k + 1) t.end (drop (t.end - at) bs) ts (past xs) (past_run xs) (same_rest t.word w (words_of ts) (source_words xs) e ∙ sym (past_words xs)) in
-    one_more k at bs t ts None (changes (k + 1) xs) (changes (k + 1) xs) xs (over_behind k (changes (k + 1) xs) b) (after_over_behind k (changes (k + 1) xs) b) refl
-    (next ∙ ap (patched t.end (drop (t.end - at) bs) ts) (past_edits xs))
-changed_is k at bs (t ∷ ts) (Replaced w n ∷ xs) r e =
-    let next = changed_is (k + 1) t.end (drop (t.end - at) bs) ts (past xs) (past_run xs) (same_rest t.word w (words_of ts) (source_words xs) e ∙ sym (past_words xs)) in
-    one_more k at bs t ts (Some n) (record { place = k; over = true; new = n } ∷ changes (k + 1) xs) (changes (k + 1) xs) xs
+    let next = made_is (k + 1) ts (past xs) (past_run xs) (same_rest t.word w (words_of ts) (source_words xs) e ∙ sym (past_words xs)) in
+    one_more k t ts None (changes (k + 1) xs) (changes (k + 1) xs) xs (over_behind k (changes (k + 1) xs) b) (after_over_behind k (changes (k + 1) xs) b) refl
+    (next ∙ ap (byte_edits ts) (past_edits xs))
+made_is k (t ∷ ts) (Replaced w n ∷ xs) r e =
+    let next = made_is (k + 1) ts (past xs) (past_run xs) (same_rest t.word w (words_of ts) (source_words xs) e ∙ sym (past_words xs)) in
+    one_more k t ts (Some n) (record { place = k; over = true; new = n } ∷ changes (k + 1) xs) (changes (k + 1) xs) xs
     (ap (λ b. if b then Some n else None) (same_place k)) (ap (λ b. if b then changes (k + 1) xs else record { place = k; over = true; new = n } ∷ changes (k + 1) xs) (same_place k)) refl
-    (next ∙ ap (patched t.end (drop (t.end - at) bs) ts) (past_edits xs))
-changed_is k at bs (t ∷ ts) (Put n ∷ xs) r e = put_run n (run_of xs) r
+    (next ∙ ap (byte_edits ts) (past_edits xs))
+made_is k (t ∷ ts) (Put n ∷ xs) r e = put_run n (run_of xs) r
 
 -- a slice to the end
 pub whole_rest : (cs : List Made) (i : ℕ) → take (length cs - i) (drop i cs) ≡ drop i cs
@@ -146,18 +147,23 @@ fit_drop (suc i) (c ∷ cs) h = fit_drop i cs (All-tail (λ (c : Made). IsFitAdd
 pub fit_from : (i : ℕ) (cs : List Made) → AreFit cs → AreFit (take (length cs - i) (drop i cs))
 fit_from i cs h = subst AreFit (sym (whole_rest cs i)) (fit_drop i cs h)
 
+-- one edit more
+pub pushed : (o o1 : List MadeEdit) (e : MadeEdit) → o1 ≡ o ++ (e ∷ []) → plain_edits o1 ≡ plain_edits o ++ (plain_edit e ∷ [])
+pushed o o1 e h = ap plain_edits h ∙ map-append plain_edit o (e ∷ [])
+
 -- a step of the code, at the first of some changes
 module _ (k : ℕ) (x : Made) (xs ys : List Made) (here : ys ≡ x ∷ xs) where
-  pub old_first : (o0 o1 o2 old : List ℕ) → is_over_at k (plain_change x) ≡ true → o1 ≡ o0 ++ (32 ∷ (plain_added x.new).text) → o2 ≡ o1 ++ (32 ∷ []) →
-      o2 ≡ o0 ++ token_text (over_at k (plain_changes ys)) old
+  over_is : (b : Bool) → is_over_at k (plain_change x) ≡ b → over_at k (plain_changes ys) ≡ (if b then Some (plain_added x.new) else None)
   unfolding over_at
-  old_first o0 o1 o2 old e a b =
-      b ∙ ap (λ (l : List ℕ). l ++ (32 ∷ [])) a ∙ append_assoc o0 (32 ∷ (plain_added x.new).text) (32 ∷ [])
-      ∙ ap (λ (o : Option New). o0 ++ token_text o old) (sym (ap (λ b. if b then Some (plain_added x.new) else None) e) ∙ ap (λ l. over_at k (plain_changes l)) (sym here))
+  over_is b e = ap (λ l. over_at k (plain_changes l)) here ∙ ap (λ c. if c then Some (plain_added x.new) else None) e
 
-  pub old_other : (o0 o1 old : List ℕ) → is_over_at k (plain_change x) ≡ false → o1 ≡ o0 ++ old → o1 ≡ o0 ++ token_text (over_at k (plain_changes ys)) old
-  unfolding over_at
-  old_other o0 o1 old e a = a ∙ ap (λ (o : Option New). o0 ++ token_text o old) (sym (ap (λ b. if b then Some (plain_added x.new) else None) e) ∙ ap (λ l. over_at k (plain_changes l)) (sym here))
+  pub over_first : (o : List Edit) (t : Lexeme) (text : List ℕ) → is_over_at k (plain_change x) ≡ true → text ≡ token_text (Some (plain_added x.new)) [] →
+      o ++ (record { from = t.start; to = t.end; text = text } ∷ []) ≡ o ++ replaced_edit (over_at k (plain_changes ys)) t
+  over_first o t text e h =
+      ap (λ (l : List ℕ). o ++ (record { from = t.start; to = t.end; text = l } ∷ [])) h ∙ ap (λ (n : Option New). o ++ replaced_edit n t) (sym (over_is true e))
+
+  pub over_other : (o : List Edit) (t : Lexeme) → is_over_at k (plain_change x) ≡ false → o ≡ o ++ replaced_edit (over_at k (plain_changes ys)) t
+  over_other o t e = sym (append-nil o) ∙ ap (λ (n : Option New). o ++ replaced_edit n t) (sym (over_is false e))
 
   pub after_first : is_over_at k (plain_change x) ≡ true → plain_changes xs ≡ after_over k (plain_changes ys)
   unfolding after_over
@@ -192,11 +198,14 @@ module _ (k : ℕ) (x : Made) (xs ys : List Made) (here : ys ≡ x ∷ xs) where
   unfolding after_run
   left_other e = ap plain_changes here ∙ sym (ap (λ b. if b then after_run k (plain_changes xs) else plain_changes (x ∷ xs)) e) ∙ ap (λ l. after_run k (plain_changes l)) (sym here)
 
-  pub run_first : (o0 o1 : List ℕ) → is_before_at k (plain_change x) ≡ true → o1 ≡ o0 ++ run_end (run_at k (plain_changes ys)) → o1 ≡ o0 ++ run_text (run_at k (plain_changes ys))
-  run_first o0 o1 e a = a ∙ ap (λ (l : List New). o0 ++ run_end l) (run_is_first e) ∙ ap (λ (l : List New). o0 ++ run_text l) (sym (run_is_first e))
+  pub run_first : (o : List Edit) (t : Lexeme) (empty text : List ℕ) → is_before_at k (plain_change x) ≡ true → empty ≡ [] → text ≡ empty ++ run_end (run_at k (plain_changes ys)) →
+      o ++ (record { from = t.end; to = t.end; text = text } ∷ []) ≡ o ++ run_edit (run_at k (plain_changes ys)) t
+  run_first o t empty text e n h =
+      ap (λ (l : List ℕ). o ++ (record { from = t.end; to = t.end; text = l } ∷ [])) (h ∙ ap₂ (λ (x : List ℕ) (y : List New). x ++ run_end y) n (run_is_first e))
+      ∙ ap (λ (l : List New). o ++ run_edit l t) (sym (run_is_first e))
 
-  pub run_other : (o0 : List ℕ) → is_before_at k (plain_change x) ≡ false → o0 ≡ o0 ++ run_text (run_at k (plain_changes ys))
-  run_other o0 e = sym (append-nil o0) ∙ ap (λ (l : List New). o0 ++ run_text l) (sym (run_is_none e))
+  pub run_other : (o : List Edit) (t : Lexeme) → is_before_at k (plain_change x) ≡ false → o ≡ o ++ run_edit (run_at k (plain_changes ys)) t
+  run_other o t e = sym (append-nil o) ∙ ap (λ (l : List New). o ++ run_edit l t) (sym (run_is_none e))
 
   pub fit_rest : AreFit ys → AreFit xs
   fit_rest h = All-rest (λ (c : Made). IsFitAdded c.new) x xs ys here h
@@ -210,9 +219,9 @@ module _ (k : ℕ) (ys : List Made) (none : length ys ≡ 0) where
       by_length [] e = refl
       by_length (x ∷ l) e = absurd (omega (arith, e))
 
-  pub old_none : (o0 o1 old : List ℕ) → o1 ≡ o0 ++ old → o1 ≡ o0 ++ token_text (over_at k (plain_changes ys)) old
+  pub over_none : (o : List Edit) (t : Lexeme) → o ≡ o ++ replaced_edit (over_at k (plain_changes ys)) t
   unfolding over_at
-  old_none o0 o1 old a = a ∙ ap (λ l. o0 ++ token_text (over_at k (plain_changes l)) old) (sym no_changes)
+  over_none o t = sym (append-nil o) ∙ ap (λ l. o ++ replaced_edit (over_at k (plain_changes l)) t) (sym no_changes)
 
   pub after_none : plain_changes ys ≡ after_over k (plain_changes ys)
   unfolding after_over
@@ -226,9 +235,9 @@ module _ (k : ℕ) (ys : List Made) (none : length ys ≡ 0) where
   unfolding after_run
   left_none = ap plain_changes no_changes ∙ ap (λ l. after_run k (plain_changes l)) (sym no_changes)
 
-  pub run_none : (o0 : List ℕ) → o0 ≡ o0 ++ run_text (run_at k (plain_changes ys))
+  pub run_none : (o : List Edit) (t : Lexeme) → o ≡ o ++ run_edit (run_at k (plain_changes ys)) t
   unfolding run_at
-  run_none o0 = sym (append-nil o0) ∙ ap (λ l. o0 ++ run_text (run_at k (plain_changes l))) (sym no_changes)
+  run_none o t = sym (append-nil o) ∙ ap (λ l. o ++ run_edit (run_at k (plain_changes l)) t) (sym no_changes)
 
 -- the changes from one on, as the run goes through them
 module _ (k : ℕ) (cs : List Made) (i : ℕ) (d : Made) (l : i < length cs) where
@@ -264,8 +273,8 @@ module _ (k : ℕ) (cs : List Made) (i : ℕ) (l : length cs ≤ i) where
   pub rest_ends : (start : List Change) → after_run k (plain_changes (drop i cs)) ≡ start → plain_changes (take (length cs - i) (drop i cs)) ≡ start
   rest_ends start h = ap plain_changes (whole_rest cs i) ∙ left_none k (drop i cs) none_left ∙ h
 
-pub ruleset over_steps = (old_first, old_other, after_first, after_other, old_none, after_none)
+pub ruleset over_steps = (over_first, over_other, after_first, after_other, over_none, after_none)
 
-pub ruleset token_steps = (append_assoc, drop-drop)
+pub ruleset token_steps = (append_assoc)
 
-pub ruleset run_steps = (left_first, left_other, run_first, run_other, left_none, run_none)
+pub ruleset run_steps = (run_first, run_other, left_first, left_other, run_none, left_none)

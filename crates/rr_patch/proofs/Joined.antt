@@ -1,5 +1,5 @@
 -- The changes of a source's pieces print it, and the code can write them.
-use Rattle.std.proofs.Common.{ℕ, ◌+◌, ◌<◌, ◌≤◌, ◌^◌, List, [], ◌∷◌, sym, ◌∙◌, subst}
+use Rattle.std.proofs.Common.{ℕ, ◌+◌, ◌<◌, ◌≤◌, ◌^◌, List, [], ◌∷◌, sym, ◌∙◌, ap, subst}
 use Rattle.std.specs.List.{AllByRecursion}
 use Rattle.std.proofs.lemmas.List.Elements.{All-head, All-tail, All-from_recursion, recursion_from_All}
 use Rattle.std.proofs.lemmas.Nat.{mod_below, pow_pos}
@@ -7,22 +7,27 @@ use Rattle.rr_syntax.specs.Words.{Word, Named, System, Digits, Reserved, Marked}
 use Rattle.rr_lex.specs.Tokens.{IsSound}
 use Rattle.rr_lex.specs.Patch.{New}
 use Rattle.rr_lex.proofs.Sound.{words_sound}
+use Rattle.rr_edit.specs.Edits.{edited}
 use Rattle.rr_choice.specs.Sites as sites
 use Rattle.rr_choice.specs.Sites.{SiteKind, Site, HasFitWidth, FitWidths}
 use Rattle.rr_patch.specs.declared.change.Change.{Change as Made}
 use Rattle.rr_patch.specs.declared.change.Added.{Added}
 use Rattle.rr_patch.specs.declared.change.Added.TheVariants as added
 use Rattle.rr_respell.specs.Pieces.{Piece, Kept, Replaced, Put, source_words}
-use Rattle.rr_respell.specs.Printing.{source_pieces}
+use Rattle.rr_respell.specs.Printing.{source_pieces, edits_of}
 use Rattle.rr_patch.specs.Changes.{Change, changes, plain_added, plain_changes, IsFitAdded}
-use Rattle.rr_patch.specs.Laws.{ChangesPrint, ChangesAreFit}
+use Rattle.rr_patch.specs.Laws.{ChangesEdit, ChangesPrint, ChangesAreFit}
 use Rattle.rr_respell.proofs.Makes.{Allowed, AllowsKind, AllowsSites, Allows}
 use Rattle.rr_respell.proofs.SourceParts.{source_makes, spells}
 use Rattle.rr_respell.proofs.PrintedTree.{no_run}
-use Rattle.rr_patch.proofs.Changed.{changed_is}
+use Rattle.rr_patch.proofs.Changed.{made_is}
+use Rattle.rr_patch.proofs.Stood.{edits_patch}
+
+pub changes_edit : ChangesEdit
+changes_edit bytes s tree ss ps = made_is 0 tree.tokens (source_pieces ss ps s) (no_run ss ps s) (sym tree.spells.spelled ∙ sym (spells.source ss ps s))
 
 pub changes_print : ChangesPrint
-changes_print bytes s tree ss ps = changed_is 0 0 bytes tree.tokens (source_pieces ss ps s) (no_run ss ps s) (sym tree.spells.spelled ∙ sym (spells.source ss ps s))
+changes_print bytes s tree ss ps = ap (edited 0 bytes) (changes_edit bytes s tree ss ps) ∙ edits_patch bytes tree.tokens (edits_of ss ps s) tree.are
 
 -- a literal of 1 to 128 bits whose value has no more
 abbrev FitWord : Word → Type 0

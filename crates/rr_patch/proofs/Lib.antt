@@ -1,3 +1,6 @@
+pub mod Firm
+pub mod Stood
+pub mod Joining
 pub mod Changed
 pub mod Walked
 pub mod Walks

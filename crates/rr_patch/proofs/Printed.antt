@@ -1,5 +1,6 @@
 -- What is printed, from the changes of the whole source.
 use Rattle.std.proofs.Common.{◌≡◌, ℕ, ◌<◌, ◌^◌, List, [], ◌++◌, length, map, sym, ◌∙◌, ap, subst, arith}
+use Rattle.std.specs.List.{All}
 use Rattle.std.proofs.lemmas.List.{length-map}
 use Rattle.rr_syntax.specs.declared.token.Token.{Token}
 use Rattle.rr_syntax.specs.declared.tree.Source.{Source}
@@ -21,10 +22,13 @@ use Rattle.rr_respell.specs.Stretches.{StandsWhole}
 use Rattle.rr_respell.proofs.KeptBytes.{keeps_bytes}
 use Rattle.rr_respell.proofs.PrintedTree.{prints_instance}
 use Rattle.rr_patch.specs.declared.change.Change.{Change as Made}
-use Rattle.rr_patch.specs.Changes.{changes, changed, plain_changes, AreFit}
+use Rattle.rr_patch.specs.Changes.{changes, made_edits, plain_changes, AreFit}
+use Rattle.rr_patch.specs.Edits.{byte_edits}
+use Rattle.rr_edit.specs.Edits.{Edit, edited, InOrder, IsPlaced}
+use Rattle.rr_patch.proofs.Stood.{edits_patch, edits_order, edits_placed}
 use Rattle.rr_patch.specs.Walks.{Adds, ModuleAt}
 use Rattle.rr_patch.proofs.ListWalks.{all_both}
-use Rattle.rr_patch.proofs.Joined.{changes_print, changes_are_fit}
+use Rattle.rr_patch.proofs.Joined.{changes_edit, changes_are_fit}
 
 fit_width : (k : SiteKind) → HasWidth k → HasFitWidth k
 fit_width (sites.Literal width signed) h = tt
@@ -62,9 +66,19 @@ module _ (bytes : List ℕ) (ts : List Lexeme) (s : SourceText) (ss : List Site)
   pub made_fit : (cs : List Made) → IsSiteList ss → plain_changes cs ≡ changes 0 (source_pieces ss ps s) → AreFit cs
   made_fit cs g e = changes_are_fit bytes s its_tree ss ps cs (fit_widths ss g) e
 
-  pub made_print : (out : List ℕ) (cs : List Made) → plain_changes cs ≡ changes 0 (source_pieces ss ps s) → out ≡ changed 0 0 bytes ts (plain_changes cs) → out ≡ printed bytes ts ss ps s
+  pub made_exact : (out : List Edit) (cs : List Made) → plain_changes cs ≡ changes 0 (source_pieces ss ps s) → out ≡ made_edits 0 ts (plain_changes cs) → out ≡ byte_edits ts (edits_of ss ps s)
   unfolding its_tree
-  made_print out cs e h = h ∙ ap (changed 0 0 bytes ts) e ∙ changes_print bytes s its_tree ss ps
+  made_exact out cs e h = h ∙ ap (made_edits 0 ts) e ∙ changes_edit bytes s its_tree ss ps
+
+  module _ (out : List Edit) (e : out ≡ byte_edits ts (edits_of ss ps s)) where
+    pub exact_printed : edited 0 bytes out ≡ printed bytes ts ss ps s
+    exact_printed = ap (edited 0 bytes) e ∙ edits_patch bytes ts (edits_of ss ps s) are
+
+    pub exact_order : InOrder 0 (length bytes) out
+    exact_order = subst (InOrder 0 (length bytes)) (sym e) (edits_order bytes ts (edits_of ss ps s) are)
+
+    pub exact_placed : All (IsPlaced bytes) out
+    exact_placed = subst (All (IsPlaced bytes)) (sym e) (edits_placed bytes ts (edits_of ss ps s) are)
 
   pub made_tree : (out : List ℕ) → out ≡ printed bytes ts ss ps s → IsSiteList ss → AreNamed ss → IsTree out (instance_source ss ps s)
   unfolding its_tree

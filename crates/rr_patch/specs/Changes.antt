@@ -1,15 +1,17 @@
 -- The changes of pieces, each with the number of its token: a new token in the place of the token with that number, or
 -- before it.
-use Rattle.std.specs.Prelude.{ℕ, ◌+◌, ◌==◌, ◌<◌, ◌≤◌, ◌^◌, ◌&&◌, not, Bool, true, false, if◌then◌else◌, List, [], ◌∷◌, ◌++◌, ◌-◌, map, take, drop, Option, None, Some}
+use Rattle.std.specs.Prelude.{ℕ, ◌+◌, ◌==◌, ◌<◌, ◌≤◌, ◌^◌, ◌&&◌, not, Bool, true, false, if◌then◌else◌, List, [], ◌∷◌, ◌++◌, map, Option, None, Some}
 use Rattle.std.specs.List.{All}
 use Rattle.rr_syntax.specs.Words.{keyword_begin, keyword_end, keyword_if, mark_open_parenthesis, mark_close_parenthesis, mark_semicolon, mark_equals, mark_less_or_equal, mark_not, mark_logical_and, mark_logical_or}
-use Rattle.rr_lex.specs.Patch.{New, token_text, run_text, new_keyword, new_mark, new_name, new_literal}
+use Rattle.rr_edit.specs.Edits.{Edit}
+use Rattle.rr_lex.specs.Patch.{New, new_keyword, new_mark, new_name, new_literal}
 use Rattle.rr_lex.specs.Tokens.{Lexeme}
 use Rattle.rr_patch.specs.declared.change.Change.{Change as Made}
 use Rattle.rr_patch.specs.declared.change.Added.{Added}
 use Rattle.rr_patch.specs.declared.change.Added.TheVariants as added
 use Rattle.rr_patch.specs.declared.change.Fixed.{Fixed}
 use Rattle.rr_patch.specs.declared.change.Fixed.TheVariants as fixed
+use Rattle.rr_patch.specs.Edits.{replaced_edit, run_edit}
 use Rattle.rr_respell.specs.Pieces.{Piece, Kept, Replaced, Put}
 
 -- a new token at a token of the source; in its place where `over`, else before it
@@ -84,12 +86,11 @@ unfoldable pub after_run : ℕ → List Change → List Change
 after_run k [] = []
 after_run k (c ∷ cs) = if is_before_at k c then after_run k cs else c ∷ cs
 
--- a token with the bytes before it, or what replaces it, and the run of new tokens after it
-abbrev pub token_with : ℕ → List ℕ → Lexeme → ℕ → List Change → List ℕ
-token_with at bs t k cs =
-    take (t.start - at) bs ++ (token_text (over_at k cs) (take (t.end - t.start) (drop (t.start - at) bs)) ++ run_text (run_at (k + 1) (after_over k cs)))
+-- the edit that replaces a token with that number, and the one of the run of new tokens behind it
+abbrev pub token_edits : Lexeme → ℕ → List Change → List Edit
+token_edits t k cs = replaced_edit (over_at k cs) t ++ run_edit (run_at (k + 1) (after_over k cs)) t
 
--- the bytes from a place on, at which the token number k is the first, with the changes from there on
-unfoldable pub changed : ℕ → ℕ → List ℕ → List Lexeme → List Change → List ℕ
-changed k at bs [] cs = bs
-changed k at bs (t ∷ ts) cs = token_with at bs t k cs ++ changed (k + 1) t.end (drop (t.end - at) bs) ts (after_run (k + 1) (after_over k cs))
+-- the edits that changes make at tokens of which the first has that number
+unfoldable pub made_edits : ℕ → List Lexeme → List Change → List Edit
+made_edits k [] cs = []
+made_edits k (t ∷ ts) cs = token_edits t k cs ++ made_edits (k + 1) ts (after_run (k + 1) (after_over k cs))

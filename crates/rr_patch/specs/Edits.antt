@@ -1,5 +1,5 @@
 -- The edits of a choice as edits of the bytes of its text.
-use Rattle.std.specs.Prelude.{ℕ, List, [], ◌∷◌, ◌++◌, Option, Some, None}
+use Rattle.std.specs.Prelude.{List, [], ◌∷◌, ◌++◌, Option, Some, None}
 use Rattle.rr_edit.specs.Edits.{Edit}
 use Rattle.rr_lex.specs.Patch as patch
 use Rattle.rr_lex.specs.Patch.{New, run_text, token_text}

@@ -1,11 +1,12 @@
-//! The bytes of a source in which the switched-on changes of a choice are made. They are right where
-//! they are those that `rr_respell` says, whose tree is the instance. It walks the tree once for its
-//! changes, and the tokens once for the bytes.
+//! The edits that the switched-on changes of a choice are in the bytes of a source, and the bytes with
+//! these edits. They are right where they are those that `rr_respell` says, whose tree is the instance.
+//! It walks the tree once for its changes, the tokens once for the edits, and the edits once for the bytes.
 #![tactic(auto)]
 
 mod body;
 mod change;
 mod connections;
+mod editing;
 mod expression;
 mod forms;
 mod item;
@@ -15,5 +16,6 @@ mod printing;
 mod source;
 mod statement;
 
+pub use editing::edits;
 pub use laws::change_laws;
 pub use printing::print;

@@ -10,8 +10,8 @@ ghost use Rattle.rr_respell.specs.Laws.{AreNamed};
 ghost use Rattle.rr_respell.specs.Printing.{edits_of, printed};
 ghost use Rattle.rr_respell.specs.Stretches.{StandsWhole};
 
+use crate::editing::edits;
 use crate::patch::patch;
-use crate::source::declarations;
 use rr_choice::{Choice, SiteList};
 use rr_syntax::{Source, Token};
 use std::alloc::{AllocError, Global};
@@ -40,8 +40,7 @@ pub fn print(
 {
     // The list keeps that the width of each new literal is 1 to 128.
     list.sites();
-    let mut changes = Vec::new(alloc);
-    declarations(source.modules, list, choice, &mut changes)?;
-    let out = patch(alloc, bytes, tokens, &changes)?;
+    let made = edits(alloc, bytes, tokens, source, list, choice)?;
+    let out = patch(alloc, bytes, &made)?;
     Ok(out)
 }

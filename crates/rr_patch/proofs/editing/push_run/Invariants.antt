@@ -1,7 +1,7 @@
 use Rattle.std.proofs.Common.{◌≡◌, ◌≤◌, ◌++◌, ◌-◌, length, drop}
 use Rattle.rr_lex.specs.Patch.{run_end}
 use Rattle.rr_patch.specs.Changes.{after_run, plain_changes, run_at}
-use Rattle.rr_patch.proofs.patch.push_run_end.Given as goal
+use Rattle.rr_patch.proofs.editing.push_run.Given as goal
 
 abbrev pub invariant-loop-i : goal.invariant-loop-i
 invariant-loop-i l = record {

@@ -4,7 +4,7 @@ use Rattle.rr_patch.specs.declared.change.Added.TheVariants as added
 use Rattle.rr_patch.specs.declared.change.Fixed.TheVariants as fixed
 use Rattle.rr_patch.specs.Changes.{after_run, plain_changes, run_at}
 use Rattle.rr_patch.proofs.Changed.{run_goes, rest_goes, run_stops, rest_stops, run_ends, rest_ends}
-use Rattle.rr_patch.proofs.patch.push_run_end.Goals as goal
+use Rattle.rr_patch.proofs.editing.push_run.Goals as goal
 
 pub returns-then-not-is_before_at-clause-text : goal.returns-then-not-is_before_at-clause-text
 returns-then-not-is_before_at-clause-text c =
