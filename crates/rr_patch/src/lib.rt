@@ -10,10 +10,12 @@ mod expression;
 mod forms;
 mod item;
 mod laws;
+mod length;
 mod patch;
 mod printing;
 mod source;
 mod statement;
 
 pub use laws::change_laws;
+pub use length::statement_len;
 pub use printing::print;
