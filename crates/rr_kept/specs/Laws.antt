@@ -1,5 +1,5 @@
 -- What holds of sites that are kept.
-use Rattle.std.specs.Prelude.{ℕ, ◌≡◌, true, List}
+use Rattle.std.specs.Prelude.{◌≡◌, true, List}
 use Rattle.std.specs.List.{All}
 use Rattle.rr_syntax.specs.Items.{NumberedSource}
 use Rattle.rr_syntax.specs.Tree.{SourceText}

@@ -3,8 +3,6 @@
 //! the edits of a choice.
 #![tactic(auto)]
 
-mod keeping;
 mod laws;
 
-pub use keeping::kept;
 pub use laws::kept_laws;

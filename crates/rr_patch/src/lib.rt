@@ -11,6 +11,7 @@ mod expression;
 mod forms;
 mod item;
 mod laws;
+mod length;
 mod patch;
 mod printing;
 mod source;
@@ -18,4 +19,5 @@ mod statement;
 
 pub use editing::edits;
 pub use laws::change_laws;
+pub use length::statement_len;
 pub use printing::print;
