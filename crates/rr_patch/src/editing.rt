@@ -125,9 +125,10 @@ fn put_behind<'c, 'a>(
             if is_before_at(first, place) {
                 let mut text = Vec::new(alloc);
                 let left = push_run(alloc, &mut text, changes, place)?;
+                let at = token.span.end;
                 out.push(Edit {
-                    from: token.span.end,
-                    to: token.span.end,
+                    from: at,
+                    to: at,
                     text,
                 })?;
                 Ok(left)

@@ -1,6 +1,6 @@
 //! Designs with faults, and the texts of their repairs.
 
-use crate::printing::{guard, literal, off, on, overwrite, prints};
+use crate::printing::{guard, literal, makes, off, on, overwrite, prints};
 use std::test::Fail;
 
 /// A literal is replaced in its place, with a blank before it and after it; all else stays.
@@ -321,6 +321,23 @@ module m(c, y);
     endcase
   end if ( ! c ) r = 1'h1 ; end \nendmodule
 ",
+        )?
+    );
+    Ok(())
+}
+
+/// The edits of a guard and a literal: the runs behind the tokens before them, and the new literal in the
+/// place of the old one.
+#[test]
+fn edits_of_a_choice(rt: HostRuntime) -> Result<(), Fail> {
+    let names = ["s"];
+    assert!(rt;
+        makes(
+            rt.alloc(),
+            "module m(input a, input s, output y);\n  assign y = a ? 1'b1 : 1'b0;\nendmodule\n",
+            &[guard(16, 1, &names), literal(18, 1, false), literal(20, 1, false)],
+            &[on(0, 1, 0), off(), on(1, 0, 0)],
+            &[(50, 50, " ( "), (52, 52, " ) && s "), (62, 66, " 1'h1 ")],
         )?
     );
     Ok(())

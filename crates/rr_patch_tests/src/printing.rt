@@ -1,12 +1,13 @@
-//! Sites and picks written by hand, and the text that they print.
+//! Sites and picks written by hand, the text that they print, and their edits.
 
 ghost use Rattle.std.specs.Prelude.{◌≡◌};
 
 use bumpalo::Bump;
 use rr_choice::{Choice, Pick, SiteList, are_listed};
+use rr_edit::Edit;
 use rr_lex::{lex, words_of_tokens};
 use rr_parse::parse;
-use rr_patch::print;
+use rr_patch::{edits, print};
 use rr_syntax::{Site, SiteKind};
 use std::alloc::Global;
 use std::test::Fail;
@@ -71,14 +72,15 @@ pub(crate) fn off() -> Pick {
     }
 }
 
-/// Whether a choice at the sites of a design prints a text.
-pub(crate) fn prints(
-    alloc: Global,
-    design: &str,
-    sites: &[Site],
-    picks: &[Pick],
-    wanted: &str,
-) -> Result<bool, Fail> {
+/// What a choice at the sites of a design comes to.
+#[derive(Drop)]
+struct Outcome {
+    text: Vec<u8>,
+    edits: Vec<Edit>,
+}
+
+/// What a choice at the sites of a design comes to.
+fn outcome(alloc: Global, design: &str, sites: &[Site], picks: &[Pick]) -> Result<Outcome, Fail> {
     if design.len() > 1_000_000 {
         return Err(Fail::from("a text too long"));
     }
@@ -98,9 +100,42 @@ pub(crate) fn prints(
         Ok(tokens) => match parse(tokens, &arena) {
             Err(_) => Err(Fail::from("no tree")),
             Ok(source) => {
-                let out = print(alloc, design.as_bytes(), tokens, source, &list, &choice)?;
-                Ok(out.as_slice() == wanted.as_bytes())
+                let text = print(alloc, design.as_bytes(), tokens, source, &list, &choice)?;
+                let edits = edits(alloc, design.as_bytes(), tokens, source, &list, &choice)?;
+                Ok(Outcome { text, edits })
             }
         },
     }
+}
+
+/// Whether a choice at the sites of a design prints a text.
+pub(crate) fn prints(
+    alloc: Global,
+    design: &str,
+    sites: &[Site],
+    picks: &[Pick],
+    wanted: &str,
+) -> Result<bool, Fail> {
+    let outcome = outcome(alloc, design, sites, picks)?;
+    Ok(outcome.text.as_slice() == wanted.as_bytes())
+}
+
+/// Whether a choice at the sites of a design makes these edits: of each the place where it begins, the one
+/// where it ends, and its text.
+pub(crate) fn makes(
+    alloc: Global,
+    design: &str,
+    sites: &[Site],
+    picks: &[Pick],
+    wanted: &[(u32, u32, &str)],
+) -> Result<bool, Fail> {
+    let outcome = outcome(alloc, design, sites, picks)?;
+    let mut same = outcome.edits.len() == wanted.len();
+    for (edit, (from, to, text)) in outcome.edits.iter().zip(wanted.iter()) {
+        same = same
+            && edit.from == *from
+            && edit.to == *to
+            && edit.text.as_slice() == text.as_bytes();
+    }
+    Ok(same)
 }
