@@ -119,6 +119,15 @@ const BESIDE_MACROS: Case = Case {
     ..IN_A_MACRO
 };
 
+/// A register file by macros, of which one register is written at a wrong address.
+const REGISTERS: Case = Case {
+    design: "`ifndef WIDTH\n`define WIDTH 4\n`endif\n`define RESET 4'h0\nmodule regs(input clk, input rst, input we, input [1:0] a, input [`WIDTH-1:0] d, output reg [`WIDTH-1:0] q);\n  reg [`WIDTH-1:0] r0, r1;\n  always @(posedge clk)\n    if (rst) begin r0 <= `RESET; r1 <= `RESET; end\n    else if (we) begin\n      if (a == 2'd0) r0 <= d;\n      if (a == 2'd2) r1 <= d;\n    end\n  always @* q = a[0] ? r1 : r0;\nendmodule\n",
+    table: "rst,we,a,d,q\n1,0,0,0,x\n0,1,0,5,0\n0,1,1,7,0\n0,0,1,0,7\n0,0,0,0,5\n",
+    out: "`ifndef WIDTH\n`define WIDTH 4\n`endif\n`define RESET 4'h0\nmodule regs(input clk, input rst, input we, input [1:0] a, input [`WIDTH-1:0] d, output reg [`WIDTH-1:0] q);\n  reg [`WIDTH-1:0] r0, r1;\n  always @(posedge clk)\n    if (rst) begin r0 <= `RESET; r1 <= `RESET; end\n    else if (we) begin\n      if (a == 2'd0) r0 <= d;\n      if (a ==  2'h1 ) r1 <= d;\n    end\n  always @* q = a[0] ? r1 : r0;\nendmodule\n",
+    notes: "repaired 1\nsite 7 literal 335 2'h1\nproposals 1\n",
+    ..BESIDE_MACROS
+};
+
 #[test]
 fn a_step_in_a_macro_stays(rt: HostRuntime) {
     check(&rt, &IN_A_MACRO);
@@ -127,6 +136,7 @@ fn a_step_in_a_macro_stays(rt: HostRuntime) {
 #[test]
 fn files_are_repaired(rt: HostRuntime) {
     check(&rt, &BESIDE_MACROS);
+    check(&rt, &REGISTERS);
 }
 
 #[test]
