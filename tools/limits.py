@@ -369,6 +369,13 @@ DIRECTIVES = {
     "no name beyond the limit": (lambda n: just(1022), EXPANDED),
 }
 
+# Designs of many sites of which none, or one, can be changed in the file.
+KEPT = {
+    "a literal in a macro, used over and over": (filled("`define L 1'b1\nmodule m(input a,output y);assign y=a", "^`L", ";endmodule\n"), ""),
+    "conditions that end in a use": (filled("`define A a\nmodule m(input clk,input a,output reg y);always @(posedge clk) begin ", "if(`A)y<=a;", " end endmodule\n"), None),
+    "blocks that end in a use": (filled("`define E ;\nmodule m(input clk,input a,output reg y);", "always @(posedge clk) y<=a`E ", "endmodule\n"), None),
+}
+
 SITES, RUN, REPAIR, CHECK = ("sites", "d.v"), ("run", "d.v", "t.csv"), ("repair", "d.v", "t.csv", "c"), ("check", "c.aag", "c.lrat")
 TABLE = "a,y\n0,0\n1,1\n1,0\n"
 
@@ -442,6 +449,8 @@ def inputs():
         yield f"{words[0]}: a cell of 30 digits", words, {"d.v": WIRE, "t.csv": "a,y\n" + "9" * 30 + ",1\n"}, (1,), (3, "refused 32 CellTooLarge row 1 column 0\n")
     for name, (design, due) in DIRECTIVES.items():
         yield f"run: directives, {name}", RUN, {"d.v": design, "t.csv": TABLE}, (MEBI // 4, MEBI // 2, MEBI) if due is None else (1,), (3,) if due is None else (3, due)
+    for name, (design, due) in KEPT.items():
+        yield f"sites: {name}", SITES, {"d.v": design}, (MEBI // 16, MEBI // 8, MEBI // 4), (0, 3) if due is None else (0, due)
     UNSAT, EMPTY = "aag 1 1 0 2 0\n2\n2\n3\n", "3 0 1 2 0\n"
     for name, (circuit, proof, sizes, due) in {
         "a million empty lines for a circuit": (rows("\n", ""), EMPTY, (250000, 500000, 1000000), (3, "refused 34 BadCircuit line 1\n")),
