@@ -57,7 +57,8 @@ module _ (origins : List Origin) (all : List Lexeme) where
   edits_lift k (t ∷ ts) [] are h = tt
   edits_lift k (t ∷ ts) (Kept w ∷ xs) are h =
       both IsLifted (run_edit (run_of xs) t) (byte_edits ts (edits xs)) (run_lifts k t xs (first_is k t ts are) h) (edits_lift (k + 1) ts xs (rest_are k t ts are) h)
-  edits_lift k (t ∷ ts) (Replaced w n ∷ xs) are h =
-      (subst (λ (x : Lexeme). lifts origins (record { from = x.start; to = x.end; text = [] }) ≡ true) (first_is k t ts are) h.0,
-      both IsLifted (run_edit (run_of xs) t) (byte_edits ts (edits xs)) (run_lifts k t xs (first_is k t ts are) h.1) (edits_lift (k + 1) ts xs (rest_are k t ts are) h.1))
+  edits_lift k (t ∷ ts) (Replaced w n ∷ xs) are h = (
+    subst (λ (x : Lexeme). lifts origins (record { from = x.start; to = x.end; text = [] }) ≡ true) (first_is k t ts are) h.0,
+    both IsLifted (run_edit (run_of xs) t) (byte_edits ts (edits xs)) (run_lifts k t xs (first_is k t ts are) h.1) (edits_lift (k + 1) ts xs (rest_are k t ts are) h.1),
+  )
   edits_lift k (t ∷ ts) (Put n ∷ xs) are h = edits_lift k (t ∷ ts) xs are h.1

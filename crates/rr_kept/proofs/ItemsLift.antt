@@ -53,13 +53,14 @@ sized size (Assigns pairs) xs at n h = (tt, λ k l. h k (omega (arith, l)))
 sized size (Always events body token) xs at n h =
     let E : ℕ = length (spell_events events) in
     let e : token ≡ at = n.0 in
-    let here : (token + 2 + E == at + 2 + E) ≡ true = eq-eqb (token + 2 + E) (at + 2 + E) (ap (λ i. i + 2 + E) e) in
-    (h (at + 2 + E) (omega arith) ∙ ap (λ c. or_next (if c then Some (length (spell_statement body)) else None) (body_length (at + 2 + E) xs)) here,
-    λ k l.
-    let s = length-append (spell_events events) (spell_statement body) in
-    let t = some_token body in
-    let there : (token + 2 + E == k) ≡ false = ne_eqb (token + 2 + E) k (λ q. absurd (omega (arith, q, e, l, s, t))) in
-    h k (omega (arith, l)) ∙ ap (λ c. or_next (if c then Some (length (spell_statement body)) else None) (body_length k xs)) there)
+    let here : (token + 2 + E == at + 2 + E) ≡ true = eq-eqb (token + 2 + E) (at + 2 + E) (ap (λ i. i + 2 + E) e) in (
+      h (at + 2 + E) (omega arith) ∙ ap (λ c. or_next (if c then Some (length (spell_statement body)) else None) (body_length (at + 2 + E) xs)) here,
+      λ k l.
+          let s = length-append (spell_events events) (spell_statement body) in
+          let t = some_token body in
+          let there : (token + 2 + E == k) ≡ false = ne_eqb (token + 2 + E) k (λ q. absurd (omega (arith, q, e, l, s, t))) in
+          h k (omega (arith, l)) ∙ ap (λ c. or_next (if c then Some (length (spell_statement body)) else None) (body_length k xs)) there,
+    )
 sized size (Instances m token overrides list) xs at n h = (tt, λ k l. h k (omega (arith, l)))
 
 module _ (T P : ℕ → Type 0) where
@@ -154,14 +155,15 @@ module _ (T P : ℕ → Type 0) where
         let B : List Word = spell_ports m.header m.groups in
         let C : List Word = spell_all spell_item m.items in
         let start : ℕ = at + 2 + length A + length B + 1 in
-        let r = items_lift m.items later start w.3 n.3 (λ k l. h k (omega (arith, l))) in
-        (keep (Reserved keyword_module)
-        (keep (Named m.text) (join (words A) (join (words B) (keep (Marked mark_semicolon) (from (omega arith) (join r.0 (keep (Reserved keyword_endmodule) none))))))),
-        λ k l.
-        r.1 k
-        (let c = length-append C (Reserved keyword_endmodule ∷ []) in
-        let b = length-append B (Marked mark_semicolon ∷ (C ++ (Reserved keyword_endmodule ∷ []))) in
-        let a = length-append A (B ++ (Marked mark_semicolon ∷ (C ++ (Reserved keyword_endmodule ∷ [])))) in omega (arith, l, a, b, c)))
+        let r = items_lift m.items later start w.3 n.3 (λ k l. h k (omega (arith, l))) in (
+          keep (Reserved keyword_module)
+              (keep (Named m.text) (join (words A) (join (words B) (keep (Marked mark_semicolon) (from (omega arith) (join r.0 (keep (Reserved keyword_endmodule) none))))))),
+          λ k l.
+              r.1 k
+              (let c = length-append C (Reserved keyword_endmodule ∷ []) in
+              let b = length-append B (Marked mark_semicolon ∷ (C ++ (Reserved keyword_endmodule ∷ []))) in
+              let a = length-append A (B ++ (Marked mark_semicolon ∷ (C ++ (Reserved keyword_endmodule ∷ [])))) in omega (arith, l, a, b, c)),
+        )
 
     modules_lift : (ms : List ModuleDeclaration) (at : ℕ) → AllByRecursion WellFormedModule ms → NumberedAll spell_module NumberedModule ms at → Agrees size at (flat_map (λ m. m.items) ms) →
         Lifts T P at (all_pieces (module_pieces ss ps) ms) (spell_all spell_module ms)

@@ -4,3 +4,7 @@ pub mod StatementsLift
 pub mod ItemsLift
 pub mod EditsLift
 pub mod Together
+pub mod BodyTable
+pub mod Sublists
+pub mod Adjoining
+pub mod Spans

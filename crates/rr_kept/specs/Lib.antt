@@ -1,3 +1,4 @@
+pub mod Bodies
 pub mod Kept
 pub mod Laws
 pub mod Read

@@ -3,6 +3,10 @@
 //! the edits of a choice.
 #![tactic(auto)]
 
+mod bodies;
+mod keeping;
 mod laws;
+mod lifts;
 
+pub use keeping::kept;
 pub use laws::kept_laws;
