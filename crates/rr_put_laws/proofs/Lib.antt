@@ -1,0 +1,4 @@
+pub mod Calm
+pub mod Texts
+pub mod Over
+pub mod Put
