@@ -6,5 +6,4 @@ pub mod EditsLift
 pub mod Together
 pub mod BodyTable
 pub mod Sublists
-pub mod Adjoining
 pub mod Spans

@@ -16,29 +16,6 @@ use Rattle.rr_map.proofs.Adjoining.{stands}
 use Rattle.rr_map.proofs.Rising.{Rising, moved_order}
 use Rattle.rr_map.proofs.Placed.{lifted_is}
 
--- the bytes that an edit replaces, from one on
-module _ (os : List Origin) (i : ℕ) (all : Bool) (h : adjoin (drop i os) ≡ all) where
-  abbrev O : Origin
-  O = get_or os i no_origin
-
-  module _ (l : i < length os) where
-    one_more : adjoin (drop i os) ≡ (O.exact && (is_next O (take (length os - (i + 1)) (drop (i + 1) os)) && adjoin (drop (i + 1) os)))
-    unfolding adjoin
-    one_more = ap adjoin (drop_more os i no_origin l) ∙ ap (λ (r : List Origin). O.exact && (is_next O r && adjoin (drop (i + 1) os))) (sym (take_rest os (i + 1)))
-
-    pub not_exact : O.exact ≡ false → false ≡ all
-    not_exact e = ap (λ (c : Bool). c && (is_next O (take (length os - (i + 1)) (drop (i + 1) os)) && adjoin (drop (i + 1) os))) (sym e) ∙ sym one_more ∙ h
-
-    pub not_next : O.exact ≡ true → is_next O (take (length os - (i + 1)) (drop (i + 1) os)) ≡ false → false ≡ all
-    not_next e n = ap₂ (λ (c d : Bool). c && (d && adjoin (drop (i + 1) os))) (sym e) (sym n) ∙ sym one_more ∙ h
-
-    pub goes_on : O.exact ≡ true → is_next O (take (length os - (i + 1)) (drop (i + 1) os)) ≡ true → adjoin (drop (i + 1) os) ≡ all
-    goes_on e n = ap₂ (λ (c d : Bool). c && (d && adjoin (drop (i + 1) os))) (sym e) (sym n) ∙ sym one_more ∙ h
-
-  pub ends : length os ≤ i → true ≡ all
-  unfolding adjoin
-  ends l = sym (ap adjoin (drop_all i os l)) ∙ h
-
 -- the edits from one on
 pub here : (edits : List Made) (i : ℕ) (e : Made) → i < length edits → e ≡ get_or edits i e → plain_edits (drop i edits) ≡ plain_edit e ∷ plain_edits (drop (i + 1) edits)
 here edits i e l is = ap plain_edits (drop_more edits i e l) ∙ ap (λ (x : Made). plain_edit x ∷ plain_edits (drop (i + 1) edits)) (sym is)

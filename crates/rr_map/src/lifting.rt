@@ -5,54 +5,14 @@ ghost use Rattle.std.specs.List.{All, list_all};
 ghost use Rattle.rr_directive.specs.Expand.{IsExpansion};
 ghost use Rattle.rr_directive.specs.Places.{offset_at};
 ghost use Rattle.rr_edit.specs.Edits.{edited, InOrder};
-ghost use Rattle.rr_edit.specs.Lifted.{adjoin as adjoin_of, is_next as is_next_of, lifted, lifts as lifts_of};
+ghost use Rattle.rr_edit.specs.Lifted.{lifted, lifts as lifts_of};
 ghost use Rattle.rr_edit.specs.View.{plain_edit, plain_edits};
 ghost use Rattle.rr_map.specs.Moves.{all_moved, moved};
 
 use rr_directive::{Expanded, Origin};
-use rr_edit::Edit;
+use rr_edit::{Edit, lifts};
 use rr_lift::exact_laws;
 use std::alloc::{AllocError, Global};
-
-/// Whether the first of some bytes, where there is one, stands in the file directly behind another.
-fn is_next(origin: Origin, rest: &[Origin]) -> bool
-    ensures { result ≡ is_next_of origin rest.now }
-{
-    match rest.first() {
-        None => true,
-        Some(next) => u64::from(next.offset) == u64::from(origin.offset) + 1,
-    }
-}
-
-/// Whether these bytes stand in the file itself, each directly behind the one before.
-fn adjoin(origins: &[Origin]) -> bool
-    ensures { result ≡ adjoin_of origins.now }
-{
-    for (i, origin) in origins.iter().enumerate() {
-        if !origin.exact {
-            return false;
-        }
-        if !is_next(*origin, &origins[i + 1..]) {
-            return false;
-        }
-    }
-    true
-}
-
-/// Whether an edit lifts: the bytes that it replaces stand side by side in the file itself, and so does the
-/// byte before it, where it replaces none.
-fn lifts(origins: &[Origin], edit: &Edit) -> bool
-    requires order { edit.now.from ≤ edit.now.to }
-    requires within { edit.now.to ≤ length origins.now }
-    ensures { result ≡ lifts_of origins.now (plain_edit edit.now) }
-{
-    let from = edit.from as usize;
-    let to = edit.to as usize;
-    if to == 0 || !origins[to - 1].exact {
-        return false;
-    }
-    adjoin(&origins[from..to])
-}
 
 /// Whether all edits lift.
 fn all_lift(origins: &[Origin], edits: &[Edit]) -> bool
@@ -60,7 +20,7 @@ fn all_lift(origins: &[Origin], edits: &[Edit]) -> bool
     ensures { result ≡ list_all (lifts_of origins.now) (plain_edits edits.now) }
 {
     for edit in edits.iter() {
-        if !lifts(origins, edit) {
+        if !lifts(origins, edit.from, edit.to) {
             return false;
         }
     }

@@ -6,3 +6,4 @@ pub mod FileOnce
 pub mod Bounds
 pub mod OwnFiles
 pub mod FileRuns
+mod Placing

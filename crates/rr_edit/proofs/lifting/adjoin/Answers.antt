@@ -1,6 +1,6 @@
 use Rattle.std.proofs.Common.{sym, arith}
-use Rattle.rr_kept.proofs.Adjoining.{adjoin_not_exact, adjoin_not_next, adjoin_goes, adjoin_all}
-use Rattle.rr_kept.proofs.lifts.adjoin.Goals as goal
+use Rattle.rr_edit.proofs.Adjoining.{adjoin_not_exact, adjoin_not_next, adjoin_goes, adjoin_all}
+use Rattle.rr_edit.proofs.lifting.adjoin.Goals as goal
 
 pub returns-then-not-origin : goal.returns-then-not-origin
 returns-then-not-origin c = adjoin_not_exact c.args.origins.now c.loop-i.i _ c.loop-i-test.true c.if-not-origin.true c.loop-i.invariant.rest

@@ -1,6 +1,6 @@
 use Rattle.std.proofs.Common.{length, drop, ◌-◌, ◌≡◌, ◌≤◌}
 use Rattle.rr_edit.specs.Lifted.{adjoin}
-use Rattle.rr_kept.proofs.lifts.adjoin.Given as goal
+use Rattle.rr_edit.proofs.lifting.adjoin.Given as goal
 
 abbrev pub invariant-loop-i : goal.invariant-loop-i
 invariant-loop-i l = record {
