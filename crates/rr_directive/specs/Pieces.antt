@@ -1,6 +1,6 @@
 -- The units in which a file is read, and in the same way a text that was defined (IEEE 1364-2005 sections 3.3, 3.7.1 and 19): a
 -- comment, an escaped name, a backtick with a name and what belongs to its directive, and every other byte.
-use Rattle.std.specs.Prelude.{ℕ, zero, suc, ◌+◌, ◌-◌, List, [], ◌∷◌, take, drop, codes, Bool, false, not, ◌&&◌, ◌||◌, ◌==◌, Option, Some, None, if◌then◌else◌}
+use Rattle.std.specs.Prelude.{ℕ, zero, suc, ◌+◌, ◌-◌, List, [], ◌∷◌, take, drop, codes, Bool, false, ◌&&◌, ◌||◌, ◌==◌, Option, Some, None, if◌then◌else◌}
 use Rattle.std.specs.List.{prefix_len}
 use Rattle.std.specs.Str.{bytes_eq}
 use Rattle.rr_directive.specs.declared.piece.Directive.{Directive}
