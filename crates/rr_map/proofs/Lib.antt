@@ -3,3 +3,4 @@ pub mod Adjoining
 pub mod Rising
 pub mod Placed
 pub mod Walks
+mod Prints

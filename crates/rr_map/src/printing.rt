@@ -35,6 +35,8 @@ pub fn print_file(
     ensures printed { IfOk result (λ out. out.items ≡ printed_file read.now.file.now (source_file read.now) read.now.list.now choice.now.picks.items) }
     ensures tree { IfOk result (λ out. ExpandsTo out.items (printed_text (source_file read.now) read.now.list.now choice.now.picks.items) (instance_source read.now.list.now choice.now.picks.items (plain_source read.now.source.now))) }
 {
+    // The list keeps that the width of each new literal is 1 to 128.
+    read.list.sites();
     let text = read.expanded.text.as_slice();
     let made = edits(alloc, text, read.tokens, read.source, read.list, choice)?;
     match lift(alloc, read.file, read.expanded, made.as_slice())? {

@@ -1,11 +1,10 @@
 -- The one cause of a refusal: what elaboration tells, or a law that is broken.
-use Rattle.std.proofs.Common.{◌≡◌, ℕ, List, Option, Some, Err, refl, ap, sym, inl, inr, cond, nat_eq}
+use Rattle.std.proofs.Common.{◌≡◌, ℕ, List, Option, Some, refl, ap, sym, inl, inr, cond, nat_eq}
 use Rattle.rr_lex.specs.declared.piece.Wrong.{Wrong}
 use Rattle.rr_lex.specs.declared.piece.Wrong.TheVariants as wrong
 use Rattle.rr_flat.specs.Signals.{Text}
 use Rattle.rr_flat.specs.declared.fault.FlatFault.{FlatFault}
 use Rattle.rr_flat.specs.declared.fault.FlatFault.TheVariants as flat
-use Rattle.rr_flat.specs.Plain.{Flat}
 use Rattle.rr_elaborate.specs.Designs.{Refuses as RefusesText}
 use Rattle.rr_elaborate.specs.declared.design.DesignFault.{DesignFault}
 use Rattle.rr_elaborate.specs.declared.design.DesignFault.TheVariants as design

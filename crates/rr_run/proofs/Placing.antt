@@ -10,11 +10,12 @@ module _ (origins : List Origin) (size : ℕ) where
   abbrev pub PlacedOf : List Token → List Token → Type 0
   PlacedOf tokens placed = lexemes placed ≡ placed_tokens origins size (lexemes tokens)
 
-  pub placed_more : (tokens placed : List Token) (i : ℕ) (t next : Token) → i < length tokens → t ≡ get_or tokens i t → lexeme next ≡ placed_token origins size (lexeme t) → PlacedOf (take i tokens) placed →
+  pub placed_more : (tokens placed : List Token) (i : ℕ) (d next : Token) → i < length tokens → lexeme next ≡ placed_token origins size (lexeme (get_or tokens i d)) → PlacedOf (take i tokens) placed →
       PlacedOf (take (i + 1) tokens) (placed ++ (next ∷ []))
-  placed_more tokens placed i t next l is e h =
+  placed_more tokens placed i d next l e h =
+      let t : Token = get_or tokens i d in
       map-append lexeme placed (next ∷ []) ∙ ap₂ (λ (xs : List Lexeme) (x : Lexeme). xs ++ (x ∷ [])) h e ∙
-      sym (ap (λ (xs : List Token). placed_tokens origins size (lexemes xs)) (take_more tokens i t l ∙ ap (λ (x : Token). take i tokens ++ (x ∷ [])) (sym is)) ∙
+      sym (ap (λ (xs : List Token). placed_tokens origins size (lexemes xs)) (take_more tokens i d l) ∙
       ap (placed_tokens origins size) (map-append lexeme (take i tokens) (t ∷ [])) ∙ map-append (placed_token origins size) (lexemes (take i tokens)) (lexeme t ∷ []))
 
   pub placed_full : (tokens placed : List Token) (i : ℕ) → length tokens ≤ i → PlacedOf (take i tokens) placed → PlacedOf tokens placed

@@ -4,19 +4,16 @@ use Rattle.std.specs.List.{All}
 use Rattle.std.proofs.lemmas.List.{get_or-map, length-map}
 use Rattle.rr_flat.specs.Inputs.{row_inputs}
 use Rattle.rr_flat.specs.Plain.{Flat}
-use Rattle.rr_flat.specs.Signals.{signal_at}
 use Rattle.rr_trace.specs.Tables.{Table, table_of}
 use Rattle.rr_trace.specs.Tops.{name_of, ports_of}
 use Rattle.rr_trace.specs.declared.fault.TableFault.{TableFault}
 use Rattle.rr_trace.specs.declared.fault.TableFault.TheVariants as table
 use Rattle.rr_vcd.specs.Faults.{RefusesVcd}
 use Rattle.rr_vcd.specs.Fits.{AreValues, widths}
-use Rattle.rr_vcd.specs.Sampled.{IsSampled}
 use Rattle.rr_vcd.specs.declared.fault.VcdFault.{VcdFault}
 use Rattle.rr_vcd.specs.declared.fault.VcdFault.TheVariants as vcd
 use Rattle.rr_vcd.proofs.Fitting.{tables_fit}
 use Rattle.rr_vcd.proofs.Unique.{one_fault, one_table, table_or_fault}
-use Rattle.rr_meaning.specs.Calls.{IsRow}
 use Rattle.rr_meaning.proofs.Tabled.{table_rows}
 use Rattle.rr_run.specs.declared.rows.TableKind.{TableKind}
 use Rattle.rr_run.specs.declared.rows.TableKind.TheVariants as kind
