@@ -84,10 +84,6 @@ before_blank b ws h = plain_piece b ws (blank_tests (b == 47) (is 47) ws refl h)
 blank_piece : (ws : List ℕ) → piece (32 ∷ ws) ≡ bare kind.Plain 1
 blank_piece ws = plain_piece 32 ws refl refl refl refl
 
--- a byte of which another follows
-begins_front : (p : ℕ → Bool) (c : ℕ) (cs ws : List ℕ) → begins p ((c ∷ cs) ++ ws) ≡ begins p (c ∷ cs)
-begins_front p c cs ws = refl
-
 -- ---- a new byte and a new escaped name
 
 pub one_byte : (s r : State) (at new : ℕ) (bs : List ℕ) (b : ℕ) (ws text : List ℕ) → piece (b ∷ ws) ≡ bare kind.Plain 1 → is_on s.branches ≡ true →
