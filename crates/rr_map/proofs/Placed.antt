@@ -1,13 +1,13 @@
 -- The lifted file is the file with the moved edits made.
-use Rattle.std.proofs.Common.{◌≡◌, ◌⊎◌, inl, inr, ℕ, ◌+◌, ◌-◌, ◌<◌, ◌≤◌, ◌==◌, ◌||◌, Bool, true, if◌then◌else◌, List, [], ◌∷◌, ◌++◌, length, refl, sym, ◌∙◌, ap, ap₂, arith}
+use Rattle.std.proofs.Common.{◌≡◌, ◌⊎◌, inl, inr, ℕ, ◌+◌, ◌-◌, ◌==◌, ◌||◌, Bool, true, if◌then◌else◌, List, [], ◌∷◌, ◌++◌, length, refl, sym, ◌∙◌, ap, ap₂, arith}
 use Rattle.std.specs.List.{All, list_any}
 use Rattle.std.proofs.lemmas.Bool.{cases_eq, eq-eqb, ne_eqb}
 use Rattle.std.proofs.lemmas.List.Elements.{All-head, All-tail}
 use Rattle.rr_directive.specs.declared.origin.Origin.{Origin}
 use Rattle.rr_directive.specs.Places.{offset_at}
 use Rattle.rr_edit.specs.Edits.{Edit, InOrder, edited}
-use Rattle.rr_edit.specs.Lifted.{lifts, replaces, is_anchor, texts_at, lifted}
-use Rattle.rr_map.specs.Moves.{moved, all_moved}
+use Rattle.rr_edit.specs.Lifted.{lifts, replaces, texts_at, lifted}
+use Rattle.rr_map.specs.Moves.{all_moved}
 use Rattle.rr_map.proofs.Spread.{spread, takes, texts_to, NoneFirst, none_first, order_within, Does, spread_is}
 use Rattle.rr_map.proofs.Adjoining.{stands}
 

@@ -1,8 +1,8 @@
 -- A file that is written byte by byte, some bytes dropped and texts put behind some, is the file with edits made.
-use Rattle.std.proofs.Common.{◌≡◌, ◌⊎◌, inl, inr, ℕ, zero, suc, ◌+◌, ◌-◌, ◌<◌, ◌≤◌, ◌==◌, ◌&&◌, ◌||◌, nat_lt, nat_le, Bool, true, false, if◌then◌else◌, List, [], ◌∷◌, ◌++◌, take, drop, length, get_or, refl, sym, ◌∙◌, ap, ap₂, subst, append-nil, arith}
+use Rattle.std.proofs.Common.{◌≡◌, ◌⊎◌, inl, inr, ℕ, zero, suc, ◌+◌, ◌-◌, ◌<◌, ◌≤◌, ◌==◌, ◌&&◌, ◌||◌, nat_lt, nat_le, Bool, true, false, if◌then◌else◌, List, [], ◌∷◌, ◌++◌, take, drop, length, get_or, refl, sym, ◌∙◌, ap, ap₂, arith}
 use Rattle.std.specs.List.{list_any}
 use Rattle.std.proofs.lemmas.Bool.{cases_lt, eq-eqb, ne_eqb, lt-ltb, le-ltb, le-leb, lt-leb, and_from, and_left, and_right}
-use Rattle.std.proofs.lemmas.List.{append_assoc, drop_more, take_more, get_or-drop, length-drop, drop-drop, drop_all}
+use Rattle.std.proofs.lemmas.List.{append_assoc, drop_more, take_more, get_or-drop, length-drop, drop-drop}
 use Rattle.rr_edit.specs.Edits.{Edit, InOrder, edited}
 
 unfoldable pub spread : (ℕ → Bool) → (ℕ → List ℕ) → ℕ → List ℕ → List ℕ

@@ -5,15 +5,15 @@ use Rattle.std.proofs.lemmas.Bool.{and_parts, false≢true}
 use Rattle.std.proofs.lemmas.List.{append_assoc, drop_more, drop_all, drop-drop, take_rest}
 use Rattle.std.proofs.lemmas.List.Elements.{All-nil, All-cons, All-head, All-tail}
 use Rattle.rr_directive.specs.declared.origin.Origin.{Origin}
-use Rattle.rr_directive.specs.Places.{no_origin, offset_at}
+use Rattle.rr_directive.specs.Places.{offset_at}
 use Rattle.rr_edit.specs.declared.edit.Edit.{Edit as Made}
 use Rattle.rr_edit.specs.Edits.{Edit, InOrder, edited}
-use Rattle.rr_edit.specs.Lifted.{exact_at, is_next, adjoin, lifts, lifted}
+use Rattle.rr_edit.specs.Lifted.{exact_at, lifts, lifted}
 use Rattle.rr_edit.specs.View.{plain_edit, plain_edits}
 use Rattle.rr_map.specs.Moves.{moved, all_moved}
 use Rattle.rr_map.proofs.Spread.{order_within}
 use Rattle.rr_map.proofs.Adjoining.{stands}
-use Rattle.rr_map.proofs.Rising.{Rising, moved_order}
+use Rattle.rr_map.proofs.Rising.{moved_order}
 use Rattle.rr_map.proofs.Placed.{lifted_is}
 
 -- the edits from one on

@@ -1,5 +1,5 @@
 -- Edits of a text as edits of the file that it is the expansion of.
-use Rattle.std.specs.Prelude.{ℕ, ◌+◌, ◌-◌, List, map}
+use Rattle.std.specs.Prelude.{◌+◌, ◌-◌, List, map}
 use Rattle.rr_directive.specs.declared.origin.Origin.{Origin}
 use Rattle.rr_directive.specs.Places.{offset_at}
 use Rattle.rr_edit.specs.Edits.{Edit}

@@ -1,10 +1,8 @@
-use Rattle.std.proofs.Common.{List, ap, sym, subst, length, ◌∙◌}
+use Rattle.std.proofs.Common.{List, ap, ◌∙◌}
 use Rattle.std.specs.List.{list_all}
 use Rattle.rr_directive.specs.declared.origin.Origin.{Origin}
-use Rattle.rr_edit.specs.Edits.{InOrder}
 use Rattle.rr_edit.specs.Lifted.{lifts}
 use Rattle.rr_edit.specs.View.{plain_edits}
-use Rattle.rr_map.specs.Moves.{all_moved}
 use Rattle.rr_map.proofs.Walks.{not_all, moved_in_file, is_lifted}
 use Rattle.rr_map.proofs.lifting.lift.Goals as goal
 

@@ -1,4 +1,3 @@
-use Rattle.std.proofs.Common.{length}
 use Rattle.rr_edit.specs.Edits.{edited}
 use Rattle.rr_edit.specs.View.{plain_edits}
 use Rattle.rr_map.specs.Moves.{all_moved}
