@@ -96,13 +96,13 @@ module _ (origins : List Origin) (e : Edit) (order : e.from ≤ e.to) (within : 
       let n = length-drop e.from origins in
       let c : length (replaced origins e) ≡ e.to - e.from = length-take-le (e.to - e.from) (drop e.from origins) (omega (arith, n, within)) in
       let zero_is : get_or (replaced origins e) 0 no_origin ≡ get_or origins e.from no_origin =
-          get_or-take (e.to - e.from) (drop e.from origins) 0 no_origin (omega (arith, l)) ∙ get_or-drop e.from origins 0 no_origin
-          ∙ ap (λ (k : ℕ). get_or origins k no_origin) (let q : e.from + 0 ≡ e.from = omega arith in q) in
+      get_or-take (e.to - e.from) (drop e.from origins) 0 no_origin (omega (arith, l)) ∙ get_or-drop e.from origins 0 no_origin
+      ∙ ap (λ (k : ℕ). get_or origins k no_origin) (let q : e.from + 0 ≡ e.from = omega arith in q) in
       let last_is : get_or (replaced origins e) (e.to - e.from - 1) no_origin ≡ get_or origins (e.to - 1) no_origin =
-          get_or-take (e.to - e.from) (drop e.from origins) (e.to - e.from - 1) no_origin (omega (arith, l)) ∙ get_or-drop e.from origins (e.to - e.from - 1) no_origin
-          ∙ ap (λ (k : ℕ). get_or origins k no_origin) (let q : e.from + (e.to - e.from - 1) ≡ e.to - 1 = omega (arith, l) in q) in
+      get_or-take (e.to - e.from) (drop e.from origins) (e.to - e.from - 1) no_origin (omega (arith, l)) ∙ get_or-drop e.from origins (e.to - e.from - 1) no_origin
+      ∙ ap (λ (k : ℕ). get_or origins k no_origin) (let q : e.from + (e.to - e.from - 1) ≡ e.to - 1 = omega (arith, l) in q) in
       let r : Run (offset_at origins e.from) (replaced origins e) =
-          subst (λ (o : Origin). Run o.offset (replaced origins e)) zero_is (run_of (replaced origins e) no_origin (omega (arith, c, l)) h) in
+      subst (λ (o : Origin). Run o.offset (replaced origins e)) zero_is (run_of (replaced origins e) no_origin (omega (arith, c, l)) h) in
       let a = run_get (offset_at origins e.from) 0 (replaced origins e) no_origin r (omega (arith, c, l)) in
       let b = run_get (offset_at origins e.from) (e.to - e.from - 1) (replaced origins e) no_origin r (omega (arith, c, l)) in
       let x : exact_at origins e.from ≡ true = ap (λ (o : Origin). o.exact) (sym zero_is) ∙ a.1 in

@@ -5,6 +5,8 @@
 
 mod lifting;
 mod printing;
+#[cfg(test)]
+mod tests;
 
 pub use lifting::lift;
 pub use printing::{ReadFile, print_file};

@@ -3,7 +3,6 @@
 ghost use Rattle.std.specs.Prelude.{◌≡◌, ◌≤◌, ◌<◌, ◌-◌, ◌++◌, drop, length, take, true, IfNone, IfOk, IfSome};
 ghost use Rattle.std.specs.List.{All, list_all};
 ghost use Rattle.rr_directive.specs.Expand.{IsExpansion};
-ghost use Rattle.rr_directive.specs.Places.{offset_at};
 ghost use Rattle.rr_edit.specs.Edits.{edited, InOrder};
 ghost use Rattle.rr_edit.specs.Lifted.{lifted, lifts as lifts_of};
 ghost use Rattle.rr_edit.specs.View.{plain_edit, plain_edits};
