@@ -61,6 +61,9 @@ fn begin_at(sites: &[Site], tokens: &[u32]) -> bool {
 
 /// Whether those of some sites of a file that can be changed in it are those with these first tokens.
 fn keeps(alloc: Global, file: &str, sites: &[Site], wanted: &[u32]) -> Result<bool, Fail> {
+    if file.len() > 1_000_000 {
+        return Err(Fail::from("a file too long"));
+    }
     let mut list = Vec::new(alloc);
     list.extend_from_slice(sites)?;
     if !are_listed(list.as_slice()) {
@@ -71,21 +74,16 @@ fn keeps(alloc: Global, file: &str, sites: &[Site], wanted: &[u32]) -> Result<bo
     words_of_tokens();
     match expand(alloc, file.as_bytes()) {
         Err(_) => Err(Fail::from("no text")),
-        Ok(expanded) => {
-            if expanded.text.len() > 1_000_000 {
-                return Err(Fail::from("a text too long"));
-            }
-            match lex(expanded.text.as_slice(), &arena) {
-                Err(_) => Err(Fail::from("no tokens")),
-                Ok(tokens) => match parse(tokens, &arena) {
-                    Err(_) => Err(Fail::from("no tree")),
-                    Ok(source) => {
-                        let found = kept(alloc, &expanded, tokens, source, &list)?;
-                        Ok(begin_at(found.sites(), wanted))
-                    }
-                },
-            }
-        }
+        Ok(expanded) => match lex(expanded.text.as_slice(), &arena) {
+            Err(_) => Err(Fail::from("no tokens")),
+            Ok(tokens) => match parse(tokens, &arena) {
+                Err(_) => Err(Fail::from("no tree")),
+                Ok(source) => {
+                    let found = kept(alloc, &expanded, tokens, source, &list)?;
+                    Ok(begin_at(found.sites(), wanted))
+                }
+            },
+        },
     }
 }
 
