@@ -335,7 +335,11 @@ fn edits_of_a_choice(rt: HostRuntime) -> Result<(), Fail> {
         makes(
             rt.alloc(),
             "module m(input a, input s, output y);\n  assign y = a ? 1'b1 : 1'b0;\nendmodule\n",
-            &[guard(16, 1, &names), literal(18, 1, false), literal(20, 1, false)],
+            &[
+                guard(16, 1, &names),
+                literal(18, 1, false),
+                literal(20, 1, false)
+            ],
             &[on(0, 1, 0), off(), on(1, 0, 0)],
             &[(50, 50, " ( "), (52, 52, " ) && s "), (62, 66, " 1'h1 ")],
         )?

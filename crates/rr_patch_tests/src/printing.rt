@@ -79,8 +79,8 @@ struct Outcome {
     edits: Vec<Edit>,
 }
 
-/// What a choice at the sites of a design comes to.
-fn outcome(alloc: Global, design: &str, sites: &[Site], picks: &[Pick]) -> Result<Outcome, Fail> {
+/// Reads a design, and makes a choice at its sites.
+fn choose(alloc: Global, design: &str, sites: &[Site], picks: &[Pick]) -> Result<Outcome, Fail> {
     if design.len() > 1_000_000 {
         return Err(Fail::from("a text too long"));
     }
@@ -116,7 +116,7 @@ pub(crate) fn prints(
     picks: &[Pick],
     wanted: &str,
 ) -> Result<bool, Fail> {
-    let outcome = outcome(alloc, design, sites, picks)?;
+    let outcome = choose(alloc, design, sites, picks)?;
     Ok(outcome.text.as_slice() == wanted.as_bytes())
 }
 
@@ -129,7 +129,7 @@ pub(crate) fn makes(
     picks: &[Pick],
     wanted: &[(u32, u32, &str)],
 ) -> Result<bool, Fail> {
-    let outcome = outcome(alloc, design, sites, picks)?;
+    let outcome = choose(alloc, design, sites, picks)?;
     let mut same = outcome.edits.len() == wanted.len();
     for (edit, (from, to, text)) in outcome.edits.iter().zip(wanted.iter()) {
         same = same
