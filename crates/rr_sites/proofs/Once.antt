@@ -42,6 +42,17 @@ module _ (bytes : List ℕ) (top word : Option Text) where
 
 -- ---- a file
 module _ (file : List ℕ) (top word : Option Text) where
+  text_of : (bytes : List ℕ) (f : SourceFile) (flat : Flat) (clock : Option ℕ) (rising : Bool) (ss : List Site) → IsDesignOf bytes f.tokens f.source top flat → Lawful flat word → OneClock flat word clock rising →
+      AreSites f.source flat clock ss → HasSites bytes top word f.tokens ss
+  text_of bytes f flat clock rising ss d l o are = record { source = f.source; flat = flat; clock = clock; rising = rising; design = d; lawful = l; one_clock = o; are = are }
+
+  same_file : (a b : SourceFile) → a.text ≡ b.text → a.origins ≡ b.origins → a.tokens ≡ b.tokens → a.source ≡ b.source → a ≡ b
+  same_file a b t o l s =
+      ap (λ (x : List ℕ). record { text = x; origins = a.origins; tokens = a.tokens; source = a.source }) t ∙
+      (ap (λ (x : List Origin). record { text = b.text; origins = x; tokens = a.tokens; source = a.source }) o ∙
+      (ap (λ (x : List Lexeme). record { text = b.text; origins = b.origins; tokens = x; source = a.source }) l ∙
+      ap (λ (x : SourceText). record { text = b.text; origins = b.origins; tokens = b.tokens; source = x }) s))
+
   pub one_file : (a b : SourceFile) (ss rs : List Site) → HasFileSites file top word a ss → HasFileSites file top word b rs → (a ≡ b) × (ss ≡ rs)
   one_file a b ss rs p q =
       let texts = one_expansion file a.text b.text a.origins b.origins p.expansion.expansion q.expansion.expansion in
@@ -53,17 +64,6 @@ module _ (file : List ℕ) (top word : Option Text) where
       let kept : ss ≡ filter (is_kept b.origins b.tokens b.source) q.listed =
       p.kept ∙ (ap (λ (f : SourceFile). filter (is_kept f.origins f.tokens f.source) p.listed) same ∙ ap (filter (is_kept b.origins b.tokens b.source)) lists.1) in
       (same, kept ∙ sym q.kept)
-  where
-    text_of : (bytes : List ℕ) (f : SourceFile) (flat : Flat) (clock : Option ℕ) (rising : Bool) (ss : List Site) → IsDesignOf bytes f.tokens f.source top flat → Lawful flat word → OneClock flat word clock rising →
-        AreSites f.source flat clock ss → HasSites bytes top word f.tokens ss
-    text_of bytes f flat clock rising ss d l o are = record { source = f.source; flat = flat; clock = clock; rising = rising; design = d; lawful = l; one_clock = o; are = are }
-
-    same_file : (a b : SourceFile) → a.text ≡ b.text → a.origins ≡ b.origins → a.tokens ≡ b.tokens → a.source ≡ b.source → a ≡ b
-    same_file a b t o l s =
-        ap (λ (x : List ℕ). record { text = x; origins = a.origins; tokens = a.tokens; source = a.source }) t ∙
-        (ap (λ (x : List Origin). record { text = b.text; origins = x; tokens = a.tokens; source = a.source }) o ∙
-        (ap (λ (x : List Lexeme). record { text = b.text; origins = b.origins; tokens = x; source = a.source }) l ∙
-        ap (λ (x : SourceText). record { text = b.text; origins = b.origins; tokens = b.tokens; source = x }) s))
 
   pub one_text : (x y : List ℕ) → IsSiteText file top word x → IsSiteText file top word y → x ≡ y
   one_text x y a b =

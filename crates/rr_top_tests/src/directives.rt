@@ -11,7 +11,8 @@ const STEP: &str =
 const STEPS: &str = "q\n0\n1\n2\n3\n";
 
 /// A counter by two whose other literal stands in a macro, in a branch that is taken.
-const COUNTER: &str = "`define ZERO 4'd0\n`ifdef FAST\n`else\nmodule counter(input clk, input rst, output reg [3:0] q);\n  always @(posedge clk)\n    if (rst) q <= `ZERO;\n    else q <= q + 4'd2;\nendmodule\n`endif\n";
+const COUNTER: &str =
+    "`define ZERO 4'd0\n`ifdef FAST\n`else\nmodule counter(input clk, input rst, output reg [3:0] q);\n  always @(posedge clk)\n    if (rst) q <= `ZERO;\n    else q <= q + 4'd2;\nendmodule\n`endif\n";
 
 /// Files that have no expansion.
 const FAULTS: [(&str, &str); 3] = [

@@ -5,7 +5,7 @@ use Rattle.rr_flat.specs.View.{plain_flat}
 use Rattle.rr_choice.specs.Sites.{Site}
 use Rattle.rr_kept.specs.Kept.{AreKept}
 use Rattle.rr_lawful_instance.specs.Listed.{AreRight}
-use Rattle.rr_sites.proofs.Given.{if_ok, kept_right, numbered}
+use Rattle.rr_sites.proofs.Given.{if_ok, kept_right}
 use Rattle.rr_sites.specs.Lists.{AreSites}
 use Rattle.rr_sites.proofs.list.file_sites.Goals as goal
 
