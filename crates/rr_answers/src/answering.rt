@@ -30,10 +30,10 @@ use rr_syntax::Token;
 use std::alloc::{AllocError, Global};
 
 /// The tokens of the expansion of a file, with their places in the file.
-pub(crate) fn tokens_in_file<'a>(
+pub(crate) fn tokens_in_file<'s>(
     alloc: Global,
-    read: &ReadFile<'_, 'a>,
-) -> Result<Vec<Token<'a>>, AllocError>
+    read: &ReadFile<'_, 's, '_>,
+) -> Result<Vec<Token<'s>>, AllocError>
     requires { length read.now.file.now < 2 ^ 32 }
     ensures { IfOk result (λ tokens. lexemes tokens.items ≡ placed_tokens_of read.now.expanded.now.origins.items (length read.now.file.now) (lexemes read.now.tokens.now)) }
 {
@@ -60,7 +60,7 @@ pub fn unchanged(alloc: Global, bytes: &[u8]) -> Found<'_>
 /// the lines refute the circuit's formula.
 pub fn repaired<'b>(
     alloc: Global,
-    read: &ReadFile<'_, '_>,
+    read: &ReadFile<'_, '_, '_>,
     choice: &Choice,
     cert: &str,
     circuit: &Circuit,

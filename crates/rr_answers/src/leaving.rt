@@ -86,7 +86,7 @@ pub fn left_open<'b>(
 /// file.
 pub fn found_open<'b>(
     alloc: Global,
-    read: &ReadFile<'_, '_>,
+    read: &ReadFile<'_, '_, '_>,
     choice: &Choice,
     budget: u32,
     bound: u32,

@@ -16,19 +16,19 @@ use std::alloc::{AllocError, Global};
 /// A file that was read: its bytes, the text that it expands to with the origin of each byte, the tokens
 /// and the tree of that, and sites that can be changed in the file.
 #[derive(Clone, Copy)]
-pub struct ReadFile<'p, 'a> {
+pub struct ReadFile<'p, 's, 'l> {
     pub file: &'p [u8],
     pub expanded: &'p Expanded,
-    pub tokens: &'p [Token<'a>],
-    pub source: &'p Source<'a>,
-    pub list: &'p SiteList<'a>,
+    pub tokens: &'p [Token<'s>],
+    pub source: &'p Source<'s>,
+    pub list: &'p SiteList<'l>,
 }
 
 /// The file with a choice of its sites printed into it. It expands to the expansion with the choice
 /// printed into that, whose tree is the instance.
 pub fn print_file(
     alloc: Global,
-    read: &ReadFile<'_, '_>,
+    read: &ReadFile<'_, '_, '_>,
     choice: &Choice,
 ) -> Result<Vec<u8>, AllocError>
     requires { IsRead read.now.file.now (source_file read.now) read.now.list.now }

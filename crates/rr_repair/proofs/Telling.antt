@@ -1,5 +1,5 @@
 -- What the search answered, as what is to be done.
-use Rattle.std.proofs.Common.{◌≡◌, ◌⊎◌, inl, inr, ℕ, suc, ◌+◌, ◌-◌, ◌<◌, ◌≤◌, min, List, [], ◌∷◌, length, refl, sym, ◌∙◌, ap, subst, arith, Bool, Option, Some, None, Ok}
+use Rattle.std.proofs.Common.{◌≡◌, ◌⊎◌, inl, inr, ℕ, suc, ◌+◌, ◌-◌, ◌<◌, ◌≤◌, ◌^◌, min, List, [], ◌∷◌, length, refl, sym, ◌∙◌, ap, subst, arith, Bool, Option, Some, None, Ok}
 use Rattle.std.specs.List.{sum}
 use Rattle.std.proofs.lemmas.List.{length-map}
 use Rattle.rr_syntax.specs.Tree.{SourceText}
@@ -19,6 +19,7 @@ use Rattle.rr_trace.specs.Tables.{Table}
 use Rattle.rr_run.specs.declared.fault.RunFault.{RunFault}
 use Rattle.rr_run.specs.declared.fault.RunFault.TheVariants as run_fault
 use Rattle.rr_run.specs.Refusals.{TooMany, StopsWhere as RunStops}
+use Rattle.rr_run.specs.Files.{RefusesFileDesign}
 use Rattle.rr_run.specs.Rows.{ReadsTable, RefusesTable}
 use Rattle.rr_run.specs.declared.rows.TableKind.{TableKind}
 use Rattle.rr_run.specs.declared.rows.TableKind.TheVariants as kind
@@ -249,3 +250,7 @@ read_with bytes file flat clock ss size small e text listed are kept = record {
   kept = kept;
   named = kept_are_named file.origins file.tokens file.source listed ss kept (sites_named file.text file.tokens file.source flat clock listed text are);
 }
+
+pub stops_design : (w : PlainRequest) (design table : List ℕ) (f : RunFault) → RunStops (RefusesFileDesign design w.top w.clock) f → StopsWhere (RefusesRepair w design table) (stop_from f)
+stops_design w design table (run_fault.Refused r) h = inl (inl h)
+stops_design w design table run_fault.Memory h = tt
