@@ -1,14 +1,7 @@
 -- The list of sites that a text has is the list of its source.
-use Rattle.std.proofs.Common.{◌≡◌, ℕ, ◌<◌, List, length, get_or, Option, Contains, sym, subst}
-use Rattle.rr_syntax.specs.Items.{spell_source}
-use Rattle.rr_syntax.specs.Tree.{SourceText}
+use Rattle.std.proofs.Common.{◌≡◌, ℕ, ◌<◌, List, length, get_or, Contains, sym, subst}
 use Rattle.rr_syntax.specs.Words.{Word}
-use Rattle.rr_lex.specs.Tokens.{Lexeme, words_of}
-use Rattle.rr_flat.specs.Plain.{Flat}
 use Rattle.rr_choice.specs.Sites.{Site}
-use Rattle.rr_clock.specs.Places.{Place}
-use Rattle.rr_listing.specs.Listing.{sites_of}
-use Rattle.rr_place_laws.specs.Kinds.{IsSite}
 use Rattle.rr_place_laws.specs.Laws.{IsGiven}
 use Rattle.rr_place_laws.specs.Order.{ComesBefore, Ordered}
 use Rattle.rr_place_laws.specs.Spelled.{IsSpelled}
@@ -16,9 +9,8 @@ use Rattle.rr_place_laws.proofs.Members.{listed_are_sites, sites_are_listed}
 use Rattle.rr_place_laws.proofs.Orders.{sites_rise, sites_stand_once}
 use Rattle.rr_place_laws.proofs.ToldSites.{sites_spelled}
 use Rattle.rr_site_laws.proofs.Fit.{places_rise}
-use Rattle.rr_sites.specs.Lists.{HasSites}
 use Rattle.rr_sites.proofs.Given.{formed, numbered}
-use Rattle.rr_list_laws.specs.Exact.{AreExactly, FileListsAreExact, ListsAreExact}
+use Rattle.rr_list_laws.specs.Exact.{FileListsAreExact, ListsAreExact}
 
 pub lists_are_exact : ListsAreExact
 lists_are_exact bytes top word tokens ss h =

@@ -42,7 +42,7 @@ use Rattle.rr_site_names.proofs.Written.{names_are_written}
 use Rattle.rr_respell.specs.Laws.{AreNamed}
 use Rattle.rr_elaborate.specs.Designs.{IsText}
 use Rattle.rr_walk.specs.Walk.{flat_of}
-use Rattle.rr_sites.specs.Lists.{AreSites}
+use Rattle.rr_sites.specs.Lists.{AreSites, HasFileSites}
 use Rattle.rr_directive.specs.Expand.{IsExpansion}
 use Rattle.rr_kept.specs.Kept.{AreKept}
 use Rattle.rr_kept.specs.Read.{IsRead, SourceFile}
@@ -251,6 +251,12 @@ read_with bytes file flat clock ss size small e text listed are kept = record {
   named = kept_are_named file.origins file.tokens file.source listed ss kept (sites_named file.text file.tokens file.source flat clock listed text are);
 }
 
+-- a file without a design
 pub stops_design : (w : PlainRequest) (design table : List ℕ) (f : RunFault) → RunStops (RefusesFileDesign design w.top w.clock) f → StopsWhere (RefusesRepair w design table) (stop_from f)
 stops_design w design table (run_fault.Refused r) h = inl (inl h)
 stops_design w design table run_fault.Memory h = tt
+
+-- more sites than a repair takes
+pub many_sites : (w : PlainRequest) (design table : List ℕ) (file : SourceFile) (ss : List Site) → HasFileSites design w.top w.clock file ss → (count : ℕ) → length ss ≡ count → 1024 < count → Refuses w design table (TooMany limit.Sites count)
+many_sites w design table file ss has count e l =
+    inl (inr (record { read = file; sites = ss; has = has; told = (subst (λ (n : ℕ). 1024 < n) (sym e) l, ap (λ (n : ℕ). TooMany limit.Sites n) (sym e)) }))

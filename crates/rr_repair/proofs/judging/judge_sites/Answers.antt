@@ -1,7 +1,8 @@
 use Rattle.std.proofs.Common.{arith}
 use Rattle.rr_sites.specs.View.{source_file}
 use Rattle.rr_flat.specs.View.{plain_flat}
-use Rattle.rr_repair.proofs.Telling.{read_with}
+use Rattle.rr_repair.specs.Views.{plain_request}
+use Rattle.rr_repair.proofs.Telling.{many_sites, plain_count, read_with}
 use Rattle.rr_repair.proofs.judging.judge_sites.Goals as goal
 
 -- src/judging.rt
@@ -11,3 +12,11 @@ judge_table-requires-clause-given g c = λ κs o.
     let small = c.requires.text in
     read_with c.args.bytes.now (source_file c.args.file.now) (plain_flat c.args.file.now.design.flat) c.args.file.now.design.order.clock c.in-Ok.list c.requires.small (omega (arith, small)) c.requires.expansion.expansion c.requires.tree.text
     k.0 k.1.0 k.1.1
+
+pub returns-then-count-gt-SITE_LIMIT : goal.returns-then-count-gt-SITE_LIMIT
+returns-then-count-gt-SITE_LIMIT g c = λ o.
+    let k = c.in-Ok.ensures.kept in
+    let order = c.args.file.now.design.order in
+    many_sites (plain_request c.args.request.now) c.args.bytes.now c.args.table.now (source_file c.args.file.now) c.in-Ok.list
+    (record { expansion = c.requires.expansion; flat = plain_flat c.args.file.now.design.flat; clock = order.clock; rising = order.rising; design = c.requires.tree; lawful = c.requires.ordered.0; one_clock = o; listed = k.0; are = k.1.0; kept = k.1.1 })
+    _ (plain_count c.sites-count.result.now c.in-Ok.list c.sites-count.ensures.same) c.if-count-gt-SITE_LIMIT.true
