@@ -1,5 +1,5 @@
 -- What two files decide for a repair, they decide once.
-use Rattle.std.proofs.Common.{◌≡◌, ◌∙◌, inl, inr, ℕ, ◌<◌, ◌^◌, ◌+◌, List, [], ◌∷◌, Bool, false, cond, refl, sym, ap, subst, arith, Option}
+use Rattle.std.proofs.Common.{◌≡◌, ◌∙◌, inl, inr, ℕ, ◌<◌, ◌^◌, ◌+◌, List, [], ◌∷◌, length, Bool, false, cond, refl, sym, ap, subst, arith, Option}
 use Rattle.std.proofs.lemmas.List.Sums.{sum_by-cons}
 use Rattle.std.proofs.Math.Pow.{ones_lt}
 use Rattle.rr_syntax.specs.Tree.{SourceText}
@@ -33,6 +33,7 @@ module _ (w : PlainRequest) (design : List ℕ) where
 
   -- the lawful design of its expansion
   lawful_of : {a : SourceFile} {flat : Flat} {clock : Option ℕ} {rising : Bool} {ss : List Site} → IsSited w design a flat clock rising ss → IsFileDesign design w.top w.clock a.tokens flat clock rising
+  unfolding sites_of_it
   lawful_of {a} {flat} {clock} {rising} {ss} s = file_of design w.top w.clock a ss (sites_of_it s)
 
   record IsOneSited (a b : SourceFile) (f g : Flat) (c d : Option ℕ) (r s : Bool) (ss rs : List Site) : Type 0 where
