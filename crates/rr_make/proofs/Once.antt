@@ -1,5 +1,5 @@
 -- A seed has one summary, and each answer tells it, or that there is none, or leaves this open.
-use Rattle.std.proofs.Common.{◌≡◌, ◌∙◌, inl, inr, ℕ, List, sym, ap}
+use Rattle.std.proofs.Common.{◌∙◌, inl, inr, ℕ, List, sym, ap}
 use Rattle.rr_made.specs.Made.{made_design, made_table}
 use Rattle.rr_report.specs.Found.{Answer}
 use Rattle.rr_outcomes.proofs.Alike.{count_mends, one_least}

@@ -1,5 +1,5 @@
 -- the certificate of a repair is accepted
-use Rattle.std.proofs.Common.{◌≡◌, ◌⊎◌, inl, inr, ℕ, List, [], ◌∷◌, ◌++◌, sym, subst}
+use Rattle.std.proofs.Common.{◌≡◌, ◌⊎◌, inl, inr, ℕ, List, []}
 use Rattle.rr_circuit.specs.Aag.{aag}
 use Rattle.rr_circuit.specs.Values.{OutputNetlist}
 use Rattle.rr_cnf.specs.Dimacs.{dimacs}
