@@ -1,0 +1,31 @@
+-- Files without macros, and that their tokens can be changed.
+use Rattle.std.specs.Prelude.{ℕ, ◌+◌, ◌<◌, ◌≡◌, ◌==◌, ◌&&◌, not, Bool, true, false, List, [], ◌∷◌, ◌++◌, length}
+use Rattle.std.specs.List.{All}
+use Rattle.rr_syntax.specs.declared.token.Number.{Number}
+use Rattle.rr_syntax.specs.Words.{Digits}
+use Rattle.rr_directive.specs.declared.origin.Origin.{Origin}
+use Rattle.rr_directive.specs.Expand.{IsExpansion}
+use Rattle.rr_directive.specs.Laws.{is_kept}
+use Rattle.rr_directive.specs.Pieces.{begins_with, units_of}
+use Rattle.rr_lex.specs.Tokens.{AreTokens, IsClosedBy, Lexeme, Read, is_closed_next}
+use Rattle.rr_kept.specs.Kept.{place_lifts, token_at, token_lifts}
+
+-- neither // nor /* stands in these bytes, and no \ and no backtick
+unfoldable pub is_calm : List ℕ → Bool
+is_calm [] = true
+is_calm (b ∷ bs) = not (begins_with 47 47 (b ∷ bs)) && (not (begins_with 47 42 (b ∷ bs)) && (not (b == 92) && (not (b == 96) && is_calm bs)))
+
+-- so it is with the body of each attribute, which stands behind tokens and white space of the file (IEEE 1364-2005 section 3.8)
+abbrev pub AreCalm : List ℕ → Type 0
+AreCalm file = (at : ℕ) (ts : List Lexeme) (body after : List ℕ) →
+    Read at (40 ∷ (42 ∷ (body ++ after))) 0 file ts → IsClosedBy 42 41 body → is_closed_next body ≡ false → is_calm body ≡ true
+
+-- a file without uses and without directives but those that stay, the attributes of which are calm
+pub record IsPlainFile (file : List ℕ) : Type 0 where
+  pub units : All (λ u. is_kept u.piece.kind ≡ true) (units_of file)
+  pub attributes : AreCalm file
+
+-- in such a file a text can be put behind each token, and each number can be replaced
+abbrev pub PlainTokensLift : Type 0
+PlainTokensLift = (file : List ℕ) (ts : List Lexeme) (origins : List Origin) → IsPlainFile file → AreTokens file ts → IsExpansion file file origins →
+    (k : ℕ) → k < length ts → (place_lifts origins ts (k + 1) ≡ true) × ((n : Number) → (token_at ts k).word ≡ Digits n → token_lifts origins ts k ≡ true)

@@ -1,0 +1,8 @@
+//! The law of files without macros, as the contract of a function that does nothing.
+ghost use Rattle.rr_plain_files.specs.Laws.{PlainTokensLift};
+
+/// In a file without uses and without directives but those that stay, of which no attribute holds `//`,
+/// `/*`, `\` or a backtick, a text can be put behind each token, and each number can be replaced.
+pub fn plain_files_lift()
+    ensures tokens { PlainTokensLift }
+{}
