@@ -1,6 +1,6 @@
 -- The origins of the bytes of a file whose units all give themselves, unit by unit.
-use Rattle.std.proofs.Common.{ℕ, zero, suc, ◌≡◌, ◌+◌, ◌-◌, ◌≤◌, ◌<◌, ◌&&◌, ◌==◌, List, [], ◌∷◌, ◌++◌, length, take, drop, get_or, Bool, true, false, refl, ap, ◌∙◌, sym, arith}
-use Rattle.std.specs.List.{All, flat_map}
+use Rattle.std.proofs.Common.{ℕ, zero, suc, ◌≡◌, ◌+◌, ◌-◌, ◌==◌, List, [], ◌∷◌, ◌++◌, length, take, drop, get_or, true, refl, ap, ◌∙◌, sym, arith}
+use Rattle.std.specs.List.{flat_map}
 use Rattle.std.proofs.lemmas.Bool.{eq-eqb}
 use Rattle.std.proofs.lemmas.List.{append_assoc, drop-drop, drop_at, take_at}
 use Rattle.std.proofs.lemmas.List.Elements.{All-head, All-tail}
@@ -15,7 +15,7 @@ use Rattle.rr_directive.specs.Places.{no_origin}
 use Rattle.rr_directive.proofs.Faults.{one_expansion}
 use Rattle.rr_directive.proofs.Outputs.{bytes_append, origins_append}
 use Rattle.rr_directive.proofs.Plain.{AreKept, its_bytes, none_open, own_given, units_join}
-use Rattle.rr_edit.specs.Lifted.{adjoin, is_next}
+use Rattle.rr_edit.specs.Lifted.{adjoin}
 
 -- ---- what reading a kept unit gives
 
