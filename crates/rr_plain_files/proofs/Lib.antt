@@ -3,3 +3,5 @@ pub mod Plain
 pub mod White
 pub mod Tokens
 pub mod Lifting
+pub mod Bodies
+pub mod Sites

@@ -1,5 +1,5 @@
--- Files without macros, and that their tokens can be changed.
-use Rattle.std.specs.Prelude.{ℕ, ◌+◌, ◌<◌, ◌≡◌, ◌==◌, ◌&&◌, not, Bool, true, false, List, [], ◌∷◌, ◌++◌, length}
+-- Files without macros, and that their tokens can be changed; and so all their sites.
+use Rattle.std.specs.Prelude.{ℕ, ◌+◌, ◌<◌, ◌≡◌, ◌==◌, ◌&&◌, not, Bool, true, false, List, [], ◌∷◌, ◌++◌, length, Option}
 use Rattle.std.specs.List.{All}
 use Rattle.rr_syntax.specs.declared.token.Number.{Number}
 use Rattle.rr_syntax.specs.Words.{Digits}
@@ -8,7 +8,10 @@ use Rattle.rr_directive.specs.Expand.{IsExpansion}
 use Rattle.rr_directive.specs.Laws.{is_kept}
 use Rattle.rr_directive.specs.Pieces.{begins_with, units_of}
 use Rattle.rr_lex.specs.Tokens.{AreTokens, IsClosedBy, Lexeme, Read, is_closed_next}
+use Rattle.rr_choice.specs.Sites.{Site}
 use Rattle.rr_kept.specs.Kept.{place_lifts, token_at, token_lifts}
+use Rattle.rr_kept.specs.Read.{SourceFile}
+use Rattle.rr_sites.specs.Lists.{HasFileSites}
 
 -- neither // nor /* stands in these bytes, and no \ and no backtick
 unfoldable pub is_calm : List ℕ → Bool
@@ -29,3 +32,8 @@ pub record IsPlainFile (file : List ℕ) : Type 0 where
 abbrev pub PlainTokensLift : Type 0
 PlainTokensLift = (file : List ℕ) (ts : List Lexeme) (origins : List Origin) → IsPlainFile file → AreTokens file ts → IsExpansion file file origins →
     (k : ℕ) → k < length ts → (place_lifts origins ts (k + 1) ≡ true) × ((n : Number) → (token_at ts k).word ≡ Digits n → token_lifts origins ts k ≡ true)
+
+-- such a file is its own expansion, and in the list of its sites that can be changed none of its sites is left out
+abbrev pub PlainKeepsAll : Type 0
+PlainKeepsAll = (file : List ℕ) (top word : Option (List ℕ)) (read : SourceFile) (ss : List Site) → IsPlainFile file → (h : HasFileSites file top word read ss) →
+    (read.text ≡ file) × (ss ≡ h.listed)

@@ -1,8 +1,13 @@
 //! The law of files without macros, as the contract of a function that does nothing.
-ghost use Rattle.rr_plain_files.specs.Laws.{PlainTokensLift};
+ghost use Rattle.rr_plain_files.specs.Laws.{PlainKeepsAll, PlainTokensLift};
 
 /// In a file without uses and without directives but those that stay, of which no attribute holds `//`,
 /// `/*`, `\` or a backtick, a text can be put behind each token, and each number can be replaced.
 pub fn plain_files_lift()
     ensures tokens { PlainTokensLift }
+{}
+
+/// Such a file is its own expansion, and none of its sites is left out of those that can be changed in it.
+pub fn plain_files_keep_all()
+    ensures { PlainKeepsAll }
 {}
