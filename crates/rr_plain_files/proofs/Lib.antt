@@ -5,3 +5,4 @@ pub mod Tokens
 pub mod Lifting
 pub mod Bodies
 pub mod Sites
+pub mod Printing

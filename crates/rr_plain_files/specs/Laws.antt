@@ -1,5 +1,5 @@
--- Files without macros, and that their tokens can be changed; and so all their sites.
-use Rattle.std.specs.Prelude.{ℕ, ◌+◌, ◌<◌, ◌≡◌, ◌==◌, ◌&&◌, not, Bool, true, false, List, [], ◌∷◌, ◌++◌, length, Option}
+-- Files without macros, and that their tokens can be changed; so all their sites can, as in a text.
+use Rattle.std.specs.Prelude.{ℕ, ◌+◌, ◌<◌, ◌≤◌, ◌≡◌, ◌==◌, ◌&&◌, not, Bool, true, false, List, [], ◌∷◌, ◌++◌, length, Option}
 use Rattle.std.specs.List.{All}
 use Rattle.rr_syntax.specs.declared.token.Number.{Number}
 use Rattle.rr_syntax.specs.Words.{Digits}
@@ -8,9 +8,12 @@ use Rattle.rr_directive.specs.Expand.{IsExpansion}
 use Rattle.rr_directive.specs.Laws.{is_kept}
 use Rattle.rr_directive.specs.Pieces.{begins_with, units_of}
 use Rattle.rr_lex.specs.Tokens.{AreTokens, IsClosedBy, Lexeme, Read, is_closed_next}
-use Rattle.rr_choice.specs.Sites.{Site}
+use Rattle.rr_choice.specs.declared.pick.Pick.{Pick}
+use Rattle.rr_choice.specs.Sites.{Site, IsSiteList}
+use Rattle.rr_respell.specs.Printing.{printed}
 use Rattle.rr_kept.specs.Kept.{place_lifts, token_at, token_lifts}
-use Rattle.rr_kept.specs.Read.{SourceFile}
+use Rattle.rr_kept.specs.Read.{IsRead, SourceFile}
+use Rattle.rr_map.specs.Printed.{printed_file}
 use Rattle.rr_sites.specs.Lists.{HasFileSites}
 
 -- neither // nor /* stands in these bytes, and no \ and no backtick
@@ -37,3 +40,8 @@ PlainTokensLift = (file : List ℕ) (ts : List Lexeme) (origins : List Origin) �
 abbrev pub PlainKeepsAll : Type 0
 PlainKeepsAll = (file : List ℕ) (top word : Option (List ℕ)) (read : SourceFile) (ss : List Site) → IsPlainFile file → (h : HasFileSites file top word read ss) →
     (read.text ≡ file) × (ss ≡ h.listed)
+
+-- a choice is printed into such a file as into a text, byte for byte
+abbrev pub PlainPrints : Type 0
+PlainPrints = (bytes : List ℕ) (file : SourceFile) (ss : List Site) (ps : List Pick) → IsPlainFile bytes → length bytes ≤ 1048576 → IsRead bytes file ss → IsSiteList ss →
+    printed_file bytes file ss ps ≡ printed bytes file.tokens ss ps file.source

@@ -4,4 +4,4 @@
 
 mod laws;
 
-pub use laws::{plain_files_keep_all, plain_files_lift};
+pub use laws::{plain_files_keep_all, plain_files_lift, plain_files_print};
