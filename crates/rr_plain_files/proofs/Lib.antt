@@ -6,3 +6,4 @@ pub mod Lifting
 pub mod Bodies
 pub mod Sites
 pub mod Printing
+pub mod Without

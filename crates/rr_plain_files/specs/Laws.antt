@@ -1,5 +1,5 @@
 -- Files without macros, and that their tokens can be changed; so all their sites can, as in a text.
-use Rattle.std.specs.Prelude.{ℕ, ◌+◌, ◌<◌, ◌≤◌, ◌≡◌, ◌==◌, ◌&&◌, not, Bool, true, false, List, [], ◌∷◌, ◌++◌, length, Option}
+use Rattle.std.specs.Prelude.{ℕ, ◌+◌, ◌<◌, ◌≤◌, ◌≡◌, ◌≢◌, ◌==◌, ◌&&◌, not, Bool, true, false, List, [], ◌∷◌, ◌++◌, length, Option}
 use Rattle.std.specs.List.{All}
 use Rattle.rr_syntax.specs.declared.token.Number.{Number}
 use Rattle.rr_syntax.specs.Words.{Digits}
@@ -7,7 +7,7 @@ use Rattle.rr_directive.specs.declared.origin.Origin.{Origin}
 use Rattle.rr_directive.specs.Expand.{IsExpansion}
 use Rattle.rr_directive.specs.Laws.{is_kept}
 use Rattle.rr_directive.specs.Pieces.{begins_with, units_of}
-use Rattle.rr_lex.specs.Tokens.{AreTokens, IsClosedBy, Lexeme, Read, is_closed_next}
+use Rattle.rr_lex.specs.Tokens.{AreTokens, IsClosedBy, Lexeme, Read, attribute_begins, is_closed_next}
 use Rattle.rr_choice.specs.declared.pick.Pick.{Pick}
 use Rattle.rr_choice.specs.Sites.{Site, IsSiteList}
 use Rattle.rr_respell.specs.Printing.{printed}
@@ -30,6 +30,10 @@ AreCalm file = (at : ℕ) (ts : List Lexeme) (body after : List ℕ) →
 pub record IsPlainFile (file : List ℕ) : Type 0 where
   pub units : All (λ u. is_kept u.piece.kind ≡ true) (units_of file)
   pub attributes : AreCalm file
+
+-- a file without a backtick in which no attribute begins is such
+abbrev pub PlainWithout : Type 0
+PlainWithout = (file : List ℕ) → All (λ b. b ≢ 96) file → ((front rest : List ℕ) → file ≡ front ++ rest → attribute_begins rest ≡ false) → IsPlainFile file
 
 -- in such a file a text can be put behind each token, and each number can be replaced
 abbrev pub PlainTokensLift : Type 0
