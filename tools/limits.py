@@ -371,9 +371,9 @@ DIRECTIVES = {
 
 # Designs of many sites of which none, or one, can be changed in the file.
 KEPT = {
-    "a literal in a macro, used over and over": (filled("`define L 1'b1\nmodule m(input a,output y);assign y=a", "^`L", ";endmodule\n"), ""),
+    "a literal in a macro, used over and over": (filled("`define L 1'b1\nmodule m(input clk,output reg y);always @(posedge clk) begin ", "y<=`L;", " end endmodule\n"), ""),
     "conditions that end in a use": (filled("`define A a\nmodule m(input clk,input a,output reg y);always @(posedge clk) begin ", "if(`A)y<=a;", " end endmodule\n"), None),
-    "blocks that end in a use": (filled("`define E ;\nmodule m(input clk,input a,output reg y);", "always @(posedge clk) y<=a`E ", "endmodule\n"), None),
+    "statements that end in a use": (filled("`define E ;\nmodule m(input clk,input a,output reg y);always @(posedge clk) begin ", "y<=a`E ", " end endmodule\n"), None),
 }
 
 SITES, RUN, REPAIR, CHECK = ("sites", "d.v"), ("run", "d.v", "t.csv"), ("repair", "d.v", "t.csv", "c"), ("check", "c.aag", "c.lrat")
