@@ -1,6 +1,6 @@
 -- from the circuit of a cycle to what a transition stands for
 use Rattle.std.proofs.Common.{◌≡◌, ◌∙◌, sym, ap, ap₂, refl, subst, ℕ, zero, suc, ◌+◌, ◌<◌, ◌≤◌, Bool, true, List, [], ◌∷◌, ◌++◌, length, map, flat_map, drop, drop-cons, get_or, All, Option, Ok, arith}
-use Rattle.std.specs.List.{AllByRecursion, range_with_len, sum}
+use Rattle.std.specs.List.{AllByRecursion, sum}
 use Rattle.std.proofs.lemmas.List.{append-nil, append_assoc, drop_all, length-append, length-map}
 use Rattle.std.proofs.lemmas.List.Elements.{All-from_recursion}
 use Rattle.std.proofs.lemmas.List.FromFn.{length-map-range_with_len}
@@ -100,7 +100,7 @@ answers_length F ss ps registers e =
 
 -- registers
 
-any_from : (F : Flat) (blocks : List Block) (k : ℕ) (b : Bit) → k < length blocks → writes_at_all F (block_at blocks k) b ≡ true → any_writes F blocks b ≡ true
+pub any_from : (F : Flat) (blocks : List Block) (k : ℕ) (b : Bit) → k < length blocks → writes_at_all F (block_at blocks k) b ≡ true → any_writes F blocks b ≡ true
 unfolding any_writes
 any_from F [] k b l h = absurd (omega arith)
 any_from F (x ∷ xs) zero b l h = or_left (writes_at_all F x b) (any_writes F xs b) h

@@ -3,3 +3,4 @@ pub mod BaseLaws
 pub mod CycleLaws
 pub mod FitLaws
 pub mod FewBits
+pub mod StayLaws

@@ -1,20 +1,21 @@
 -- The circuit of a cycle: from a choice, a state and a row of inputs to the next state and the outputs.
-use Rattle.std.specs.Prelude.{◌≡◌, ◌<◌, ◌+◌, ◌^◌, ℕ, List, ◌++◌, length, map, Bool, Option, Ok}
-use Rattle.rr_syntax.specs.Tree.{SourceText}
+use Rattle.std.specs.Prelude.{◌≡◌, ◌+◌, ℕ, List, ◌++◌, length, map, Bool, Option, Ok}
 use Rattle.rr_circuit.specs.Values.{OutputNetlist, output_values, given as given_bits}
 use Rattle.rr_expr.specs.declared.types.Bit.{Bit}
 use Rattle.rr_flat.specs.declared.design.Step.{Step}
 use Rattle.rr_flat.specs.Inputs.{row_inputs}
+use Rattle.rr_flat.specs.Clocks.{OneClock}
 use Rattle.rr_flat.specs.Lawful.{Lawful}
 use Rattle.rr_flat.specs.Ordered.{Ordered}
 use Rattle.rr_flat.specs.Plain.{Flat}
 use Rattle.rr_walk.specs.Walk.{flat_of}
 use Rattle.rr_flat_instance.specs.Flats.{instance_flat}
 use Rattle.rr_lawful_instance.specs.Listed.{AreRight}
+use Rattle.rr_choice.specs.declared.pick.Pick.{Pick}
 use Rattle.rr_choice.specs.Choices.{decode, total_bits}
 use Rattle.rr_choice.specs.Sites.{Site}
 use Rattle.rr_cycle.specs.Exec.{Environment}
-use Rattle.rr_transition.specs.Cycles.{Design, output_bits}
+use Rattle.rr_transition.specs.Cycles.{Design, instance_design, output_bits}
 use Rattle.rr_cycle.specs.Performing.{next_after}
 use Rattle.rr_transition.specs.Placed.{settled_of}
 use Rattle.rr_registers.specs.Registers.{registers_of}
@@ -43,3 +44,14 @@ pub record FitsArguments (j : Design) (flat : Flat) (clock : Option ℕ) (rising
 -- the bits of a choice, the registers and the bits of a row together
 abbrev pub bit_count : Flat → Option ℕ → List Site → ℕ
 bit_count flat clock sites = total_bits sites + length (registers_of flat) + length (bits_of_row flat.signals (row_inputs clock flat.inputs))
+
+-- an instance of such a design elaborates without a fault and is lawful, with the design's signals, clock and edge, registers
+-- and order of steps
+pub record StaysLawful (j : Design) (flat : Flat) (clock : Option ℕ) (rising : Bool) (steps : List Step) (sites : List Site) (picks : List Pick) : Type 0 where
+  pub instance : Flat
+  pub elaborated : flat_of (instance_design sites picks j).source j.top ≡ Ok instance
+  pub lawful : Lawful instance j.word
+  pub signals : instance.signals ≡ flat.signals
+  pub one_clock : OneClock instance j.word clock rising
+  pub registers : registers_of instance ≡ registers_of flat
+  pub ordered : Ordered instance j.word clock rising steps

@@ -1,11 +1,12 @@
 //! Transitions of flat designs.
-ghost use Rattle.std.specs.Prelude.{◌≡◌, ◌<◌, ◌^◌, ◌++◌, ◌∷◌, [], IfOk, OnOk, All, length};
+ghost use Rattle.std.specs.Prelude.{List, ◌≡◌, ◌<◌, ◌^◌, ◌++◌, ◌∷◌, [], IfOk, OnOk, All, length};
 ghost use Rattle.rr_circuit.specs.Sweeps.{AreUsed};
 ghost use Rattle.rr_flat.specs.View.{plain_flat};
+ghost use Rattle.rr_choice.specs.declared.pick.Pick.{Pick};
 ghost use Rattle.rr_choice.specs.Choices.{total_bits};
 ghost use Rattle.rr_transition.specs.Cycles.{Cycle, Design, switch_places, widths_of};
 ghost use Rattle.rr_registers.specs.Registers.{registers_of};
-ghost use Rattle.rr_blast.specs.Circuits.{FitsArguments, bit_count};
+ghost use Rattle.rr_blast.specs.Circuits.{FitsArguments, StaysLawful, bit_count};
 
 use crate::cycle::{cycle_circuit, row_bits};
 use rr_choice::{SiteList, site_bits};
@@ -52,8 +53,26 @@ fn widths(alloc: Global, flat: &Flat, ids: &[u32]) -> Result<Vec<u32>, AllocErro
 /// list. The design is lawful, and its steps stand in that order; the bits of a choice, of a state and
 /// of a row of inputs together are below 2^32. The registers are the bits that clocked blocks write,
 /// signal after signal, each lowest bit first. The circuit has no gate that no bit of the next state and of
-/// the outputs stands on.
+/// the outputs stands on. Every instance is lawful, with the signals, the clock, the registers and the
+/// order of the design.
 pub fn transition(
+    alloc: Global,
+    flat: &Flat,
+    order: &Order,
+    list: &SiteList,
+) -> Result<Transition, AllocError>
+    requires fits { (j : Design) × FitsArguments j (plain_flat flat.now) order.now.clock order.now.rising order.now.steps.items list.now }
+    requires few { bit_count (plain_flat flat.now) order.now.clock list.now < 2 ^ 32 }
+    ensures stands { IfOk result (λ t. (j : Design) → FitsArguments j (plain_flat flat.now) order.now.clock order.now.rising order.now.steps.items list.now → Cycle j list.now t) }
+    ensures registers { IfOk result (λ t. (j : Design) → FitsArguments j (plain_flat flat.now) order.now.clock order.now.rising order.now.steps.items list.now → (c : Cycle j list.now t) × (c.registers ≡ registers_of (plain_flat flat.now))) }
+    ensures used { IfOk result (λ t. AreUsed t.circuit) }
+    ensures lawful { (j : Design) (picks : List Pick) → FitsArguments j (plain_flat flat.now) order.now.clock order.now.rising order.now.steps.items list.now → StaysLawful j (plain_flat flat.now) order.now.clock order.now.rising order.now.steps.items list.now picks }
+{
+    swept_cycle(alloc, flat, order, list)
+}
+
+/// The circuit, and what belongs to it.
+fn swept_cycle(
     alloc: Global,
     flat: &Flat,
     order: &Order,

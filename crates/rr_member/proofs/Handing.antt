@@ -11,7 +11,7 @@ use Rattle.rr_rounds.specs.declared.place.Place.{Place}
 use Rattle.rr_member.specs.declared.sharing.Short.{Short}
 use Rattle.rr_rounds.specs.States.{Learned, Member, Taken, handed, idle, learned, line_of, member, nothing, steps}
 use Rattle.rr_rounds.specs.Joined.{flat, lines_in, of_member, of_round}
-use Rattle.rr_rounds.specs.Rounds.{HandsOver, Reached, is_short, shared, short_of}
+use Rattle.rr_rounds.specs.Rounds.{HandsOver, IsAboveEnd, Reached, is_short, shared, short_of}
 use Rattle.rr_member.specs.Seats.{Seated, member_of}
 use Rattle.rr_member.specs.Sharing.{AllTook, MayTake, all_shorts, nobody, not_own, origin_of, seat, short_at, shorts_of, state_of}
 use Rattle.rr_rounds.proofs.Lawful.{no_step}
@@ -115,6 +115,7 @@ module _ (round : ℕ) (seats : List Seated) where
                 ids = λ k d i.
                     subst (λ g. IsNewId g (steps (member s m)) (handed (member s m) ++ map (λ (t : Taken). t.handed) (take k t.more)) (get_or t.more k d).handed.id) (asked m h)
                     (subst (λ y. IsNewId (seat seats m).search.formula (steps y) (handed y ++ map (λ (t : Taken). t.handed) (take k t.more)) (get_or t.more k d).handed.id) (sym at) (t.ids k d i));
+                ended = λ k d i. subst (λ y. IsAboveEnd y (get_or t.more k d).handed.id) (sym at) (t.ended k d i);
               },
               seat_at new m (omega (arith, h, took.count)) ∙ t.is ∙ ap (λ (y : Member). record y { taken = y.taken ++ t.more }) (sym at),
             ),

@@ -9,18 +9,34 @@ use Rattle.rr_cnf.specs.Clauses.{Clauses}
 use Rattle.rr_derive.specs.Derive.{Step}
 use Rattle.rr_derive.specs.Fresh.{Handed}
 use Rattle.rr_solver.specs.Searches.{Adds, IsFreshAfter, IsNewId, NamesAll, PassesAfter, Same, Search, SteppedIs, line}
+use Rattle.rr_solver.specs.declared.engine.Status.{Status}
 use Rattle.rr_solver.specs.declared.engine.Status.TheVariants.{Running, Model, Refuted, Failed}
 use Rattle.rr_solver.specs.declared.engine.Stepped.{Stepped}
 use Rattle.rr_solver.specs.declared.engine.Stepped.TheVariants.{Learned as HasLearned, Model as HasModel, Refuted as HasRefuted}
 use Rattle.rr_rounds.proofs.Lawful.{no_step}
 use Rattle.rr_derive.specs.Derive.{IsRising}
-use Rattle.rr_rounds.specs.States.{no_taken, nothing, Ending, emptied, Learned, Member, Taken, handed, steps}
-use Rattle.rr_rounds.specs.Rounds.{Event, learns, solves, refutes, May, MayWrite, after}
+use Rattle.rr_rounds.specs.States.{no_taken, nothing, Ending, emptied, solved, Learned, Member, Taken, handed, steps}
+use Rattle.rr_rounds.specs.Rounds.{Event, IsAboveEnd, learns, solves, refutes, May, MayWrite, after}
 use Rattle.rr_member.specs.Sharing.{Gives, Took, not_own, origin_of}
 use Rattle.rr_member.specs.declared.sharing.Short.{Short}
 use Rattle.rr_member.specs.Seats.{Does, IsSeat, Made, Seated, ending_by, member_of, place_of, unlisted, with_origins, with_rounds}
 use Rattle.rr_rounds.specs.Rounds.{MayAll, after_all}
 use Rattle.rr_member.specs.declared.seat.Origin.{Origin}
+
+-- an id above those of all lines is above that of the empty line
+last_below : (lines : List Step) (k id : ℕ) → 0 < id → All (λ (x : Step). x.id < id) lines → (line lines k).id < id
+last_below [] k id some below = some
+last_below (x ∷ xs) zero id some below = below 0 x (omega arith)
+last_below (x ∷ xs) (suc k) id some below = last_below xs k id some (λ j d h. below (suc j) d (omega (arith, h)))
+
+end_below : (status : Status) (bits : List Bool) (lines : List Step) (id : ℕ) → 0 < id → All (λ (x : Step). x.id < id) lines → (e : Step) → ending_by status bits lines ≡ Some (emptied e) → e.id < id
+end_below Running bits lines id some below e q = let z : None ≡ Some (emptied e) = q in cc
+end_below Model bits lines id some below e q = let z : Some (solved bits) ≡ Some (emptied e) = q in cc
+end_below Refuted bits lines id some below e q =
+    let z : Some (emptied (line lines (length lines - 1))) ≡ Some (emptied e) = q in
+    let same : line lines (length lines - 1) ≡ e = cc in
+    subst (λ (x : Step). x.id < id) same (last_below lines (length lines - 1) id some below)
+end_below Failed bits lines id some below e q = let z : None ≡ Some (emptied e) = q in cc
 
 pub with_rounds_push : (rs : List ℕ) (ss : List Step) (r : ℕ) (s : Step) → length rs ≡ length ss → with_rounds (rs ++ r ∷ []) (ss ++ s ∷ []) ≡ with_rounds rs ss ++ record { round = r; step = s } ∷ []
 with_rounds_push [] [] r s e = refl
@@ -202,6 +218,7 @@ module _ (s : Search) (rounds : List ℕ) (origins : List Origin) (stepped : Ste
   gives x id new more n e o = record {
     id = id;
     is_new = new_id id n;
+    ended = end_below s.status s.bits s.lines id (let a = n.formula in omega arith) n.lines;
     search = e;
     is = same_member
         (ap (λ (y : Search). with_rounds rounds y.lines) e)
@@ -216,6 +233,7 @@ Took-none place old new e = record {
   origins = refl;
   clauses = refl;
   ids = λ k d h. absurd (omega arith);
+  ended = λ k d h. absurd (omega arith);
   search = ap (λ s. s.search) e ∙ ap (λ hs. record old.search { depth = 0; handed = hs }) (sym (append-nil old.search.handed));
   is = ap member_of e ∙ ap (λ ts. record (member_of old) { taken = ts }) (sym (append-nil (member_of old).taken));
 }
@@ -242,6 +260,7 @@ module _ (place : ℕ) (shorts : List Short) (i : ℕ) (x : Short) (inside : i <
           origins = w.origins ∙ ap (map origin_of) (sym same);
           clauses = w.clauses ∙ ap (map (λ (y : Short). y.clause)) (sym same);
           ids = w.ids;
+          ended = w.ended;
           search = w.search;
           is = w.is;
         }
@@ -270,6 +289,14 @@ module _ (place : ℕ) (shorts : List Short) (i : ℕ) (x : Short) (inside : i <
                 subst (λ k. IsNewId old.search.formula (steps (member_of old)) (handed (member_of old) ++ map (λ t. t.handed) (take k (w.more ++ t ∷ []))) (get_or (w.more ++ t ∷ []) k d).handed.id) (sym e)
                 (subst (λ (y : Taken). IsNewId old.search.formula (steps (member_of old)) (handed (member_of old) ++ map (λ t. t.handed) (take (length w.more) (w.more ++ t ∷ []))) y.handed.id) (sym (get_or-append_seam w.more t [] d))
                 (subst (λ ts. IsNewId old.search.formula (steps (member_of old)) (handed (member_of old) ++ map (λ t. t.handed) ts) g.id) (sym (take-append_seam w.more (t ∷ []))) last)))
+          ];
+          ended = λ k d l. elim (cases_lt k (length w.more)) [
+            | inl a ↦ subst (λ (y : Taken). IsAboveEnd (member_of old) y.handed.id) (sym (get_or_append_left w.more (t ∷ []) d k a)) (w.ended k d a)
+            | inr b ↦
+                (let e : k ≡ length w.more = omega (arith, length_push w.more t) in
+                subst (λ k. IsAboveEnd (member_of old) (get_or (w.more ++ t ∷ []) k d).handed.id) (sym e)
+                (subst (λ (y : Taken). IsAboveEnd (member_of old) y.handed.id) (sym (get_or-append_seam w.more t [] d))
+                (subst (λ (m : Member). IsAboveEnd m g.id) w.is g.ended)))
           ];
           search = g.search ∙ ap (λ (y : Search). record y { handed = y.handed ++ h ∷ [] }) w.search
               ∙ ap (λ hs. record old.search { depth = 0; handed = hs }) (append_assoc old.search.handed (map (λ t. t.handed) w.more) (h ∷ []) ∙ ap (λ ys. old.search.handed ++ ys) (sym (map_push (λ (y : Taken). y.handed) w.more t)));

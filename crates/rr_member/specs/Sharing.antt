@@ -6,7 +6,7 @@ use Rattle.rr_solver.specs.declared.engine.Status.TheVariants.{Running}
 use Rattle.rr_rounds.specs.States.{Member, State, Taken, handed, learned, steps}
 use Rattle.rr_rounds.specs.declared.place.Place.{Place}
 use Rattle.rr_rounds.specs.Joined.{flat}
-use Rattle.rr_rounds.specs.Rounds.{is_short}
+use Rattle.rr_rounds.specs.Rounds.{IsAboveEnd, is_short}
 use Rattle.rr_member.specs.Seats.{Seated, member_of}
 use Rattle.rr_member.specs.declared.sharing.Short.{Short}
 
@@ -44,10 +44,11 @@ not_own place shorts = filter (λ x. not (x.member == place)) shorts
 abbrev pub MayTake : List Short → List Seated → Type 0
 MayTake shorts seats = (k : ℕ) → k < length seats → All (λ x. All (IsWithin (seat seats k).search.formula.vars) x.clause) shorts
 
--- a clause is handed over under a new id
+-- a clause is handed over under a new id, which is above that of the empty line with which the member has ended
 pub record Gives (x : Short) (old new : Seated) : Type 0 where
   pub id : ℕ
   pub is_new : IsNewId old.search.formula (steps (member_of old)) (handed (member_of old)) id
+  pub ended : IsAboveEnd (member_of old) id
   pub search : new.search ≡ record old.search { handed = old.search.handed ++ record { id = id; clause = x.clause } ∷ [] }
   pub is : member_of new ≡ record (member_of old) { taken = (member_of old).taken ++ record { handed = record { id = id; clause = x.clause }; origin = origin_of x } ∷ [] }
 
@@ -57,6 +58,7 @@ pub record Took (place : ℕ) (shorts : List Short) (old new : Seated) : Type 0 
   pub origins : map (λ t. t.origin) more ≡ map origin_of (not_own place shorts)
   pub clauses : map (λ t. t.handed.clause) more ≡ map (λ x. x.clause) (not_own place shorts)
   pub ids : (k : ℕ) (d : Taken) → k < length more → IsNewId old.search.formula (steps (member_of old)) (handed (member_of old) ++ map (λ t. t.handed) (take k more)) (get_or more k d).handed.id
+  pub ended : (k : ℕ) (d : Taken) → k < length more → IsAboveEnd (member_of old) (get_or more k d).handed.id
   pub search : new.search ≡ record old.search { depth = 0; handed = old.search.handed ++ map (λ t. t.handed) more }
   pub is : member_of new ≡ record (member_of old) { taken = (member_of old).taken ++ more }
 

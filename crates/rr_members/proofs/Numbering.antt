@@ -7,7 +7,7 @@ use Rattle.std.proofs.lemmas.Bool.{cases_Bool, cases_eq, cond-true, cond-false}
 use Rattle.std.proofs.lemmas.List.{get_or-map, get_or-set_other, get_or-set_same, get_or-take, get_or_default, get_or_read, length-map, length-set, length-take-le, take_all}
 use Rattle.std.proofs.lemmas.List.Elements.{Contains-append_left, Contains-append_right, Contains-push}
 use Rattle.rr_cnf.specs.Clauses.{Clauses, Literal}
-use Rattle.rr_derive.specs.Derive.{Step}
+use Rattle.rr_derive.specs.Derive.{Derives, Step}
 use Rattle.rr_rounds.specs.declared.place.Place.{Place}
 use Rattle.rr_solver.specs.Searches.{line}
 use Rattle.rr_solver.specs.declared.engine.Status.{Status}
@@ -22,7 +22,7 @@ use Rattle.rr_members.specs.Groups.{AreLong, Group, IsGroup, group_of}
 use Rattle.rr_rounds.proofs.Ordered.{Numbered, no_place, numbered}
 use Rattle.rr_rounds.proofs.Standing.{listed}
 use Rattle.rr_rounds.proofs.Reaching.{lawful}
-use Rattle.rr_rounds.proofs.Joining.{apart_of, name_cases}
+use Rattle.rr_rounds.proofs.Joining.{apart_of, joined_derives, name_cases}
 use Rattle.rr_member.proofs.Handing.{seat_at}
 
 -- what is read of the members
@@ -39,6 +39,9 @@ module _ (g : Group) (round : ℕ) (seats : List Seated) (failed : Bool) (is : g
 
   pub reached_of : (count : ℕ) → IsGroup seats round count → Reached g.formula g.inputs (length seats) g.state
   reached_of count w = subst (λ v. Reached v.formula v.inputs (length seats) v.state) is w.reached
+
+  pub derived_of : (count : ℕ) → IsGroup seats round count → Derives g.formula.clauses (joined g.formula g.state)
+  derived_of count w = joined_derives g.formula g.inputs (length seats) g.state (reached_of count w)
 
   pub counted_of : (count : ℕ) → IsGroup seats round count → count ≡ length g.formula.clauses
   counted_of count w = w.counted ∙ ap (λ v. length v.formula.clauses) is

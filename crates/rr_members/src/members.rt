@@ -2,7 +2,9 @@
 ghost use Rattle.std.specs.Prelude.{◌≡◌, ℕ, ◌<◌, ◌≤◌, ◌+◌, IfOk, OnOk, OnErr, MatchOption, None, true, IsErr, length, map, replicate, false};
 ghost use Rattle.rr_cnf.specs.Partial.{Determined};
 ghost use Rattle.rr_solver.specs.declared.engine.Status.TheVariants.{Failed};
-ghost use Rattle.rr_rounds.specs.Rounds.{IsRound, start};
+ghost use Rattle.rr_derive.specs.Derive.{Derives};
+ghost use Rattle.rr_rounds.specs.Joined.{joined};
+ghost use Rattle.rr_rounds.specs.Rounds.{EventsCommute, IsRound, JoinedDerives, start};
 ghost use Rattle.rr_member.specs.Seats.{Ran, member_of, new_seat};
 ghost use Rattle.rr_member.specs.Sharing.{seat};
 ghost use Rattle.rr_members.specs.Groups.{AnswerIs, EachRan, IsFirstEnded, NoneEnded, seat_as_ok};
@@ -112,6 +114,8 @@ impl<'f> Members<'f> {
 
     /// One round: each member makes `steps` events or ends, in a thread of its own behind the gate; then
     /// the hand-over. Where a member has ended, or memory has run out, it only answers the same again.
+    /// The lines of all members, joined, derive from the formula; in whatever order the threads make
+    /// their events, so do those that they leave, and events of different members may be exchanged.
     pub fn round<R: Threads + Sync, G: Gate + Sync>(
         &mut self,
         rt: &R,
@@ -122,6 +126,28 @@ impl<'f> Members<'f> {
         ensures stays { (NoneEnded self.old.state → ⊥) → OnOk result (self.new.state ≡ self.old.state) }
         ensures same { OnOk result ((self.new.formula ≡ self.old.formula) × (self.new.inputs ≡ self.old.inputs)) }
         ensures answer { IfOk result (AnswerIs self.new) }
+        ensures derives { OnOk result (Derives self.new.formula.clauses (joined self.new.formula self.new.state)) }
+        ensures interleaved { JoinedDerives }
+        ensures commute { EventsCommute }
+        ensures going { OnOk result (self.new.failed ≡ false) }
+        ensures failed { OnErr result (self.new.failed ≡ true) }
+        ensures again { self.old.failed ≡ true → IsErr result }
+    {
+        self.advance(rt, steps, gate)
+    }
+
+    // A round, or the same answer again.
+    fn advance<R: Threads + Sync, G: Gate + Sync>(
+        &mut self,
+        rt: &R,
+        steps: u32,
+        gate: &G,
+    ) -> Result<Round, AllocError>
+        ensures ran { NoneEnded self.old.state → OnOk result (IsRound self.old.formula self.old.inputs steps self.old.state self.new.state) }
+        ensures stays { (NoneEnded self.old.state → ⊥) → OnOk result (self.new.state ≡ self.old.state) }
+        ensures same { OnOk result ((self.new.formula ≡ self.old.formula) × (self.new.inputs ≡ self.old.inputs)) }
+        ensures answer { IfOk result (AnswerIs self.new) }
+        ensures derives { OnOk result (Derives self.new.formula.clauses (joined self.new.formula self.new.state)) }
         ensures going { OnOk result (self.new.failed ≡ false) }
         ensures failed { OnErr result (self.new.failed ≡ true) }
         ensures again { self.old.failed ≡ true → IsErr result }
@@ -180,7 +206,8 @@ impl<'f> Members<'f> {
     // What the lowest-numbered member that has ended answers.
     fn answer(&self) -> Result<Round, AllocError>
         requires { self.now.failed ≡ false }
-        ensures { IfOk result (AnswerIs self.now) }
+        ensures answer { IfOk result (AnswerIs self.now) }
+        ensures derives { OnOk result (Derives self.now.formula.clauses (joined self.now.formula self.now.state)) }
     {
         match first_ended(self.seats.as_slice()) {
             None => Ok(Round::Going),

@@ -1,6 +1,8 @@
 //! The tree of a source text.
 
-ghost use Rattle.std.specs.Prelude.{◌<◌, ◌^◌, length, MatchResult};
+ghost use Rattle.std.specs.Prelude.{ℕ, ◌<◌, ◌^◌, List, length, MatchResult};
+ghost use Rattle.rr_syntax.specs.Tree.{SourceText, IsSameSource};
+ghost use Rattle.rr_grammar.specs.Trees.{IsTree};
 ghost use Rattle.rr_parse.specs.Exact.{IsParsed, IsRefusal, IsSpelled, NotSpelled};
 
 use crate::modules::modules;
@@ -13,8 +15,18 @@ use rr_syntax::{Source, Token};
 /// The one well-formed source text (IEEE 1364-2005 annex A.1.2) that the tokens spell, of depth at most
 /// 500, with the number of its token at each leaf; it lies in the arena. `Unsupported` comes exactly
 /// where a word outside the profile stands, at the first; `Syntax` exactly where none stands and the
-/// tokens spell no such text, at the token where reading stopped.
+/// tokens spell no such text, at the token where reading stopped. No bytes have two trees, token numbers
+/// aside.
 pub fn parse<'a>(tokens: &'a [Token<'a>], arena: &'a Bump) -> Result<&'a Source<'a>, ParseFault>
+    requires short { length tokens.now < 2 ^ 32 }
+    ensures exact { MatchResult result (λ source. IsParsed tokens.now source.now) (λ fault. IsRefusal tokens.now fault) }
+    ensures one_tree { (bytes : List ℕ) (a b : SourceText) → IsTree bytes a → IsTree bytes b → IsSameSource a b }
+{
+    read(tokens, arena)
+}
+
+/// The tree, or the refusal.
+fn read<'a>(tokens: &'a [Token<'a>], arena: &'a Bump) -> Result<&'a Source<'a>, ParseFault>
     requires short { length tokens.now < 2 ^ 32 }
     ensures { MatchResult result (λ source. IsParsed tokens.now source.now) (λ fault. IsRefusal tokens.now fault) }
 {

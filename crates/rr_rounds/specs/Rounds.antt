@@ -80,11 +80,17 @@ shared s = flat (length s.members) (short_of s)
 abbrev pub shared_with : State → ℕ → List Place
 shared_with s m = filter (λ p. not (p.member == m)) (shared s)
 
--- what a member takes: each clause under an id above all that it has
+-- an id above that of the empty line with which a member has ended, if it has
+abbrev pub IsAboveEnd : Member → ℕ → Type 0
+IsAboveEnd m id = (e : Step) → m.ending ≡ Some (emptied e) → e.id < id
+
+-- what a member takes: each clause under an id above all that it has, which are those of the formula, of its lines, of what was
+-- handed over to it before, and of the empty line with which it has ended
 pub record Takes (f : Clauses) (s : State) (m : ℕ) (more : List Taken) : Type 0 where
   pub origins : map (λ t. t.origin) more ≡ shared_with s m
   pub clauses : All (λ t. t.handed.clause ≡ (line_of s t.origin).step.clause) more
   pub ids : (k : ℕ) (d : Taken) → k < length more → IsNewId f (steps (member s m)) (handed (member s m) ++ map (λ t. t.handed) (take k more)) (get_or more k d).handed.id
+  pub ended : (k : ℕ) (d : Taken) → k < length more → IsAboveEnd (member s m) (get_or more k d).handed.id
 
 pub record HandsOver (f : Clauses) (old new : State) : Type 0 where
   pub round : new.round ≡ old.round + 1

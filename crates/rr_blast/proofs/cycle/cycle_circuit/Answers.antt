@@ -1,8 +1,7 @@
-use Rattle.std.proofs.Common.{◌≡◌, ◌∙◌, sym, ap, arith, refl, List, Bool, ℕ, ◌+◌, ◌++◌, [], false, length}
+use Rattle.std.proofs.Common.{◌≡◌, ◌∙◌, sym, ap, arith, refl, Bool, ℕ, ◌+◌, ◌++◌, [], false, length}
 use Rattle.std.proofs.lemmas.List.{length-map}
 use Rattle.rr_circuit.specs.Values.{Netlist, OutputNetlist, given, output_values, wire_value, wire_values}
 use Rattle.rr_flat.specs.View.{plain_flat}
-use Rattle.rr_blast_terms.specs.Choosing.{picks_of}
 use Rattle.rr_blast.specs.Circuits.{PerformsCycles}
 use Rattle.rr_blast.proofs.CycleLaws.{given_last, given_middle, same_answers}
 use Rattle.rr_blast.proofs.FitLaws.{answers_length}

@@ -1,10 +1,9 @@
-use Rattle.std.proofs.Common.{◌≡◌, ◌∙◌, ◌++◌, ◌+◌, sym, ap, ap₂, refl, subst, arith, ℕ, false, List, drop, get_or}
+use Rattle.std.proofs.Common.{◌++◌, ◌+◌, sym, ap, ap₂, refl, subst, arith, ℕ, false, List, get_or}
 use Rattle.std.specs.List.{All}
 use Rattle.rr_syntax.specs.declared.site.Site.{Site as ArenaSite}
 use Rattle.rr_syntax.specs.declared.site.SiteKind.TheVariants as kind
-use Rattle.rr_choice.specs.Choices.{site_bits, total_bits}
+use Rattle.rr_choice.specs.Choices.{total_bits}
 use Rattle.rr_choice.specs.Sites.{IsSite, Site}
-use Rattle.rr_choice.specs.View.{plain_site, plain_sites}
 use Rattle.rr_transition.specs.Cycles.{switch_places}
 use Rattle.rr_blast_sites.proofs.FindLaws.{site_at}
 use Rattle.rr_blast.proofs.FitLaws.{bits_left, switches_done, switches_more}

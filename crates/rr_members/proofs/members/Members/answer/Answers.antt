@@ -9,13 +9,13 @@ use Rattle.rr_member.specs.Seats.{Seated, member_of}
 use Rattle.rr_member.specs.Sharing.{nobody, seat}
 use Rattle.rr_members.specs.Groups.{IsFirstEnded}
 use Rattle.rr_rounds.proofs.Joining.{joined_refutes}
-use Rattle.rr_members.proofs.Numbering.{reached_of}
+use Rattle.rr_members.proofs.Numbering.{derived_of, reached_of}
 use Rattle.rr_members.proofs.Rounding.{all_lines, emptied_ending, first_as, is_first, model_of, none_ended, solved_ending}
 use Rattle.rr_members.proofs.members.Members.answer.Goals.{In-Some}
 use Rattle.rr_members.proofs.members.Members.answer.Goals as goal
 
-pub returns-in-None : goal.returns-in-None
-returns-in-None c =
+pub returns-in-None-clause-answer : goal.returns-in-None-clause-answer
+returns-in-None-clause-answer c =
     let i = c.self.inside in
     none_ended c.args.self.now i.round i.seats.items i.failed c.self.view_is (subst (λ xs. (k : ℕ) → k < length xs → (member_of (seat xs k)).ending ≡ None) c.as_slice.ensures.value c.in-None.ensures)
 
@@ -29,8 +29,8 @@ joined_with-requires-clause-refuted c =
     let e = line s.lines (length s.lines - 1) in
     (e, (is_first c.args.self.now i.round i.seats.items i.failed c.self.view_is c.in-Some.place (emptied e) first (emptied_ending s status)).ended)
 
-pub returns-in_ok-bits-in-Some : goal.returns-in_ok-bits-in-Some
-returns-in_ok-bits-in-Some c =
+pub returns-in_ok-bits-in-Some-clause-answer : goal.returns-in_ok-bits-in-Some-clause-answer
+returns-in_ok-bits-in-Some-clause-answer c =
     let i = c.self.inside in
     let going = ap (λ v. v.failed) c.self.view_is ∙ c.requires in
     let first = subst (λ xs. IsFirstEnded xs c.in-Some.place) c.as_slice.ensures.value c.in-Some.ensures in
@@ -46,8 +46,8 @@ returns-in_ok-bits-in-Some c =
       ),
     )
 
-pub returns-in_ok-journal-in-Some : goal.returns-in_ok-journal-in-Some
-returns-in_ok-journal-in-Some c =
+pub returns-in_ok-journal-in-Some-clause-answer : goal.returns-in_ok-journal-in-Some-clause-answer
+returns-in_ok-journal-in-Some-clause-answer c =
     let v = c.args.self.now in
     let i = c.self.inside in
     let going = ap (λ x. x.failed) c.self.view_is ∙ c.requires in
@@ -70,3 +70,18 @@ returns-in_ok-journal-in-Some c =
         ),
       ),
     )
+
+pub returns-in-None-clause-derives : goal.returns-in-None-clause-derives
+returns-in-None-clause-derives c =
+    let i = c.self.inside in
+    derived_of c.args.self.now i.round i.seats.items i.failed c.self.view_is i.count (c.self.invariant (ap (λ v. v.failed) c.self.view_is ∙ c.requires))
+
+pub returns-in_ok-bits-in-Some-clause-derives : goal.returns-in_ok-bits-in-Some-clause-derives
+returns-in_ok-bits-in-Some-clause-derives c =
+    let i = c.self.inside in
+    derived_of c.args.self.now i.round i.seats.items i.failed c.self.view_is i.count (c.self.invariant (ap (λ v. v.failed) c.self.view_is ∙ c.requires))
+
+pub returns-in_ok-journal-in-Some-clause-derives : goal.returns-in_ok-journal-in-Some-clause-derives
+returns-in_ok-journal-in-Some-clause-derives c =
+    let i = c.self.inside in
+    derived_of c.args.self.now i.round i.seats.items i.failed c.self.view_is i.count (c.self.invariant (ap (λ v. v.failed) c.self.view_is ∙ c.requires))
