@@ -5,4 +5,4 @@ pub mod AssignedNodes
 pub mod Rising
 pub mod Before
 pub mod Chosen
-pub mod Guarded
+pub mod GuardLists

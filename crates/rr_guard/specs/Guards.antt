@@ -5,9 +5,15 @@ use Rattle.rr_syntax.specs.Tree.{ModuleDeclaration}
 use Rattle.rr_expr.specs.Faults.{first}
 use Rattle.rr_flat.specs.Signals.{Text}
 use Rattle.rr_choice.specs.Sites as sites
-use Rattle.rr_choice.specs.Sites.{Site}
+use Rattle.rr_choice.specs.Sites.{Site, SiteKind}
 use Rattle.rr_spots.specs.Spots.{Spot, Body, Test, Value, is_clocked, spots_of_item}
 use Rattle.rr_guard.specs.Names.{names_at}
+
+-- a site that is a condition
+abbrev pub IsGuard : SiteKind → Type 0
+IsGuard (sites.Literal width signed) = ⊥
+IsGuard (sites.Guard owner extent names) = Unit {0}
+IsGuard (sites.Overwrite owner target width now names) = ⊥
 
 -- the guard of a condition of the module with this number, where `names` tells the names at each token
 abbrev pub guard_of : ℕ → (ℕ → List Text) → Spot → List Site

@@ -6,10 +6,12 @@
 mod assigned;
 mod candidates;
 mod declared;
+mod guarding;
 mod guards;
 mod texts;
 
 pub use assigned::whole_name;
 pub use candidates::{GuardNames, guard_names, names_before};
+pub use guarding::guarded;
 pub use guards::{add_guard, sites};
 pub use texts::TextSet;

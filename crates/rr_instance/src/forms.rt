@@ -119,8 +119,9 @@ pub(crate) fn guarded<'a>(
     Ok(whole)
 }
 
-/// A condition with the guard of its pick round it.
-pub(crate) fn new_test<'a>(
+/// A condition with the guard of its pick round it, where one is found that is switched on. The error is
+/// want of memory.
+pub fn new_test<'a>(
     found: Option<Found<'a>>,
     test: Expr<'a>,
     arena: &'a Bump,

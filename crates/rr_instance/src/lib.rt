@@ -11,4 +11,5 @@ mod statement;
 
 pub use expression::{expression_instance, expression_instances};
 pub use firsts::first_token;
-pub use overwrite::body_instance;
+pub use forms::new_test;
+pub use overwrite::{body_instance, overwritten};

@@ -70,8 +70,9 @@ fn followed<'a>(
     Ok(block(None, list))
 }
 
-/// A statement with the last assignment of a site.
-fn overwritten<'a>(
+/// A statement with the last assignment of a site, by its pick; one of another kind leaves it as it is.
+/// The error is want of memory.
+pub fn overwritten<'a>(
     site: &Site<'a>,
     pick: &Pick,
     body: Stmt<'a>,

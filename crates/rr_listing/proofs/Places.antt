@@ -11,7 +11,7 @@ use Rattle.rr_expr.specs.Scopes.{Names}
 use Rattle.rr_flat.specs.Signals.{Text}
 use Rattle.rr_spots.specs.Spots.{Spot}
 use Rattle.rr_literal.specs.Literals.{literal_at}
-use Rattle.rr_guard.proofs.Guarded.{guard_same}
+use Rattle.rr_guard.proofs.GuardLists.{guard_same}
 use Rattle.rr_overwrite.proofs.Listed.{overwrites_same}
 use Rattle.rr_overwrite.specs.Variables.{AreFit}
 use Rattle.rr_clock.specs.Places.{Place}

@@ -8,6 +8,8 @@ mod overwrites;
 mod ranges;
 mod targets;
 mod variables;
+mod wrapping;
 
 pub use overwrites::{add_overwrites, sites};
 pub use variables::{Variables, variables_of};
+pub use wrapping::wrapped;

@@ -10,7 +10,7 @@ use Rattle.rr_flat.specs.Plain.{Flat}
 use Rattle.rr_flat.specs.Signals.{Text}
 use Rattle.rr_spots.specs.Spots.{is_clocked, spots_of_item}
 use Rattle.rr_guard.specs.Names.{scalars, firsts, writes_now, writes_later, may_guard, guard_names, first_names, names_at}
-use Rattle.rr_guard.proofs.Guarded.{flat_map_same}
+use Rattle.rr_guard.proofs.GuardLists.{flat_map_same}
 use Rattle.rr_clock.specs.Places.{Place, IsClockName, IsPlace}
 use Rattle.rr_listing.specs.Listing.{sites_at, item_sites, module_at, module_sites, place_sites, scope_of, sites_of}
 use Rattle.rr_listing.proofs.Places.{sites_same}

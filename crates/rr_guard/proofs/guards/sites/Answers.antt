@@ -6,7 +6,7 @@ use Rattle.rr_choice.specs.View.{plain_sites}
 use Rattle.rr_spots.specs.Spots.{AreCountable, is_clocked, spots_of_item}
 use Rattle.rr_spots.proofs.Walks.{all_done, flat_map_map}
 use Rattle.rr_guard.specs.Guards.{guard_at}
-use Rattle.rr_guard.proofs.Guarded.{guards_are}
+use Rattle.rr_guard.proofs.GuardLists.{guards_are}
 use Rattle.rr_guard.proofs.Lists.{all_item, module_items}
 use Rattle.rr_guard.proofs.guards.sites.Goals as goal
 

@@ -5,7 +5,7 @@ use Rattle.rr_choice.specs.View.{plain_sites}
 use Rattle.rr_spots.specs.Spots.{is_clocked, spots_of_item}
 use Rattle.rr_spots.specs.View.{plain_spots}
 use Rattle.rr_guard.specs.Names.{first_names, names_at}
-use Rattle.rr_guard.proofs.Guarded.{flat_map_same}
+use Rattle.rr_guard.proofs.GuardLists.{flat_map_same}
 use Rattle.rr_listing.specs.Listing.{sites_by}
 use Rattle.rr_listing.proofs.Places.{sites_same}
 use Rattle.rr_listing.proofs.listing.add_sites_of_item.Goals as goal

@@ -1,0 +1,9 @@
+//! What the contracts of the templates of sites do not say: that each call succeeds where memory is left, and
+//! that each form is the one of its number, written by hand; and the literal sites of two modules. It has tests
+//! alone.
+#![tactic(auto)]
+
+#[cfg(test)]
+mod literals;
+#[cfg(test)]
+mod templates;
