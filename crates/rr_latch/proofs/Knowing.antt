@@ -75,6 +75,38 @@ mutual
   no_arm_early s f (MoreArms a rest) b k (inl r) = arm_not_early s f a b k.0 r
   no_arm_early s f (MoreArms a rest) b k (inr r) = no_arm_early s f rest b k.1 r
 
+-- and where no bit is read early only assigned bits are read
+
+read_so : (R : Bit → Type 0) (f : Bit → Bool) → ((b : Bit) → R b × (f b ≡ false) → ⊥) → (b : Bit) → R b → f b ≡ true
+read_so R f h b r = go (f b) refl
+  where
+    go : (u : Bool) → f b ≡ u → f b ≡ true
+    go true e = e
+    go false e = absurd (h b (r, e))
+
+mutual
+  unfolding ReadsKnown ReadEarly
+
+  pub reads_known : (s : Names) (f : Bit → Bool) (t : Statement) → ((b : Bit) → ReadEarly s f t b → ⊥) → ReadsKnown s f t
+  reads_known s f Null h = tt
+  reads_known s f (Sequence label ss) h = all_read_known s f ss h
+  reads_known s f (If c t) h = (read_so (NamesBit s c) f (λ b r. h b (inl r)), reads_known s f t (λ b r. h b (inr r)))
+  reads_known s f (IfElse c t u) h =
+      (read_so (NamesBit s c) f (λ b r. h b (inl r)), (reads_known s f t (λ b r. h b (inr (inl r))), reads_known s f u (λ b r. h b (inr (inr r)))))
+  reads_known s f (Case kind on arms) h = (read_so (NamesBit s on) f (λ b r. h b (inl r)), arms_read_known s f arms (λ b r. h b (inr r)))
+  reads_known s f (Assign t now e) h = (read_so (TargetReads s t) f (λ b r. h b (inl r)), read_so (NamesBit s e) f (λ b r. h b (inr r)))
+
+  all_read_known : (s : Names) (f : Bit → Bool) (ts : Statements) → ((b : Bit) → AnyReadEarly s f ts b → ⊥) → AllReadKnown s f ts
+  all_read_known s f Done h = tt
+  all_read_known s f (Then t ts) h = (reads_known s f t (λ b r. h b (inl r)), all_read_known s (known s f t) ts (λ b r. h b (inr r)))
+
+  arm_reads_known : (s : Names) (f : Bit → Bool) (a : Arm) → ((b : Bit) → ArmReadEarly s f a b → ⊥) → ArmReadsKnown s f a
+  arm_reads_known s f (CaseItem labels colon body) h = (read_so (NamesBits s labels) f (λ b r. h b (inl r)), reads_known s f body (λ b r. h b (inr r)))
+
+  arms_read_known : (s : Names) (f : Bit → Bool) (arms : Arms) → ((b : Bit) → ArmsReadEarly s f arms b → ⊥) → ArmsReadKnown s f arms
+  arms_read_known s f NoArms h = tt
+  arms_read_known s f (MoreArms a rest) h = (arm_reads_known s f a (λ b r. h b (inl r)), arms_read_known s f rest (λ b r. h b (inr r)))
+
 -- what is read early was not assigned before
 
 later_too : (s : Names) (f : Bit → Bool) (t : Statement) (b : Bit) → known s f t b ≡ false → f b ≡ false
@@ -128,3 +160,10 @@ keeps_latch s t b k n = elim k.kept [
   | inl r ↦ not_early s (kept s t) t b n.reads r
   | inr e ↦ both_ways (known s (kept s t) t b) e (n.ends b k.written)
 ]
+
+pub no_latch : (s : Names) (t : Statement) → ((b : Bit) → KeepsBit s t b → ⊥) → NoLatch s t
+no_latch s t h = record { reads = reads_known s (kept s t) t (λ b r. h b (keeps_early s t b r)); ends = λ b w. go b w (known s (kept s t) t b) refl }
+  where
+    go : (b : Bit) → writes true s t b ≡ true → (u : Bool) → known s (kept s t) t b ≡ u → known s (kept s t) t b ≡ true
+    go b w true e = e
+    go b w false e = absurd (h b (record { written = w; kept = inr e }))

@@ -1,6 +1,5 @@
 -- Loops over the bits of pieces.
-use Rattle.std.proofs.Common.{◌≡◌, ◌∙◌, sym, ap, ℕ, zero, suc, ◌+◌, ◌<◌, ◌≤◌, inl, inr, Bool, true, false, cond, not, ◌&&◌, ◌||◌, List, [], ◌∷◌, ◌++◌, length, get_or, take, drop, refl, arith, length-drop, ◌-◌}
-use Rattle.std.proofs.lemmas.Bool.{or_cases}
+use Rattle.std.proofs.Common.{◌≡◌, ◌∙◌, sym, ap, ℕ, ◌+◌, ◌<◌, ◌≤◌, inl, inr, Bool, true, false, cond, not, ◌&&◌, ◌||◌, List, [], ◌∷◌, ◌++◌, length, get_or, take, drop, refl, arith, length-drop, ◌-◌}
 use Rattle.std.proofs.lemmas.List.{take_more, get_or-drop}
 use Rattle.rr_expr.specs.declared.types.Bit.{Bit}
 use Rattle.rr_flat.specs.Targets.{same_bit}
@@ -8,52 +7,12 @@ use Rattle.rr_target.specs.declared.piece.Piece.{Piece}
 use Rattle.rr_target.specs.declared.writes.Write.{Write}
 use Rattle.rr_target.specs.Lists.{covered, Grown, may, must}
 use Rattle.rr_target.specs.Pieces.{covers}
-use Rattle.rr_target.proofs.Growing.{covered-push, may-push, must-push}
+use Rattle.rr_target.proofs.Growing.{may-push, must-push}
 use Rattle.rr_latch.specs.Paths.{listed, Logged}
 use Rattle.rr_writers.proofs.Marking.{below, below_none, below_next, below_all, Ranged}
-use Rattle.rr_latch.proofs.Logs.{or_true, and_true, listed-append, logged_none, logged_both}
+use Rattle.rr_latch.proofs.Logs.{and_true, listed-append, logged_none, logged_both}
 use Rattle.rr_writers.proofs.Entries.{or_assoc, or_false, same_is}
 use Rattle.rr_writers.proofs.Marking.{take_all}
-
-abbrev pub Has : (Bit → Bool) → (Bit → Bool) → Type 0
-Has P f = (b : Bit) → P b ≡ true → f b ≡ true
-
--- a test of each bit of a piece
-
-pub scan_none : (p : Piece) (low high : ℕ) (f : Bit → Bool) → Ranged p low high → Has (below p low) f
-scan_none p low high f r b h = let bad : false ≡ true = sym (below_none p low high r b) ∙ h in cc
-
-pub scan_next : (p : Piece) (low high place : ℕ) (f : Bit → Bool) → Ranged p low high → low ≤ place → place < high → Has (below p place) f
-    → f (record { signal = p.signal; place = place }) ≡ true → Has (below p (place + 1)) f
-scan_next p low high place f r l h s e b k =
-    let here : Bit = record { signal = p.signal; place = place } in
-    elim (or_cases (same_bit here b) (below p place b) (sym (below_next p low high place r l h b) ∙ k)) [
-      | inl t ↦ ap f (sym (same_is here b t)) ∙ e
-      | inr t ↦ s b t
-    ]
-
-pub scan_done : (p : Piece) (low high place : ℕ) (f : Bit → Bool) → Ranged p low high → high ≤ place → Has (below p place) f → Has (covers p) f
-scan_done p low high place f r l s b h = s b (below_all p low high place r l b ∙ h)
-
--- the same of lists
-
-pub list_scanned : (ps : List Piece) (p : Piece) (f : Bit → Bool) → Has (covered ps) f → Has (covers p) f → Has (covered (ps ++ p ∷ [])) f
-list_scanned ps p f s t b h = elim (or_cases (covered ps b) (covers p b) (sym (covered-push ps p b) ∙ h)) [ inl k ↦ s b k | inr k ↦ t b k ]
-
-pub writes_scanned : (ws : List Write) (w : Write) (f : Bit → Bool) → Has (may ws) f → Has (covers w.piece) f → Has (may (ws ++ w ∷ [])) f
-writes_scanned ws w f s t b h = elim (or_cases (may ws b) (covers w.piece b) (sym (may-push ws w b) ∙ h)) [ inl k ↦ s b k | inr k ↦ t b k ]
-
-pub covered_at : (ps : List Piece) (i : ℕ) (d : Piece) (b : Bit) → i < length ps → covers (get_or ps i d) b ≡ true → covered ps b ≡ true
-unfolding covered
-covered_at [] i d b l h = absurd (omega arith)
-covered_at (q ∷ ps) zero d b l h = rw h refl
-covered_at (q ∷ ps) (suc i) d b l h = ap (λ z. covers q b || z) (covered_at ps i d b (omega arith) h) ∙ or_true (covers q b)
-
-pub may_at : (ws : List Write) (i : ℕ) (d : Write) (b : Bit) → i < length ws → covers (get_or ws i d).piece b ≡ true → may ws b ≡ true
-unfolding may
-may_at [] i d b l h = absurd (omega arith)
-may_at (q ∷ ws) zero d b l h = rw h refl
-may_at (q ∷ ws) (suc i) d b l h = ap (λ z. covers q.piece b || z) (may_at ws i d b (omega arith) h) ∙ or_true (covers q.piece b)
 
 -- bits that are assigned
 

@@ -1,2 +1,5 @@
+pub mod Immediate
 pub mod Unassigned
 pub mod Paths
+pub mod Notes
+pub mod Rooms

@@ -1,13 +1,26 @@
 -- The bits that are assigned on a path through a block, and the list of those that a part of it assigned.
-use Rattle.std.specs.Prelude.{◌≡◌, ℕ, List, [], ◌∷◌, ◌++◌, Bool, false, not, ◌&&◌, ◌||◌, nat_eq, Option, Some, None, Result, Ok, Err, Vec}
+use Rattle.std.specs.Prelude.{◌≡◌, ℕ, List, [], ◌∷◌, ◌++◌, Bool, true, false, not, ◌&&◌, ◌||◌, nat_eq, Option, Some, None, Vec}
 use Rattle.std.specs.declared.alloc.Global.{Global}
-use Rattle.rr_syntax.specs.Tree.{Statement, Arms}
+use Rattle.rr_syntax.specs.Tree.{Statement, Statements, Arms}
 use Rattle.rr_expr.specs.declared.types.Bit.{Bit}
 use Rattle.rr_expr.specs.Scopes.{Names}
-use Rattle.rr_flat.specs.Latches.{known, known_arms, has_default, ReadsKnown}
+use Rattle.rr_flat.specs.Latches.{known_arms, has_default}
 use Rattle.rr_flat.specs.Targets.{same_bit}
 use Rattle.rr_writers.specs.Tables.{entry}
-use Rattle.rr_latch.specs.Unassigned.{ReadEarly}
+use Rattle.rr_latch.specs.Immediate.{immediate, immediate_all, immediate_arms}
+
+-- a statement in which, with the flag, each `<=` that assigns counts as `=`
+abbrev pub counted : Bool → Statement → Statement
+counted true t = immediate t
+counted false t = t
+
+abbrev pub counted_all : Bool → Statements → Statements
+counted_all true ts = immediate_all ts
+counted_all false ts = ts
+
+abbrev pub counted_arms : Bool → Arms → Arms
+counted_arms true arms = immediate_arms arms
+counted_arms false arms = arms
 
 -- a bit is assigned where its number is 0
 abbrev pub assigned : List (List ℕ) → Bit → Bool
@@ -28,14 +41,8 @@ abbrev pub in_all : (Bit → Bool) → Option (Vec Bit Global) → Bit → Bool
 in_all before None b = not (before b)
 in_all before (Some c) b = listed c.items b
 
--- a branch reads only assigned bits, and the list has those that it assigns too; or it reads one that is not
-abbrev pub BranchTells : Names → (Bit → Bool) → (Bit → Bool) → Statement → Result (Vec Bit Global) Bit → Type 0
-BranchTells s before common t (Ok bits) = ReadsKnown s before t × ((b : Bit) → listed bits.items b ≡ (common b && known s before t b))
-BranchTells s before common t (Err b) = ReadEarly s before t b
-
--- a part of a block reads only assigned bits, and leaves these assigned
-pub record Ran (Reads : Type 0) (after before now : Bit → Bool) (old new : List Bit) : Type 0 where
-  pub reads : Reads
+-- a part of a block leaves these assigned
+pub record Ran (after before now : Bit → Bool) (old new : List Bit) : Type 0 where
   pub set : (b : Bit) → now b ≡ after b
   pub log : Logged old new before now
 

@@ -1,20 +1,13 @@
 //! The paths through a combinational block, and the bits that are assigned on them.
-ghost use Rattle.std.specs.Prelude.{◌≡◌, ◌≤◌, ◌&&◌, ◌||◌, [], None, not, true, false, length, take, drop, IfOk, OnOk, IfSome, IfNone};
-ghost use Rattle.rr_syntax.specs.View.{plain, plain_list};
-ghost use Rattle.rr_expr.specs.Faults.{fault};
-ghost use Rattle.rr_expr.specs.Reading.{NamesBit, NamesBits};
+ghost use Rattle.std.specs.Prelude.{◌≡◌, ◌≤◌, ◌&&◌, ◌||◌, not, length, take, drop, IfOk, OnOk};
 ghost use Rattle.rr_expr.specs.declared.types.Bit.{Bit as BitOfSignal};
-ghost use Rattle.rr_flat.specs.Reads.{TargetReads};
 ghost use Rattle.rr_flat.specs.Targets.{same_bit};
-ghost use Rattle.rr_flat.specs.Shapes.{list_faults};
-ghost use Rattle.rr_target.specs.Lists.{covered, must};
+ghost use Rattle.rr_target.specs.Lists.{must};
 ghost use Rattle.rr_target.specs.Pieces.{covers};
 ghost use Rattle.rr_latch.specs.Paths.{Logged, assigned, listed};
 
-use rr_expr::Scope;
 use rr_flat::Bit;
-use rr_syntax::Expr;
-use rr_target::{Piece, Write, add_named_bits, add_target_reads};
+use rr_target::{Piece, Write};
 use rr_writers::BitTable;
 use std::alloc::{AllocError, Global};
 
@@ -24,89 +17,6 @@ use std::alloc::{AllocError, Global};
 pub(crate) struct Path {
     pub(crate) unassigned: BitTable,
     pub(crate) log: Vec<Bit>,
-}
-
-/// A bit of some pieces that is not assigned.
-fn unassigned_in(table: &BitTable, pieces: &[Piece]) -> Option<Bit>
-    ensures none { IfNone result ((b : BitOfSignal) → covered pieces.now b ≡ true → assigned table.now b ≡ true) }
-    ensures some { IfSome result (λ b. (covered pieces.now b ≡ true) × (assigned table.now b ≡ false)) }
-{
-    for piece in pieces.iter() {
-        let found = unassigned_at(table, piece);
-        if found.is_some() {
-            return found;
-        }
-    }
-    None
-}
-
-pub(crate) fn unassigned_at(table: &BitTable, piece: &Piece) -> Option<Bit>
-    ensures none { IfNone result ((b : BitOfSignal) → covers piece.now b ≡ true → assigned table.now b ≡ true) }
-    ensures some { IfSome result (λ b. (covers piece.now b ≡ true) × (assigned table.now b ≡ false)) }
-{
-    let (low, high) = piece.range();
-    for place in low..high {
-        let bit = Bit {
-            signal: piece.signal,
-            place,
-        };
-        if table.get(bit) != 0 {
-            return Some(bit);
-        }
-    }
-    None
-}
-
-/// A bit that an expression names and that is not assigned.
-pub(crate) fn read(
-    alloc: Global,
-    expr: &Expr,
-    names: &Scope,
-    table: &BitTable,
-) -> Result<Option<Bit>, AllocError>
-    requires { fault names.now (plain expr.now) false ≡ None }
-    ensures none { IfOk result (λ r. IfNone r ((b : BitOfSignal) → NamesBit names.now (plain expr.now) b → assigned table.now b ≡ true)) }
-    ensures some { IfOk result (λ r. IfSome r (λ b. NamesBit names.now (plain expr.now) b × (assigned table.now b ≡ false))) }
-{
-    let mut pieces = Vec::new(alloc);
-    add_named_bits(alloc, &mut pieces, expr, names)?;
-    Ok(unassigned_in(table, pieces.as_slice()))
-}
-
-/// The same of the labels of an arm.
-pub(crate) fn read_labels(
-    alloc: Global,
-    labels: &[Expr],
-    names: &Scope,
-    table: &BitTable,
-) -> Result<Option<Bit>, AllocError>
-    requires { list_faults names.now (plain_list labels.now) ≡ [] }
-    ensures none { IfOk result (λ r. IfNone r ((b : BitOfSignal) → NamesBits names.now (plain_list labels.now) b → assigned table.now b ≡ true)) }
-    ensures some { IfOk result (λ r. IfSome r (λ b. NamesBits names.now (plain_list labels.now) b × (assigned table.now b ≡ false))) }
-{
-    for label in labels.iter() {
-        let found = read(alloc, label, names, table)?;
-        if found.is_some() {
-            return Ok(found);
-        }
-    }
-    Ok(None)
-}
-
-/// The same of the indices of a target.
-pub(crate) fn read_target(
-    alloc: Global,
-    target: &Expr,
-    names: &Scope,
-    table: &BitTable,
-) -> Result<Option<Bit>, AllocError>
-    requires { fault names.now (plain target.now) false ≡ None }
-    ensures none { IfOk result (λ r. IfNone r ((b : BitOfSignal) → TargetReads names.now (plain target.now) b → assigned table.now b ≡ true)) }
-    ensures some { IfOk result (λ r. IfSome r (λ b. TargetReads names.now (plain target.now) b × (assigned table.now b ≡ false))) }
-{
-    let mut pieces = Vec::new(alloc);
-    add_target_reads(alloc, &mut pieces, target, names)?;
-    Ok(unassigned_in(table, pieces.as_slice()))
 }
 
 /// A bit gets its value on this path.

@@ -3,7 +3,7 @@
 use crate::texts::design_of;
 use bumpalo::Bump;
 use rr_flat::Bit;
-use rr_latch::{Latch, first_latch};
+use rr_latch::{Latch, Room, first_latch, latched_bits};
 use std::alloc::{AllocError, Global};
 use std::test::Fail;
 
@@ -84,6 +84,97 @@ fn told(alloc: Global, text: &str) -> Result<Option<Option<Latch>>, AllocError> 
 fn latches(rt: HostRuntime) -> Result<(), Fail> {
     for (text, expected) in CASES.iter() {
         assert!(rt; told(rt.alloc(), text)? == Some(*expected), "{text}");
+    }
+    Ok(())
+}
+
+/// A text, and the bits that its block keeps where it assigns by `=` alone.
+type KeptCase = (&'static str, &'static [Bit]);
+
+const Y_0: Bit = Bit {
+    signal: 2,
+    place: 0,
+};
+
+const Y_1: Bit = Bit {
+    signal: 2,
+    place: 1,
+};
+
+const Z: Bit = Bit {
+    signal: 3,
+    place: 0,
+};
+
+const KEPT: [KeptCase; 8] = [
+    (
+        "module m(input a, b, output reg [1:0] y, output reg z); always @* begin y[0] = a; if (a) y[1] = b; end endmodule",
+        &[Y_1],
+    ),
+    (
+        "module m(input a, b, output reg [1:0] y, output reg z); always @* begin y[0] = z; y[1] = z; z = z; end endmodule",
+        &[Z],
+    ),
+    (
+        "module m(input a, b, output reg [1:0] y, output reg z); always @* begin y[0] = z; z = a; if (y[0]) y[1] = z; end endmodule",
+        &[Z, Y_1],
+    ),
+    (
+        "module m(input a, b, output reg [1:0] y, output reg z); always @* if (a) z <= b; else z = a; endmodule",
+        &[],
+    ),
+    (
+        "module m(input a, b, output reg [1:0] y, output reg z); always @* begin y <= b; if (y[1]) z <= b; end endmodule",
+        &[Z],
+    ),
+    (
+        "module m(input a, b, output reg [1:0] y, output reg z); always @* case (a) 0: z = a; 1: begin z = b; y = b; end endcase endmodule",
+        &[Z, Y_0, Y_1],
+    ),
+    (
+        "module m(input a, b, output reg [1:0] y, output reg z); always @* case (a) 0: z = a; default: z <= b; endcase endmodule",
+        &[],
+    ),
+    (
+        "module m(input a, b, output reg [1:0] y, output reg z); always @* y[a] <= b; endmodule",
+        &[Y_0, Y_1],
+    ),
+];
+
+/// The bits that the one block of a text keeps, if it has a flat design.
+fn kept_by(alloc: Global, text: &str) -> Result<Option<Vec<Bit>>, AllocError> {
+    let arena = Bump::new(alloc);
+    match design_of(alloc, text, &arena) {
+        Err(_) => Ok(None),
+        Ok(design) => {
+            let flat = &design.flat;
+            match flat.combinational_blocks().first() {
+                None => Ok(None),
+                Some(block) => {
+                    let names = flat.scope_at(block.scope);
+                    let mut room = Room::new(alloc);
+                    // Asked twice, since nothing may be left of the first time.
+                    latched_bits(alloc, block.body, names, &mut room)?;
+                    Ok(Some(latched_bits(alloc, block.body, names, &mut room)?))
+                }
+            }
+        }
+    }
+}
+
+#[test]
+fn latched(rt: HostRuntime) -> Result<(), Fail> {
+    for (text, expected) in KEPT.iter() {
+        let found = kept_by(rt.alloc(), text)?;
+        match found {
+            None => assert!(rt; false, "{text}"),
+            Some(bits) => {
+                assert!(rt; bits.len() == expected.len(), "{text}");
+                for bit in expected.iter() {
+                    assert!(rt; bits.contains(bit), "{text}");
+                }
+            }
+        }
     }
     Ok(())
 }

@@ -216,3 +216,10 @@ unlawful flat word f h = denied (Lawful flat word) f (λ l. go l (first_broken f
     go : Lawful flat word → (told f ≡ None) ⊎ FirstBroken flat word f → told f ≡ None
     go l (inl e) = e
     go l (inr p) = absurd (breaks flat word p.law p.at p.broken (lawful_keeps flat word l p.law))
+
+-- where a first bad target or label is told, the law of targets or of labels does not hold
+pub targets_break : (flat : Flat) (at : ℕ) → earliest (bad_targets flat) ≡ Some at → RightTargets flat → ⊥
+targets_break flat at h k = breaks flat None 1 at h k
+
+pub labels_break : (flat : Flat) (at : ℕ) → earliest (all_wild flat) ≡ Some at → RightLabels flat → ⊥
+labels_break flat at h k = breaks flat None 2 at h k

@@ -62,8 +62,8 @@ struct Clock {
     rising: bool,
 }
 
-/// The laws of names, targets and labels.
-fn check_texts(alloc: Global, flat: &Flat, word: Option<&str>) -> Result<(), LawFault>
+/// The laws of names, targets and labels (sections 6.1, 9.2 and 9.5.1), as `check` asks them first.
+pub fn check_texts(alloc: Global, flat: &Flat, word: Option<&str>) -> Result<(), LawFault>
     ensures ok { IfOk result (λ _. HasRightTexts (plain_flat flat.now) (option_map (λ w. w.now) word.entry)) }
     ensures err { IfErr result (FailsFirst (plain_flat flat.now) (option_map (λ w. w.now) word.entry)) }
     ensures denied { IfErr result (Denies (HasRightTexts (plain_flat flat.now) (option_map (λ w. w.now) word.entry))) }

@@ -9,6 +9,6 @@ mod laws;
 mod once;
 
 pub use clocks::places;
-pub use laws::{LawFault, check};
+pub use laws::{LawFault, check, check_texts};
 pub use once::one_fault;
 pub use rr_flat::Bit;

@@ -4,7 +4,7 @@ use Rattle.std.specs.Prelude.{ℕ, ◌+◌, ◌==◌, ◌<◌, ◌≤◌, ◌^�
 use Rattle.std.specs.List.{All}
 use Rattle.rr_syntax.specs.Words.{keyword_begin, keyword_end, keyword_if, mark_open_parenthesis, mark_close_parenthesis, mark_semicolon, mark_equals, mark_less_or_equal, mark_not, mark_logical_and, mark_logical_or}
 use Rattle.rr_edit.specs.Edits.{Edit}
-use Rattle.rr_lex.specs.Patch.{New, new_keyword, new_mark, new_name, new_literal}
+use Rattle.rr_lex.specs.Patch.{New, new_decimal, new_keyword, new_mark, new_name, new_literal}
 use Rattle.rr_lex.specs.Tokens.{Lexeme}
 use Rattle.rr_patch.specs.declared.change.Change.{Change as Made}
 use Rattle.rr_patch.specs.declared.change.Added.{Added}
@@ -40,6 +40,7 @@ plain_fixed fixed.LessOrEqual = new_mark mark_less_or_equal
 plain_fixed fixed.Not = new_mark mark_not
 plain_fixed fixed.Both = new_mark mark_logical_and
 plain_fixed fixed.Either = new_mark mark_logical_or
+plain_fixed fixed.Zero = new_decimal (48 ∷ [])
 
 abbrev pub plain_added : Added → New
 plain_added (added.Fixed f) = plain_fixed f

@@ -159,8 +159,11 @@ fn edit_token<'c, 'a>(
     Ok(left)
 }
 
-/// The edits that changes make at tokens.
-fn edits_at<'a>(
+/// The edits that changes make at tokens, in the order of the tokens: for a change over a token one that
+/// replaces its bytes by a blank, the new text and a blank; and for each run of changes before a token one
+/// behind the token that it follows. The changes stand in the order of their places, and before the first
+/// token is none. The error is want of memory.
+pub fn edits_at<'a>(
     alloc: Global,
     tokens: &[Token],
     changes: &[Change<'a>],

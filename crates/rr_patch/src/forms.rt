@@ -34,8 +34,9 @@ fn put<'a>(out: &mut Vec<Change<'a>>, place: u64, new: Added<'a>) -> Result<(), 
     Ok(())
 }
 
-/// New tokens before the token with a number, in their order.
-pub(crate) fn put_all<'a>(
+/// Adds changes that put new tokens before the token with a number, in their order. The error is want of
+/// memory.
+pub fn put_all<'a>(
     out: &mut Vec<Change<'a>>,
     place: u64,
     list: &[Added<'a>],

@@ -17,7 +17,9 @@ mod printing;
 mod source;
 mod statement;
 
-pub use editing::edits;
+pub use change::{Added, Change, Fixed};
+pub use editing::{edits, edits_at};
+pub use forms::put_all;
 pub use laws::change_laws;
 pub use length::statement_len;
 pub use printing::print;

@@ -77,6 +77,7 @@ module _ (bytes : List ℕ) (top word : Option Text) where
   cause (At fault.UnknownMacro at) r = absurd r
   cause (At fault.BadDirective at) r = absurd r
   cause (At fault.MacroLoop at) r = absurd r
+  cause (At fault.FromMacro at) r = absurd r
   cause (TooMany limit count) r = early (design.Flaw (flat.TooMany limit count)) (λ e. cc) r refl
   cause (Expanded count) r = absurd r
   cause NoHeader r = absurd r

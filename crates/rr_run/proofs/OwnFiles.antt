@@ -74,6 +74,7 @@ module _ (file : List ℕ) (origins : List Origin) (taken : IsTaken file file or
     at_own fault.UnknownMacro at r = absurd r
     at_own fault.BadDirective at r = absurd r
     at_own fault.MacroLoop at r = absurd r
+    at_own fault.FromMacro at r = absurd r
 
     same_own : (r : Refusal) → RefusesDesign file top word r → IsSameRefusal r (placed origins (length file) r)
     same_own (At what at) r = at_own what at r

@@ -78,7 +78,7 @@ pub record IsBroken (bytes : List ℕ) (top word : Option Text) (what : Fault) (
 
 -- What is wrong with a design first, and at which byte: the first fault of its bytes, its first word without a rule, that
 -- it has no tree, the first fault of its elaboration, or the first law that it breaks. Which byte is told of a text
--- without a tree is not said. No text has a fault of directives that are expanded: those are of files.
+-- without a tree is not said. No text has a fault of directives that are expanded, or of what they hide: those are of files.
 abbrev pub IsAt : List ℕ → Option Text → Option Text → Fault → ℕ → Type 0
 IsAt bytes top word fault.BadByte at = IsFirstFault bytes wrong.Byte at
 IsAt bytes top word fault.BadNumber at = IsFirstFault bytes wrong.Number at
@@ -107,6 +107,7 @@ IsAt bytes top word fault.WildLabel at = IsBroken bytes top word fault.WildLabel
 IsAt bytes top word fault.UnknownMacro at = ⊥
 IsAt bytes top word fault.BadDirective at = ⊥
 IsAt bytes top word fault.MacroLoop at = ⊥
+IsAt bytes top word fault.FromMacro at = ⊥
 
 -- why a text has no lawful design
 abbrev pub RefusesDesign : List ℕ → Option Text → Option Text → Refusal → Type 0

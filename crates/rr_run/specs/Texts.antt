@@ -34,6 +34,7 @@ fault_text fault.WildLabel = codes "25 WildLabel"
 fault_text fault.UnknownMacro = codes "38 UnknownMacro"
 fault_text fault.BadDirective = codes "39 BadDirective"
 fault_text fault.MacroLoop = codes "40 MacroLoop"
+fault_text fault.FromMacro = codes "43 FromMacro"
 
 -- what is counted
 abbrev pub limit_text : Limit → List ℕ

@@ -2,7 +2,8 @@
 use rr_flat::Limit;
 use std::fmt;
 
-/// What is wrong with a design at one byte of its text or file: refusals 1 to 15, 17 to 25 and 38 to 40.
+/// What is wrong with a design at one byte of its text or file: refusals 1 to 15, 17 to 25,
+/// 38 to 40 and 43.
 #[derive(Clone, Copy, Debug, PartialEq, Eq)]
 pub enum Fault {
     /// A byte that begins no token (IEEE 1364-2005 section 3).
@@ -60,6 +61,8 @@ pub enum Fault {
     BadDirective,
     /// A use whose text uses a name that is being expanded (section 19.3.1).
     MacroLoop,
+    /// What is to be changed does not stand in the file itself (section 19.3.1).
+    FromMacro,
 }
 
 impl fmt::Display for Fault {
@@ -97,6 +100,7 @@ impl fmt::Display for Fault {
             Fault::UnknownMacro => write!(f, "38 UnknownMacro"),
             Fault::BadDirective => write!(f, "39 BadDirective"),
             Fault::MacroLoop => write!(f, "40 MacroLoop"),
+            Fault::FromMacro => write!(f, "43 FromMacro"),
         }
     }
 }
@@ -104,7 +108,8 @@ impl fmt::Display for Fault {
 /// Why two texts have no run. Bytes and columns count from 0, rows from 1: row 0 is the header.
 #[derive(Clone, Copy, Debug, PartialEq, Eq)]
 pub enum Refusal<'a> {
-    /// What is wrong with the design first, at this byte of its file (1 to 15, 17 to 25, 38 to 40).
+    /// What is wrong with the design first, at this byte of its file (1 to 15, 17 to 25, 38 to
+    /// 40, 43).
     At(Fault, u32),
     /// A count that passes its limit, with that count (16).
     TooMany(Limit, u64),

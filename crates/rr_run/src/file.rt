@@ -26,8 +26,8 @@ pub struct FileDesign<'a> {
     pub design: LawfulDesign<'a>,
 }
 
-/// Why a file has no expansion.
-fn of_directives<'a>(fault: DirectiveFault) -> RunFault<'a>
+/// The refusal of a file that has no expansion, for this reason (38 to 40, 16).
+pub fn of_directives<'a>(fault: DirectiveFault) -> RunFault<'a>
     ensures { (file : List ℕ) → Faults file fault → StopsWhere (RefusesExpansion file) result }
 {
     let refusal = match fault {
@@ -92,7 +92,7 @@ fn told_at(fault: Fault, expanded: &Expanded, size: u32, at: u32) -> u32
 }
 
 /// A refusal of the expansion of a file of this size, told at its place in the file.
-fn placed<'a>(expanded: &Expanded, size: u32, refusal: Refusal<'a>) -> Refusal<'a>
+pub fn placed<'a>(expanded: &Expanded, size: u32, refusal: Refusal<'a>) -> Refusal<'a>
     ensures { plain_refusal result ≡ placed_in expanded.now.origins.items size (plain_refusal refusal.entry) }
 {
     match refusal {

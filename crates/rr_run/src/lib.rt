@@ -14,8 +14,9 @@ mod run;
 
 pub use design::{LawfulDesign, lawful_design};
 pub use fault::{Fault, Refusal, RunFault};
-pub use file::{FileDesign, file_design, placed_tokens};
+pub use file::{FileDesign, file_design, of_directives, placed, placed_tokens};
 pub use laws::{files_run_as_texts, one_file_outcome, one_outcome};
+pub use refused::of_design;
 pub use rows::{TableKind, read_rows};
 pub use rr_flat::Limit;
 pub use run::run_files;

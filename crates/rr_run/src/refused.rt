@@ -59,8 +59,8 @@ fn of_flaw<'a>(flaw: FlatFault) -> RunFault<'a>
     }
 }
 
-/// Why a text has no flat design.
-pub(crate) fn of_design<'a>(fault: DesignFault) -> RunFault<'a>
+/// The refusal of a text that has no flat design, for this reason (1 to 16).
+pub fn of_design<'a>(fault: DesignFault) -> RunFault<'a>
     ensures { (bytes : List ℕ) (top word : Option (List ℕ)) → RefusesText bytes top fault → StopsWhere (RefusesDesign bytes top word) result }
 {
     match fault {

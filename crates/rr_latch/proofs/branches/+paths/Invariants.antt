@@ -6,10 +6,10 @@ use Rattle.rr_latch.proofs.Branching.{AllRun, ArmsRun}
 use Rattle.rr_latch.proofs.branches.+paths.Given as goal
 
 abbrev pub invariant-run_all-loop-stmt : goal.invariant-run_all-loop-stmt
-invariant-run_all-loop-stmt l = AllRun l.names (assigned l.fn.path.unassigned) l.body l.stmt-index (assigned l.path.unassigned) l.fn.path.log.items l.path.log.items
+invariant-run_all-loop-stmt l = AllRun l.later l.names (assigned l.fn.path.unassigned) l.body l.stmt-index (assigned l.path.unassigned) l.fn.path.log.items l.path.log.items l.fn.early l.early
 
 abbrev pub invariant-run_arms-loop-arm : goal.invariant-run_arms-loop-arm
-invariant-run_arms-loop-arm l = ArmsRun l.names (assigned l.fn.path.unassigned) l.arms l.arm-index l.common (assigned l.path.unassigned) l.fn.path.log.items l.path.log.items
+invariant-run_arms-loop-arm l = ArmsRun l.later l.names (assigned l.fn.path.unassigned) l.arms l.arm-index l.common (assigned l.path.unassigned) l.fn.path.log.items l.path.log.items l.fn.early l.early
 
 abbrev pub decreases-run : goal.decreases-run
 decreases-run l = 3 * goal.size-run l
@@ -18,7 +18,7 @@ abbrev pub decreases-branch : goal.decreases-branch
 decreases-branch l = 3 * goal.size-branch l + 1
 
 abbrev pub decreases-run_if : goal.decreases-run_if
-decreases-run_if l = 3 * size-Stmt l.yes.now + 2
+decreases-run_if l = 3 * goal.size-run_if l + 2
 
 abbrev pub decreases-run_if_else : goal.decreases-run_if_else
 decreases-run_if_else l = 3 * max (size-Stmt l.yes.now) (size-Stmt l.no.now) + 2

@@ -11,11 +11,23 @@ scope_at-names-requires c = (c.combinational_blocks-block-items.ensures.sound c.
 pub kept_bit-requires-clause-shaped : goal.kept_bit-requires-clause-shaped
 kept_bit-requires-clause-shaped c = rw c.scope_at-names.ensures.value (c.combinational_blocks-block-items.ensures.sound c.loop-block.block-index _ c.loop-block-test.true).body.shaped
 
+pub kept_bit-requires-clause-assigned : goal.kept_bit-requires-clause-assigned
+kept_bit-requires-clause-assigned c = c.loop-block.invariant.0.assigned
+
+pub kept_bit-requires-clause-unnoted : goal.kept_bit-requires-clause-unnoted
+kept_bit-requires-clause-unnoted c = c.loop-block.invariant.1
+
+pub kept_bit-requires-clause-empty : goal.kept_bit-requires-clause-empty
+kept_bit-requires-clause-empty c = c.loop-block.invariant.2
+
 pub loop-block-preserved : goal.loop-block-preserved
-loop-block-preserved c =
-    block_passed (plain_flat c.args.flat.now) c.loop-block.block-index (plain_block (get_or c.combinational_blocks-block-items.result.now c.loop-block.block-index _)) c.scope_at-names.result.now _ _
-    (block_here c.args.flat.now c.combinational_blocks-block-items.result.now c.loop-block.block-index _ c.combinational_blocks-block-items.ensures.value c.loop-block-test.true) c.scope_at-names.ensures.value c.loop-block.invariant
-    (rw c.in_default.is at c.in_ok-bit.ensures.none) (rw c.in_default.is at c.in_ok-bit.ensures.left)
+loop-block-preserved c = (
+  block_passed (plain_flat c.args.flat.now) c.loop-block.block-index (plain_block (get_or c.combinational_blocks-block-items.result.now c.loop-block.block-index _)) c.scope_at-names.result.now _ _
+      (block_here c.args.flat.now c.combinational_blocks-block-items.result.now c.loop-block.block-index _ c.combinational_blocks-block-items.ensures.value c.loop-block-test.true) c.scope_at-names.ensures.value c.loop-block.invariant.0
+      (rw c.in_default.is at c.in_ok-bit.ensures.none) (rw c.in_default.is at c.in_ok-bit.ensures.left),
+  (rw c.in_default.is at c.in_ok-bit.ensures.unnoted),
+  (rw c.in_default.is at c.in_ok-bit.ensures.empty),
+)
 
 pub returns-in-Some-clause-some : goal.returns-in-Some-clause-some
 returns-in-Some-clause-some c =
@@ -28,10 +40,10 @@ pub returns-in-Some-clause-first : goal.returns-in-Some-clause-first
 returns-in-Some-clause-first c =
     first_kept (plain_flat c.args.flat.now) c.loop-block.block-index (plain_block (get_or c.combinational_blocks-block-items.result.now c.loop-block.block-index _)) c.scope_at-names.result.now (assigned c.loop-block.path.unassigned) _
     (omega (arith, c.loop-block-test.true, ap length c.combinational_blocks-block-items.ensures.value, length-map c.args.flat.now.combinational plain_block))
-    (block_here c.args.flat.now c.combinational_blocks-block-items.result.now c.loop-block.block-index _ c.combinational_blocks-block-items.ensures.value c.loop-block-test.true) c.scope_at-names.ensures.value c.loop-block.invariant
+    (block_here c.args.flat.now c.combinational_blocks-block-items.result.now c.loop-block.block-index _ c.combinational_blocks-block-items.ensures.value c.loop-block-test.true) c.scope_at-names.ensures.value c.loop-block.invariant.0
     (rw c.in-Some.is at c.in_ok-bit.ensures.some) refl
 
 pub returns-clause-none : goal.returns-clause-none
 returns-clause-none c =
     blocks_done (plain_flat c.args.flat.now) c.loop-block.block-index (assigned c.loop-block.path.unassigned)
-    (omega (arith, c.loop-block-test.false, ap length c.combinational_blocks-block-items.ensures.value, length-map c.args.flat.now.combinational plain_block)) c.loop-block.invariant
+    (omega (arith, c.loop-block-test.false, ap length c.combinational_blocks-block-items.ensures.value, length-map c.args.flat.now.combinational plain_block)) c.loop-block.invariant.0

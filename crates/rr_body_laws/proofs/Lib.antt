@@ -1,0 +1,5 @@
+pub mod Heads
+pub mod Tables
+pub mod Walks
+pub mod Enters
+pub mod Whole

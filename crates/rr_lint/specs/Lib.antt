@@ -1,0 +1,4 @@
+pub mod Faults
+pub mod Edited
+pub mod Latched
+pub mod Walks

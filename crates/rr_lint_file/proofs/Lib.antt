@@ -1,0 +1,5 @@
+pub mod Marks
+pub mod Once
+pub mod Mending
+pub mod Kept
+pub mod Fixed

@@ -1,0 +1,28 @@
+-- What holds of a source that was mended.
+use Rattle.std.specs.Prelude.{◌≡◌, List, ℕ, Option, Ok}
+use Rattle.rr_syntax.specs.Items.{WellFormedSource}
+use Rattle.rr_syntax.specs.Tree.{SourceText}
+use Rattle.rr_flat.specs.Plain.{Flat}
+use Rattle.rr_flat.specs.Signals.{Text}
+use Rattle.rr_walk.specs.Walk.{flat_of}
+use Rattle.rr_body_laws.specs.Bodies.{source_with}
+use Rattle.rr_lint_laws.specs.Clean.{IsClean}
+use Rattle.rr_lint_laws.specs.Mended.{IsLint, Marks, mended_body}
+
+-- it has neither of the two faults
+abbrev pub LintCleans : Type 0
+LintCleans = (source mended : SourceText) (top : Option Text) (flat : Flat) → flat_of source top ≡ Ok flat → IsLint source flat mended → IsClean mended top
+
+-- a source without them, of which each target is one by the rules of the syntax, stays as it is
+abbrev pub CleanStays : Type 0
+CleanStays =
+    (source mended : SourceText) (top : Option Text) (flat : Flat) → WellFormedSource source → flat_of source top ≡ Ok flat → IsClean source top →
+    IsLint source flat mended → mended ≡ source
+
+-- a source is mended in one way
+abbrev pub OneLint : Type 0
+OneLint = (source mended other : SourceText) (flat : Flat) → IsLint source flat mended → IsLint source flat other → mended ≡ other
+
+-- the rules of the syntax stay kept, whatever names are cleared
+abbrev pub LintStaysFormed : Type 0
+LintStaysFormed = (source : SourceText) (numbers : List ℕ) (marks : Marks) → WellFormedSource source → WellFormedSource (source_with numbers (mended_body marks) source)

@@ -1,0 +1,116 @@
+//! Files of small designs with their combinational blocks mended, written by hand.
+use bumpalo::Bump;
+use rr_lint_file::mend_file;
+use std::alloc::Global;
+use std::test::Fail;
+
+/// A design, and the same mended.
+type Case = (&'static str, &'static str);
+
+const MENDED: [Case; 15] = [
+    // A `case` that leaves two values out.
+    (
+        "module m(input [1:0] s, output reg y);\n  always @*\n    case (s)\n      2'd0: y = 1'b0;\n      2'd1: y = 1'b1;\n    endcase\nendmodule\n",
+        "module m(input [1:0] s, output reg y);\n  always @* begin y = 0 ; \n    case (s)\n      2'd0: y = 1'b0;\n      2'd1: y = 1'b1;\n    endcase end \nendmodule\n",
+    ),
+    // `<=` of a combinational block.
+    (
+        "module m(input a, output reg y); always @* y <= a; endmodule\n",
+        "module m(input a, output reg y); always @* y  =  a; endmodule\n",
+    ),
+    // `<=` that compares stays.
+    (
+        "module m(input [1:0] a, output reg y); always @(a) if (a <= 2'd1) y<=1'b1; else y<=(a <= 2'd2); endmodule\n",
+        "module m(input [1:0] a, output reg y); always @(a) if (a <= 2'd1) y = 1'b1; else y = (a <= 2'd2); endmodule\n",
+    ),
+    // Variables are cleared in the order of their first targets, once each; parts count.
+    (
+        "module m(input e, input a, output reg [1:0] y, output reg z, output reg x); always @* begin x = a; if (e) begin z = a; y[0] = a; z = x; end end endmodule\n",
+        "module m(input e, input a, output reg [1:0] y, output reg z, output reg x); always @* begin z = 0 ; y = 0 ;  begin x = a; if (e) begin z = a; y[0] = a; z = x; end end end  endmodule\n",
+    ),
+    // A bit that is read before it is assigned.
+    (
+        "module m(input a, output reg y, output reg z); always @* begin z = y; y = a; end endmodule\n",
+        "module m(input a, output reg y, output reg z); always @* begin y = 0 ;  begin z = y; y = a; end end  endmodule\n",
+    ),
+    // `<=` first, and then what is kept.
+    (
+        "module m(input e, input a, output reg y); always @* if (e) y <= a; endmodule\n",
+        "module m(input e, input a, output reg y); always @* begin y = 0 ;  if (e) y  =  a; end  endmodule\n",
+    ),
+    // An escaped name, and a concatenated target.
+    (
+        "module m(input e, input [1:0] a, output reg \\y! , output reg z); always @* if (e) {\\y! , z} = a; endmodule\n",
+        "module m(input e, input [1:0] a, output reg \\y! , output reg z); always @* begin \\y! = 0 ; z = 0 ;  if (e) {\\y! , z} = a; end  endmodule\n",
+    ),
+    // An index that is not constant assigns nothing for certain.
+    (
+        "module m(input [1:0] i, output reg [3:0] y); always @* y[i] = 1'b1; endmodule\n",
+        "module m(input [1:0] i, output reg [3:0] y); always @* begin y = 0 ;  y[i] = 1'b1; end  endmodule\n",
+    ),
+    // Only in the modules that have instances; clocked blocks stay.
+    (
+        "module n(input a, output reg y); always @* y <= a; endmodule\nmodule m(input clk, input d, output reg q); always @(posedge clk) q <= d; endmodule\n",
+        "module n(input a, output reg y); always @* y <= a; endmodule\nmodule m(input clk, input d, output reg q); always @(posedge clk) q <= d; endmodule\n",
+    ),
+    // A variable that one instance of two keeps, by its parameter, and that no instance keeps.
+    (
+        "module n #(parameter P = 0) (input e, input a, output reg [1:0] y); always @* begin if (e) y[P] = a; y[0] = a; end endmodule\nmodule m(input e, input a, output [1:0] y, output [1:0] z); n u(.e(e), .a(a), .y(y)); n #(.P(1)) v(.e(e), .a(a), .y(z)); endmodule\n",
+        "module n #(parameter P = 0) (input e, input a, output reg [1:0] y); always @* begin y = 0 ;  begin if (e) y[P] = a; y[0] = a; end end  endmodule\nmodule m(input e, input a, output [1:0] y, output [1:0] z); n u(.e(e), .a(a), .y(y)); n #(.P(1)) v(.e(e), .a(a), .y(z)); endmodule\n",
+    ),
+    (
+        "module n #(parameter P = 0) (input e, input a, output reg [1:0] y); always @* begin if (e) y[P] = a; y[0] = a; end endmodule\nmodule m(input e, input a, output [1:0] y); n u(.e(e), .a(a), .y(y)); endmodule\n",
+        "module n #(parameter P = 0) (input e, input a, output reg [1:0] y); always @* begin if (e) y[P] = a; y[0] = a; end endmodule\nmodule m(input e, input a, output [1:0] y); n u(.e(e), .a(a), .y(y)); endmodule\n",
+    ),
+    // Nothing to mend, with comments and directives.
+    (
+        "`define W 2\n/* a */ module m(input [`W-1:0] a, output reg y); // b\n  always @* begin y = 1'b0; if (a[0]) y = a[1]; end\nendmodule\n",
+        "`define W 2\n/* a */ module m(input [`W-1:0] a, output reg y); // b\n  always @* begin y = 1'b0; if (a[0]) y = a[1]; end\nendmodule\n",
+    ),
+    // Beside a macro: what is put stands in the file.
+    (
+        "`define ONE 1'b1\nmodule m(input e, output reg y);\n  always @(*) if (e) y <= `ONE;\nendmodule\n",
+        "`define ONE 1'b1\nmodule m(input e, output reg y);\n  always @(*) begin y = 0 ;  if (e) y  =  `ONE; end \nendmodule\n",
+    ),
+    // Two writers are for other commands to refuse.
+    (
+        "module m(input e, input a, output reg y); always @* if (e) y = a; always @* y <= a; endmodule\n",
+        "module m(input e, input a, output reg y); always @* begin y = 0 ;  if (e) y = a; end  always @* y  =  a; endmodule\n",
+    ),
+    // No `always` at all.
+    (
+        "module m(input a, output y); assign y = a; endmodule\n",
+        "module m(input a, output y); assign y = a; endmodule\n",
+    ),
+];
+
+/// Whether the file is mended to this.
+fn is_mended(alloc: Global, file: &str, due: &str) -> bool {
+    if file.len() > 1000 {
+        return false;
+    }
+    let arena = Bump::new(alloc);
+    match mend_file(alloc, file.as_bytes(), None, &arena) {
+        Ok(text) => text.as_slice() == due.as_bytes(),
+        Err(_) => false,
+    }
+}
+
+#[test]
+fn files_are_mended(rt: HostRuntime) -> Result<(), Fail> {
+    let alloc = rt.alloc();
+    for case in MENDED.iter() {
+        assert!(rt; is_mended(alloc, case.0, case.1));
+    }
+    Ok(())
+}
+
+// What was mended is mended once more to itself.
+#[test]
+fn mended_files_stay(rt: HostRuntime) -> Result<(), Fail> {
+    let alloc = rt.alloc();
+    for case in MENDED.iter() {
+        assert!(rt; is_mended(alloc, case.1, case.1));
+    }
+    Ok(())
+}

@@ -1,0 +1,102 @@
+//! Files that are not mended, with the refusal of each.
+use bumpalo::Bump;
+use rr_lint_file::mend_file;
+use rr_run::{Fault, Refusal, RunFault};
+use std::alloc::Global;
+use std::test::Fail;
+
+/// A design with the name of its top, and why it is not mended.
+type Case = (
+    &'static str,
+    &'static Option<&'static str>,
+    &'static Refusal<'static>,
+);
+
+const REFUSED: [Case; 12] = [
+    // An edit that a macro hides, at the backtick of its use; one before it lifts.
+    (
+        "`define N <=\nmodule m(input a, output reg y, output reg z); always @* z <= a; always @* y `N a; endmodule\n",
+        &None,
+        &Refusal::At(Fault::FromMacro, 90),
+    ),
+    // A body behind a use.
+    (
+        "`define ON @*\nmodule m(input e, input a, output reg y); always `ON if (e) y = a; endmodule\n",
+        &None,
+        &Refusal::At(Fault::FromMacro, 63),
+    ),
+    // Directives first, then the text, then elaboration, then targets, then labels.
+    (
+        "module m(input a, output reg y); always @* y <= `N; assign y = 1'b1; endmodule\n",
+        &None,
+        &Refusal::At(Fault::UnknownMacro, 48),
+    ),
+    (
+        "module m(input a, output reg y); always @* y <= 'q; endmodule\n",
+        &None,
+        &Refusal::At(Fault::BadNumber, 48),
+    ),
+    (
+        "module m(input a, output reg y); initial y = a; endmodule\n",
+        &None,
+        &Refusal::At(Fault::Unsupported, 33),
+    ),
+    (
+        "module m(input a, output reg y); always @* y <= b; endmodule\n",
+        &None,
+        &Refusal::At(Fault::UnknownName, 48),
+    ),
+    (
+        "module m(input a, output y); always @* y <= a; endmodule\n",
+        &None,
+        &Refusal::At(Fault::BadTarget, 39),
+    ),
+    (
+        "module m(input a, output reg y); always @* case (a) 1'bx: y <= a; endcase endmodule\n",
+        &None,
+        &Refusal::At(Fault::WildLabel, 52),
+    ),
+    (
+        "module m(input a, output reg y); always @* y <= a; endmodule\n",
+        &Some("n"),
+        &Refusal::At(Fault::NoTop, 0),
+    ),
+    // Places of the file, behind a definition.
+    (
+        "`define N <=\nmodule m(input a, output y); always @* y `N a; endmodule\n",
+        &None,
+        &Refusal::At(Fault::BadTarget, 52),
+    ),
+    (
+        "module m(input a, output reg y) always @* y <= a; endmodule\n",
+        &None,
+        &Refusal::At(Fault::Syntax, 32),
+    ),
+    (
+        "module m(input [65535:0] a, output reg y); always @* y <= a[0]; endmodule\n",
+        &None,
+        &Refusal::At(Fault::TooWide, 25),
+    ),
+];
+
+/// Whether the file is refused for this.
+fn is_refused(alloc: Global, case: &Case) -> bool {
+    if case.0.len() > 1000 {
+        return false;
+    }
+    let arena = Bump::new(alloc);
+    match mend_file(alloc, case.0.as_bytes(), *case.1, &arena) {
+        Err(RunFault::Refused(refusal)) => refusal == *case.2,
+        Err(RunFault::Memory) => false,
+        Ok(_) => false,
+    }
+}
+
+#[test]
+fn files_are_refused(rt: HostRuntime) -> Result<(), Fail> {
+    let alloc = rt.alloc();
+    for case in REFUSED.iter() {
+        assert!(rt; is_refused(alloc, case));
+    }
+    Ok(())
+}
