@@ -14,7 +14,7 @@ use Rattle.rr_report.specs.Refusals.{Refusal, TooManyBytes, Input, Flawed, plain
 use Rattle.rr_report.specs.Texts.{absent_text, memory_text, read_fault_text}
 use Rattle.rr_report.specs.Views.{IsRefusedOrNoMemory, Says, report_text}
 use Rattle.rr_effects.specs.declared.reads.Read.{Read}
-use Rattle.rr_effects.specs.Reads.{AbsentAt, FaultAt, Gave, Given, IsRead, RefusesReads, StopsReading, TellsFault, TooLongAt}
+use Rattle.rr_effects.specs.Reads.{AbsentAt, FaultAt, Gave, Given, RefusesReads, StopsReading, TooLongAt}
 use Rattle.rr_effects.specs.Views.{IsTooLong, StopsRead, contents, read_of}
 
 -- the reports of one read
@@ -56,11 +56,6 @@ module _ (told : Option Held) (read : List ℕ × ℕ) where
   fault_at (r ∷ reads) (suc k) [] within is given = absurd given
   fault_at (r ∷ reads) (suc k) (file ∷ files) within is given = inr ((file, given.0), fault_at reads k files (omega (arith, within)) is given.1)
 
-  is_read : (reads : List (List ℕ × ℕ)) (k : ℕ) → k < length reads → read ≡ get_or reads k read → IsRead reads read.0
-  is_read [] k within is = absurd (omega (arith, within))
-  is_read (r ∷ reads) zero within is = inl (ap (λ (x : List ℕ × ℕ). x.0) is)
-  is_read (r ∷ reads) (suc k) within is = inr (is_read reads k (omega (arith, within)) is)
-
   -- one read more gives one file more
   one_more : (reads : List (List ℕ × ℕ)) (k : ℕ) (files : List (List ℕ)) (bytes : List ℕ) → k < length reads → read ≡ get_or reads k read → Given told (take k reads) files
       → Gave told read.0 read.1 bytes → Given told (take (suc k) reads) (files ++ (bytes ∷ []))
@@ -81,22 +76,12 @@ module _ (told : Option Held) (read : List ℕ × ℕ) where
     stops_at before now (NoMemory n) text s = s
     stops_at before now (Absent asked) text s =
         (s.1, subst (λ (name : List ℕ). AbsentAt told reads name) (sym s.0) (absent_at reads k files within is given s.2), s.3 ∙ ap absent_text (sym s.0))
-    stops_at before now (ReadFault asked) text s = (s.1, subst (λ (name : List ℕ). IsRead reads name) (sym s.0) (is_read reads k within is), s.2 ∙ ap read_fault_text (sym s.0))
+    stops_at before now (ReadFault asked) text s = (s.1, subst (λ (name : List ℕ). FaultAt told reads name) (sym s.0) (fault_at reads k files within is given), s.2 ∙ ap read_fault_text (sym s.0))
     stops_at before now (Refused refusal) text s = (s.0, refuses_at (plain_refusal refusal) s.1, s.2)
     stops_at before now (WriteFault n) text s = absurd s
     stops_at before now Usage text s = absurd s
     stops_at before now OutFault text s = absurd s
     stops_at before now (Done status) text s = absurd s
-
-    fault_told : (before now : ℕ) (ending : Ending) (text : List ℕ) → StopsRead told read.0 read.1 before now ending text → TellsFault told reads ending
-    fault_told before now (ReadFault asked) text s = subst (λ (name : List ℕ). FaultAt told reads name) (sym s.0) (fault_at reads k files within is given)
-    fault_told before now (NoMemory n) text s = tt
-    fault_told before now (Absent asked) text s = tt
-    fault_told before now (Refused refusal) text s = tt
-    fault_told before now (WriteFault n) text s = absurd s
-    fault_told before now Usage text s = absurd s
-    fault_told before now OutFault text s = absurd s
-    fault_told before now (Done status) text s = absurd s
 
 -- the same of reads and files as the code has them
 module _ (told : Option Held) (reads : List Read) (k : ℕ) (files : List (Vec ℕ Global)) (d : Read) (within : k < length reads) (given : Given told (take k (map read_of reads)) (contents files)) where
@@ -113,10 +98,6 @@ module _ (told : Option Held) (reads : List Read) (k : ℕ) (files : List (Vec �
       → StopsRead told_now (get_or reads k d).name.now (get_or reads k d).limit between now ending text → StopsReading told (map read_of reads) before now ending text
   next_stops told_now before between now ending text same quiet s =
       stops_at told (read_of read) (map read_of reads) k (contents files) plain_within plain_is given before now ending text (rw (same, quiet) at s)
-
-  pub next_tells : (told_now : Option Held) (between now : ℕ) (ending : Ending) (text : List ℕ) → told_now ≡ told
-      → StopsRead told_now (get_or reads k d).name.now (get_or reads k d).limit between now ending text → TellsFault told (map read_of reads) ending
-  next_tells told_now between now ending text same s = fault_told told (read_of read) (map read_of reads) k (contents files) plain_within plain_is given between now ending text (rw same at s)
 
   pub next_given : (told_now : Option Held) (file : Vec ℕ Global) (grown : List (Vec ℕ Global)) → told_now ≡ told → Gave told_now (get_or reads k d).name.now (get_or reads k d).limit file.items
       → grown ≡ files ++ (file ∷ []) → Given told (take (k + 1) (map read_of reads)) (contents grown)

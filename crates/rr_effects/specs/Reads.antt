@@ -35,22 +35,6 @@ abbrev pub FaultAt : Option Held → List (List ℕ × ℕ) → List ℕ → Typ
 FaultAt told [] name = ⊥
 FaultAt told (read ∷ reads) name = (name ≡ read.0) ⊎ (((bytes : List ℕ) × Gave told read.0 read.1 bytes) × FaultAt told reads name)
 
--- a fault of a read tells the name of such a one
-abbrev pub TellsFault : Option Held → List (List ℕ × ℕ) → Ending → Type 0
-TellsFault told reads (ReadFault name) = FaultAt told reads name.now
-TellsFault told reads (NoMemory written) = ⊤
-TellsFault told reads (Absent name) = ⊤
-TellsFault told reads (Refused refusal) = ⊤
-TellsFault told reads (WriteFault written) = ⊤
-TellsFault told reads Usage = ⊤
-TellsFault told reads OutFault = ⊤
-TellsFault told reads (Done status) = ⊤
-
--- one of the names that are read
-abbrev pub IsRead : List (List ℕ × ℕ) → List ℕ → Type 0
-IsRead [] name = ⊥
-IsRead (read ∷ reads) name = (name ≡ read.0) ⊎ IsRead reads name
-
 -- the refusal that is due by the reads alone: a file has too many bytes
 abbrev pub RefusesReads : Option Held → List (List ℕ × ℕ) → Refusal → Type 0
 RefusesReads told reads (TooManyBytes count) = TooLongAt told reads count
@@ -61,7 +45,7 @@ RefusesReads told reads (Flawed flaw line) = ⊥
 abbrev pub StopsReading : Option Held → List (List ℕ × ℕ) → ℕ → ℕ → Ending → List ℕ → Type 0
 StopsReading told reads before now (NoMemory written) text = (written ≡ 0) × (now ≡ before) × (text ≡ memory_text)
 StopsReading told reads before now (Absent name) text = (now ≡ before) × AbsentAt told reads name.now × (text ≡ absent_text name.now)
-StopsReading told reads before now (ReadFault name) text = Faulted before now × IsRead reads name.now × (text ≡ read_fault_text name.now)
+StopsReading told reads before now (ReadFault name) text = Faulted before now × FaultAt told reads name.now × (text ≡ read_fault_text name.now)
 StopsReading told reads before now (Refused refusal) text = (now ≡ before) × RefusesReads told reads (plain_refusal refusal) × (text ≡ refused_text (plain_refusal refusal))
 StopsReading told reads before now (WriteFault written) text = ⊥
 StopsReading told reads before now Usage text = ⊥

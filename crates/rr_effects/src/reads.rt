@@ -1,6 +1,5 @@
 //! Files that are fetched from a shelf.
-ghost use Rattle.std.specs.Prelude.{◌≡◌, IfErr, map};
-ghost use Rattle.rr_effects.specs.Reads.{TellsFault};
+ghost use Rattle.std.specs.Prelude.{◌≡◌, map};
 ghost use Rattle.rr_effects.specs.Views.{Fetches, FetchesOne, read_of};
 
 use rr_edge::{Shelf, ShelfFault};
@@ -39,15 +38,14 @@ fn fetch_one<'a, H: Shelf>(
 }
 
 /// The bytes under the names, in their order; or the report of the first read that gives none: an
-/// absent name, a fault, a file of too many bytes, or want of memory. Names behind that one are not
-/// read. It changes nothing held.
+/// absent name, a fault, a file of too many bytes, or want of memory, where those before it gave their
+/// files. Names behind that one are not read. It changes nothing held.
 pub fn fetch<'a, H: Shelf>(
     alloc: Global,
     shelf: &mut H,
     reads: &[Read<'a>],
 ) -> Result<Vec<Vec<u8>>, Report<'a>>
     ensures answer { Fetches (H.told shelf.old) (map read_of reads.now) (H.faults shelf.old) (H.faults shelf.new) result }
-    ensures fault { IfErr result (λ report. TellsFault (H.told shelf.old) (map read_of reads.now) report.ending) }
     ensures same { H.told shelf.new ≡ H.told shelf.old }
 {
     let mut files = Vec::new(alloc);

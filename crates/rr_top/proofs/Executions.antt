@@ -5,7 +5,7 @@ use Rattle.std.specs.Io.KnownBytes.{Appends}
 use Rattle.rr_edge.specs.Faults.{Faulted}
 use Rattle.rr_edge.specs.Held.{Held}
 use Rattle.rr_edge.specs.Sink.{AppendsFront}
-use Rattle.rr_words.specs.Plan.{Plan, command_of, repair, run, sites, check, make}
+use Rattle.rr_words.specs.Plan.{Plan, command_of, repair, run, sites, check, make, lint}
 use Rattle.rr_words.specs.Plain.{IsPlain}
 use Rattle.rr_words.specs.Usage.{usage_text}
 use Rattle.rr_words.proofs.PlainCommands.{plain_command}
@@ -17,12 +17,12 @@ use Rattle.rr_certify.proofs.Certified.{never_true}
 use Rattle.rr_report.specs.declared.ending.Ending.{Ending}
 use Rattle.rr_report.specs.declared.ending.Ending.TheVariants.{Usage, NoMemory, Absent, ReadFault, WriteFault, OutFault, Refused, Done}
 use Rattle.rr_report.specs.Endings.{status_of}
-use Rattle.rr_report.specs.Found.{Answer, File}
+use Rattle.rr_report.specs.Found.{Answer}
 use Rattle.rr_report.specs.Refusals.{Refusal, TooManyBytes, Input, Flawed, plain_refusal}
 use Rattle.rr_report.specs.Texts.{memory_text, refused_text}
 use Rattle.rr_effects.specs.Outside.{KeepsShelf, KeepsOut}
-use Rattle.rr_effects.specs.Reads.{AbsentAt, Gave, Given}
-use Rattle.rr_effects.specs.Delivery.{Delivers, Reports, with_files}
+use Rattle.rr_effects.specs.Reads.{AbsentAt, Given}
+use Rattle.rr_effects.specs.Delivery.{Delivers, Reports}
 use Rattle.rr_answers.specs.Texts.{unchanged_text}
 use Rattle.rr_repair.specs.Repairs.{AnswersRepair, PlainRequest}
 use Rattle.rr_outcomes.specs.Laws.{TellsOutcome}
@@ -31,79 +31,16 @@ use Rattle.rr_outcomes.proofs.Once.{matching_mends}
 use Rattle.rr_outcomes.proofs.Told.{ample_settles, each_answer, matching_stays, prints_found}
 use Rattle.rr_make.specs.Makes.{TellsMake}
 use Rattle.rr_make.proofs.Once.{each_make}
-use Rattle.rr_top.specs.Outcomes.{Outcome, mended, unmendable, ran, listed, checked, made, IsToldBy, Tells, outcome_status, verdict_status}
-use Rattle.rr_top.specs.Kinds.{kind_of}
-use Rattle.rr_top.specs.Commands.{AnswersRun, AnswersSites, AnswersCheck, AsksRepair, BothGiven, Command, Due, HasOneOutcome, Refuses, WhereOne, WhereTwo, check_command, command_of_plan, repair_command, run_command, sites_command, request}
+use Rattle.rr_top.specs.Outcomes.{Outcome, mended, unmendable, ran, listed, checked, made, linted, IsToldBy, Tells, outcome_status, verdict_status}
+use Rattle.rr_top.specs.Commands.{AsksRepair, BothGiven, Command, Due, HasOneOutcome, Refuses, command_of_plan, repair_command, request}
 use Rattle.rr_top.specs.Expected.{Expected, absent, refused, unparsed, done, IsChecked, IsPlaced, Judges}
 use Rattle.rr_top.specs.Endings.{CommandEnds}
-use Rattle.rr_top.specs.Execution.{Ends, IsUsage, Execution, IsExecution, IsRepaired, IsBeyondRepair, IsUnsettled, HoldsFiles, HoldsFirst, LeavesOpen, AsksNoRepair, IsSimulated, IsListed, IsSummed, IsNotMade, IsUndecided, IsAccepted, IsRejected, HasDone, HasFailed, HoldsNeverTrue, IsCheck, IsRefused, IsAbsent, IsReadFault, IsReportFault, Fails, IsFailure, IsAmpleRepair, IsMatchingRepair, PrintsAsItWas, IsExhausted, IsUnread, WhereCommand, SomeFault, ShowsOutcome, Follows, AllGiven, NoneRefuses, NoFaults}
+use Rattle.rr_top.specs.Execution.{Ends, IsUsage, Execution, IsExecution, IsRepaired, IsBeyondRepair, IsUnsettled, HoldsFiles, HoldsFirst, LeavesOpen, AsksNoRepair, IsSimulated, IsListed, IsLinted, IsSummed, IsNotMade, IsUndecided, IsAccepted, IsRejected, HasDone, HasFailed, HoldsNeverTrue, IsCheck, IsRefused, IsAbsent, IsReadFault, IsReportFault, Fails, IsFailure, IsAmpleRepair, IsMatchingRepair, PrintsAsItWas, IsExhausted, IsUnread, WhereCommand, SomeFault, ShowsOutcome, Follows, AllGiven, NoneRefuses, NoFaults}
 use Rattle.rr_top.proofs.Judging.{placed_or_syntax}
 use Rattle.rr_top.proofs.Readings.{given_given}
-use Rattle.rr_top.proofs.Table.{left_asks, one_in_table, writes_nothing}
+use Rattle.rr_top.proofs.Table.{left_asks, one_in_table}
 use Rattle.rr_top.proofs.Once.{one_outcome, open_expected}
-
--- what holds of two files holds of what was read
-record TwoGiven (told : Option Held) (one other : List ℕ × ℕ) (P : List ℕ → List ℕ → Type 0) : Type 0 where
-  first : List ℕ
-  second : List ℕ
-  first_given : Gave told one.0 one.1 first
-  second_given : Gave told other.0 other.1 second
-  holds : P first second
-
-two_given : (told : Option Held) (one other : List ℕ × ℕ) (files : List (List ℕ)) (P : List ℕ → List ℕ → Type 0) → Given told (one ∷ (other ∷ [])) files → WhereTwo files P → TwoGiven told one other P
-two_given told one other [] P g p = absurd p
-two_given told one other (a ∷ []) P g p = absurd p
-two_given told one other (a ∷ (b ∷ [])) P g p = record { first = a; second = b; first_given = g.0; second_given = g.1.0; holds = p }
-two_given told one other (a ∷ (b ∷ (c ∷ files))) P g p = absurd p
-
--- .. and of one
-record OneGiven (told : Option Held) (one : List ℕ × ℕ) (P : List ℕ → Type 0) : Type 0 where
-  only : List ℕ
-  only_given : Gave told one.0 one.1 only
-  holds : P only
-
-one_given : (told : Option Held) (one : List ℕ × ℕ) (files : List (List ℕ)) (P : List ℕ → Type 0) → Given told (one ∷ []) files → WhereOne files P → OneGiven told one P
-one_given told one [] P g p = absurd p
-one_given told one (a ∷ []) P g p = record { only = a; only_given = g.0; holds = p }
-one_given told one (a ∷ (b ∷ files)) P g p = absurd p
-
-abbrev GivenRepair : Option Held → List ℕ → List ℕ → PlainRequest → Answer → Type 0
-GivenRepair told d t w answer = TwoGiven told (d, 1048576) (t, 16777216) (λ x y. AnswersRepair w x y answer)
-
-abbrev GivenRun : Option Held → List ℕ → List ℕ → Option (List ℕ) → Option (List ℕ) → Answer → Type 0
-GivenRun told d t top clock answer = TwoGiven told (d, 1048576) (t, 16777216) (λ x y. AnswersRun (kind_of t) top clock x y answer)
-
-abbrev GivenSites : Option Held → List ℕ → Option (List ℕ) → Option (List ℕ) → Answer → Type 0
-GivenSites told d top clock answer = OneGiven told (d, 1048576) (λ x. AnswersSites top clock x answer)
-
-abbrev GivenCheck : Option Held → List ℕ → List ℕ → Answer → Type 0
-GivenCheck told c p answer = TwoGiven told (c, 268435456) (p, 1073741824) (λ x y. AnswersCheck x y answer)
-
-module _ (told : Option Held) (answer : Answer) where
-  repair_given : (d t : List ℕ) (w : PlainRequest) → Due (repair_command d t w) told answer → GivenRepair told d t w answer
-  repair_given d t w due = two_given told (d, 1048576) (t, 16777216) due.files (λ x y. AnswersRepair w x y answer) due.given due.answers
-
-  run_given : (d t : List ℕ) (top clock : Option (List ℕ)) → Due (run_command d t top clock) told answer → GivenRun told d t top clock answer
-  run_given d t top clock due = two_given told (d, 1048576) (t, 16777216) due.files (λ x y. AnswersRun (kind_of t) top clock x y answer) due.given due.answers
-
-  sites_given : (d : List ℕ) (top clock : Option (List ℕ)) → Due (sites_command d top clock) told answer → GivenSites told d top clock answer
-  sites_given d top clock due = one_given told (d, 1048576) due.files (λ x. AnswersSites top clock x answer) due.given due.answers
-
-  check_given : (c p : List ℕ) → Due (check_command c p) told answer → GivenCheck told c p answer
-  check_given c p due = two_given told (c, 268435456) (p, 1073741824) due.files (λ x y. AnswersCheck x y answer) due.given due.answers
-
-  -- no command but `repair` and `make` writes a file
-  no_files : (plan : Plan) → (AsksRepair plan → ⊥) → Due (command_of_plan plan) told answer → answer.files ≡ []
-  no_files plan none due = (writes_nothing plan none).files due.files answer due.answers
-
-  held_without : (new : Option Held) → answer.files ≡ [] → new ≡ with_files told answer.files → new ≡ told
-  held_without new none is = is ∙ ap (λ (fs : List File). with_files told fs) none
-
-  held_with : (plan : Plan) (new : Option Held) → (AsksRepair plan → ⊥) → Due (command_of_plan plan) told answer → new ≡ with_files told answer.files → new ≡ told
-  held_with plan new none due is = held_without new (no_files plan none due) is
-
-  none_below : {X : Type 0} (plan : Plan) (k : ℕ) → (AsksRepair plan → ⊥) → Due (command_of_plan plan) told answer → k < length answer.files → X
-  none_below plan k none due less = let empty : length answer.files ≡ 0 = ap length (no_files plan none due) in absurd (omega (arith, less, empty))
+use Rattle.rr_top.proofs.Givens.{GivenRepair, GivenRun, GivenSites, GivenLint, GivenCheck, repair_given, run_given, sites_given, lint_given, check_given, held_with, none_below, held_without}
 
 -- no count of faults changed
 pub record Calm (r : Execution) : Type 0 where
@@ -274,6 +211,7 @@ outcome_low (ran text) = inl refl
 outcome_low (listed text) = inl refl
 outcome_low (checked verdict) = status_low verdict
 outcome_low (made text) = inl refl
+outcome_low (linted text) = inl refl
 
 -- the status that an answer has
 due_status : (plan : Plan) (told : Option Held) (answer : Answer) → Due (command_of_plan plan) told answer → (answer.status ≡ 0) ⊎ ((answer.status ≡ 1) ⊎ ((answer.status ≡ 2) × AsksRepair plan))
@@ -364,6 +302,18 @@ module _ (r : Execution) (answer : Answer) (shelf : HoldsFiles r answer) (out : 
     shelf = keeps one.holds.files;
   }
 
+  lints_given : (d : List ℕ) (top : Option (List ℕ)) → GivenLint r.before.held d top answer → IsLinted r d top
+  lints_given d top one = record {
+    design = one.only;
+    given = one.only_given;
+    text = answer.out;
+    mends = one.holds.mends;
+    cleaned = one.holds.cleaned;
+    printed = out;
+    reported = rw one.holds.notes at notes;
+    shelf = keeps one.holds.files;
+  }
+
   checked_of : (c p : List ℕ) (two : GivenCheck r.before.held c p answer) → IsChecked r.before.held c p two.holds.verdict
   checked_of c p two = record { circuit = two.first; proof = two.second; given = record { circuit_given = two.first_given; proof_given = two.second_given }; judged = two.holds.judged }
 
@@ -425,7 +375,8 @@ module _ (r : Execution) (answer : Answer) (shelf : HoldsFiles r answer) (out : 
   mends_due (run d t top clock) due zero = inr (inl (simulates_given d t top clock (run_given r.before.held answer d t top clock due)))
   mends_due (sites d top clock) due zero = inr (inr (inl (lists_given d top clock (sites_given r.before.held answer d top clock due))))
   mends_due (check c p) due zero = inr (inr (inr (inl (accepts_given c p (check_given r.before.held answer c p due) zero))))
-  mends_due (make s c) due zero = inr (inr (inr (inr (made_told s c (each_make s c answer due.answers) zero))))
+  mends_due (make s c) due zero = inr (inr (inr (inr (inl (made_told s c (each_make s c answer due.answers) zero)))))
+  mends_due (lint d top) due zero = inr (inr (inr (inr (inr (lints_given d top (lint_given r.before.held answer d top due))))))
 
   despairs_due : (plan : Plan) → Due (command_of_plan plan) r.before.held answer → answer.status ≡ 1 → HasFailed r plan
   despairs_due (repair d t cert top clock budget members) due one =
@@ -436,6 +387,7 @@ module _ (r : Execution) (answer : Answer) (shelf : HoldsFiles r answer) (out : 
   despairs_due (sites d top clock) due one = absurd (omega (arith, one, (sites_given r.before.held answer d top clock due).holds.status))
   despairs_due (check c p) due one = inr (inl (rejects_given c p (check_given r.before.held answer c p due) one))
   despairs_due (make s c) due one = inr (inr (unmade_told s c (each_make s c answer due.answers) one))
+  despairs_due (lint d top) due one = absurd (omega (arith, one, (lint_given r.before.held answer d top due).holds.status))
 
   opens_due : (plan : Plan) → Due (command_of_plan plan) r.before.held answer → answer.status ≡ 2 → LeavesOpen r plan
   opens_due (repair d t cert top clock budget members) due left =
@@ -448,6 +400,7 @@ module _ (r : Execution) (answer : Answer) (shelf : HoldsFiles r answer) (out : 
       let holds = (check_given r.before.held answer c p due).holds in
       not_two holds.verdict (sym holds.tells.status ∙ left)
   opens_due (make s c) due left = inr (made_open_told s c (each_make s c answer due.answers) left)
+  opens_due (lint d top) due left = absurd (omega (arith, left, (lint_given r.before.held answer d top due).holds.status))
 
 -- what the outcome decides of the answer's texts, the run shows where the answer is carried out
 shown : (r : Execution) (answer : Answer) (v : Outcome) → Tells v answer → Appends r.before.out r.after.out answer.out → Appends r.notes_before r.notes_after answer.notes → ShowsOutcome v r
@@ -457,6 +410,7 @@ shown r answer (ran text) tells out notes = (rw tells.0 at out, rw tells.1 at no
 shown r answer (listed text) tells out notes = (rw tells.0 at out, rw tells.1 at notes)
 shown r answer (checked verdict) tells out notes = (rw tells.0 at out, rw tells.1 at notes)
 shown r answer (made text) tells out notes = (rw tells.0 at out, rw tells.1 at notes)
+shown r answer (linted text) tells out notes = (rw tells.0 at out, rw tells.1 at notes)
 
 some_plan : {X : Type 0} (o : Option Plan) (plan : Plan) → o ≡ Some plan → o ≡ None → X
 some_plan o plan p q = absurd (cc)
@@ -644,7 +598,8 @@ certified : (r : Execution) (c p : List ℕ) → HasDone r (check c p) → Holds
 certified r c p (inl none) = absurd none
 certified r c p (inr (inl none)) = absurd none
 certified r c p (inr (inr (inl none))) = absurd none
-certified r c p (inr (inr (inr (inr none)))) = absurd none
+certified r c p (inr (inr (inr (inr (inl none))))) = absurd none
+certified r c p (inr (inr (inr (inr (inr none))))) = absurd none
 certified r c p (inr (inr (inr (inl accepted)))) =
     let k = accepted.accepted in
     record { circuit = k.circuit; given = k.given.circuit_given; never = never_true k.circuit k.proof k.judged }

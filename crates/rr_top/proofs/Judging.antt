@@ -9,7 +9,8 @@ use Rattle.rr_run.specs.Refusals.{Refusal as RunRefusal, At, TooMany, Expanded, 
 use Rattle.rr_run.specs.Files.{RefusesFile}
 use Rattle.rr_report.specs.Views.{stop_from, StopsWhere}
 use Rattle.rr_sites.specs.Lists.{RefusesSites}
-use Rattle.rr_top.specs.Commands.{RefusesSiteList, RefusesTexts}
+use Rattle.rr_lint_file.specs.Files.{RefusesMend}
+use Rattle.rr_top.specs.Commands.{RefusesLint, RefusesSiteList, RefusesTexts}
 use Rattle.rr_top.specs.Expected.{IsSyntax}
 
 other_fault : (a b : Fault) (at offset : ℕ) → (a ≡ b → ⊥) → At a at ≡ At b offset → ⊥
@@ -46,6 +47,7 @@ at_placed fault.WildLabel at = inl (placed fault.WildLabel at (λ e. cc))
 at_placed fault.UnknownMacro at = inl (placed fault.UnknownMacro at (λ e. cc))
 at_placed fault.BadDirective at = inl (placed fault.BadDirective at (λ e. cc))
 at_placed fault.MacroLoop at = inl (placed fault.MacroLoop at (λ e. cc))
+at_placed fault.FromMacro at = inl (placed fault.FromMacro at (λ e. cc))
 
 -- whether the place of a refusal is decided
 pub placed_or_syntax : (r : RunRefusal) → (IsSyntax r → ⊥) ⊎ IsSyntax r
@@ -73,3 +75,8 @@ module _ (top word : Option (List ℕ)) (design : List ℕ) where
   pub stops_sites : (f : RunFault) → RunStops (RefusesSites design top word) f → StopsWhere (RefusesSiteList top word design) (stop_from f)
   stops_sites (run_fault.Refused r) h = h
   stops_sites run_fault.Memory h = tt
+
+module _ (top : Option (List ℕ)) (design : List ℕ) where
+  pub stops_lint : (f : RunFault) → RunStops (RefusesMend design top) f → StopsWhere (RefusesLint top design) (stop_from f)
+  stops_lint (run_fault.Refused r) h = h
+  stops_lint run_fault.Memory h = tt

@@ -3,6 +3,8 @@ pub mod Ends
 pub mod Readings
 pub mod Table
 pub mod Once
+pub mod Givens
 pub mod Executions
+pub mod RightRuns
 pub mod Taken
 pub mod Ranges

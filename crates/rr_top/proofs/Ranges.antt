@@ -8,7 +8,7 @@ use Rattle.std.proofs.lemmas.Bool.Decides.{nat_tests}
 use Rattle.clap.specs.Words.{Row, Text, fault_of, first_of, subcommand_of}
 use Rattle.clap.specs.Kinds.{Kinds}
 use Rattle.rr_words.specs.Line.{tool}
-use Rattle.rr_words.specs.Plan.{Plan, repair, run, sites, check, make, command_of, is_number, most_seed, number_of, number_or, read_of, repair_of, run_of, sites_of, check_of, make_of, where_taken, with_named}
+use Rattle.rr_words.specs.Plan.{Plan, repair, run, sites, check, make, lint, command_of, is_number, most_seed, number_of, number_or, read_of, repair_of, run_of, sites_of, check_of, make_of, lint_of, where_taken, with_named}
 use Rattle.rr_top.specs.Commands.{InRange}
 
 -- numbers
@@ -97,6 +97,10 @@ module _ (rows : List Row) where
       via (λ (cert : Text). option_map (λ n. make n cert) (number_of 0 most_seed seed)) (first_of (codes "cert") rows) p g (λ cert b i.
       made (λ n. make n cert) (number_of 0 most_seed seed) p i (λ n. tt)))
 
+  lint_range : (p : Plan) → lint_of rows ≡ Some p → InRange p
+  lint_range p h =
+      via (λ (design : Text). Some (lint design (first_of (codes "top") rows))) (first_of (codes "design") rows) p h (λ design a g. plan_is (lint design (first_of (codes "top") rows)) p g tt)
+
   unknown : (p : Plan) → None ≡ Some p → InRange p
   unknown p h = absurd (cc)
 
@@ -106,7 +110,8 @@ module _ (rows : List Row) where
       either (bytes_eq name (codes "run")) (run_of rows) _ p g (run_range p) (λ i.
       either (bytes_eq name (codes "sites")) (sites_of rows) _ p i (sites_range p) (λ j.
       either (bytes_eq name (codes "check")) (check_of rows) _ p j (check_range p) (λ k.
-      either (bytes_eq name (codes "make")) (make_of rows) None p k (make_range p) (unknown p)))))
+      either (bytes_eq name (codes "make")) (make_of rows) _ p k (make_range p) (λ l.
+      either (bytes_eq name (codes "lint")) (lint_of rows) None p l (lint_range p) (unknown p))))))
 
 -- words
 

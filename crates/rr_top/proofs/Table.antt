@@ -1,6 +1,6 @@
 -- Each command of the table has one outcome, and all but `repair` and `make` write no file.
 use Rattle.std.proofs.Common.{◌≡◌, ◌∙◌, ◌⊎◌, inl, inr, ℕ, List, [], ◌∷◌, refl, ap, Option}
-use Rattle.rr_words.specs.Plan.{Plan, repair, run, sites, check, make}
+use Rattle.rr_words.specs.Plan.{Plan, repair, run, sites, check, make, lint}
 use Rattle.rr_kept.specs.Read.{SourceFile}
 use Rattle.rr_choice.specs.Sites.{Site}
 use Rattle.rr_trace.specs.Tables.{Table}
@@ -9,6 +9,8 @@ use Rattle.rr_run.specs.Files.{IsFileRun}
 use Rattle.rr_run.proofs.FileOnce.{file_run_or_refusal, one_file_refused, one_file_run}
 use Rattle.rr_sites.specs.Lists.{IsSiteText}
 use Rattle.rr_sites.proofs.Once as listing
+use Rattle.rr_lint_file.specs.Files.{IsMendedFile}
+use Rattle.rr_lint_file.proofs.Once as mending
 use Rattle.rr_certify.specs.declared.fault.Flaw.{Flaw}
 use Rattle.rr_certify.specs.Certificates.{IsJudged}
 use Rattle.rr_certify.proofs.Certified.{same_verdict, verdict_or_flaw, same_flaw}
@@ -23,9 +25,9 @@ use Rattle.rr_outcomes.proofs.Told.{each_answer, printed_is_mendable}
 use Rattle.rr_made.specs.Made.{made_design, made_table}
 use Rattle.rr_make.specs.Makes.{RefusesMake, TellsMake, made_request}
 use Rattle.rr_make.proofs.Once.{each_make, one_summary, summary_or_none}
-use Rattle.rr_top.specs.Outcomes.{Outcome, mended, unmendable, ran, listed, checked, made, IsToldBy}
+use Rattle.rr_top.specs.Outcomes.{Outcome, mended, unmendable, ran, listed, checked, made, linted, IsToldBy}
 use Rattle.rr_top.specs.Kinds.{kind_of}
-use Rattle.rr_top.specs.Commands.{AnswersCheck, AnswersRun, AnswersSites, ComesToCheck, ComesToMake, ComesToRepair, ComesToRun, ComesToSites, HasOneOutcome, IsSameRefusal, RefusesCertificate, RefusesSiteList, RefusesTexts, AsksRepair, IsOfRepair, TellsOrLeavesOpen, WhereOne, WhereTwo, WritesNothing, request, check_command, command_of_plan, repair_command, run_command, make_command, sites_command}
+use Rattle.rr_top.specs.Commands.{AnswersCheck, AnswersLint, AnswersRun, AnswersSites, ComesToCheck, ComesToLint, ComesToMake, ComesToRepair, ComesToRun, ComesToSites, HasOneOutcome, IsSameRefusal, RefusesCertificate, RefusesLint, RefusesSiteList, RefusesTexts, AsksRepair, IsOfRepair, TellsOrLeavesOpen, WhereOne, WhereTwo, WritesNothing, request, check_command, command_of_plan, repair_command, run_command, make_command, sites_command, lint_command}
 
 -- what facts about the same two files give
 both : {X : Type 0} (files : List (List ℕ)) (P Q : List ℕ → List ℕ → Type 0) → WhereTwo files P → WhereTwo files Q → ((a b : List ℕ) → P a b → Q a b → X) → X
@@ -83,6 +85,7 @@ module _ (w : PlainRequest) (design table : List ℕ) where
   repair_or_refused (listed text) a u r = u
   repair_or_refused (checked verdict) a u r = u
   repair_or_refused (made text) a u r = u
+  repair_or_refused (linted text) a u r = u
 
   repair_outcome : (v u : Outcome) → ComesToRepair w design table v → ComesToRepair w design table u → v ≡ u
   repair_outcome mended mended p q = refl
@@ -91,16 +94,19 @@ module _ (w : PlainRequest) (design table : List ℕ) where
   repair_outcome mended (listed text) p q = absurd q
   repair_outcome mended (checked verdict) p q = absurd q
   repair_outcome mended (made text) p q = absurd q
+  repair_outcome mended (linted text) p q = absurd q
   repair_outcome unmendable mended p q = absurd (mendable_or_not w design table q p)
   repair_outcome unmendable unmendable p q = refl
   repair_outcome unmendable (ran text) p q = absurd q
   repair_outcome unmendable (listed text) p q = absurd q
   repair_outcome unmendable (checked verdict) p q = absurd q
   repair_outcome unmendable (made text) p q = absurd q
+  repair_outcome unmendable (linted text) p q = absurd q
   repair_outcome (ran text) u p q = absurd p
   repair_outcome (listed text) u p q = absurd p
   repair_outcome (checked verdict) u p q = absurd p
   repair_outcome (made text) u p q = absurd p
+  repair_outcome (linted text) u p q = absurd p
 
   -- an answer tells the outcome or leaves it open
   repair_told : (answer : Answer) → TellsOutcome w design table answer → SomeTold answer (ComesToRepair w design table) ⊎ IsLeftOpen w design table answer
@@ -116,6 +122,7 @@ module _ (w : PlainRequest) (design table : List ℕ) where
   repair_alone (listed text) p = p
   repair_alone (checked verdict) p = p
   repair_alone (made text) p = absurd p
+  repair_alone (linted text) p = p
 
 module _ (d t : List ℕ) (w : PlainRequest) where
   repair_answered : (files : List (List ℕ)) (answer : Answer) → WhereTwo files (λ x y. AnswersRepair w x y answer) → TellsOrLeavesOpen (repair_command d t w) files answer
@@ -166,6 +173,7 @@ module _ (kind : TableKind) (top clock : Option (List ℕ)) (design table : List
   run_or_refused (listed text) a u r = u
   run_or_refused (checked verdict) a u r = u
   run_or_refused (made text) a u r = u
+  run_or_refused (linted text) a u r = u
 
   run_outcome : (v w : Outcome) → ComesToRun kind top clock design table v → ComesToRun kind top clock design table w → v ≡ w
   run_outcome mended w p q = absurd p
@@ -173,11 +181,13 @@ module _ (kind : TableKind) (top clock : Option (List ℕ)) (design table : List
   run_outcome (listed text) w p q = absurd p
   run_outcome (checked verdict) w p q = absurd p
   run_outcome (made text) w p q = absurd p
+  run_outcome (linted text) w p q = absurd p
   run_outcome (ran text) mended p q = absurd q
   run_outcome (ran text) unmendable p q = absurd q
   run_outcome (ran text) (listed other) p q = absurd q
   run_outcome (ran text) (checked verdict) p q = absurd q
   run_outcome (ran text) (made other) p q = absurd q
+  run_outcome (ran text) (linted other) p q = absurd q
   run_outcome (ran text) (ran other) p q = ap (λ (x : List ℕ). ran x) (one_file_run design top clock kind table text other p q)
 
   run_told : (answer : Answer) → AnswersRun kind top clock design table answer → SomeTold answer (ComesToRun kind top clock design table)
@@ -220,6 +230,7 @@ module _ (top clock : Option (List ℕ)) (design : List ℕ) where
   sites_or_refused (listed text) a u r = listed_or_refused text a u r
   sites_or_refused (checked verdict) a u r = u
   sites_or_refused (made text) a u r = u
+  sites_or_refused (linted text) a u r = u
 
   sites_outcome : (v w : Outcome) → ComesToSites top clock design v → ComesToSites top clock design w → v ≡ w
   sites_outcome mended w p q = absurd p
@@ -227,11 +238,13 @@ module _ (top clock : Option (List ℕ)) (design : List ℕ) where
   sites_outcome (ran text) w p q = absurd p
   sites_outcome (checked verdict) w p q = absurd p
   sites_outcome (made text) w p q = absurd p
+  sites_outcome (linted text) w p q = absurd p
   sites_outcome (listed text) mended p q = absurd q
   sites_outcome (listed text) unmendable p q = absurd q
   sites_outcome (listed text) (ran other) p q = absurd q
   sites_outcome (listed text) (checked verdict) p q = absurd q
   sites_outcome (listed text) (made other) p q = absurd q
+  sites_outcome (listed text) (linted other) p q = absurd q
   sites_outcome (listed text) (listed other) p q = ap (λ (x : List ℕ). listed x) (listing.one_text design top clock text other p q)
 
   sites_told : (answer : Answer) → AnswersSites top clock design answer → SomeTold answer (ComesToSites top clock design)
@@ -276,6 +289,7 @@ module _ (circuit proof : List ℕ) where
   check_or_refused (listed text) a u r = u
   check_or_refused (checked verdict) a u r = judged_or_refused verdict a u r
   check_or_refused (made text) a u r = u
+  check_or_refused (linted text) a u r = u
 
   check_outcome : (v w : Outcome) → ComesToCheck circuit proof v → ComesToCheck circuit proof w → v ≡ w
   check_outcome mended w p q = absurd p
@@ -283,11 +297,13 @@ module _ (circuit proof : List ℕ) where
   check_outcome (ran text) w p q = absurd p
   check_outcome (listed text) w p q = absurd p
   check_outcome (made text) w p q = absurd p
+  check_outcome (linted text) w p q = absurd p
   check_outcome (checked v) mended p q = absurd q
   check_outcome (checked v) unmendable p q = absurd q
   check_outcome (checked v) (ran text) p q = absurd q
   check_outcome (checked v) (listed text) p q = absurd q
   check_outcome (checked v) (made text) p q = absurd q
+  check_outcome (checked v) (linted text) p q = absurd q
   check_outcome (checked v) (checked w) p q = ap (λ (x : Verdict). checked x) (same_verdict circuit proof v w p q)
 
   check_told : (answer : Answer) → AnswersCheck circuit proof answer → SomeTold answer (ComesToCheck circuit proof)
@@ -322,6 +338,7 @@ module _ (seed : ℕ) (cert : List ℕ) where
   make_or_refused (listed text) a u r = u
   make_or_refused (checked verdict) a u r = u
   make_or_refused (made text) a u r = make_not_refused a u.1.1.taken r
+  make_or_refused (linted text) a u r = u
 
   make_outcome : (v w : Outcome) → ComesToMake seed cert v → ComesToMake seed cert w → v ≡ w
   make_outcome mended w p q = absurd p
@@ -334,12 +351,15 @@ module _ (seed : ℕ) (cert : List ℕ) where
   make_outcome unmendable (listed text) p q = absurd q
   make_outcome unmendable (checked verdict) p q = absurd q
   make_outcome unmendable (made text) p q = absurd (summary_or_none seed cert text q p)
+  make_outcome unmendable (linted text) p q = absurd q
   make_outcome (made text) mended p q = absurd q
   make_outcome (made text) unmendable p q = absurd (summary_or_none seed cert text p q)
   make_outcome (made text) (ran other) p q = absurd q
   make_outcome (made text) (listed other) p q = absurd q
   make_outcome (made text) (checked verdict) p q = absurd q
   make_outcome (made text) (made other) p q = ap (λ (x : List ℕ). made x) (one_summary seed cert text other p q)
+  make_outcome (made text) (linted other) p q = absurd q
+  make_outcome (linted text) w p q = absurd p
 
   make_told : (files : List (List ℕ)) (answer : Answer) → TellsMake seed cert answer → TellsOrLeavesOpen (make_command seed cert) files answer
   make_told files answer (inl t) = inl (made answer.out, (t.1.0, record { status = t.1.1; tells = (refl, t.0.notes) }))
@@ -353,6 +373,7 @@ module _ (seed : ℕ) (cert : List ℕ) where
   make_alone (listed text) p = p
   make_alone (checked verdict) p = p
   make_alone (made text) p = tt
+  make_alone (linted text) p = p
 
   make_one : HasOneOutcome (make_command seed cert)
   make_one = record {
@@ -366,6 +387,63 @@ module _ (seed : ℕ) (cert : List ℕ) where
     open_outcome = λ files answer v left comes. make_alone v comes;
   }
 
+-- ---- `lint`
+module _ (top : Option (List ℕ)) (design : List ℕ) where
+  lint_refusals : (a b : Refusal) → RefusesLint top design a → RefusesLint top design b → IsSameRefusal a b
+  lint_refusals (TooManyBytes n) b p q = absurd p
+  lint_refusals (Flawed f n) b p q = absurd p
+  lint_refusals (Input r) (TooManyBytes n) p q = absurd q
+  lint_refusals (Input r) (Flawed f n) p q = absurd q
+  lint_refusals (Input r) (Input s) p q = inr (r, (s, (refl, (refl, mending.one_refusal design top r s p q))))
+
+  linted_or_refused : (text : List ℕ) (a : Refusal) → IsMendedFile design top text → RefusesLint top design a → ⊥
+  linted_or_refused text (TooManyBytes n) p q = q
+  linted_or_refused text (Flawed f n) p q = q
+  linted_or_refused text (Input r) p q = mending.text_or_refusal design top text r p q
+
+  lint_or_refused : (v : Outcome) (a : Refusal) → ComesToLint top design v → RefusesLint top design a → ⊥
+  lint_or_refused mended a u r = u
+  lint_or_refused unmendable a u r = u
+  lint_or_refused (ran text) a u r = u
+  lint_or_refused (listed text) a u r = u
+  lint_or_refused (checked verdict) a u r = u
+  lint_or_refused (made text) a u r = u
+  lint_or_refused (linted text) a u r = linted_or_refused text a u r
+
+  lint_outcome : (v w : Outcome) → ComesToLint top design v → ComesToLint top design w → v ≡ w
+  lint_outcome mended w p q = absurd p
+  lint_outcome unmendable w p q = absurd p
+  lint_outcome (ran text) w p q = absurd p
+  lint_outcome (listed text) w p q = absurd p
+  lint_outcome (checked verdict) w p q = absurd p
+  lint_outcome (made text) w p q = absurd p
+  lint_outcome (linted text) mended p q = absurd q
+  lint_outcome (linted text) unmendable p q = absurd q
+  lint_outcome (linted text) (ran other) p q = absurd q
+  lint_outcome (linted text) (listed other) p q = absurd q
+  lint_outcome (linted text) (checked verdict) p q = absurd q
+  lint_outcome (linted text) (made other) p q = absurd q
+  lint_outcome (linted text) (linted other) p q = ap (λ (x : List ℕ). linted x) (mending.one_text design top text other p q)
+
+  lint_told : (answer : Answer) → AnswersLint top design answer → SomeTold answer (ComesToLint top design)
+  lint_told answer a = record { outcome = linted answer.out; holds = a.mends; told = record { status = a.status; tells = (refl, a.notes) } }
+
+module _ (d : List ℕ) (top : Option (List ℕ)) where
+  lint_one : HasOneOutcome (lint_command d top)
+  lint_one = record {
+    one_refusal = λ files a b p q. both_of_one files (λ x. RefusesLint top x a) (λ x. RefusesLint top x b) p q (λ x u v. lint_refusals top x a b u v);
+    done_or_refused = λ files v a p q. both_of_one files (λ x. ComesToLint top x v) (λ x. RefusesLint top x a) p q (λ x u r. lint_or_refused top x v a u r);
+    one_outcome = λ files v w p q. both_of_one files (λ x. ComesToLint top x v) (λ x. ComesToLint top x w) p q (λ x u z. lint_outcome top x v w u z);
+    answered = λ files answer a. inl (told_of_one files answer (λ x. AnswersLint top x answer) (λ x v. ComesToLint top x v) a (λ x u. lint_told top x answer u));
+    open_status = λ files answer left. absurd left;
+    open_printed = λ files answer left. absurd left;
+    open_or_refused = λ files answer refusal left refused. left;
+    open_outcome = λ files answer outcome left comes. absurd left;
+  }
+
+  lint_writes : WritesNothing (lint_command d top)
+  lint_writes = record { files = λ files answer a. both_of_one files (λ x. AnswersLint top x answer) (λ x. AnswersLint top x answer) a a (λ x u v. u.files); decides = λ files answer left. left }
+
 -- ---- the table
 pub one_in_table : (plan : Plan) → HasOneOutcome (command_of_plan plan)
 one_in_table (repair d t cert top clock budget members) = repair_one d t (request t cert top clock budget members)
@@ -373,6 +451,7 @@ one_in_table (run d t top clock) = run_one d t top clock
 one_in_table (sites d top clock) = sites_one d top clock
 one_in_table (check c p) = check_one c p
 one_in_table (make s c) = make_one s c
+one_in_table (lint d top) = lint_one d top
 
 pub writes_nothing : (plan : Plan) → (AsksRepair plan → ⊥) → WritesNothing (command_of_plan plan)
 writes_nothing (repair d t cert top clock budget members) none = absurd (none tt)
@@ -380,6 +459,7 @@ writes_nothing (run d t top clock) none = run_writes d t top clock
 writes_nothing (sites d top clock) none = sites_writes d top clock
 writes_nothing (check c p) none = check_writes c p
 writes_nothing (make s c) none = absurd (none tt)
+writes_nothing (lint d top) none = lint_writes d top
 
 -- only `repair` and `make` leave open what they come to
 pub left_asks : (plan : Plan) (files : List (List ℕ)) (answer : Answer) → (command_of_plan plan).leaves_open files answer → AsksRepair plan
@@ -388,3 +468,4 @@ left_asks (run d t top clock) files answer left = left
 left_asks (sites d top clock) files answer left = left
 left_asks (check c p) files answer left = left
 left_asks (make s c) files answer left = tt
+left_asks (lint d top) files answer left = left

@@ -1,12 +1,14 @@
 -- The table of commands: what each reads, what it answers for the files that it read, and why it refuses them.
 use Rattle.std.specs.Prelude.{◌≡◌, ◌⊎◌, ⊤, ℕ, ◌≤◌, List, [], ◌∷◌, Option}
 use Rattle.rr_edge.specs.Held.{Held}
-use Rattle.rr_words.specs.Plan.{Plan, repair, run, sites, check, make}
+use Rattle.rr_words.specs.Plan.{Plan, repair, run, sites, check, make, lint}
 use Rattle.rr_run.specs.Refusals.{Refusal as RunRefusal}
 use Rattle.rr_run.specs.declared.rows.TableKind.{TableKind}
 use Rattle.rr_run.specs.Files.{IsFileRun, RefusesFile}
 use Rattle.rr_run.specs.Runs.{IsSameRefusal as IsSameRunRefusal}
 use Rattle.rr_sites.specs.Lists.{IsSiteText, RefusesSites}
+use Rattle.rr_lint_file.specs.Clean.{IsCleaned}
+use Rattle.rr_lint_file.specs.Files.{IsMendedFile, RefusesMend}
 use Rattle.rr_certify.specs.Certificates.{FlawIs, IsJudged}
 use Rattle.rr_certify.specs.Texts.{verdict_text}
 use Rattle.rr_check.specs.declared.verdict.Verdict.{Verdict}
@@ -17,7 +19,7 @@ use Rattle.rr_repair.specs.Repairs.{AnswersRepair, RefusesRepair, PlainRequest}
 use Rattle.rr_outcomes.specs.Outcomes.{IsLeftOpen, IsMendable, IsUnmendable}
 use Rattle.rr_make.specs.Makes.{AnswersMake, IsMadeOpen, IsNeverMade, IsSummary, RefusesMake}
 use Rattle.rr_top.specs.Kinds.{kind_of}
-use Rattle.rr_top.specs.Outcomes.{Outcome, mended, unmendable, ran, listed, checked, made, IsToldBy, verdict_status}
+use Rattle.rr_top.specs.Outcomes.{Outcome, mended, unmendable, ran, listed, checked, made, linted, IsToldBy, verdict_status}
 
 -- A command: the names that it reads, in order, each with the most bytes that it may have; the answer for the files that it
 -- read, which tells the files to be written, the piece for standard output, the report and the status; why it refuses
@@ -50,6 +52,7 @@ ComesToRepair w design table (ran text) = ⊥
 ComesToRepair w design table (listed text) = ⊥
 ComesToRepair w design table (checked verdict) = ⊥
 ComesToRepair w design table (made text) = ⊥
+ComesToRepair w design table (linted text) = ⊥
 
 abbrev pub repair_command : List ℕ → List ℕ → PlainRequest → Command
 repair_command design_name table_name w = record {
@@ -81,6 +84,7 @@ ComesToRun kind top clock design table (ran text) = IsFileRun kind design table 
 ComesToRun kind top clock design table (listed text) = ⊥
 ComesToRun kind top clock design table (checked verdict) = ⊥
 ComesToRun kind top clock design table (made text) = ⊥
+ComesToRun kind top clock design table (linted text) = ⊥
 
 abbrev pub run_command : List ℕ → List ℕ → Option (List ℕ) → Option (List ℕ) → Command
 run_command design_name table_name top clock = record {
@@ -111,6 +115,7 @@ ComesToSites top clock design (ran text) = ⊥
 ComesToSites top clock design (listed text) = IsSiteText design top clock text
 ComesToSites top clock design (checked verdict) = ⊥
 ComesToSites top clock design (made text) = ⊥
+ComesToSites top clock design (linted text) = ⊥
 
 abbrev pub sites_command : List ℕ → Option (List ℕ) → Option (List ℕ) → Command
 sites_command design_name top clock = record {
@@ -146,6 +151,7 @@ ComesToCheck circuit proof (ran text) = ⊥
 ComesToCheck circuit proof (listed text) = ⊥
 ComesToCheck circuit proof (checked verdict) = IsJudged circuit proof verdict
 ComesToCheck circuit proof (made text) = ⊥
+ComesToCheck circuit proof (linted text) = ⊥
 
 abbrev pub check_command : List ℕ → List ℕ → Command
 check_command circuit_name proof_name = record {
@@ -164,6 +170,7 @@ ComesToMake seed cert (ran text) = ⊥
 ComesToMake seed cert (listed text) = ⊥
 ComesToMake seed cert (checked verdict) = ⊥
 ComesToMake seed cert (made text) = IsSummary seed cert text
+ComesToMake seed cert (linted text) = ⊥
 
 abbrev pub make_command : ℕ → List ℕ → Command
 make_command seed cert = record {
@@ -172,6 +179,38 @@ make_command seed cert = record {
   refuses = λ files refusal. RefusesMake seed cert refusal;
   comes_to = λ files outcome. ComesToMake seed cert outcome;
   leaves_open = λ files answer. IsMadeOpen seed cert answer;
+}
+
+-- ---- `lint`: 1 MiB of a design
+-- the answer: the file with mended blocks, of which the tree of its expansion is the mended source, and nothing to report
+pub record AnswersLint (top : Option (List ℕ)) (design : List ℕ) (answer : Answer) : Type 0 where
+  pub mends : IsMendedFile design top answer.out
+  pub cleaned : IsCleaned design top answer.out
+  pub files : answer.files ≡ []
+  pub notes : answer.notes ≡ []
+  pub status : answer.status ≡ 0
+
+abbrev pub RefusesLint : Option (List ℕ) → List ℕ → Refusal → Type 0
+RefusesLint top design (TooManyBytes count) = ⊥
+RefusesLint top design (Input refusal) = RefusesMend design top refusal
+RefusesLint top design (Flawed flaw line) = ⊥
+
+abbrev pub ComesToLint : Option (List ℕ) → List ℕ → Outcome → Type 0
+ComesToLint top design mended = ⊥
+ComesToLint top design unmendable = ⊥
+ComesToLint top design (ran text) = ⊥
+ComesToLint top design (listed text) = ⊥
+ComesToLint top design (checked verdict) = ⊥
+ComesToLint top design (made text) = ⊥
+ComesToLint top design (linted text) = IsMendedFile design top text
+
+abbrev pub lint_command : List ℕ → Option (List ℕ) → Command
+lint_command design_name top = record {
+  reads = (design_name, 1048576) ∷ [];
+  answers = λ files answer. WhereOne files (λ design. AnswersLint top design answer);
+  refuses = λ files refusal. WhereOne files (λ design. RefusesLint top design refusal);
+  comes_to = λ files outcome. WhereOne files (λ design. ComesToLint top design outcome);
+  leaves_open = λ files answer. ⊥;
 }
 
 -- ---- the table
@@ -192,6 +231,7 @@ command_of_plan (run design table top clock) = run_command design table top cloc
 command_of_plan (sites design top clock) = sites_command design top clock
 command_of_plan (check circuit proof) = check_command circuit proof
 command_of_plan (make seed cert) = make_command seed cert
+command_of_plan (lint design top) = lint_command design top
 
 -- two refusals are one, but for the byte that is told of a text without a tree
 abbrev pub IsSameRefusal : Refusal → Refusal → Type 0
@@ -204,6 +244,7 @@ AsksRepair (run design table top clock) = ⊥
 AsksRepair (sites design top clock) = ⊥
 AsksRepair (check circuit proof) = ⊥
 AsksRepair (make seed cert) = ⊤
+AsksRepair (lint design top) = ⊥
 
 -- the numbers of a repair are in their ranges
 abbrev pub InRange : Plan → Type 0
@@ -212,6 +253,7 @@ InRange (run design table top clock) = ⊤
 InRange (sites design top clock) = ⊤
 InRange (check circuit proof) = ⊤
 InRange (make seed cert) = ⊤
+InRange (lint design top) = ⊤
 
 -- a repair may come to it, of files or of a made input
 abbrev pub IsOfRepair : Outcome → Type 0
@@ -221,6 +263,7 @@ IsOfRepair (ran text) = ⊥
 IsOfRepair (listed text) = ⊥
 IsOfRepair (checked verdict) = ⊥
 IsOfRepair (made text) = ⊤
+IsOfRepair (linted text) = ⊥
 
 -- the answer tells an outcome that the command comes to, or leaves it open
 abbrev pub TellsOrLeavesOpen : Command → List (List ℕ) → Answer → Type 0
@@ -284,6 +327,7 @@ WhereRepair (run design table top clock) P = ⊥
 WhereRepair (sites design top clock) P = ⊥
 WhereRepair (check circuit proof) P = ⊥
 WhereRepair (make seed cert) P = ⊥
+WhereRepair (lint design top) P = ⊥
 
 abbrev pub WhereRun : Plan → (List ℕ → List ℕ → Option (List ℕ) → Option (List ℕ) → Type 0) → Type 0
 WhereRun (repair design table cert top clock budget members) P = ⊥
@@ -291,6 +335,7 @@ WhereRun (run design table top clock) P = P design table top clock
 WhereRun (sites design top clock) P = ⊥
 WhereRun (check circuit proof) P = ⊥
 WhereRun (make seed cert) P = ⊥
+WhereRun (lint design top) P = ⊥
 
 abbrev pub WhereSites : Plan → (List ℕ → Option (List ℕ) → Option (List ℕ) → Type 0) → Type 0
 WhereSites (repair design table cert top clock budget members) P = ⊥
@@ -298,6 +343,7 @@ WhereSites (run design table top clock) P = ⊥
 WhereSites (sites design top clock) P = P design top clock
 WhereSites (check circuit proof) P = ⊥
 WhereSites (make seed cert) P = ⊥
+WhereSites (lint design top) P = ⊥
 
 abbrev pub WhereCheck : Plan → (List ℕ → List ℕ → Type 0) → Type 0
 WhereCheck (repair design table cert top clock budget members) P = ⊥
@@ -305,6 +351,7 @@ WhereCheck (run design table top clock) P = ⊥
 WhereCheck (sites design top clock) P = ⊥
 WhereCheck (check circuit proof) P = P circuit proof
 WhereCheck (make seed cert) P = ⊥
+WhereCheck (lint design top) P = ⊥
 
 abbrev pub WhereMake : Plan → (ℕ → List ℕ → Type 0) → Type 0
 WhereMake (repair design table cert top clock budget members) P = ⊥
@@ -312,3 +359,12 @@ WhereMake (run design table top clock) P = ⊥
 WhereMake (sites design top clock) P = ⊥
 WhereMake (check circuit proof) P = ⊥
 WhereMake (make seed cert) P = P seed cert
+WhereMake (lint design top) P = ⊥
+
+abbrev pub WhereLint : Plan → (List ℕ → Option (List ℕ) → Type 0) → Type 0
+WhereLint (repair design table cert top clock budget members) P = ⊥
+WhereLint (run design table top clock) P = ⊥
+WhereLint (sites design top clock) P = ⊥
+WhereLint (check circuit proof) P = ⊥
+WhereLint (make seed cert) P = ⊥
+WhereLint (lint design top) P = P design top

@@ -7,7 +7,7 @@ use Rattle.rr_report.specs.Found.{Answer}
 use Rattle.rr_report.specs.Refusals.{plain_refusal}
 use Rattle.rr_report.specs.Texts.{absent_text, read_fault_text, memory_text, refused_text}
 use Rattle.rr_effects.specs.Outside.{Outside, KeepsShelf, KeepsOut}
-use Rattle.rr_effects.specs.Reads.{AbsentAt, IsRead}
+use Rattle.rr_effects.specs.Reads.{AbsentAt, FaultAt}
 use Rattle.rr_effects.specs.Delivery.{Delivers}
 use Rattle.rr_top.specs.Commands.{Command, Due, Refuses}
 
@@ -15,7 +15,7 @@ use Rattle.rr_top.specs.Commands.{Command, Due, Refuses}
 abbrev pub StopsEarly : Command → Outside → Outside → Ending → List ℕ → Type 0
 StopsEarly command before after (Absent name) text = KeepsShelf before after × KeepsOut before after × AbsentAt before.held command.reads name.now × (text ≡ absent_text name.now)
 StopsEarly command before after (ReadFault name) text = (after.held ≡ before.held) × Faulted before.faults after.faults × KeepsOut before after
-    × IsRead command.reads name.now × (text ≡ read_fault_text name.now)
+    × FaultAt before.held command.reads name.now × (text ≡ read_fault_text name.now)
 StopsEarly command before after (Refused refusal) text = KeepsShelf before after × KeepsOut before after × Refuses command before.held (plain_refusal refusal)
     × (text ≡ refused_text (plain_refusal refusal))
 StopsEarly command before after (NoMemory written) text = (written ≡ 0) × KeepsShelf before after × KeepsOut before after × (text ≡ memory_text)

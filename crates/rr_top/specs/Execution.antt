@@ -11,6 +11,8 @@ use Rattle.rr_run.specs.Refusals.{At}
 use Rattle.rr_run.specs.Files.{IsFileRun}
 use Rattle.rr_top.specs.Kinds.{kind_of}
 use Rattle.rr_sites.specs.Lists.{IsSiteText}
+use Rattle.rr_lint_file.specs.Clean.{IsCleaned}
+use Rattle.rr_lint_file.specs.Files.{IsMendedFile}
 use Rattle.rr_check.specs.declared.verdict.Verdict.{Verdict}
 use Rattle.rr_check.specs.declared.verdict.Verdict.TheVariants as found
 use Rattle.rr_certify.specs.Certificates.{IsNeverTrue}
@@ -22,15 +24,15 @@ use Rattle.rr_report.specs.Found.{Answer}
 use Rattle.rr_report.specs.Refusals.{Refusal, Input}
 use Rattle.rr_report.specs.Texts.{memory_text, refused_text, absent_text, read_fault_text, write_fault_text, out_fault_text}
 use Rattle.rr_effects.specs.Outside.{Outside, KeepsShelf, KeepsOut}
-use Rattle.rr_effects.specs.Reads.{AbsentAt, Gave, IsRead}
+use Rattle.rr_effects.specs.Reads.{AbsentAt, FaultAt, Gave}
 use Rattle.rr_effects.specs.Delivery.{Reports, StopsAtWrite, file_at, with_files}
 use Rattle.rr_answers.specs.Texts.{unchanged_text}
 use Rattle.rr_repair.specs.Repairs.{PlainRequest}
 use Rattle.rr_outcomes.specs.Outcomes.{IsAmple, IsDespaired, IsLeftOpen, IsMatching, IsMatchingSource, IsMended}
 use Rattle.rr_made.specs.Made.{made_design, made_table}
 use Rattle.rr_make.specs.Makes.{IsMadeCount, IsMadeOpen, IsUnmade, made_request, summary}
-use Rattle.rr_top.specs.Outcomes.{Outcome, mended, unmendable, ran, listed, checked, made}
-use Rattle.rr_top.specs.Commands.{AsksRepair, BothGiven, Command, Due, IsOfRepair, Refuses, WhereRepair, WhereRun, WhereSites, WhereCheck, WhereMake, command_of_plan, request}
+use Rattle.rr_top.specs.Outcomes.{Outcome, mended, unmendable, ran, listed, checked, made, linted}
+use Rattle.rr_top.specs.Commands.{AsksRepair, BothGiven, Command, Due, IsOfRepair, Refuses, WhereRepair, WhereRun, WhereSites, WhereCheck, WhereMake, WhereLint, command_of_plan, request}
 use Rattle.rr_top.specs.Expected.{Expected, absent, refused, unparsed, done, IsChecked, expected_status}
 use Rattle.rr_top.specs.Endings.{CommandEnds}
 
@@ -150,6 +152,18 @@ pub record IsListed (r : Execution) (design_name : List ℕ) (top clock : Option
   pub reported : Appends r.notes_before r.notes_after []
   pub shelf : KeepsShelf r.before r.after
 
+-- Status 0 of `lint`: the design was read, and the output has grown by exactly the file with its blocks mended: the tree of its
+-- expansion is the mended source, which has neither of the two faults, and where the design had neither, it is the file as it was.
+pub record IsLinted (r : Execution) (design_name : List ℕ) (top : Option (List ℕ)) : Type 0 where
+  pub design : List ℕ
+  pub given : Gave r.before.held design_name 1048576 design
+  pub text : List ℕ
+  pub mends : IsMendedFile design top text
+  pub cleaned : IsCleaned design top text
+  pub printed : Appends r.before.out r.after.out text
+  pub reported : Appends r.notes_before r.notes_after []
+  pub shelf : KeepsShelf r.before r.after
+
 -- Status 0 of `make`: the output has grown by exactly the summary of the seed, which tells the least number of changes with
 -- which its design matches its table, and the shelf holds the files of such a repair.
 pub record IsSummed (r : Execution) (seed : ℕ) (cert : List ℕ) : Type 0 where
@@ -190,9 +204,9 @@ pub record HoldsNeverTrue (told : Option Held) (circuit_name : List ℕ) : Type 
 abbrev pub IsCheck : List (List ℕ) → List ℕ → List ℕ → Type 0
 IsCheck arguments circuit proof = command_of arguments ≡ Some (check circuit proof)
 
--- what `repair` has done, or `run`, or `sites`, or `check`, or `make`
+-- what `repair` has done, or `run`, or `sites`, or `check`, or `make`, or `lint`
 abbrev pub HasDone : Execution → Plan → Type 0
-HasDone r plan = WhereRepair plan (IsRepaired r) ⊎ (WhereRun plan (IsSimulated r) ⊎ (WhereSites plan (IsListed r) ⊎ (WhereCheck plan (IsAccepted r) ⊎ WhereMake plan (IsSummed r))))
+HasDone r plan = WhereRepair plan (IsRepaired r) ⊎ (WhereRun plan (IsSimulated r) ⊎ (WhereSites plan (IsListed r) ⊎ (WhereCheck plan (IsAccepted r) ⊎ (WhereMake plan (IsSummed r) ⊎ WhereLint plan (IsLinted r)))))
 
 -- what `repair`, `check` and `make` found not to be so
 abbrev pub HasFailed : Execution → Plan → Type 0
@@ -218,10 +232,11 @@ pub record IsAbsent (r : Execution) (command : Command) : Type 0 where
   pub shelf : KeepsShelf r.before r.after
   pub out : KeepsOut r.before r.after
 
--- Status 4 with a read that failed: the shelf's count of faults rose, and all else stays but the notes.
+-- Status 4 with a read that failed, where those before it gave their files: the shelf's count of faults rose, and all else stays but
+-- the notes.
 pub record IsReadFault (r : Execution) (command : Command) : Type 0 where
   pub name : List ℕ
-  pub read : IsRead command.reads name
+  pub read : FaultAt r.before.held command.reads name
   pub rose : Faulted r.before.faults r.after.faults
   pub held : r.after.held ≡ r.before.held
   pub out : KeepsOut r.before r.after
@@ -305,6 +320,7 @@ ShowsOutcome (ran text) r = Appends r.before.out r.after.out text × Appends r.n
 ShowsOutcome (listed text) r = Appends r.before.out r.after.out text × Appends r.notes_before r.notes_after []
 ShowsOutcome (checked verdict) r = Appends r.before.out r.after.out (verdict_text verdict) × Appends r.notes_before r.notes_after []
 ShowsOutcome (made text) r = Appends r.before.out r.after.out text × Appends r.notes_before r.notes_after []
+ShowsOutcome (linted text) r = Appends r.before.out r.after.out text × Appends r.notes_before r.notes_after []
 
 -- the texts that what is expected decides alone
 abbrev pub Shows : Expected → Execution → Type 0

@@ -10,3 +10,5 @@ pub mod Endings
 pub mod Execution
 pub mod Views
 pub mod Arguments
+pub mod Whole
+pub mod Program

@@ -6,7 +6,7 @@ use Rattle.rr_check.specs.declared.verdict.Verdict.TheVariants as found
 use Rattle.rr_report.specs.Found.{Answer}
 
 -- a repair, or that there is none; the text of a run; the lines of a list of sites; the verdict on a certificate; the summary
--- of a made input
+-- of a made input; a file with mended blocks
 pub data Outcome : Type 0 where
   mended : Outcome
   unmendable : Outcome
@@ -14,6 +14,7 @@ pub data Outcome : Type 0 where
   listed : List ℕ → Outcome
   checked : Verdict → Outcome
   made : List ℕ → Outcome
+  linted : List ℕ → Outcome
 
 abbrev pub verdict_status : Verdict → ℕ
 verdict_status found.Accepted = 0
@@ -27,6 +28,7 @@ outcome_status (ran text) = 0
 outcome_status (listed text) = 0
 outcome_status (checked verdict) = verdict_status verdict
 outcome_status (made text) = 0
+outcome_status (linted text) = 0
 
 -- what the outcome decides of an answer's texts; which repair of least cost is printed is free
 abbrev pub Tells : Outcome → Answer → Type 0
@@ -36,6 +38,7 @@ Tells (ran text) answer = (answer.out ≡ text) × (answer.notes ≡ [])
 Tells (listed text) answer = (answer.out ≡ text) × (answer.notes ≡ [])
 Tells (checked verdict) answer = (answer.out ≡ verdict_text verdict) × (answer.notes ≡ [])
 Tells (made text) answer = (answer.out ≡ text) × (answer.notes ≡ [])
+Tells (linted text) answer = (answer.out ≡ text) × (answer.notes ≡ [])
 
 -- the answer has this outcome
 pub record IsToldBy (outcome : Outcome) (answer : Answer) : Type 0 where

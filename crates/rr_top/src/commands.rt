@@ -7,7 +7,7 @@ ghost use Rattle.rr_report.specs.Views.{plain_answer, report_text, StopsWhere};
 ghost use Rattle.rr_effects.specs.Outside.{outside};
 ghost use Rattle.rr_effects.specs.Reads.{Given};
 ghost use Rattle.rr_effects.specs.Views.{contents};
-ghost use Rattle.rr_top.specs.Commands.{AnswersCheck, AnswersRun, AnswersSites, InRange, RefusesCertificate, RefusesSiteList, RefusesTexts, TellsVerdict, WhereOne, WhereTwo, check_command, command_of_plan, make_command, repair_command, run_command, sites_command};
+ghost use Rattle.rr_top.specs.Commands.{AnswersCheck, AnswersLint, AnswersRun, AnswersSites, InRange, RefusesCertificate, RefusesLint, RefusesSiteList, RefusesTexts, TellsVerdict, WhereOne, WhereTwo, check_command, command_of_plan, lint_command, make_command, repair_command, run_command, sites_command};
 ghost use Rattle.rr_top.specs.Endings.{CommandEnds};
 ghost use Rattle.rr_top.specs.Views.{Gives};
 
@@ -16,6 +16,7 @@ use bumpalo::Bump;
 use rr_certify::{CertificateFault, Verdict, judge, verdict_text};
 use rr_edge::{Shelf, Sink};
 use rr_effects::deliver;
+use rr_lint_file::mend_file;
 use rr_make::make;
 use rr_repair::{Request, repair};
 use rr_report::{Found, Piece, Refusal, Report, Stop, Text, stop_of, stopped};
@@ -150,6 +151,40 @@ fn list_files<'b, 'a>(
     ensures { (design : List ℕ) → Gives (sites_command design (texts_of top.entry) (texts_of clock.entry)) (contents files.now) result }
 {
     list(alloc, only(files), top, clock, arena)
+}
+
+/// The answer of `lint` for the bytes of a design.
+fn mend<'b, 'a>(
+    alloc: Global,
+    design: &[u8],
+    top: Option<&str>,
+    arena: &'a Bump,
+) -> Result<Found<'b>, Stop<'a>>
+    requires { length design.now ≤ 1048576 }
+    ensures { MatchResult result (λ found. AnswersLint (texts_of top.entry) design.now (plain_answer found)) (StopsWhere (RefusesLint (texts_of top.entry) design.now)) }
+{
+    match mend_file(alloc, design, top, arena) {
+        Ok(text) => Ok(Found {
+            status: 0,
+            files: Vec::new(alloc),
+            out: Piece::Made(text),
+            notes: Text::Fixed(""),
+        }),
+        Err(fault) => Err(stop_of(fault)),
+    }
+}
+
+/// The answer of `lint` for a design.
+fn lint_files<'b, 'a>(
+    alloc: Global,
+    files: &[Vec<u8>],
+    top: Option<&str>,
+    arena: &'a Bump,
+) -> Result<Found<'b>, Stop<'a>>
+    requires { WhereOne (contents files.now) (λ design. length design ≤ 1048576) }
+    ensures { (design : List ℕ) → Gives (lint_command design (texts_of top.entry)) (contents files.now) result }
+{
+    mend(alloc, only(files), top, arena)
 }
 
 /// The answer that prints a verdict.
@@ -301,6 +336,10 @@ pub(crate) fn answer_files<'a, R: Threads + Sync, H: Shelf, K: Sink>(
         }
         Command::Make { seed, cert } => {
             let answer = make_files(rt, alloc, seed, cert, arena);
+            conclude(alloc, answer, shelf, out)
+        }
+        Command::Lint { top, .. } => {
+            let answer = lint_files(alloc, &files, top, arena);
             conclude(alloc, answer, shelf, out)
         }
     }

@@ -55,7 +55,7 @@ pub(crate) fn fetch_files<'a, H: Shelf>(
             };
             fetch(alloc, shelf, &[circuit, proof])
         }
-        Command::Sites { design, .. } => {
+        Command::Sites { design, .. } | Command::Lint { design, .. } => {
             let design = Read {
                 name: design,
                 limit: DESIGN_LIMIT,

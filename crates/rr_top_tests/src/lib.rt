@@ -21,6 +21,8 @@ mod hostile;
 #[cfg(test)]
 mod limits;
 #[cfg(test)]
+mod lints;
+#[cfg(test)]
 mod listings;
 #[cfg(test)]
 mod makes;

@@ -59,7 +59,7 @@ const FAULT: Case = Case {
 };
 
 const USAGE_NOTES: &str =
-    "usage: rtl_repair repair DESIGN TABLE CERT, run DESIGN TABLE, sites DESIGN, check CIRCUIT PROOF, make SEED CERT\n";
+    "usage: rtl_repair repair DESIGN TABLE CERT, run DESIGN TABLE, sites DESIGN, check CIRCUIT PROOF, make SEED CERT, lint DESIGN\n";
 
 pub(crate) fn list<R: Abort + AllocGlobal>(rt: &R, number: u64) -> Vec<u64> {
     vec![in rt.alloc(); number].expect(rt, "room")

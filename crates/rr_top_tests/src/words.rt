@@ -5,7 +5,24 @@ use std::test::Fail;
 
 /// The words of a line, apart by one blank each, and the command that they name; `None` where the
 /// answer is `Usage`.
-const LINES: [(&str, &Option<Command>); 73] = [
+const LINES: [(&str, &Option<Command>); 78] = [
+    (
+        "p lint d",
+        &Some(Command::Lint {
+            design: "d",
+            top: None,
+        }),
+    ),
+    (
+        "p lint --top=m d",
+        &Some(Command::Lint {
+            design: "d",
+            top: Some("m"),
+        }),
+    ),
+    ("p lint", &None),
+    ("p lint d --clock c", &None),
+    ("p lint d e", &None),
     (
         "p repair d t c",
         &Some(Command::Repair {
@@ -294,6 +311,6 @@ fn reads_lines(rt: HostRuntime) -> Result<(), Fail> {
 fn says_the_usage(rt: HostRuntime) {
     assert!(rt;
         usage()
-            == "usage: rtl_repair repair DESIGN TABLE CERT, run DESIGN TABLE, sites DESIGN, check CIRCUIT PROOF, make SEED CERT\n"
+            == "usage: rtl_repair repair DESIGN TABLE CERT, run DESIGN TABLE, sites DESIGN, check CIRCUIT PROOF, make SEED CERT, lint DESIGN\n"
     );
 }

@@ -7,12 +7,12 @@ use Rattle.clap.specs.Simple.{Shape, built, subcommand_of}
 use Rattle.clap.specs.Faults.{fault_of}
 use Rattle.clap.proofs.OnLiterals.{clap_on_literals}
 use Rattle.rr_words.specs.Line.{tool}
-use Rattle.rr_words.specs.Plan.{Plan, command_of, make, plan_of, most_seed, number_of, number_or, read_of, repair, run, sites, where_taken}
+use Rattle.rr_words.specs.Plan.{Plan, command_of, lint, make, plan_of, most_seed, number_of, number_or, read_of, repair, run, sites, where_taken}
 use Rattle.rr_words.specs.Plan.{check}
 use Rattle.rr_words.specs.declared.read.Command.{Command}
 use Rattle.rr_words.specs.declared.read.WordsFault.{WordsFault}
 use Rattle.rr_words.specs.declared.read.WordsFault.TheVariants.{Memory}
-use Rattle.rr_words.specs.Plain.{ArePlain, IsAmongIds, IsPlain, Part, apart, design_options, given, joined, name, names_in, repair_options, words_of}
+use Rattle.rr_words.specs.Plain.{ArePlain, IsAmongIds, IsPlain, Part, apart, design_options, given, joined, name, names_in, repair_options, top_option, words_of}
 use Rattle.rr_words.proofs.Walks.{Holds, TakesNames, TakesOption, pair_row, pairs, walk_all}
 use Rattle.rr_words.proofs.Leaves.{AllGiven, AreApart, Distinct, HasNames, IsLeaf, first_value, fresh_all, is_given_value, leaf_passes, leaf_rows, name_value, option_value, value_of, zipped}
 use Rattle.rr_words.proofs.PlainWords.{IsCommand, command_passes, command_rows, root}
@@ -253,6 +253,29 @@ make_away n id a b = absurd b
 make_made : IsMade (codes "make") (shape 4) [] make_names
 make_made = record { command = make_command; leaf = make_leaf; names = (refl, refl, refl, (refl, refl, refl, tt)); options = (λ id a. absurd a); distinct = make_distinct; away = make_away }
 
+-- ---- lint
+
+lint_command : IsCommand (codes "lint") (shape 5)
+unfolding clap_on_literals
+lint_command = record { first = refl; first_fault = refl; found = refl }
+
+lint_leaf : IsLeaf (shape 5)
+lint_leaf = record { no_help = refl; no_subcommand = refl; no_negation = refl; no_defaults = (refl, (refl, tt)) }
+
+lint_option : (id : Text) → (id ≡ codes "top") ⊎ ⊥ → TakesOption (shape 5) id
+unfolding clap_on_literals
+lint_option id (inl e) = rw e (record { by_long = refl; by_id = refl; alone = refl; with_equals = λ v. refl; no_end = refl; no_end_with = λ v. refl; itself = refl })
+lint_option id (inr none) = absurd none
+
+lint_design_away : (id : Text) → IsAmongIds id top_option → (bytes_eq (codes "design") id ≡ false) × (bytes_eq id (codes "design") ≡ false)
+lint_design_away id b = elim b [ inl f ↦ rw f (refl, refl) | inr y0 ↦ absurd y0 ]
+
+lint_away : AreApart sites_names top_option
+lint_away n id a b = elim a [ inl e ↦ rw e (lint_design_away id b) | inr x0 ↦ absurd x0 ]
+
+lint_made : IsMade (codes "lint") (shape 5) top_option sites_names
+lint_made = record { command = lint_command; leaf = lint_leaf; names = (refl, refl, refl, tt); options = lint_option; distinct = sites_distinct; away = lint_away }
+
 named_value : (ids ns vs : List Text) (parts : List Part) → HasNames ns parts → ArePlain ids parts → names_in parts ≡ vs → (id x : Text) → ((o : Text) → IsAmongIds o ids → bytes_eq o id ≡ false) → value_of id (zipped ns vs) ≡ Some x
     → value_of id (pairs ns parts) ≡ Some x
 named_value ids ns vs parts enough plain names id x other at = name_value ids id ns parts enough plain other ∙ (ap (λ ws. value_of id (zipped ns ws)) names ∙ at)
@@ -324,6 +347,22 @@ make_plain program text cert seed parts plain names number =
     read : (rows : List Row) → first_of (codes "seed") rows ≡ Some text → first_of (codes "cert") rows ≡ Some cert → read_of (codes "make") rows ≡ Some (make seed cert)
     read rows t c = rw (t, c, number) refl
 
+pub lint_plain : (program design : Text) (parts : List Part) → ArePlain top_option parts → names_in parts ≡ design ∷ []
+    → command_of (program ∷ codes "lint" ∷ words_of parts) ≡ Some (lint design (given (codes "top") parts))
+lint_plain program design parts plain names =
+    let few : length (names_in parts) ≤ 1 = rw names (omega arith) in
+    let enough = has_names sites_names parts few in
+    let ps = pairs sites_names parts in
+    let d = named_value top_option sites_names (design ∷ []) parts enough plain names (codes "design") design (λ o a. (lint_design_away o a).1) refl in
+    let all : AllGiven (map pair_row ps) (shape 5).rules = (ap not (is_given_value (codes "design") design ps d), (refl, tt)) in
+    let found = found_rows (codes "lint") program (shape 5) top_option sites_names parts lint_made enough plain all in
+    let top = first_value (codes "top") ps ∙ option_value (codes "top") sites_names parts enough (λ n a. (lint_away n (codes "top") a (inl refl)).0) in
+    plan_is (program ∷ codes "lint" ∷ words_of parts) (codes "lint") (map pair_row ps) found ∙ read (map pair_row ps) (first_value (codes "design") ps ∙ d) top
+  where
+    read : (rows : List Row) → first_of (codes "design") rows ≡ Some design → first_of (codes "top") rows ≡ given (codes "top") parts
+        → read_of (codes "lint") rows ≡ Some (lint design (given (codes "top") parts))
+    read rows d top = rw (d, top) refl
+
 -- plain words are the command that they spell
 pub plain_command : (words : List Text) (p : Plan) → IsPlain words p → command_of words ≡ Some p
 plain_command words (repair design table cert top clock budget members) (parts, spells, t, c, b, m) =
@@ -334,6 +373,7 @@ plain_command words (sites design top clock) (parts, spells, t, c) =
     ap command_of spells.1 ∙ (sites_plain spells.0 design parts spells.2 spells.3 ∙ ap₂ (λ x y. Some (sites design x y)) t c)
 plain_command words (check circuit proof) (parts, spells) = ap command_of spells.1 ∙ check_plain spells.0 circuit proof parts spells.2 spells.3
 plain_command words (make seed cert) (parts, text, spells, number) = ap command_of spells.1 ∙ make_plain spells.0 text cert seed parts spells.2 spells.3 number
+plain_command words (lint design top) (parts, spells, t) = ap command_of spells.1 ∙ (lint_plain spells.0 design parts spells.2 spells.3 ∙ ap (λ x. Some (lint design x)) t)
 
 pub plain_plan : (words : List Text) (p q : Plan) → IsPlain words p → command_of words ≡ Some q → q ≡ p
 plain_plan words p q plain is = let same : Some q ≡ Some p = sym is ∙ plain_command words p plain in cc

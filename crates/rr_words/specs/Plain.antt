@@ -3,7 +3,7 @@ use Rattle.std.specs.Prelude.{◌≡◌, ◌==◌, ◌++◌, ◌⊎◌, ⊤, Boo
 use Rattle.std.specs.List.{flat_map}
 use Rattle.std.specs.Str.{bytes_eq}
 use Rattle.clap.specs.Words.{Text}
-use Rattle.rr_words.specs.Plan.{Plan, check, make, most_seed, number_of, number_or, repair, run, sites}
+use Rattle.rr_words.specs.Plan.{Plan, check, lint, make, most_seed, number_of, number_or, repair, run, sites}
 
 -- a part of the words after a command: a name, or an option with its value in the next word or after `=`
 pub data Part : Type 0 where
@@ -61,6 +61,9 @@ repair_options = codes "top" ∷ codes "clock" ∷ codes "budget" ∷ codes "mem
 abbrev pub design_options : List Text
 design_options = codes "top" ∷ codes "clock" ∷ []
 
+abbrev pub top_option : List Text
+top_option = codes "top" ∷ []
+
 -- the words are the program's name, the command's word, and plain parts
 abbrev pub Spells : List Text → Text → List Text → List Part → List Text → Type 0
 Spells words command ids parts names = (program : Text) × (words ≡ program ∷ command ∷ words_of parts) × ArePlain ids parts × (names_in parts ≡ names)
@@ -79,3 +82,4 @@ IsPlain words (sites design top clock) = (parts : List Part)
     × (given (codes "top") parts ≡ top) × (given (codes "clock") parts ≡ clock)
 IsPlain words (check circuit proof) = (parts : List Part) × Spells words (codes "check") [] parts (circuit ∷ proof ∷ [])
 IsPlain words (make seed cert) = (parts : List Part) × (text : Text) × Spells words (codes "make") [] parts (text ∷ cert ∷ []) × (number_of 0 most_seed text ≡ Some seed)
+IsPlain words (lint design top) = (parts : List Part) × Spells words (codes "lint") top_option parts (design ∷ []) × (given (codes "top") parts ≡ top)

@@ -9,7 +9,7 @@ use Rattle.clap.specs.Words.{Row, Text, fault_of, first_of, subcommand_of}
 use Rattle.clap.specs.Kinds.{Kinds}
 use Rattle.rr_words.specs.Line.{tool}
 use Rattle.rr_words.specs.declared.read.Command.{Command}
-use Rattle.rr_words.specs.declared.read.Command.TheVariants.{Repair, Run, Sites, Check, Make}
+use Rattle.rr_words.specs.declared.read.Command.TheVariants.{Repair, Run, Sites, Check, Make, Lint}
 
 -- a command with its names, and its options as they are given or stand for
 pub data Plan : Type 0 where
@@ -18,6 +18,7 @@ pub data Plan : Type 0 where
   sites : Text → Option Text → Option Text → Plan
   check : Text → Text → Plan
   make : ℕ → Text → Plan
+  lint : Text → Option Text → Plan
 
 abbrev pub texts_of : Option (Bor Text) → Option Text
 texts_of = option_map (λ s. s.now)
@@ -29,6 +30,7 @@ plan_of (Run design table top clock) = run design.now table.now (texts_of top) (
 plan_of (Sites design top clock) = sites design.now (texts_of top) (texts_of clock)
 plan_of (Check circuit proof) = check circuit.now proof.now
 plan_of (Make seed cert) = make seed cert.now
+plan_of (Lint design top) = lint design.now (texts_of top)
 
 -- one decimal digit or more, and nothing else
 abbrev pub is_number : Text → Bool
@@ -72,6 +74,9 @@ abbrev pub make_of : List Row → Option Plan
 make_of rows = with_named (codes "seed") rows (λ seed. with_named (codes "cert") rows (λ cert.
     option_map (λ n. make n cert) (number_of 0 most_seed seed)))
 
+abbrev pub lint_of : List Row → Option Plan
+lint_of rows = with_named (codes "design") rows (λ design. Some (lint design (first_of (codes "top") rows)))
+
 -- the plan of a command and of what was found for it
 abbrev pub read_of : Text → List Row → Option Plan
 read_of name rows =
@@ -79,7 +84,8 @@ read_of name rows =
     else (if bytes_eq name (codes "run") then run_of rows
     else (if bytes_eq name (codes "sites") then sites_of rows
     else (if bytes_eq name (codes "check") then check_of rows
-    else (if bytes_eq name (codes "make") then make_of rows else None))))
+    else (if bytes_eq name (codes "make") then make_of rows
+    else (if bytes_eq name (codes "lint") then lint_of rows else None)))))
 
 abbrev pub where_taken : Kinds → Option Plan → Option Plan
 where_taken [] plan = plan

@@ -2,7 +2,7 @@
 ghost use Rattle.std.specs.Prelude.{◌≡◌, IfOk, false, codes};
 ghost use Rattle.clap.specs.Words.{app_of, new_app, rule_of, shape_of, with_subcommand};
 ghost use Rattle.clap.specs.declared.builder.command.Command.TheViews.{out-Command as fields_of};
-ghost use Rattle.rr_words.specs.Line.{bare_tool, check_line, make_line, name_rule, option_rule, repair_line, run_line, sites_line, tool, with_name, with_option};
+ghost use Rattle.rr_words.specs.Line.{bare_tool, check_line, lint_line, make_line, name_rule, option_rule, repair_line, run_line, sites_line, tool, with_name, with_option};
 
 use clap::{Arg, ArgAction, Command};
 use std::alloc::{AllocError, Global};
@@ -96,6 +96,15 @@ fn make<'a>(alloc: Global) -> Result<Command<'a>, AllocError>
     name(alloc, line, "cert")
 }
 
+fn lint<'a>(alloc: Global) -> Result<Command<'a>, AllocError>
+    ensures app { IfOk result (λ c. app_of c ≡ lint_line) }
+    ensures local { IfOk result (λ c. (fields_of c).has_globals ≡ false) }
+{
+    let line = bare(alloc, "lint");
+    let line = name(alloc, line, "design")?;
+    option(alloc, line, "top")
+}
+
 /// All that the program takes.
 pub(crate) fn program<'a>(alloc: Global) -> Result<Command<'a>, AllocError>
     ensures { IfOk result (λ c. app_of c ≡ tool) }
@@ -105,7 +114,8 @@ pub(crate) fn program<'a>(alloc: Global) -> Result<Command<'a>, AllocError>
     let line = below(line, run(alloc)?)?;
     let line = below(line, sites(alloc)?)?;
     let line = below(line, check(alloc)?)?;
-    below(line, make(alloc)?)
+    let line = below(line, make(alloc)?)?;
+    below(line, lint(alloc)?)
 }
 
 fn root<'a>(alloc: Global) -> Command<'a>

@@ -4,7 +4,7 @@ ghost use Rattle.clap.specs.Words.{fault_of, found_of, first_of, rows_of, subcom
 ghost use Rattle.rr_words.specs.Line.{tool};
 ghost use Rattle.rr_words.specs.Plain.{IsPlain};
 ghost use Rattle.rr_words.specs.Usage.{usage_text};
-ghost use Rattle.rr_words.specs.Plan.{Plan, command_of, number_of, number_or, plan_of, read_of, repair_of, run_of, sites_of, check_of, make_of, most_seed};
+ghost use Rattle.rr_words.specs.Plan.{Plan, command_of, number_of, number_or, plan_of, read_of, repair_of, run_of, sites_of, check_of, make_of, lint_of, most_seed};
 
 use crate::line::program;
 use clap::ArgMatches;
@@ -51,6 +51,11 @@ pub enum Command<'a> {
         seed: u64,
         cert: &'a str,
     },
+    /// Prints the design with two faults of its combinational blocks mended.
+    Lint {
+        design: &'a str,
+        top: Option<&'a str>,
+    },
 }
 
 /// Why the words are answered by no command: they name none, or memory ran out.
@@ -77,7 +82,7 @@ impl From<AllocError> for WordsFault {
 pub fn usage() -> &'static str
     ensures { result.now ≡ usage_text }
 {
-    "usage: rtl_repair repair DESIGN TABLE CERT, run DESIGN TABLE, sites DESIGN, check CIRCUIT PROOF, make SEED CERT\n"
+    "usage: rtl_repair repair DESIGN TABLE CERT, run DESIGN TABLE, sites DESIGN, check CIRCUIT PROOF, make SEED CERT, lint DESIGN\n"
 }
 
 /// The command that the words name, the first of which is the program's own name. `Usage` comes
@@ -144,6 +149,7 @@ fn planned<'a>(name: &str, found: &ArgMatches<'a>) -> Option<Command<'a>>
         "sites" => sites(found),
         "check" => check(found),
         "make" => make(found),
+        "lint" => lint(found),
         _ => None,
     }
 }
@@ -206,6 +212,15 @@ fn make<'a>(found: &ArgMatches<'a>) -> Option<Command<'a>>
     Some(Command::Make {
         seed: number(seed, 0, u64::MAX)?,
         cert,
+    })
+}
+
+fn lint<'a>(found: &ArgMatches<'a>) -> Option<Command<'a>>
+    ensures { option_map plan_of result ≡ lint_of (rows_of (found_of found.now)) }
+{
+    Some(Command::Lint {
+        design: text(found, "design")?,
+        top: text(found, "top"),
     })
 }
 

@@ -2,8 +2,7 @@
 #![tactic(auto)]
 
 use rr_edge::{FileShelf, OutSink};
-use rr_effects::put_report;
-use rr_top::{arguments, run};
+use rr_top::execute;
 use std::env;
 use std::process::ExitCode;
 
@@ -11,9 +10,6 @@ fn main(rt: HostRuntime) -> ExitCode {
     let mut shelf = FileShelf::new(&rt);
     let mut out = OutSink::new(rt.stdout());
     let mut notes = OutSink::new(rt.stderr());
-    let status = match arguments(rt.alloc(), env::args(&rt)) {
-        Ok(words) => run(&rt, rt.alloc(), &words, &mut shelf, &mut out, &mut notes),
-        Err(report) => put_report(&report, &mut notes),
-    };
-    ExitCode::from(status)
+    let found = env::args(&rt);
+    execute(&rt, rt.alloc(), found, &mut shelf, &mut out, &mut notes)
 }

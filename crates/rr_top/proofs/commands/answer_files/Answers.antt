@@ -1,4 +1,4 @@
-use Rattle.rr_words.specs.Plan.{repair, run, sites, check, make, texts_of}
+use Rattle.rr_words.specs.Plan.{repair, run, sites, check, make, lint, texts_of}
 use Rattle.rr_effects.specs.Views.{contents}
 use Rattle.rr_top.proofs.commands.answer_files.Goals as goal
 
@@ -26,8 +26,14 @@ returns-in-Check g c =
     let plan = check c.in-Check.circuit.now c.in-Check.proof.now in
     rw c.in-Check.is (c.conclude-in-Check.ensures plan (contents c.args.files.items) (rw c.in-Check.is at c.requires.given) gives)
 
-pub returns : goal.returns
-returns g c =
+pub returns-in-Make : goal.returns-in-Make
+returns-in-Make g c =
     let gives = c.make_files-answer.ensures (contents c.args.files.items) in
     let plan = make c.in-Make.seed c.in-Make.cert.now in
     rw c.in-Make.is (c.conclude-in-Make.ensures plan (contents c.args.files.items) (rw c.in-Make.is at c.requires.given) gives)
+
+pub returns : goal.returns
+returns g c =
+    let gives = c.lint_files-answer.ensures c.in-Lint.design.now in
+    let plan = lint c.in-Lint.design.now (texts_of c.in-Lint.top) in
+    rw c.in-Lint.is (c.conclude-in-Lint.ensures plan (contents c.args.files.items) (rw c.in-Lint.is at c.requires.given) (rw c.deref-in-Lint.ensures.value at gives))

@@ -10,4 +10,5 @@ returns c =
     let two = c.in_ok-line-2.ensures ∙ ap₂ with_subcommand one (ap top c.in_ok-run.ensures.app) in
     let three = c.in_ok-line-3.ensures ∙ ap₂ with_subcommand two (ap top c.in_ok-sites.ensures.app) in
     let four = c.in_ok-line-4.ensures ∙ ap₂ with_subcommand three (ap top c.in_ok-check.ensures.app) in
-    IfOk-weaker c.below-5.result _ _ (λ x h. h ∙ ap₂ with_subcommand four (ap top c.in_ok-make.ensures.app)) c.below-5.ensures
+    let five = c.in_ok-line-5.ensures ∙ ap₂ with_subcommand four (ap top c.in_ok-make.ensures.app) in
+    IfOk-weaker c.below-6.result _ _ (λ x h. h ∙ ap₂ with_subcommand five (ap top c.in_ok-lint.ensures.app)) c.below-6.ensures
