@@ -4,7 +4,7 @@ import re
 NUMBER = r"(0|[1-9]\d*)"
 NAMES = ("BadByte BadNumber OpenComment Directive Unsupported Syntax NoTop UnknownModule SelfInstance NameTwice UnknownName BadRange NotConstant PortMismatch TooWide TooMany TwoDrivers WrongAssign Race "
          "Latch Loop ClockUse TwoClocks BadTarget WildLabel NoHeader UnknownColumn ColumnTwice MissingInput RowLength BadCell CellTooLarge NotUtf8 BadCircuit BadProof RatLine").split()
-NUMBERED = {**dict(enumerate(NAMES, 1)), 38: "UnknownMacro", 39: "BadDirective", 40: "MacroLoop", 41: "BadVcd", 42: "NoScope"}
+NUMBERED = {**dict(enumerate(NAMES, 1)), 38: "UnknownMacro", 39: "BadDirective", 40: "MacroLoop", 41: "BadVcd", 42: "NoScope", 43: "FromMacro"}
 LIMITS = "bytes rows sites instances depth flatbits work expanded".split()
 
 
@@ -14,7 +14,7 @@ def place(number):
         return rf" ({'|'.join(LIMITS)}) {NUMBER}"
     if number == 7:
         return " at 0"
-    if number <= 25 or number in (38, 39, 40):
+    if number <= 25 or number in (38, 39, 40, 43):
         return f" at {NUMBER}"
     if number == 26:
         return " row 0"
@@ -40,7 +40,7 @@ FORMS = {
     3: "|".join(rf"refused {number} {name}{place(number)}\n" for number, name in NUMBERED.items()),
     4: r"|(absent [^\n]+|fault (read|write) [^\n]+|fault out)\n",
     5: r"out of memory\n",
-    6: r"usage: rtl_repair repair DESIGN TABLE CERT, run DESIGN TABLE, sites DESIGN, check CIRCUIT PROOF, make SEED CERT\n",
+    6: r"usage: rtl_repair repair DESIGN TABLE CERT, run DESIGN TABLE, sites DESIGN, check CIRCUIT PROOF, make SEED CERT, lint DESIGN\n",
 }
 FORMS = {status: re.compile(form) for status, form in FORMS.items()}
 FOUND = re.compile(rb"budget spent \d+ bound (\d+)\n(?:found (\d+)\n)?")

@@ -5,7 +5,7 @@ It is no part of the gate, and nothing of it is proved.
 usage: tools/examples.py [PROGRAM]
 
 PROGRAM is ./rtl_repair where it is not given. For each folder of examples/ with a design and a table: `run` prints run.csv,
-`sites` prints sites.txt, `repair` prints repaired.v and reports report.txt, `check` accepts the certificate, and the repaired
+`sites` prints sites.txt, `lint` prints design.v, `repair` prints repaired.v and reports report.txt, `check` accepts the certificate, and the repaired
 source, run again, gives each known cell of the table. tools/misses.py and tools/waves.py find the design's misses and none of the repaired one's.
 Where a dump wave.vcd stands beside the table, `run` and `repair` print the same for it.
 The last line counts; the status is 0 where all is as it should be.
@@ -40,6 +40,7 @@ def judge(folder):
 
     check("run", run(folder, "run", "design.v", "table.csv"), (0, text(f"{folder}/run.csv"), ""))
     check("sites", run(folder, "sites", "design.v"), (0, text(f"{folder}/sites.txt"), ""))
+    check("lint", run(folder, "lint", "design.v"), (0, text(f"{folder}/design.v"), ""))
     if os.path.exists(f"{folder}/wave.vcd"):
         check("run on the dump", run(folder, "run", "design.v", "wave.vcd"), (0, text(f"{folder}/run.csv"), ""))
         with tempfile.TemporaryDirectory() as room:

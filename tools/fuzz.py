@@ -222,7 +222,7 @@ def one(folder, examples, certificates):
     if kind < 0.75:
         design, table = draw.choice(examples)
         files(folder, ("d.v", mutated(design, WORDS) if which != 1 else design), ("t.csv", mutated(table, CELLS) if which != 0 else table))
-        command = draw.choice(("run", "sites", "repair", "repair"))
+        command = draw.choice(("run", "sites", "lint", "repair", "repair"))
         if command == "repair":
             return *judge_repair(folder), command
         ended = run(folder, command, "d.v", *(["t.csv"] if command == "run" else []))

@@ -221,6 +221,35 @@ def latches(count):
     return module("reg " + ",".join(f"r{i}" for i in range(count)) + ";assign y=r0;always @* begin " + "".join(f"if (a) r{i}=a; else r{i}=~a;" for i in range(count)) + " end")
 
 
+def filled(before, each, after=" endmodule\n"):
+    """A source of so many bytes at the most: one text again and again between two others."""
+    return lambda size: before + each * ((size - len(before) - len(after)) // len(each)) + after
+
+
+def kept_names(count):
+    return module("reg " + ",".join(f"r{i}" for i in range(count)) + ";assign y=a;always @* if (a) begin " + "".join(f"r{i}<=a;" for i in range(count)) + " end")
+
+
+# Sources for `lint`: what is between `begin` and `end` of a combinational block, and sources of many blocks.
+KEEPING = {name: filled("module m(input a, input e, input [6:0] i, output reg y); reg z, w; reg [127:0] v; always @* begin ", each, " w=a; v=a; end endmodule\n") for name, each in {
+    "assignments to one name": "y<=a;",
+    "ifs": "if(e)y<=y;",
+    "alternatives": "if(z)y=w;else z=y;",
+    "alternatives within one another": "if(z)y=w;else " * 400 + "z=y;",
+    "ifs within one another": "if(z)" * 400 + "y=w;" + "else z=y;" * 400,
+    "arms": "case(z)w:y=z;a:z<=y;endcase ",
+    "early reads of a long word": "y=v" + "^v" * 400 + ";",
+    "early reads of its bits": "v[i]=v[i];",
+    "targets in braces": "if(e){y,z,w,v[3:0]}<=v;",
+}.items()}
+CALLS = "module m(input a, output y); assign y=a; " + "".join(f"n u{i}(a);" for i in range(255))
+KEEPING |= {
+    "blocks": filled("module m(input a, output reg y);", "always @*if(a)y<=y;"),
+    "blocks that keep a long word": filled("module m(input a, output reg [127:0] y);", "always @*if(a)y<=a;"),
+    "a name of 2,000 letters": filled(f"module m(input a, output y); assign y=a; reg {'q' * 2000}; always @* begin ", f"if(a){'q' * 2000}<=a;", " end endmodule\n"),
+}
+
+
 def arms(count):
     return module("always @* case (a) " + "".join(f"32'd{i}: y=1'b0;" for i in range(count)) + "default: y=1'b1; endcase", "input [31:0] a, output reg y")
 
@@ -376,7 +405,7 @@ KEPT = {
     "statements that end in a use": (filled("`define E ;\nmodule m(input clk,input a,output reg y);always @(posedge clk) begin ", "y<=a`E ", " end endmodule\n"), None),
 }
 
-SITES, RUN, REPAIR, CHECK = ("sites", "d.v"), ("run", "d.v", "t.csv"), ("repair", "d.v", "t.csv", "c"), ("check", "c.aag", "c.lrat")
+SITES, LINT, RUN, REPAIR, CHECK = ("sites", "d.v"), ("lint", "d.v"), ("run", "d.v", "t.csv"), ("repair", "d.v", "t.csv", "c"), ("check", "c.aag", "c.lrat")
 TABLE = "a,y\n0,0\n1,1\n1,0\n"
 
 
@@ -434,6 +463,11 @@ def inputs():
         "one byte above 1 MiB": (lambda n: " " * n, MEBI + 1, "refused 16 TooMany bytes 1048577\n"),
     }.items():
         yield f"sites: {name}", SITES, {"d.v": design}, (size // 4, size // 2, size) if due is None else (size,), (0, 3) if due is None else (3, due)
+    for name, design in KEEPING.items():
+        yield f"lint: 1 MiB of {name}", LINT, {"d.v": design}, (MEBI // 4, MEBI // 2, MEBI), (0,)
+    called = filled("module n(input a); reg y; always @* begin ", "if(a)y<=y;", " end endmodule\n" + CALLS + " endmodule\n")
+    yield "lint: a block in each of 255 instances", LINT, {"d.v": called}, (MEBI // 64, MEBI // 32, MEBI // 16), (0,)
+    yield "lint: names that are kept", LINT, {"d.v": kept_names}, (15000, 30000, 60000), (0,)
     for head, before in HEADS.items():
         for token in TOKENS:
             yield f"sites: 1 MiB {head}{token!r}", SITES, {"d.v": repeated(before, token)}, (MEBI // 4, MEBI // 2, MEBI), (0, 3)

@@ -52,7 +52,7 @@ endmodule
 """
 SWAP = "module m(input clk, input ld, output reg a, output reg b); always @(posedge clk) if (ld) begin a <= 1'b1; b <= 1'b0; end else begin a <= b; b <= a; end endmodule\n"
 CIRCUIT = "aag 1 1 0 2 0\n2\n2\n3\n"
-REPAIR, RUN, SITES, CHECK, MAKE = "repair d.v t.csv c", "run d.v t.csv", "sites d.v", "check c.aag c.lrat", "make 0 c"
+REPAIR, RUN, SITES, CHECK, MAKE, LINT = "repair d.v t.csv c", "run d.v t.csv", "sites d.v", "check c.aag c.lrat", "make 0 c", "lint d.v"
 CERTIFICATE = ("c.aag", "c.cnf", "c.lrat")
 
 # Each command, with its files.
@@ -62,6 +62,7 @@ COMMANDS = {
     "repair without an answer": (REPAIR, {"d.v": "module m(input a, output y); assign y = a; endmodule\n", "t.csv": "a,y\n0,0\n0,1\n"}),
     "run of a swap": (RUN, {"d.v": SWAP, "t.csv": "ld\n1\n0\n0\n"}),
     "sites of a counter": (SITES, {"d.v": COUNTER}),
+    "lint of a latch": (LINT, {"d.v": "module m(input e, input a, output reg y); always @* if (e) y <= a; endmodule\n"}),
     "check that accepts": (CHECK, {"c.aag": CIRCUIT, "c.lrat": "3 0 1 2 0\n"}),
     "check of a line cut short": (CHECK, {"c.aag": CIRCUIT, "c.lrat": "3 0 1 2\n"}),
     "check of a bad addition": (CHECK, {"c.aag": CIRCUIT, "c.lrat": "3 1 0 1 0\n4 0 1 0\n5 0 2 0\n"}),
