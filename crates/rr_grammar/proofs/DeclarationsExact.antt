@@ -1,19 +1,21 @@
 -- The formats of declarations and continuous assignments are exact.
-use Rattle.std.proofs.Common.{◌≡◌, ℕ, zero, suc, ◌+◌, ◌≤◌, ◌<◌, List, [], ◌∷◌, ◌++◌, length, refl, ap, ◌∙◌, sym, arith, Bool, true, false, cond, nat_eq, Option, Some, None, ◌⊎◌, inl, inr, subst, append_assoc}
+use Rattle.std.proofs.Common.{◌≡◌, ℕ, zero, suc, ◌+◌, ◌≤◌, ◌<◌, List, [], ◌∷◌, ◌++◌, length, map, refl, ap, ◌∙◌, sym, arith, Bool, true, false, ◌||◌, cond, nat_eq, Option, Some, None, ◌⊎◌, inl, inr, subst, append_assoc}
 use Rattle.std.proofs.lemmas.Bool.Decides.{Decides-eqb}
+use Rattle.std.specs.List.{list_all}
+use Rattle.std.specs.Option.{is_some}
 use Rattle.rr_syntax.specs.declared.tree.Dir.{Dir}
 use Rattle.rr_syntax.specs.declared.tree.Dir.TheVariants as dir
 use Rattle.rr_syntax.specs.Words.{Word, Named, Marked, Reserved, keyword_input, keyword_integer, keyword_localparam, keyword_output, keyword_parameter, keyword_reg, keyword_signed, keyword_wire, mark_open_bracket, mark_comma, mark_equals}
-use Rattle.rr_syntax.specs.Tree.{Tree, Identifier, Range, PortDeclaration, ParamAssignment, NetIdentifier, bare, bare_identifier, bare_range, bare_port, bare_assignment, bare_parameter, bare_value, bare_net, bare_pair}
+use Rattle.rr_syntax.specs.Tree.{Tree, Range, PortDeclaration, ParamAssignment, DeclaredName, bare, bare_identifier, bare_range, bare_port, bare_assignment, bare_parameter, bare_value, bare_declarator, bare_pair}
 use Rattle.rr_syntax.specs.Expressions.{spell, infix_level, unary_level}
-use Rattle.rr_syntax.specs.Items.{spell_identifier, spell_where, spell_dir, spell_range, spell_type, spell_port, spell_assignment, spell_parameter, spell_value, spell_net, spell_pair, spell_each, spell_separated}
+use Rattle.rr_syntax.specs.Items.{spell_identifier, spell_where, spell_dir, spell_range, spell_type, spell_port, spell_assignment, spell_parameter, spell_value, spell_declarator, spell_pair, spell_each, spell_separated, NumberedPort}
 use Rattle.rr_parse_expr.specs.Reading.{Found, mapped, chain, mark, rest, no_mark}
 use Rattle.rr_parse_expr.proofs.Answered.{not_equal}
 use Rattle.rr_parse_expr.proofs.Climbs.{mapped_tells, if_tells, if_splits}
 use Rattle.rr_parse_stmt.specs.Reading.{keyword, no_word}
 use Rattle.rr_grammar.specs.Formats.{Format, IsExact, both, after_mark, shaped, respelled, guarded, list}
 use Rattle.rr_grammar.specs.Leaves.{identifier, Ends, expression, EndsTarget, target_of, flag, spell_option, bare_option, where_mark, range, NoType, typed, choice, of_input, of_output, direction}
-use Rattle.rr_grammar.specs.Declarations.{to_port, of_port, port, to_setting, of_setting, setting, to_net, of_net, net, to_pair, of_pair, pair, of_kind, kind, to_parameter, of_parameter, parameter, is_global, head_parameter}
+use Rattle.rr_grammar.specs.Declarations.{to_declarator, of_declarator, declarator, to_port, of_port, is_output_reg, has_no_value, starts_right, port, to_setting, of_setting, setting, to_pair, of_pair, pair, of_kind, kind, to_parameter, of_parameter, parameter, is_global, head_parameter}
 use Rattle.rr_grammar.proofs.Exacts.{both_exact, after_mark_exact, shaped_exact, respelled_exact, guarded_exact, list_exact, mapped_some}
 use Rattle.rr_grammar.proofs.LeavesExact.{identifier_exact, expression_exact, target_exact, reserved, same, eq_of, flag_exact, where_mark_exact, range_exact, typed_exact, choice_exact, ends_at}
 
@@ -58,8 +60,8 @@ direction_exact = record { finds = λ d w left v. direction_finds d left v; good
 abbrev pub OpensNamed : List Word → Type 0
 OpensNamed ws = (s : List ℕ) × (us : List Word) × (ws ≡ Named s ∷ us)
 
-pub names_open : (ns : List Identifier) → 0 < length ns → (left : List Word) → OpensNamed (spell_separated spell_identifier ns ++ left)
-unfolding spell_separated spell_identifier
+pub names_open : (ns : List DeclaredName) → 0 < length ns → (left : List Word) → OpensNamed (spell_separated spell_declarator ns ++ left)
+unfolding spell_separated spell_declarator
 names_open [] h left = absurd (omega arith)
 names_open (n ∷ ns) h left = (n.text, _, refl)
 
@@ -77,30 +79,7 @@ no_keyword ws k e h f = absurd (omega (arith, e, f))
 pub no_mark_at : (ws : List Word) (m : ℕ) → mark ws ≡ no_mark → m < no_mark → mark ws ≡ m → ⊥
 no_mark_at ws m e h f = absurd (omega (arith, e, f))
 
--- ---- ports
-
-abbrev Plainly : List Word → Type 0
-Plainly ws = (keyword ws ≡ keyword_wire → ⊥) × (keyword ws ≡ keyword_reg → ⊥)
-
-plainly_by : (ws : List Word) (k : ℕ) → keyword ws ≡ k → (k ≡ keyword_wire → ⊥) → (k ≡ keyword_reg → ⊥) → Plainly ws
-plainly_by ws k e a b = (λ f. a (sym e ∙ f), λ f. b (sym e ∙ f))
-
-typed_front : (k : ℕ) (s : Bool) (r : Option Range) (ns : List Identifier) → 0 < length ns → (left : List Word) → Plainly (((typed k).spell (s, r) ++ spell_separated spell_identifier ns) ++ left)
-unfolding spell_where spell_range keyword
-typed_front k true r ns h left = plainly_by (((typed k).spell (true, r) ++ spell_separated spell_identifier ns) ++ left) keyword_signed refl (λ e. absurd (omega (arith, e))) (λ e. absurd (omega (arith, e)))
-typed_front k false (Some r) ns h left = plainly_by (((typed k).spell (false, Some r) ++ spell_separated spell_identifier ns) ++ left) no_word refl (λ e. absurd (omega (arith, e))) (λ e. absurd (omega (arith, e)))
-typed_front k false None ns h left = plainly_by (spell_separated spell_identifier ns ++ left) no_word (named_word (spell_separated spell_identifier ns ++ left) (names_open ns h left)) (λ e. absurd (omega (arith, e))) (λ e. absurd (omega (arith, e)))
-
-typed_names_exact : (k : ℕ) → IsExact (both (typed k) (list identifier))
-typed_names_exact k = both_exact (typed k) (list identifier) (typed_exact k) (list_exact identifier identifier_exact (λ left. tt))
-    (λ ns g left v. (let o = names_open ns g.0 left in (no_keyword (spell_separated spell_identifier ns ++ left) keyword_signed (named_word (spell_separated spell_identifier ns ++ left) o) (omega arith), no_mark_at (spell_separated spell_identifier ns ++ left) mark_open_bracket (named_mark (spell_separated spell_identifier ns ++ left) o) (omega arith))))
-
-pub port_exact : (k : ℕ) → IsExact (port k)
-unfolding spell_port spell_type bare_port
-port_exact k = respelled_exact (shaped (both direction (both (typed k) (list identifier))) to_port of_port) (shaped_exact (both direction (both (typed k) (list identifier)))
-    (both_exact direction (both (typed k) (list identifier)) direction_exact (typed_names_exact k) (λ x g left v. typed_front k x.0.0 x.0.1 x.1 g.1.0 left)) to_port of_port (λ a. refl)) spell_port bare_port (λ a. refl) (λ a. refl)
-
--- ---- settings, nets and assignments
+-- ---- settings and declared names
 
 pub setting_exact : (k : ℕ) → IsExact (setting k)
 unfolding spell_assignment spell_identifier bare_assignment bare_identifier
@@ -117,18 +96,74 @@ unfolding bare_value
 value_bare None = refl
 value_bare (Some t) = refl
 
-pub net_words : (n : NetIdentifier) → spell_net n ≡ Named n.text ∷ spell_option mark_equals spell n.value
-unfolding spell_net
-net_words n = ap (λ (us : List Word). Named n.text ∷ us) (value_words n.value)
+pub declarator_words : (n : DeclaredName) → spell_declarator n ≡ Named n.text ∷ spell_option mark_equals spell n.value
+unfolding spell_declarator
+declarator_words n = ap (λ (us : List Word). Named n.text ∷ us) (value_words n.value)
 
-pub net_bare : (n : NetIdentifier) → bare_net n ≡ to_net (record { token = 0; text = n.text }, bare_option bare n.value)
-unfolding bare_net
-net_bare n = ap (λ (v : Option Tree). to_net (record { token = 0; text = n.text }, v)) (value_bare n.value)
+pub declarator_bare : (n : DeclaredName) → bare_declarator n ≡ to_declarator (record { token = 0; text = n.text }, bare_option bare n.value)
+unfolding bare_declarator
+declarator_bare n = ap (λ (v : Option Tree). to_declarator (record { token = 0; text = n.text }, v)) (value_bare n.value)
 
-pub net_exact : (k : ℕ) → IsExact (net k)
+pub declarator_exact : (k : ℕ) → IsExact (declarator k)
 unfolding spell_identifier bare_identifier
-net_exact k = respelled_exact (shaped (both identifier (where_mark mark_equals (expression k))) to_net of_net) (shaped_exact (both identifier (where_mark mark_equals (expression k)))
-    (both_exact identifier (where_mark mark_equals (expression k)) identifier_exact (where_mark_exact (expression k) (expression_exact k) mark_equals (omega arith)) (λ b g left v. tt)) to_net of_net (λ a. refl)) spell_net bare_net net_words net_bare
+declarator_exact k = respelled_exact (shaped (both identifier (where_mark mark_equals (expression k))) to_declarator of_declarator) (shaped_exact (both identifier (where_mark mark_equals (expression k)))
+    (both_exact identifier (where_mark mark_equals (expression k)) identifier_exact (where_mark_exact (expression k) (expression_exact k) mark_equals (omega arith)) (λ b g left v. tt)) to_declarator of_declarator (λ a. refl)) spell_declarator bare_declarator declarator_words declarator_bare
+
+level-comma : infix_level mark_comma ≡ 0
+unfolding infix_level
+level-comma = refl
+
+pub comma_ends : (left : List Word) → Ends (Marked mark_comma ∷ left)
+comma_ends left = ends_at mark_comma left level-comma refl
+
+pub not_equals : (m : ℕ) (left : List Word) → (m ≡ mark_equals → ⊥) → mark (Marked m ∷ left) ≡ mark_equals → ⊥
+unfolding mark
+not_equals m left h e = h e
+
+pub declarators_exact : (k : ℕ) → IsExact (list (declarator k))
+declarators_exact k = list_exact (declarator k) (declarator_exact k) (λ left. (comma_ends left, not_equals mark_comma left (λ e. absurd (omega (arith, e)))))
+
+-- ---- ports
+
+abbrev Plainly : List Word → Type 0
+Plainly ws = (keyword ws ≡ keyword_wire → ⊥) × (keyword ws ≡ keyword_reg → ⊥)
+
+plainly_by : (ws : List Word) (k : ℕ) → keyword ws ≡ k → (k ≡ keyword_wire → ⊥) → (k ≡ keyword_reg → ⊥) → Plainly ws
+plainly_by ws k e a b = (λ f. a (sym e ∙ f), λ f. b (sym e ∙ f))
+
+typed_front : (k : ℕ) (s : Bool) (r : Option Range) (ns : List DeclaredName) → 0 < length ns → (left : List Word) → Plainly (((typed k).spell (s, r) ++ spell_separated spell_declarator ns) ++ left)
+unfolding spell_where spell_range keyword
+typed_front k true r ns h left = plainly_by (((typed k).spell (true, r) ++ spell_separated spell_declarator ns) ++ left) keyword_signed refl (λ e. absurd (omega (arith, e))) (λ e. absurd (omega (arith, e)))
+typed_front k false (Some r) ns h left = plainly_by (((typed k).spell (false, Some r) ++ spell_separated spell_declarator ns) ++ left) no_word refl (λ e. absurd (omega (arith, e))) (λ e. absurd (omega (arith, e)))
+typed_front k false None ns h left = plainly_by (spell_separated spell_declarator ns ++ left) no_word (named_word (spell_separated spell_declarator ns ++ left) (names_open ns h left)) (λ e. absurd (omega (arith, e))) (λ e. absurd (omega (arith, e)))
+
+typed_names_exact : (k : ℕ) → IsExact (both (typed k) (list (declarator k)))
+typed_names_exact k = both_exact (typed k) (list (declarator k)) (typed_exact k) (declarators_exact k)
+    (λ ns g left v. (let o = names_open ns g.0 left in (no_keyword (spell_separated spell_declarator ns ++ left) keyword_signed (named_word (spell_separated spell_declarator ns ++ left) o) (omega arith), no_mark_at (spell_separated spell_declarator ns ++ left) mark_open_bracket (named_mark (spell_separated spell_declarator ns ++ left) o) (omega arith))))
+
+value_is_some : (v : Option Tree) → is_some (bare_value v) ≡ is_some v
+unfolding bare_value
+value_is_some None = refl
+value_is_some (Some t) = refl
+
+bare_starts : (ns : List DeclaredName) → list_all has_no_value (map bare_declarator ns) ≡ list_all has_no_value ns
+unfolding bare_declarator
+bare_starts [] = refl
+bare_starts (n ∷ ns) = let e = bare_starts ns in let f = value_is_some n.value in rw (e, f) refl
+
+pub starts_bare : (p : PortDeclaration) → starts_right (bare_port p) ≡ starts_right p
+unfolding bare_port
+starts_bare p = ap (λ (b : Bool). is_output_reg p.dir || b) (bare_starts p.names)
+
+pub port_exact : (k : ℕ) → IsExact (port k)
+unfolding spell_port spell_type bare_port
+port_exact k =
+    let parts = both direction (both (typed k) (list (declarator k))) in
+    let e = both_exact direction (both (typed k) (list (declarator k))) direction_exact (typed_names_exact k) (λ x g left v. typed_front k x.0.0 x.0.1 x.1 g.1.0 left) in
+    let f = respelled_exact (shaped parts to_port of_port) (shaped_exact parts e to_port of_port (λ a. refl)) spell_port bare_port (λ a. refl) (λ a. refl) in
+    guarded_exact (respelled (shaped parts to_port of_port) spell_port bare_port NumberedPort) f starts_right starts_bare
+
+-- ---- assignments
 
 equals_low : infix_level mark_equals < unary_level
 unfolding infix_level
@@ -188,13 +223,6 @@ settings_open : (k : ℕ) (xs : List ParamAssignment) → 0 < length xs → (lef
 unfolding spell_separated spell_assignment
 settings_open k [] h left = absurd (omega arith)
 settings_open k (x ∷ xs) h left = (x.text, ((Marked mark_equals ∷ spell x.value) ++ spell_each spell_assignment xs) ++ left, refl)
-
-level-comma : infix_level mark_comma ≡ 0
-unfolding infix_level
-level-comma = refl
-
-pub comma_ends : (left : List Word) → Ends (Marked mark_comma ∷ left)
-comma_ends left = ends_at mark_comma left level-comma refl
 
 kind_before : (ws : List Word) → OpensNamed ws → (keyword ws ≡ keyword_integer → ⊥) × NoType ws
 kind_before ws o = (no_keyword ws keyword_integer (named_word ws o) (omega arith), (no_keyword ws keyword_signed (named_word ws o) (omega arith), no_mark_at ws mark_open_bracket (named_mark ws o) (omega arith)))

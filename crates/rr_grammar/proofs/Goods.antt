@@ -1,13 +1,16 @@
 -- What is well-formed and within the depth is good.
-use Rattle.std.proofs.Common.{◌≡◌, ℕ, zero, suc, ◌+◌, ◌≤◌, ◌<◌, max, List, [], ◌∷◌, length, refl, sym, ◌∙◌, arith, Bool, true, false, not, Option, Some, None, ◌⊎◌, inl, inr}
-use Rattle.std.specs.List.{AllByRecursion}
-use Rattle.rr_syntax.specs.Tree.{Tree, Trees, End, More, Identifier, Range, PortDeclaration, ParamAssignment, ParameterDeclaration, NetIdentifier, NetAssignment, EdgeEvent, EventControl, Star, Edges, Levels, NamedConnection, Connections, Positions, Names, ModuleInstance, ModuleItem, Ports, Nets, Variables, Integers, Parameters, Assigns, Always, Instances, ModuleDeclaration}
+use Rattle.std.proofs.Common.{◌≡◌, ℕ, zero, suc, ◌+◌, ◌≤◌, ◌<◌, max, List, [], ◌∷◌, length, refl, sym, ◌∙◌, arith, Bool, true, false, not, ◌||◌, ◌&&◌, Option, Some, None, IsNone, ◌⊎◌, inl, inr}
+use Rattle.std.specs.List.{AllByRecursion, list_all}
+use Rattle.std.specs.Option.{is_some}
+use Rattle.rr_syntax.specs.declared.tree.Dir.{Dir}
+use Rattle.rr_syntax.specs.declared.tree.Dir.TheVariants as dir
+use Rattle.rr_syntax.specs.Tree.{Tree, Trees, End, More, Identifier, Range, PortDeclaration, ParamAssignment, ParameterDeclaration, DeclaredName, NetAssignment, EdgeEvent, EventControl, Star, Edges, Levels, NamedConnection, Connections, Positions, Names, ModuleInstance, ModuleItem, Ports, Nets, Variables, Integers, Parameters, Assigns, Always, Initial, Instances, ModuleDeclaration}
 use Rattle.rr_syntax.specs.Expressions.{WellFormed, WellFormedMore, depth, height, is_target}
 use Rattle.rr_syntax.specs.Statements.{WellFormedStatement, depth_statement}
-use Rattle.rr_syntax.specs.Items.{count, greatest, IsTypedOnce, IsHeader, WellFormedRange, WellFormedPort, WellFormedAssignment, WellFormedParameter, WellFormedValue, WellFormedNet, WellFormedPair, WellFormedEvents, WellFormedConnection, WellFormedConnections, WellFormedOverrides, WellFormedInstance, WellFormedItem, WellFormedHead, WellFormedModule, depth_range, depth_port, depth_assignment, depth_parameter, depth_value, depth_net, depth_pair, depth_events, depth_connection, depth_connections, depth_overrides, depth_instance, depth_item, height_item, depth_module, height_module}
+use Rattle.rr_syntax.specs.Items.{count, greatest, IsTypedOnce, IsHeader, WellFormedRange, MayStart, WellFormedPort, WellFormedAssignment, WellFormedParameter, WellFormedValue, WellFormedDeclarator, WellFormedPair, WellFormedEvents, WellFormedConnection, WellFormedConnections, WellFormedOverrides, WellFormedInstance, WellFormedItem, WellFormedHead, WellFormedModule, depth_range, depth_port, depth_assignment, depth_parameter, depth_value, depth_declarator, depth_pair, depth_events, depth_connection, depth_connections, depth_overrides, depth_instance, depth_item, height_item, depth_module, height_module}
 use Rattle.rr_grammar.specs.Formats.{Format, list}
 use Rattle.rr_grammar.specs.Leaves.{identifier, expression, range, AllOption}
-use Rattle.rr_grammar.specs.Declarations.{port, setting, net, pair, parameter, head_parameter}
+use Rattle.rr_grammar.specs.Declarations.{declarator, is_output_reg, has_no_value, port, setting, pair, parameter, head_parameter}
 use Rattle.rr_grammar.specs.Parts.{AllTrees, edge, events}
 use Rattle.rr_grammar.specs.Connections.{optional_closed, connection, connections, overrides, one_instance}
 use Rattle.rr_grammar.specs.ItemForms.{item}
@@ -31,9 +34,64 @@ unfolding WellFormedRange depth_range
 range_good k None w d = tt
 range_good k (Some r) w d = ((w.0, omega (arith, d)), (w.1, omega (arith, d)))
 
+value_good : (k : ℕ) (v : Option Tree) → WellFormedValue v → depth_value v ≤ suc k → AllOption (expression k).Good v
+unfolding WellFormedValue depth_value
+value_good k None w d = tt
+value_good k (Some t) w d = (w, omega (arith, d))
+
+declarator_good : (k : ℕ) (n : DeclaredName) → WellFormedDeclarator n → depth_declarator n ≤ suc k → (declarator k).Good n
+unfolding WellFormedDeclarator depth_declarator
+declarator_good k n w d = (tt, value_good k n.value w d)
+
+-- the names of a port pass the test exactly where each may have the value that it has
+none_good : (v : Option Tree) → IsNone v → not (is_some v) ≡ true
+none_good None w = refl
+none_good (Some t) w = absurd (cc w)
+
+none_back : (v : Option Tree) → not (is_some v) ≡ true → IsNone v
+none_back None e = refl
+none_back (Some t) e = absurd cc
+
+both_true : (a b : Bool) → (a && b) ≡ true → (a ≡ true) × (b ≡ true)
+both_true true b e = (refl, e)
+both_true false b e = absurd cc
+
+values_good : (ns : List DeclaredName) → AllByRecursion (λ n. IsNone n.value) ns → list_all has_no_value ns ≡ true
+values_good [] w = refl
+values_good (n ∷ ns) w = let e = none_good n.value w.0 in let f = values_good ns w.1 in rw (e, f) refl
+
+values_back : (ns : List DeclaredName) → list_all has_no_value ns ≡ true → AllByRecursion (λ n. IsNone n.value) ns
+values_back [] e = tt
+values_back (n ∷ ns) e = let p = both_true (has_no_value n) (list_all has_no_value ns) e in (none_back n.value p.0, values_back ns p.1)
+
+starts_good : (d : Dir) (ns : List DeclaredName) → AllByRecursion (MayStart d) ns → (is_output_reg d || list_all has_no_value ns) ≡ true
+unfolding MayStart
+starts_good dir.OutputReg ns w = refl
+starts_good dir.Input ns w = values_good ns w
+starts_good dir.InputWire ns w = values_good ns w
+starts_good dir.Output ns w = values_good ns w
+starts_good dir.OutputWire ns w = values_good ns w
+
+pub starts_back : (d : Dir) (ns : List DeclaredName) → (is_output_reg d || list_all has_no_value ns) ≡ true → AllByRecursion (MayStart d) ns
+unfolding MayStart
+starts_back dir.OutputReg ns e = every (λ n. Unit {0}) (λ n. tt) ns
+starts_back dir.Input ns e = values_back ns e
+starts_back dir.InputWire ns e = values_back ns e
+starts_back dir.Output ns e = values_back ns e
+starts_back dir.OutputWire ns e = values_back ns e
+
 port_good : (k : ℕ) (p : PortDeclaration) → WellFormedPort p → depth_port p ≤ suc k → (port k).Good p
 unfolding WellFormedPort depth_port
-port_good k p w d = (tt, ((tt, range_good k p.range w.0 d), names_good p.names w.1))
+port_good k p w d = (
+  (
+    tt,
+    (
+      (tt, range_good k p.range w.0 (omega (arith, d))),
+      (w.1, all_by WellFormedDeclarator (declarator k).Good depth_declarator (suc k) (declarator_good k) p.names w.2 (omega (arith, d))),
+    ),
+  ),
+  starts_good p.dir p.names w.3,
+)
 
 setting_good : (k : ℕ) (a : ParamAssignment) → WellFormedAssignment a → depth_assignment a ≤ suc k → (setting k).Good a
 unfolding WellFormedAssignment depth_assignment
@@ -51,15 +109,6 @@ no_local false h = refl
 head_good : (k : ℕ) (p : ParameterDeclaration) → WellFormedHead p → depth_parameter p ≤ suc k → (head_parameter k).Good p
 unfolding WellFormedHead
 head_good k p w d = (parameter_good k p w.1 d, no_local p.local w.0)
-
-value_good : (k : ℕ) (v : Option Tree) → WellFormedValue v → depth_value v ≤ suc k → AllOption (expression k).Good v
-unfolding WellFormedValue depth_value
-value_good k None w d = tt
-value_good k (Some t) w d = (w, omega (arith, d))
-
-net_good : (k : ℕ) (n : NetIdentifier) → WellFormedNet n → depth_net n ≤ suc k → (net k).Good n
-unfolding WellFormedNet depth_net
-net_good k n w d = (tt, value_good k n.value w d)
 
 pair_good : (k : ℕ) (p : NetAssignment) → WellFormedPair p → depth_pair p ≤ suc k → (pair k).Good p
 unfolding WellFormedPair depth_pair
@@ -104,13 +153,14 @@ instance_good k i w d = (tt, connections_good k i.connections w d)
 pub item_good : (k : ℕ) (i : ModuleItem) → WellFormedItem i → depth_item i ≤ suc k → (item k).Good i
 unfolding WellFormedItem depth_item
 item_good k (Ports p) w d = inl (port_good k p w d)
-item_good k (Nets s r ns) w d = inr (inl ((tt, range_good k r w.0 (omega (arith, d))), (w.1, all_by WellFormedNet (net k).Good depth_net (suc k) (net_good k) ns w.2 (omega (arith, d)))))
-item_good k (Variables s r ns) w d = inr (inr (inl ((tt, range_good k r w.0 d), names_good ns w.1)))
+item_good k (Nets s r ns) w d = inr (inl ((tt, range_good k r w.0 (omega (arith, d))), (w.1, all_by WellFormedDeclarator (declarator k).Good depth_declarator (suc k) (declarator_good k) ns w.2 (omega (arith, d)))))
+item_good k (Variables s r ns) w d = inr (inr (inl ((tt, range_good k r w.0 (omega (arith, d))), (w.1, all_by WellFormedDeclarator (declarator k).Good depth_declarator (suc k) (declarator_good k) ns w.2 (omega (arith, d))))))
 item_good k (Integers ns) w d = inr (inr (inr (inl (names_good ns w))))
 item_good k (Parameters p) w d = inr (inr (inr (inr (inl (parameter_good k p w d)))))
 item_good k (Assigns ps) w d = inr (inr (inr (inr (inr (inl (w.0, all_by WellFormedPair (pair k).Good depth_pair (suc k) (pair_good k) ps w.1 d))))))
 item_good k (Always e s n) w d = inr (inr (inr (inr (inr (inr (inl (tt, (events_good k e w.0 (omega (arith, d)), (w.1, omega (arith, d))))))))))
-item_good k (Instances m n o is) w d = inr (inr (inr (inr (inr (inr (inr (tt, (overrides_good k o w.0 (omega (arith, d)), (w.1, all_by WellFormedInstance (one_instance k).Good depth_instance (suc k) (instance_good k) is w.2 (omega (arith, d)))))))))))
+item_good k (Initial s n) w d = inr (inr (inr (inr (inr (inr (inr (inl (tt, ((w.1, omega (arith, d)), w.0)))))))))
+item_good k (Instances m n o is) w d = inr (inr (inr (inr (inr (inr (inr (inr (tt, (overrides_good k o w.0 (omega (arith, d)), (w.1, all_by WellFormedInstance (one_instance k).Good depth_instance (suc k) (instance_good k) is w.2 (omega (arith, d))))))))))))
 
 heads_good : (k : ℕ) (ps : List ParameterDeclaration) → AllByRecursion WellFormedHead ps → greatest depth_parameter ps ≤ suc k → (heads k).Good ps
 heads_good k [] w d = inr refl

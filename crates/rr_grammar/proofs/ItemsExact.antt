@@ -3,23 +3,25 @@ use Rattle.std.proofs.Common.{◌≡◌, ℕ, zero, suc, ◌+◌, ◌≤◌, ◌
 use Rattle.std.proofs.lemmas.Bool.Decides.{Decides-eqb}
 use Rattle.rr_syntax.specs.declared.tree.Dir.{Dir}
 use Rattle.rr_syntax.specs.declared.tree.Dir.TheVariants as dir
-use Rattle.rr_syntax.specs.Words.{Word, Named, Marked, Reserved, keyword_always, keyword_assign, keyword_else, keyword_endmodule, keyword_input, keyword_integer, keyword_localparam, keyword_output, keyword_parameter, keyword_reg, keyword_signed, keyword_wire, mark_at, mark_comma, mark_equals, mark_hash, mark_open_bracket, mark_semicolon}
-use Rattle.rr_syntax.specs.Tree.{Tree, Identifier, Range, PortDeclaration, ParameterDeclaration, NetIdentifier, NetAssignment, EventControl, Connections, ModuleInstance, ModuleItem, Ports, Nets, Variables, Integers, Parameters, Assigns, Always, Instances, Statement, bare_identifier, bare_item}
+use Rattle.rr_syntax.specs.Words.{Word, Named, Marked, Reserved, keyword_always, keyword_assign, keyword_else, keyword_endmodule, keyword_initial, keyword_input, keyword_integer, keyword_localparam, keyword_output, keyword_parameter, keyword_reg, keyword_signed, keyword_wire, mark_at, mark_comma, mark_hash, mark_open_bracket, mark_semicolon}
+use Rattle.rr_syntax.specs.Tree.{Tree, Identifier, Range, PortDeclaration, ParameterDeclaration, DeclaredName, NetAssignment, EventControl, Connections, ModuleInstance, ModuleItem, Ports, Nets, Variables, Integers, Parameters, Assigns, Always, Initial, Instances, Statement, bare_identifier, bare_item}
 use Rattle.rr_syntax.specs.Expressions.{infix_level}
-use Rattle.rr_syntax.specs.Items.{spell_item, spell_type, spell_dir, spell_port, spell_parameter, spell_identifier, spell_net, spell_instance, spell_separated, spell_each, spell_value, spell_connections}
+use Rattle.rr_syntax.specs.Statements.{is_initial}
+use Rattle.rr_syntax.specs.Items.{spell_item, spell_type, spell_dir, spell_port, spell_parameter, spell_identifier, spell_declarator, spell_instance, spell_separated, spell_each, spell_connections}
+use Rattle.rr_syntax.proofs.BareStatements.{is_initial-bare}
 use Rattle.rr_parse_expr.specs.Reading.{Found, mapped, chain, mark, rest, no_mark, expect}
 use Rattle.rr_parse_stmt.specs.Reading.{keyword, no_word, name}
 use Rattle.rr_parse_stmt.proofs.Complete.{reads_statement}
 use Rattle.rr_parse_stmt.proofs.Sound.{FitsStatement, statement_sound}
-use Rattle.rr_grammar.specs.Formats.{Format, IsExact, IsImage, both, after_mark, after_word, before_mark, position, imaged, list, choose}
+use Rattle.rr_grammar.specs.Formats.{Format, IsExact, IsImage, both, after_mark, after_word, before_mark, position, guarded, imaged, list, choose}
 use Rattle.rr_grammar.specs.Leaves.{identifier, Ends, NoType, typed}
-use Rattle.rr_grammar.specs.Declarations.{port, net, pair, parameter}
+use Rattle.rr_grammar.specs.Declarations.{port, declarator, pair, parameter}
 use Rattle.rr_grammar.specs.Parts.{events}
 use Rattle.rr_grammar.specs.Connections.{overrides, one_instance}
-use Rattle.rr_grammar.specs.ItemForms.{NoElse, statement_of, words_of_ports, to_ports, Good_ports, ports_item, words_of_nets, to_nets, Good_nets, nets_item, words_of_variables, to_variables, Good_variables, variables_item, words_of_integers, to_integers, Good_integers, integers_item, words_of_parameters, to_parameters, Good_parameters, parameters_item, words_of_assigns, to_assigns, Good_assigns, assigns_item, words_of_always, to_always, Good_always, always_item, words_of_instances, to_instances, Good_instances, instances_item, begins_ports, front_ports, from_ports, begins_nets, front_nets, from_nets, begins_variables, front_variables, from_variables, begins_integers, front_integers, from_integers, begins_parameters, front_parameters, from_parameters, begins_assigns, front_assigns, from_assigns, begins_always, front_always, from_always, item}
-use Rattle.rr_grammar.proofs.Exacts.{both_exact, after_mark_exact, after_word_exact, before_mark_exact, position_exact, list_exact, imaged_exact, choose_exact, Tells, tells_choose}
+use Rattle.rr_grammar.specs.ItemForms.{NoElse, statement_of, words_of_ports, to_ports, Good_ports, ports_item, words_of_nets, to_nets, Good_nets, nets_item, words_of_variables, to_variables, Good_variables, variables_item, words_of_integers, to_integers, Good_integers, integers_item, words_of_parameters, to_parameters, Good_parameters, parameters_item, words_of_assigns, to_assigns, Good_assigns, assigns_item, words_of_always, to_always, Good_always, always_item, words_of_initial, to_initial, Good_initial, initial_item, words_of_instances, to_instances, Good_instances, instances_item, begins_ports, front_ports, from_ports, begins_nets, front_nets, from_nets, begins_variables, front_variables, from_variables, begins_integers, front_integers, from_integers, begins_parameters, front_parameters, from_parameters, begins_assigns, front_assigns, from_assigns, begins_always, front_always, from_always, begins_initial, front_initial, from_initial, item}
+use Rattle.rr_grammar.proofs.Exacts.{both_exact, after_mark_exact, after_word_exact, before_mark_exact, position_exact, list_exact, guarded_exact, imaged_exact, choose_exact, Tells, tells_choose}
 use Rattle.rr_grammar.proofs.LeavesExact.{identifier_exact, typed_exact, ends_at}
-use Rattle.rr_grammar.proofs.DeclarationsExact.{OpensNamed, names_open, named_word, named_mark, no_keyword, no_mark_at, comma_ends, port_exact, net_exact, pair_exact, parameter_exact}
+use Rattle.rr_grammar.proofs.DeclarationsExact.{OpensNamed, names_open, named_word, named_mark, no_keyword, no_mark_at, comma_ends, not_equals, declarators_exact, port_exact, pair_exact, parameter_exact}
 use Rattle.rr_grammar.proofs.PartsExact.{events_exact}
 use Rattle.rr_grammar.proofs.ConnectionsExact.{overrides_exact, instance_exact}
 
@@ -42,23 +44,19 @@ level-semicolon = refl
 semicolon_ends : (left : List Word) → Ends (Marked mark_semicolon ∷ left)
 semicolon_ends left = ends_at mark_semicolon left level-semicolon refl
 
-not_equals : (m : ℕ) (left : List Word) → (m ≡ mark_equals → ⊥) → mark (Marked m ∷ left) ≡ mark_equals → ⊥
-unfolding mark
-not_equals m left h e = h e
-
 no_type : (ws : List Word) → OpensNamed ws → NoType ws
 no_type ws o = (no_keyword ws keyword_signed (named_word ws o) (omega arith), no_mark_at ws mark_open_bracket (named_mark ws o) (omega arith))
 
 opens_behind : (xs ys : List Word) → OpensNamed xs → OpensNamed (xs ++ ys)
 opens_behind xs ys o = (o.0, o.1 ++ ys, ap (λ (us : List Word). us ++ ys) o.2)
 
-identifiers_open : (ns : List Identifier) → 0 < length ns → (left : List Word) → OpensNamed ((spell_separated spell_identifier ns ++ (Marked mark_semicolon ∷ [])) ++ left)
-identifiers_open ns h left = opens_behind (spell_separated spell_identifier ns ++ (Marked mark_semicolon ∷ [])) left (names_open ns h (Marked mark_semicolon ∷ []))
+names_before : (ns : List DeclaredName) → 0 < length ns → (left : List Word) → NoType ((spell_separated spell_declarator ns ++ (Marked mark_semicolon ∷ [])) ++ left)
+names_before ns h left =
+    let us : List Word = spell_separated spell_declarator ns ++ (Marked mark_semicolon ∷ []) in
+    no_type (us ++ left) (opens_behind us left (names_open ns h (Marked mark_semicolon ∷ [])))
 
-nets_open : (ns : List NetIdentifier) → 0 < length ns → (left : List Word) → OpensNamed ((spell_separated spell_net ns ++ (Marked mark_semicolon ∷ [])) ++ left)
-unfolding spell_separated spell_net
-nets_open [] h left = absurd (omega arith)
-nets_open (n ∷ ns) h left = (n.text, ((spell_value n.value ++ spell_each spell_net ns) ++ (Marked mark_semicolon ∷ [])) ++ left, refl)
+names_end : (k : ℕ) (left : List Word) → (list (declarator k)).Before (Marked mark_semicolon ∷ left)
+names_end k left = ((semicolon_ends left, not_equals mark_semicolon left (λ e. absurd (omega (arith, e)))), no_comma (declarator k).read left)
 
 instances_open : (is : List ModuleInstance) → 0 < length is → (left : List Word) → OpensNamed ((spell_separated spell_instance is ++ (Marked mark_semicolon ∷ [])) ++ left)
 unfolding spell_separated spell_instance
@@ -68,7 +66,7 @@ instances_open (i ∷ is) h left = (i.text, ((spell_connections i.connections ++
 -- ---- the words of each form
 
 words_of_ports_exact : (k : ℕ) → IsExact (words_of_ports k)
-words_of_ports_exact k = before_mark_exact (port k) (port_exact k) mark_semicolon (omega arith) (λ left. (tt, no_comma identifier.read left))
+words_of_ports_exact k = before_mark_exact (port k) (port_exact k) mark_semicolon (omega arith) (names_end k)
 
 ports_from : (P : PortDeclaration → Type 0) (i : ModuleItem) → Good_ports P i → PortDeclaration
 ports_from P (Ports p) w = p
@@ -92,18 +90,18 @@ ports_exact : (k : ℕ) → IsExact (ports_item k)
 ports_exact k = imaged_exact (words_of_ports k) (words_of_ports_exact k) to_ports spell_item bare_item (Good_ports (words_of_ports k).Good) (ports_image k)
 
 words_of_nets_exact : (k : ℕ) → IsExact (words_of_nets k)
-words_of_nets_exact k = after_word_exact (both (typed k) (before_mark (list (net k)) mark_semicolon)) (both_exact (typed k) (before_mark (list (net k)) mark_semicolon) (typed_exact k) (before_mark_exact (list (net k)) (list_exact (net k) (net_exact k) (λ left. (comma_ends left, not_equals mark_comma left (λ e. absurd (omega (arith, e)))))) mark_semicolon (omega arith) (λ left. ((semicolon_ends left, not_equals mark_semicolon left (λ e. absurd (omega (arith, e)))), no_comma (net k).read left))) (λ ns g left v. no_type ((spell_separated spell_net ns ++ (Marked mark_semicolon ∷ [])) ++ left) (nets_open ns g.0 left))) keyword_wire (omega arith)
+words_of_nets_exact k = after_word_exact (both (typed k) (before_mark (list (declarator k)) mark_semicolon)) (both_exact (typed k) (before_mark (list (declarator k)) mark_semicolon) (typed_exact k) (before_mark_exact (list (declarator k)) (declarators_exact k) mark_semicolon (omega arith) (names_end k)) (λ ns g left v. names_before ns g.0 left)) keyword_wire (omega arith)
 
-nets_from : (P : (Bool × Option Range) × List NetIdentifier → Type 0) (i : ModuleItem) → Good_nets P i → (Bool × Option Range) × List NetIdentifier
+nets_from : (P : (Bool × Option Range) × List DeclaredName → Type 0) (i : ModuleItem) → Good_nets P i → (Bool × Option Range) × List DeclaredName
 nets_from P (Nets s r ns) w = ((s, r), ns)
 nets_from P i w = absurd w
 
-nets_good : (P : (Bool × Option Range) × List NetIdentifier → Type 0) (i : ModuleItem) (w : Good_nets P i) → P (nets_from P i w)
+nets_good : (P : (Bool × Option Range) × List DeclaredName → Type 0) (i : ModuleItem) (w : Good_nets P i) → P (nets_from P i w)
 unfolding nets_from
 nets_good P (Nets s r ns) w = w
 nets_good P i w = absurd w
 
-nets_is : (P : (Bool × Option Range) × List NetIdentifier → Type 0) (i : ModuleItem) (w : Good_nets P i) → to_nets (nets_from P i w) ≡ i
+nets_is : (P : (Bool × Option Range) × List DeclaredName → Type 0) (i : ModuleItem) (w : Good_nets P i) → to_nets (nets_from P i w) ≡ i
 unfolding nets_from
 nets_is P (Nets s r ns) w = refl
 nets_is P i w = absurd w
@@ -116,18 +114,18 @@ nets_exact : (k : ℕ) → IsExact (nets_item k)
 nets_exact k = imaged_exact (words_of_nets k) (words_of_nets_exact k) to_nets spell_item bare_item (Good_nets (words_of_nets k).Good) (nets_image k)
 
 words_of_variables_exact : (k : ℕ) → IsExact (words_of_variables k)
-words_of_variables_exact k = after_word_exact (both (typed k) (before_mark (list identifier) mark_semicolon)) (both_exact (typed k) (before_mark (list identifier) mark_semicolon) (typed_exact k) (before_mark_exact (list identifier) (list_exact identifier identifier_exact (λ left. tt)) mark_semicolon (omega arith) (λ left. (tt, no_comma identifier.read left))) (λ ns g left v. no_type ((spell_separated spell_identifier ns ++ (Marked mark_semicolon ∷ [])) ++ left) (identifiers_open ns g.0 left))) keyword_reg (omega arith)
+words_of_variables_exact k = after_word_exact (both (typed k) (before_mark (list (declarator k)) mark_semicolon)) (both_exact (typed k) (before_mark (list (declarator k)) mark_semicolon) (typed_exact k) (before_mark_exact (list (declarator k)) (declarators_exact k) mark_semicolon (omega arith) (names_end k)) (λ ns g left v. names_before ns g.0 left)) keyword_reg (omega arith)
 
-variables_from : (P : (Bool × Option Range) × List Identifier → Type 0) (i : ModuleItem) → Good_variables P i → (Bool × Option Range) × List Identifier
+variables_from : (P : (Bool × Option Range) × List DeclaredName → Type 0) (i : ModuleItem) → Good_variables P i → (Bool × Option Range) × List DeclaredName
 variables_from P (Variables s r ns) w = ((s, r), ns)
 variables_from P i w = absurd w
 
-variables_good : (P : (Bool × Option Range) × List Identifier → Type 0) (i : ModuleItem) (w : Good_variables P i) → P (variables_from P i w)
+variables_good : (P : (Bool × Option Range) × List DeclaredName → Type 0) (i : ModuleItem) (w : Good_variables P i) → P (variables_from P i w)
 unfolding variables_from
 variables_good P (Variables s r ns) w = w
 variables_good P i w = absurd w
 
-variables_is : (P : (Bool × Option Range) × List Identifier → Type 0) (i : ModuleItem) (w : Good_variables P i) → to_variables (variables_from P i w) ≡ i
+variables_is : (P : (Bool × Option Range) × List DeclaredName → Type 0) (i : ModuleItem) (w : Good_variables P i) → to_variables (variables_from P i w) ≡ i
 unfolding variables_from
 variables_is P (Variables s r ns) w = refl
 variables_is P i w = absurd w
@@ -235,6 +233,30 @@ always_image k = record { from = always_from (words_of_always k).Good; from_good
 always_exact : (k : ℕ) → IsExact (always_item k)
 always_exact k = imaged_exact (words_of_always k) (words_of_always_exact k) to_always spell_item bare_item (Good_always (words_of_always k).Good) (always_image k)
 
+words_of_initial_exact : (k : ℕ) → IsExact (words_of_initial k)
+words_of_initial_exact k = both_exact position (after_word keyword_initial (guarded (statement_of k) is_initial)) position_exact (after_word_exact (guarded (statement_of k) is_initial) (guarded_exact (statement_of k) (statement_of_exact k) is_initial is_initial-bare) keyword_initial (omega arith)) (λ x g left v. tt)
+
+initial_from : (P : ℕ × Statement → Type 0) (i : ModuleItem) → Good_initial P i → ℕ × Statement
+initial_from P (Initial s n) w = (n, s)
+initial_from P i w = absurd w
+
+initial_good : (P : ℕ × Statement → Type 0) (i : ModuleItem) (w : Good_initial P i) → P (initial_from P i w)
+unfolding initial_from
+initial_good P (Initial s n) w = w
+initial_good P i w = absurd w
+
+initial_is : (P : ℕ × Statement → Type 0) (i : ModuleItem) (w : Good_initial P i) → to_initial (initial_from P i w) ≡ i
+unfolding initial_from
+initial_is P (Initial s n) w = refl
+initial_is P i w = absurd w
+
+initial_image : (k : ℕ) → IsImage (words_of_initial k) to_initial spell_item bare_item (Good_initial (words_of_initial k).Good)
+unfolding spell_item bare_item
+initial_image k = record { from = initial_from (words_of_initial k).Good; from_good = initial_good (words_of_initial k).Good; from_is = initial_is (words_of_initial k).Good; good = λ a w. w; spelled = λ a w. refl; bared = λ a. refl }
+
+initial_exact : (k : ℕ) → IsExact (initial_item k)
+initial_exact k = imaged_exact (words_of_initial k) (words_of_initial_exact k) to_initial spell_item bare_item (Good_initial (words_of_initial k).Good) (initial_image k)
+
 words_of_instances_exact : (k : ℕ) → IsExact (words_of_instances k)
 words_of_instances_exact k = both_exact identifier (both (overrides k) (before_mark (list (one_instance k)) mark_semicolon)) identifier_exact (both_exact (overrides k) (before_mark (list (one_instance k)) mark_semicolon) (overrides_exact k) (before_mark_exact (list (one_instance k)) (list_exact (one_instance k) (instance_exact k) (λ left. (tt, (tt, tt)))) mark_semicolon (omega arith) (λ left. ((tt, (tt, tt)), no_comma (one_instance k).read left))) (λ is g left v. ((tt, (tt, tt)), no_mark_at ((spell_separated spell_instance is ++ (Marked mark_semicolon ∷ [])) ++ left) mark_hash (named_mark ((spell_separated spell_instance is ++ (Marked mark_semicolon ∷ [])) ++ left) (instances_open is g.0 left)) (omega arith)))) (λ x g left v. tt)
 
@@ -272,9 +294,9 @@ dir_front dir.OutputReg left = inr refl
 ports_word : (P : PortDeclaration → Type 0) (i : ModuleItem) → Good_ports P i → (left : List Word) → (keyword (spell_item i ++ left) ≡ keyword_input) ⊎ (keyword (spell_item i ++ left) ≡ keyword_output)
 unfolding spell_item spell_port
 ports_word P (Ports p) w left =
-    let e : ((spell_dir p.dir ++ (spell_type p.signed p.range ++ spell_separated spell_identifier p.names)) ++ (Marked mark_semicolon ∷ [])) ++ left ≡ spell_dir p.dir ++ (((spell_type p.signed p.range ++ spell_separated spell_identifier p.names) ++ (Marked mark_semicolon ∷ [])) ++ left) =
-    ap (λ (us : List Word). us ++ left) (append_assoc (spell_dir p.dir) (spell_type p.signed p.range ++ spell_separated spell_identifier p.names) (Marked mark_semicolon ∷ [])) ∙ append_assoc (spell_dir p.dir) ((spell_type p.signed p.range ++ spell_separated spell_identifier p.names) ++ (Marked mark_semicolon ∷ [])) left in
-    elim (dir_front p.dir (((spell_type p.signed p.range ++ spell_separated spell_identifier p.names) ++ (Marked mark_semicolon ∷ [])) ++ left)) [ inl h ↦ inl (ap keyword e ∙ h) | inr h ↦ inr (ap keyword e ∙ h) ]
+    let e : ((spell_dir p.dir ++ (spell_type p.signed p.range ++ spell_separated spell_declarator p.names)) ++ (Marked mark_semicolon ∷ [])) ++ left ≡ spell_dir p.dir ++ (((spell_type p.signed p.range ++ spell_separated spell_declarator p.names) ++ (Marked mark_semicolon ∷ [])) ++ left) =
+    ap (λ (us : List Word). us ++ left) (append_assoc (spell_dir p.dir) (spell_type p.signed p.range ++ spell_separated spell_declarator p.names) (Marked mark_semicolon ∷ [])) ∙ append_assoc (spell_dir p.dir) ((spell_type p.signed p.range ++ spell_separated spell_declarator p.names) ++ (Marked mark_semicolon ∷ [])) left in
+    elim (dir_front p.dir (((spell_type p.signed p.range ++ spell_separated spell_declarator p.names) ++ (Marked mark_semicolon ∷ [])) ++ left)) [ inl h ↦ inl (ap keyword e ∙ h) | inr h ↦ inr (ap keyword e ∙ h) ]
 ports_word P i w left = absurd w
 
 local_word : (b : Bool) → (cond b keyword_localparam keyword_parameter ≡ keyword_localparam) ⊎ (cond b keyword_localparam keyword_parameter ≡ keyword_parameter)
@@ -289,7 +311,7 @@ parameters_word P i w left = absurd w
 tells_ports : (k : ℕ) (t : ℕ → Bool) (b : Bool) → t keyword_input ≡ b → t keyword_output ≡ b → Tells (λ ws. t (keyword ws)) (ports_item k) b
 tells_ports k t b g h = record { at_front = λ a w left v. elim (ports_word (words_of_ports k).Good a w left) [ inl e ↦ ap t e ∙ g | inr e ↦ ap t e ∙ h ] }
 
-nets_word : (P : (Bool × Option Range) × List NetIdentifier → Type 0) (i : ModuleItem) → Good_nets P i → (left : List Word) → keyword (spell_item i ++ left) ≡ keyword_wire
+nets_word : (P : (Bool × Option Range) × List DeclaredName → Type 0) (i : ModuleItem) → Good_nets P i → (left : List Word) → keyword (spell_item i ++ left) ≡ keyword_wire
 unfolding spell_item keyword
 nets_word P (Nets s r ns) w left = refl
 nets_word P i w left = absurd w
@@ -297,7 +319,7 @@ nets_word P i w left = absurd w
 tells_nets : (k : ℕ) (t : ℕ → Bool) (b : Bool) → t keyword_wire ≡ b → Tells (λ ws. t (keyword ws)) (nets_item k) b
 tells_nets k t b h = record { at_front = λ a w left v. ap t (nets_word (words_of_nets k).Good a w left) ∙ h }
 
-variables_word : (P : (Bool × Option Range) × List Identifier → Type 0) (i : ModuleItem) → Good_variables P i → (left : List Word) → keyword (spell_item i ++ left) ≡ keyword_reg
+variables_word : (P : (Bool × Option Range) × List DeclaredName → Type 0) (i : ModuleItem) → Good_variables P i → (left : List Word) → keyword (spell_item i ++ left) ≡ keyword_reg
 unfolding spell_item keyword
 variables_word P (Variables s r ns) w left = refl
 variables_word P i w left = absurd w
@@ -332,6 +354,14 @@ always_word P i w left = absurd w
 tells_always : (k : ℕ) (t : ℕ → Bool) (b : Bool) → t keyword_always ≡ b → Tells (λ ws. t (keyword ws)) (always_item k) b
 tells_always k t b h = record { at_front = λ a w left v. ap t (always_word (words_of_always k).Good a w left) ∙ h }
 
+initial_word : (P : ℕ × Statement → Type 0) (i : ModuleItem) → Good_initial P i → (left : List Word) → keyword (spell_item i ++ left) ≡ keyword_initial
+unfolding spell_item keyword
+initial_word P (Initial s n) w left = refl
+initial_word P i w left = absurd w
+
+tells_initial : (k : ℕ) (t : ℕ → Bool) (b : Bool) → t keyword_initial ≡ b → Tells (λ ws. t (keyword ws)) (initial_item k) b
+tells_initial k t b h = record { at_front = λ a w left v. ap t (initial_word (words_of_initial k).Good a w left) ∙ h }
+
 instances_word : (P : Identifier × (Option Connections × List ModuleInstance) → Type 0) (i : ModuleItem) → Good_instances P i → (left : List Word) → keyword (spell_item i ++ left) ≡ no_word
 unfolding spell_item keyword
 instances_word P (Instances m n o is) w left = refl
@@ -340,39 +370,43 @@ instances_word P i w left = absurd w
 tells_instances : (k : ℕ) (t : ℕ → Bool) (b : Bool) → t no_word ≡ b → Tells (λ ws. t (keyword ws)) (instances_item k) b
 tells_instances k t b h = record { at_front = λ a w left v. ap t (instances_word (words_of_instances k).Good a w left) ∙ h }
 
+from_initial_exact : (k : ℕ) → IsExact (from_initial k)
+from_initial_exact k = choose_exact front_initial (initial_item k) (instances_item k) (initial_exact k) (instances_exact k) (λ a. refl) (λ a. refl) (tells_initial k begins_initial true refl)
+    (tells_instances k begins_initial false refl)
+
 from_always_exact : (k : ℕ) → IsExact (from_always k)
-from_always_exact k = choose_exact front_always (always_item k) (instances_item k) (always_exact k) (instances_exact k) (λ a. refl) (λ a. refl) (tells_always k begins_always true refl)
-    (tells_instances k begins_always false refl)
+from_always_exact k = choose_exact front_always (always_item k) (from_initial k) (always_exact k) (from_initial_exact k) (λ a. refl) (λ a. refl) (tells_always k begins_always true refl)
+    (tells_choose front_always front_initial (initial_item k) (instances_item k) false (λ a. refl) (tells_initial k begins_always false refl) (tells_instances k begins_always false refl))
 
 from_assigns_exact : (k : ℕ) → IsExact (from_assigns k)
 from_assigns_exact k = choose_exact front_assigns (assigns_item k) (from_always k) (assigns_exact k) (from_always_exact k) (λ a. refl) (λ a. refl) (tells_assigns k begins_assigns true refl)
-    (tells_choose front_assigns front_always (always_item k) (instances_item k) false (λ a. refl) (tells_always k begins_assigns false refl) (tells_instances k begins_assigns false refl))
+    (tells_choose front_assigns front_always (always_item k) (from_initial k) false (λ a. refl) (tells_always k begins_assigns false refl) (tells_choose front_assigns front_initial (initial_item k) (instances_item k) false (λ a. refl) (tells_initial k begins_assigns false refl) (tells_instances k begins_assigns false refl)))
 
 from_parameters_exact : (k : ℕ) → IsExact (from_parameters k)
 from_parameters_exact k = choose_exact front_parameters (parameters_item k) (from_assigns k) (parameters_exact k) (from_assigns_exact k) (λ a. refl) (λ a. refl) (tells_parameters k begins_parameters true refl refl)
-    (tells_choose front_parameters front_assigns (assigns_item k) (from_always k) false (λ a. refl) (tells_assigns k begins_parameters false refl) (tells_choose front_parameters front_always (always_item k) (instances_item k) false (λ a. refl) (tells_always k begins_parameters false refl) (tells_instances k begins_parameters false refl)))
+    (tells_choose front_parameters front_assigns (assigns_item k) (from_always k) false (λ a. refl) (tells_assigns k begins_parameters false refl) (tells_choose front_parameters front_always (always_item k) (from_initial k) false (λ a. refl) (tells_always k begins_parameters false refl) (tells_choose front_parameters front_initial (initial_item k) (instances_item k) false (λ a. refl) (tells_initial k begins_parameters false refl) (tells_instances k begins_parameters false refl))))
 
 from_integers_exact : (k : ℕ) → IsExact (from_integers k)
 from_integers_exact k = choose_exact front_integers (integers_item k) (from_parameters k) (integers_exact k) (from_parameters_exact k) (λ a. refl) (λ a. refl) (tells_integers k begins_integers true refl)
-    (tells_choose front_integers front_parameters (parameters_item k) (from_assigns k) false (λ a. refl) (tells_parameters k begins_integers false refl refl) (tells_choose front_integers front_assigns (assigns_item k) (from_always k) false (λ a. refl) (tells_assigns k begins_integers false refl) (tells_choose front_integers front_always (always_item k) (instances_item k) false (λ a. refl) (tells_always k begins_integers false refl) (tells_instances k begins_integers false refl))))
+    (tells_choose front_integers front_parameters (parameters_item k) (from_assigns k) false (λ a. refl) (tells_parameters k begins_integers false refl refl) (tells_choose front_integers front_assigns (assigns_item k) (from_always k) false (λ a. refl) (tells_assigns k begins_integers false refl) (tells_choose front_integers front_always (always_item k) (from_initial k) false (λ a. refl) (tells_always k begins_integers false refl) (tells_choose front_integers front_initial (initial_item k) (instances_item k) false (λ a. refl) (tells_initial k begins_integers false refl) (tells_instances k begins_integers false refl)))))
 
 from_variables_exact : (k : ℕ) → IsExact (from_variables k)
 from_variables_exact k = choose_exact front_variables (variables_item k) (from_integers k) (variables_exact k) (from_integers_exact k) (λ a. refl) (λ a. refl) (tells_variables k begins_variables true refl)
-    (tells_choose front_variables front_integers (integers_item k) (from_parameters k) false (λ a. refl) (tells_integers k begins_variables false refl) (tells_choose front_variables front_parameters (parameters_item k) (from_assigns k) false (λ a. refl) (tells_parameters k begins_variables false refl refl) (tells_choose front_variables front_assigns (assigns_item k) (from_always k) false (λ a. refl) (tells_assigns k begins_variables false refl) (tells_choose front_variables front_always (always_item k) (instances_item k) false (λ a. refl) (tells_always k begins_variables false refl) (tells_instances k begins_variables false refl)))))
+    (tells_choose front_variables front_integers (integers_item k) (from_parameters k) false (λ a. refl) (tells_integers k begins_variables false refl) (tells_choose front_variables front_parameters (parameters_item k) (from_assigns k) false (λ a. refl) (tells_parameters k begins_variables false refl refl) (tells_choose front_variables front_assigns (assigns_item k) (from_always k) false (λ a. refl) (tells_assigns k begins_variables false refl) (tells_choose front_variables front_always (always_item k) (from_initial k) false (λ a. refl) (tells_always k begins_variables false refl) (tells_choose front_variables front_initial (initial_item k) (instances_item k) false (λ a. refl) (tells_initial k begins_variables false refl) (tells_instances k begins_variables false refl))))))
 
 from_nets_exact : (k : ℕ) → IsExact (from_nets k)
 from_nets_exact k = choose_exact front_nets (nets_item k) (from_variables k) (nets_exact k) (from_variables_exact k) (λ a. refl) (λ a. refl) (tells_nets k begins_nets true refl)
-    (tells_choose front_nets front_variables (variables_item k) (from_integers k) false (λ a. refl) (tells_variables k begins_nets false refl) (tells_choose front_nets front_integers (integers_item k) (from_parameters k) false (λ a. refl) (tells_integers k begins_nets false refl) (tells_choose front_nets front_parameters (parameters_item k) (from_assigns k) false (λ a. refl) (tells_parameters k begins_nets false refl refl) (tells_choose front_nets front_assigns (assigns_item k) (from_always k) false (λ a. refl) (tells_assigns k begins_nets false refl) (tells_choose front_nets front_always (always_item k) (instances_item k) false (λ a. refl) (tells_always k begins_nets false refl) (tells_instances k begins_nets false refl))))))
+    (tells_choose front_nets front_variables (variables_item k) (from_integers k) false (λ a. refl) (tells_variables k begins_nets false refl) (tells_choose front_nets front_integers (integers_item k) (from_parameters k) false (λ a. refl) (tells_integers k begins_nets false refl) (tells_choose front_nets front_parameters (parameters_item k) (from_assigns k) false (λ a. refl) (tells_parameters k begins_nets false refl refl) (tells_choose front_nets front_assigns (assigns_item k) (from_always k) false (λ a. refl) (tells_assigns k begins_nets false refl) (tells_choose front_nets front_always (always_item k) (from_initial k) false (λ a. refl) (tells_always k begins_nets false refl) (tells_choose front_nets front_initial (initial_item k) (instances_item k) false (λ a. refl) (tells_initial k begins_nets false refl) (tells_instances k begins_nets false refl)))))))
 
 from_ports_exact : (k : ℕ) → IsExact (from_ports k)
 from_ports_exact k = choose_exact front_ports (ports_item k) (from_nets k) (ports_exact k) (from_nets_exact k) (λ a. refl) (λ a. refl) (tells_ports k begins_ports true refl refl)
-    (tells_choose front_ports front_nets (nets_item k) (from_variables k) false (λ a. refl) (tells_nets k begins_ports false refl) (tells_choose front_ports front_variables (variables_item k) (from_integers k) false (λ a. refl) (tells_variables k begins_ports false refl) (tells_choose front_ports front_integers (integers_item k) (from_parameters k) false (λ a. refl) (tells_integers k begins_ports false refl) (tells_choose front_ports front_parameters (parameters_item k) (from_assigns k) false (λ a. refl) (tells_parameters k begins_ports false refl refl) (tells_choose front_ports front_assigns (assigns_item k) (from_always k) false (λ a. refl) (tells_assigns k begins_ports false refl) (tells_choose front_ports front_always (always_item k) (instances_item k) false (λ a. refl) (tells_always k begins_ports false refl) (tells_instances k begins_ports false refl)))))))
+    (tells_choose front_ports front_nets (nets_item k) (from_variables k) false (λ a. refl) (tells_nets k begins_ports false refl) (tells_choose front_ports front_variables (variables_item k) (from_integers k) false (λ a. refl) (tells_variables k begins_ports false refl) (tells_choose front_ports front_integers (integers_item k) (from_parameters k) false (λ a. refl) (tells_integers k begins_ports false refl) (tells_choose front_ports front_parameters (parameters_item k) (from_assigns k) false (λ a. refl) (tells_parameters k begins_ports false refl refl) (tells_choose front_ports front_assigns (assigns_item k) (from_always k) false (λ a. refl) (tells_assigns k begins_ports false refl) (tells_choose front_ports front_always (always_item k) (from_initial k) false (λ a. refl) (tells_always k begins_ports false refl) (tells_choose front_ports front_initial (initial_item k) (instances_item k) false (λ a. refl) (tells_initial k begins_ports false refl) (tells_instances k begins_ports false refl))))))))
 
 pub item_exact : (k : ℕ) → IsExact (item k)
 item_exact k = from_ports_exact k
 
 pub item_before : (k : ℕ) (ws : List Word) → NoElse ws → (item k).Before ws
-item_before k ws h = (tt, (tt, (tt, (tt, (tt, (tt, (h, tt)))))))
+item_before k ws h = (tt, (tt, (tt, (tt, (tt, (tt, (h, (h, tt))))))))
 
 no_else : (k : ℕ) → nat_eq k keyword_else ≡ false → (ws : List Word) → keyword ws ≡ k → NoElse ws
 no_else k h ws e f = cc (h, (Decides-eqb k keyword_else).1 (sym e ∙ f))
@@ -385,4 +419,5 @@ item_no_else k a (inr (inr (inr (inl w)))) left = no_else keyword_integer refl (
 item_no_else k a (inr (inr (inr (inr (inl w))))) left = elim (parameters_word (words_of_parameters k).Good a w left) [ inl e ↦ no_else keyword_localparam refl (spell_item a ++ left) e | inr e ↦ no_else keyword_parameter refl (spell_item a ++ left) e ]
 item_no_else k a (inr (inr (inr (inr (inr (inl w)))))) left = no_else keyword_assign refl (spell_item a ++ left) (assigns_word (words_of_assigns k).Good a w left)
 item_no_else k a (inr (inr (inr (inr (inr (inr (inl w))))))) left = no_else keyword_always refl (spell_item a ++ left) (always_word (words_of_always k).Good a w left)
-item_no_else k a (inr (inr (inr (inr (inr (inr (inr w))))))) left = no_else no_word refl (spell_item a ++ left) (instances_word (words_of_instances k).Good a w left)
+item_no_else k a (inr (inr (inr (inr (inr (inr (inr (inl w)))))))) left = no_else keyword_initial refl (spell_item a ++ left) (initial_word (words_of_initial k).Good a w left)
+item_no_else k a (inr (inr (inr (inr (inr (inr (inr (inr w)))))))) left = no_else no_word refl (spell_item a ++ left) (instances_word (words_of_instances k).Good a w left)

@@ -4,20 +4,20 @@ use Rattle.rr_syntax.specs.declared.tree.Dir.{Dir}
 use Rattle.rr_syntax.specs.declared.tree.Dir.TheVariants as dir
 use Rattle.rr_syntax.specs.Words.{Word, Named, Marked, Reserved, keyword_else, keyword_endmodule, keyword_input, keyword_localparam, keyword_module, keyword_output, keyword_parameter, mark_close_parenthesis, mark_comma, mark_hash, mark_open_parenthesis, mark_semicolon}
 use Rattle.rr_syntax.specs.Tree.{Identifier, PortDeclaration, ParameterDeclaration, ModuleItem, ModuleDeclaration, SourceText, bare_header, bare_identifier, bare_parameter, bare_port, bare_item, bare_module}
-use Rattle.rr_syntax.specs.Items.{spell_identifier, spell_dir, spell_type, spell_port, spell_parameter, spell_parameters, spell_ports, spell_item, spell_module, spell_separated, spell_each, spell_all, NumberedParameters}
+use Rattle.rr_syntax.specs.Items.{spell_identifier, spell_dir, spell_type, spell_port, spell_parameter, spell_declarator, spell_parameters, spell_ports, spell_item, spell_module, spell_separated, spell_each, spell_all, NumberedParameters}
 use Rattle.rr_syntax.proofs.Nonempty.{spell_item-some, spell_module-some}
 use Rattle.rr_parse_expr.specs.Reading.{Found, mapped, chain, mark, rest, no_mark, expect}
 use Rattle.rr_parse_expr.proofs.Answered.{not_equal}
 use Rattle.rr_parse_stmt.specs.Reading.{keyword, no_word, name}
 use Rattle.rr_grammar.specs.Formats.{Format, IsExact, IsImage, Anything, both, after_mark, after_word, before_mark, before_word, shaped, respelled, narrowed, imaged, list, repeated, choose, nothing_of}
 use Rattle.rr_grammar.specs.Leaves.{identifier}
-use Rattle.rr_grammar.specs.Declarations.{port, setting, head_parameter}
+use Rattle.rr_grammar.specs.Declarations.{declarator, port, setting, head_parameter}
 use Rattle.rr_grammar.specs.Connections.{front_close}
 use Rattle.rr_grammar.specs.ItemForms.{NoElse, item, begins_ports, front_ports}
 use Rattle.rr_grammar.specs.ModuleForms.{front_hash, NoHash, as_they_are, IsNil, some_heads, no_heads, heads, PortList, ports_words, ports_inside, bare_ports, BothNil, AreGroups, AreNames, to_groups, to_names, empty_ports, group_ports, name_ports, ports_in, front_open, NoOpen, same_ports, with_ports, NoPorts, without_ports, port_list, Parts, to_module, of_module, module_words, one_module, modules, ports_numbered}
 use Rattle.rr_grammar.proofs.Exacts.{both_exact, after_mark_exact, after_word_exact, before_mark_exact, before_word_exact, shaped_exact, respelled_exact, narrowed_exact, imaged_exact, list_exact, list_exact_by, expect_marked, repeated_exact, choose_exact, nothing_exact, Tells, tells_choose}
 use Rattle.rr_grammar.proofs.LeavesExact.{identifier_exact}
-use Rattle.rr_grammar.proofs.DeclarationsExact.{OpensNamed, names_open, named_word, named_mark, no_keyword, no_mark_at, comma_ends, port_exact, head_parameter_exact}
+use Rattle.rr_grammar.proofs.DeclarationsExact.{OpensNamed, named_word, named_mark, no_keyword, no_mark_at, comma_ends, not_equals, port_exact, head_parameter_exact}
 use Rattle.rr_grammar.proofs.PartsExact.{close_ends}
 use Rattle.rr_grammar.proofs.ItemsExact.{dir_front, item_exact, item_before, item_no_else}
 
@@ -43,18 +43,18 @@ comma_stops : (k : ℕ) (p : ParameterDeclaration) (left : List Word) → expect
 unfolding spell_parameter
 comma_stops k p left = expect_comma (setting k).read _ (no_setting k (cond p.local keyword_localparam keyword_parameter) _)
 
-dir_name : (d : Dir) (ws : List Word) → name (spell_dir d ++ ws) ≡ None
-unfolding spell_dir name
-dir_name dir.Input ws = refl
-dir_name dir.InputWire ws = refl
-dir_name dir.Output ws = refl
-dir_name dir.OutputWire ws = refl
-dir_name dir.OutputReg ws = refl
+dir_name : (k : ℕ) (d : Dir) (ws : List Word) → (declarator k).read (spell_dir d ++ ws) ≡ None
+unfolding spell_dir mapped chain name
+dir_name k dir.Input ws = refl
+dir_name k dir.InputWire ws = refl
+dir_name k dir.Output ws = refl
+dir_name k dir.OutputWire ws = refl
+dir_name k dir.OutputReg ws = refl
 
 -- a port declaration begins with a reserved word
-name_stops : (p : PortDeclaration) (left : List Word) → expect mark_comma name (Marked mark_comma ∷ (spell_port p ++ left)) ≡ None
+name_stops : (k : ℕ) (p : PortDeclaration) (left : List Word) → expect mark_comma (declarator k).read (Marked mark_comma ∷ (spell_port p ++ left)) ≡ None
 unfolding spell_port
-name_stops p left = expect_comma name _ (ap name (append_assoc (spell_dir p.dir) (spell_type p.signed p.range ++ spell_separated spell_identifier p.names) left) ∙ dir_name p.dir _)
+name_stops k p left = expect_comma (declarator k).read _ (ap (declarator k).read (append_assoc (spell_dir p.dir) (spell_type p.signed p.range ++ spell_separated spell_declarator p.names) left) ∙ dir_name k p.dir _)
 
 pub heads_words : (k : ℕ) (ps : List ParameterDeclaration) → (list (head_parameter k)).Good ps → spell_parameters ps ≡ Marked mark_hash ∷ (Marked mark_open_parenthesis ∷ (spell_separated spell_parameter ps ++ (Marked mark_close_parenthesis ∷ [])))
 unfolding spell_parameters
@@ -116,7 +116,8 @@ group_is P (Some names) g w = ap (λ (ns : List Identifier). (Some ns, g)) (nil_
 group_exact : (k : ℕ) → IsExact (group_ports k)
 unfolding spell_ports spell_separated rest bare_header
 group_exact k = imaged_exact (before_mark (list (port k)) mark_close_parenthesis)
-    (before_mark_exact (list (port k)) (list_exact_by (port k) (port_exact k) (λ p g left. (tt, name_stops p left))) mark_close_parenthesis (omega arith) (λ left. ((tt, no_comma identifier.read left), no_comma (port k).read left)))
+    (before_mark_exact (list (port k)) (list_exact_by (port k) (port_exact k) (λ p g left. ((comma_ends (spell_port p ++ left), not_equals mark_comma (spell_port p ++ left) (λ e. absurd (omega (arith, e)))), name_stops k p left)))
+    mark_close_parenthesis (omega arith) (λ left. (((close_ends left, not_equals mark_close_parenthesis left (λ e. absurd (omega (arith, e)))), no_comma (declarator k).read left), no_comma (port k).read left)))
     to_groups ports_inside bare_ports (λ x. AreGroups (list (port k)).Good x.0 x.1)
     (record { from = λ b w. b.1; from_good = λ b w. group_from_good (list (port k)).Good b.0 b.1 w; from_is = λ b w. group_is (list (port k)).Good b.0 b.1 w; good = λ a w. (refl, w); spelled = λ a w. refl; bared = λ a. refl })
 
@@ -162,11 +163,11 @@ group_word P q None g w left = absurd w
 group_word P q (Some (n ∷ ns)) g w left = absurd (omega (arith, w.0))
 group_word P q (Some []) [] w left = absurd (omega (arith, q [] w.1))
 group_word P q (Some []) (p ∷ g) w left =
-    let us : List Word = (((spell_type p.signed p.range ++ spell_separated spell_identifier p.names) ++ spell_each spell_port g) ++ (Marked mark_close_parenthesis ∷ [])) ++ left in
-    let e : (((spell_dir p.dir ++ (spell_type p.signed p.range ++ spell_separated spell_identifier p.names)) ++ spell_each spell_port g) ++ (Marked mark_close_parenthesis ∷ [])) ++ left ≡ spell_dir p.dir ++ us =
-    ap (λ (vs : List Word). (vs ++ (Marked mark_close_parenthesis ∷ [])) ++ left) (append_assoc (spell_dir p.dir) (spell_type p.signed p.range ++ spell_separated spell_identifier p.names) (spell_each spell_port g)) ∙
-    ap (λ (vs : List Word). vs ++ left) (append_assoc (spell_dir p.dir) ((spell_type p.signed p.range ++ spell_separated spell_identifier p.names) ++ spell_each spell_port g) (Marked mark_close_parenthesis ∷ [])) ∙
-    append_assoc (spell_dir p.dir) (((spell_type p.signed p.range ++ spell_separated spell_identifier p.names) ++ spell_each spell_port g) ++ (Marked mark_close_parenthesis ∷ [])) left in
+    let us : List Word = (((spell_type p.signed p.range ++ spell_separated spell_declarator p.names) ++ spell_each spell_port g) ++ (Marked mark_close_parenthesis ∷ [])) ++ left in
+    let e : (((spell_dir p.dir ++ (spell_type p.signed p.range ++ spell_separated spell_declarator p.names)) ++ spell_each spell_port g) ++ (Marked mark_close_parenthesis ∷ [])) ++ left ≡ spell_dir p.dir ++ us =
+    ap (λ (vs : List Word). (vs ++ (Marked mark_close_parenthesis ∷ [])) ++ left) (append_assoc (spell_dir p.dir) (spell_type p.signed p.range ++ spell_separated spell_declarator p.names) (spell_each spell_port g)) ∙
+    ap (λ (vs : List Word). vs ++ left) (append_assoc (spell_dir p.dir) ((spell_type p.signed p.range ++ spell_separated spell_declarator p.names) ++ spell_each spell_port g) (Marked mark_close_parenthesis ∷ [])) ∙
+    append_assoc (spell_dir p.dir) (((spell_type p.signed p.range ++ spell_separated spell_declarator p.names) ++ spell_each spell_port g) ++ (Marked mark_close_parenthesis ∷ [])) left in
     (ap mark e ∙ dir_mark p.dir us, ap (λ (vs : List Word). begins_ports (keyword vs)) e ∙ elim (dir_front p.dir us) [ inl h ↦ ap begins_ports h | inr h ↦ ap begins_ports h ])
 
 name_word : (h : Option (List Identifier)) (g : List PortDeclaration) → AreNames (list identifier).Good h g → (left : List Word) → (mark (rest (spell_ports h g) ++ left) ≡ no_mark) × (begins_ports (keyword (rest (spell_ports h g) ++ left)) ≡ false)

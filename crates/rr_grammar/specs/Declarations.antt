@@ -1,23 +1,16 @@
 -- The formats of declarations and continuous assignments, whose expressions have at most the depth k.
-use Rattle.std.specs.Prelude.{ℕ, suc, ◌+◌, ◌≤◌, ◌<◌, ◌≡◌, List, [], ◌∷◌, ◌++◌, length, Bool, true, false, if◌then◌else◌, ◌==◌, cond, not, Option, Some, None}
+use Rattle.std.specs.Prelude.{ℕ, suc, ◌+◌, ◌≤◌, ◌<◌, ◌≡◌, List, [], ◌∷◌, ◌++◌, length, Bool, true, false, if◌then◌else◌, ◌==◌, ◌||◌, cond, not, Option, Some, None}
+use Rattle.std.specs.List.{list_all}
+use Rattle.std.specs.Option.{is_some}
 use Rattle.rr_syntax.specs.declared.tree.Dir.{Dir}
+use Rattle.rr_syntax.specs.declared.tree.Dir.TheVariants as dir
 use Rattle.rr_syntax.specs.Words.{Word, Reserved, keyword_integer, keyword_localparam, keyword_parameter, keyword_signed, mark_open_bracket, mark_equals}
-use Rattle.rr_syntax.specs.Tree.{Tree, Identifier, Range, PortDeclaration, ParamAssignment, ParameterDeclaration, NetIdentifier, NetAssignment, bare_port, bare_assignment, bare_parameter, bare_net, bare_pair}
-use Rattle.rr_syntax.specs.Items.{spell_where, spell_port, spell_assignment, spell_parameter, spell_net, spell_pair, IsTypedOnce, NumberedType, NumberedPort, NumberedAssignment, NumberedParameter, NumberedNet, NumberedPair}
+use Rattle.rr_syntax.specs.Tree.{Tree, Identifier, Range, PortDeclaration, ParamAssignment, ParameterDeclaration, DeclaredName, NetAssignment, bare_port, bare_assignment, bare_parameter, bare_declarator, bare_pair}
+use Rattle.rr_syntax.specs.Items.{spell_where, spell_port, spell_assignment, spell_parameter, spell_declarator, spell_pair, IsTypedOnce, NumberedType, NumberedPort, NumberedAssignment, NumberedParameter, NumberedDeclarator, NumberedPair}
 use Rattle.rr_parse_expr.specs.Reading.{Found, mapped, mark, rest}
 use Rattle.rr_parse_stmt.specs.Reading.{keyword}
 use Rattle.rr_grammar.specs.Formats.{Format, both, after_mark, shaped, respelled, guarded, list}
 use Rattle.rr_grammar.specs.Leaves.{identifier, expression, target_of, where_mark, range, NoType, typed, direction, choice}
-
-abbrev pub to_port : Dir × ((Bool × Option Range) × List Identifier) → PortDeclaration
-to_port x = record { dir = x.0; signed = x.1.0.0; range = x.1.0.1; names = x.1.1 }
-
-abbrev pub of_port : PortDeclaration → Dir × ((Bool × Option Range) × List Identifier)
-of_port p = (p.dir, ((p.signed, p.range), p.names))
-
--- section 12.3.3, annex A.2.1.2
-abbrev pub port : ℕ → Format PortDeclaration
-port k = respelled (shaped (both direction (both (typed k) (list identifier))) to_port of_port) spell_port bare_port NumberedPort
 
 abbrev pub to_setting : Identifier × Tree → ParamAssignment
 to_setting x = record { token = x.0.token; text = x.0.text; value = x.1 }
@@ -29,15 +22,39 @@ of_setting a = (record { token = a.token; text = a.text }, a.value)
 abbrev pub setting : ℕ → Format ParamAssignment
 setting k = respelled (shaped (both identifier (after_mark mark_equals (expression k))) to_setting of_setting) spell_assignment bare_assignment NumberedAssignment
 
-abbrev pub to_net : Identifier × Option Tree → NetIdentifier
-to_net x = record { token = x.0.token; text = x.0.text; value = x.1 }
+abbrev pub to_declarator : Identifier × Option Tree → DeclaredName
+to_declarator x = record { token = x.0.token; text = x.0.text; value = x.1 }
 
-abbrev pub of_net : NetIdentifier → Identifier × Option Tree
-of_net n = (record { token = n.token; text = n.text }, n.value)
+abbrev pub of_declarator : DeclaredName → Identifier × Option Tree
+of_declarator n = (record { token = n.token; text = n.text }, n.value)
 
--- section 6.1.1
-abbrev pub net : ℕ → Format NetIdentifier
-net k = respelled (shaped (both identifier (where_mark mark_equals (expression k))) to_net of_net) spell_net bare_net NumberedNet
+-- a net and what drives it, or a variable and its starting value (sections 6.1.1 and 6.2.1, annex A.2.4)
+abbrev pub declarator : ℕ → Format DeclaredName
+declarator k = respelled (shaped (both identifier (where_mark mark_equals (expression k))) to_declarator of_declarator) spell_declarator bare_declarator NumberedDeclarator
+
+abbrev pub to_port : Dir × ((Bool × Option Range) × List DeclaredName) → PortDeclaration
+to_port x = record { dir = x.0; signed = x.1.0.0; range = x.1.0.1; names = x.1.1 }
+
+abbrev pub of_port : PortDeclaration → Dir × ((Bool × Option Range) × List DeclaredName)
+of_port p = (p.dir, ((p.signed, p.range), p.names))
+
+abbrev pub is_output_reg : Dir → Bool
+is_output_reg dir.Input = false
+is_output_reg dir.InputWire = false
+is_output_reg dir.Output = false
+is_output_reg dir.OutputWire = false
+is_output_reg dir.OutputReg = true
+
+abbrev pub has_no_value : DeclaredName → Bool
+has_no_value n = not (is_some n.value)
+
+-- only ports that are declared `output reg` have starting values (section 12.3.3, annex A.2.3)
+abbrev pub starts_right : PortDeclaration → Bool
+starts_right p = is_output_reg p.dir || list_all has_no_value p.names
+
+-- section 12.3.3, annex A.2.1.2
+abbrev pub port : ℕ → Format PortDeclaration
+port k = guarded (respelled (shaped (both direction (both (typed k) (list (declarator k)))) to_port of_port) spell_port bare_port NumberedPort) starts_right
 
 abbrev pub to_pair : Tree × Tree → NetAssignment
 to_pair x = record { target = x.0; value = x.1 }

@@ -1,15 +1,15 @@
 -- The formats of items, modules and source texts (IEEE 1364-2005 section 12.1, annexes A.1.2 and A.1.4), whose expressions and
 -- statements have at most the depth k.
 use Rattle.std.specs.Prelude.{ℕ, ◌≤◌, ◌<◌, ◌≡◌, List, [], ◌∷◌, ◌++◌, length, Bool, true, false, ◌==◌, ◌||◌, Option, Some, None}
-use Rattle.rr_syntax.specs.Words.{Word, Marked, keyword_always, keyword_assign, keyword_else, keyword_endmodule, keyword_input, keyword_integer, keyword_localparam, keyword_module, keyword_output, keyword_parameter, keyword_reg, keyword_wire, mark_at, mark_close_parenthesis, mark_hash, mark_open_parenthesis, mark_semicolon}
-use Rattle.rr_syntax.specs.Tree.{Tree, Identifier, Range, PortDeclaration, ParameterDeclaration, NetIdentifier, NetAssignment, EventControl, Connections, ModuleInstance, ModuleItem, Ports, Nets, Variables, Integers, Parameters, Assigns, Always, Instances, Statement, ModuleDeclaration, SourceText, bare_statement, bare_item, bare_parameter, bare_module, bare_source}
-use Rattle.rr_syntax.specs.Statements.{spell_statement, depth_statement, WellFormedStatement, NumberedStatement}
+use Rattle.rr_syntax.specs.Words.{Word, Marked, keyword_always, keyword_assign, keyword_else, keyword_endmodule, keyword_initial, keyword_input, keyword_integer, keyword_localparam, keyword_module, keyword_output, keyword_parameter, keyword_reg, keyword_wire, mark_at, mark_close_parenthesis, mark_hash, mark_open_parenthesis, mark_semicolon}
+use Rattle.rr_syntax.specs.Tree.{Tree, Identifier, Range, PortDeclaration, ParameterDeclaration, DeclaredName, NetAssignment, EventControl, Connections, ModuleInstance, ModuleItem, Ports, Nets, Variables, Integers, Parameters, Assigns, Always, Initial, Instances, Statement, ModuleDeclaration, SourceText, bare_statement, bare_item, bare_parameter, bare_module, bare_source}
+use Rattle.rr_syntax.specs.Statements.{spell_statement, is_initial, depth_statement, WellFormedStatement, NumberedStatement}
 use Rattle.rr_syntax.specs.Items.{spell_item, spell_parameters, spell_module, spell_source, NumberedItem}
 use Rattle.rr_parse_expr.specs.Reading.{mark}
 use Rattle.rr_parse_stmt.specs.Reading.{keyword, statement}
-use Rattle.rr_grammar.specs.Formats.{Format, both, after_mark, after_word, before_mark, before_word, position, shaped, respelled, imaged, list, repeated, choose, nothing_of}
+use Rattle.rr_grammar.specs.Formats.{Format, both, after_mark, after_word, before_mark, before_word, position, shaped, respelled, guarded, imaged, list, repeated, choose, nothing_of}
 use Rattle.rr_grammar.specs.Leaves.{identifier, typed}
-use Rattle.rr_grammar.specs.Declarations.{port, net, pair, parameter, head_parameter}
+use Rattle.rr_grammar.specs.Declarations.{port, declarator, pair, parameter, head_parameter}
 use Rattle.rr_grammar.specs.Parts.{events}
 use Rattle.rr_grammar.specs.Connections.{overrides, one_instance}
 
@@ -32,26 +32,26 @@ Good_ports P i = ⊥
 abbrev pub ports_item : ℕ → Format ModuleItem
 ports_item k = imaged (words_of_ports k) to_ports spell_item bare_item (Good_ports (words_of_ports k).Good) NumberedItem
 
-abbrev pub words_of_nets : ℕ → Format ((Bool × Option Range) × List NetIdentifier)
-words_of_nets k = after_word keyword_wire (both (typed k) (before_mark (list (net k)) mark_semicolon))
+abbrev pub words_of_nets : ℕ → Format ((Bool × Option Range) × List DeclaredName)
+words_of_nets k = after_word keyword_wire (both (typed k) (before_mark (list (declarator k)) mark_semicolon))
 
-abbrev pub to_nets : (Bool × Option Range) × List NetIdentifier → ModuleItem
+abbrev pub to_nets : (Bool × Option Range) × List DeclaredName → ModuleItem
 to_nets x = Nets x.0.0 x.0.1 x.1
 
-abbrev pub Good_nets : ((Bool × Option Range) × List NetIdentifier → Type 0) → ModuleItem → Type 0
+abbrev pub Good_nets : ((Bool × Option Range) × List DeclaredName → Type 0) → ModuleItem → Type 0
 Good_nets P (Nets s r ns) = P ((s, r), ns)
 Good_nets P i = ⊥
 
 abbrev pub nets_item : ℕ → Format ModuleItem
 nets_item k = imaged (words_of_nets k) to_nets spell_item bare_item (Good_nets (words_of_nets k).Good) NumberedItem
 
-abbrev pub words_of_variables : ℕ → Format ((Bool × Option Range) × List Identifier)
-words_of_variables k = after_word keyword_reg (both (typed k) (before_mark (list identifier) mark_semicolon))
+abbrev pub words_of_variables : ℕ → Format ((Bool × Option Range) × List DeclaredName)
+words_of_variables k = after_word keyword_reg (both (typed k) (before_mark (list (declarator k)) mark_semicolon))
 
-abbrev pub to_variables : (Bool × Option Range) × List Identifier → ModuleItem
+abbrev pub to_variables : (Bool × Option Range) × List DeclaredName → ModuleItem
 to_variables x = Variables x.0.0 x.0.1 x.1
 
-abbrev pub Good_variables : ((Bool × Option Range) × List Identifier → Type 0) → ModuleItem → Type 0
+abbrev pub Good_variables : ((Bool × Option Range) × List DeclaredName → Type 0) → ModuleItem → Type 0
 Good_variables P (Variables s r ns) = P ((s, r), ns)
 Good_variables P i = ⊥
 
@@ -110,6 +110,20 @@ Good_always P i = ⊥
 abbrev pub always_item : ℕ → Format ModuleItem
 always_item k = imaged (words_of_always k) to_always spell_item bare_item (Good_always (words_of_always k).Good) NumberedItem
 
+-- section 9.9.1
+abbrev pub words_of_initial : ℕ → Format (ℕ × Statement)
+words_of_initial k = both position (after_word keyword_initial (guarded (statement_of k) is_initial))
+
+abbrev pub to_initial : ℕ × Statement → ModuleItem
+to_initial x = Initial x.1 x.0
+
+abbrev pub Good_initial : (ℕ × Statement → Type 0) → ModuleItem → Type 0
+Good_initial P (Initial s n) = P (n, s)
+Good_initial P i = ⊥
+
+abbrev pub initial_item : ℕ → Format ModuleItem
+initial_item k = imaged (words_of_initial k) to_initial spell_item bare_item (Good_initial (words_of_initial k).Good) NumberedItem
+
 abbrev pub words_of_instances : ℕ → Format (Identifier × (Option Connections × List ModuleInstance))
 words_of_instances k = both identifier (both (overrides k) (before_mark (list (one_instance k)) mark_semicolon))
 
@@ -165,9 +179,19 @@ begins_always k = k == keyword_always
 abbrev pub front_always : List Word → Bool
 front_always ws = begins_always (keyword ws)
 
+abbrev pub begins_initial : ℕ → Bool
+begins_initial k = k == keyword_initial
+
+abbrev pub front_initial : List Word → Bool
+front_initial ws = begins_initial (keyword ws)
+
+-- initial, or what comes after them
+abbrev pub from_initial : ℕ → Format ModuleItem
+from_initial k = choose front_initial (initial_item k) (instances_item k)
+
 -- always, or what comes after them
 abbrev pub from_always : ℕ → Format ModuleItem
-from_always k = choose front_always (always_item k) (instances_item k)
+from_always k = choose front_always (always_item k) (from_initial k)
 
 -- assigns, or what comes after them
 abbrev pub from_assigns : ℕ → Format ModuleItem

@@ -4,7 +4,7 @@ use Rattle.std.specs.Prelude.{ℕ, suc, ◌+◌, ◌≤◌, ◌<◌, ◌≡◌, 
 use Rattle.rr_syntax.specs.declared.tree.Dir.{Dir}
 use Rattle.rr_syntax.specs.declared.tree.Dir.TheVariants as dir
 use Rattle.rr_syntax.specs.Words.{Word, Marked, Reserved, keyword_else, keyword_input, keyword_integer, keyword_output, keyword_reg, keyword_signed, keyword_wire, mark_open_bracket, mark_close_bracket, mark_colon, mark_equals}
-use Rattle.rr_syntax.specs.Tree.{Tree, Identifier, Range, PortDeclaration, ParamAssignment, NetIdentifier, NetAssignment, Statement, bare, bare_identifier, bare_port, bare_assignment, bare_net, bare_pair, bare_range, bare_statement}
+use Rattle.rr_syntax.specs.Tree.{Tree, Identifier, Range, PortDeclaration, ParamAssignment, DeclaredName, NetAssignment, Statement, bare, bare_identifier, bare_port, bare_assignment, bare_declarator, bare_pair, bare_range, bare_statement}
 use Rattle.rr_syntax.specs.Expressions.{spell, depth, is_target, infix_level, unary_level, WellFormed, Numbered}
 use Rattle.rr_syntax.specs.Statements.{spell_statement, depth_statement, WellFormedStatement, NumberedStatement}
 use Rattle.rr_syntax.specs.Items.{spell_identifier, spell_where, spell_dir, spell_range, NumberedIdentifier, NumberedRange}

@@ -2,14 +2,14 @@
 -- whose expressions and statements have at most the depth k.
 use Rattle.std.specs.Prelude.{ℕ, suc, ◌+◌, ◌≤◌, ◌<◌, ◌≡◌, List, [], ◌∷◌, ◌++◌, length, map, Bool, true, false, if◌then◌else◌, ◌==◌, ◌||◌, cond, not, Option, Some, None}
 use Rattle.rr_syntax.specs.Words.{Word, Marked, Reserved, keyword_always, keyword_assign, keyword_else, keyword_input, keyword_integer, keyword_localparam, keyword_negedge, keyword_or, keyword_output, keyword_parameter, keyword_posedge, keyword_reg, keyword_wire, mark_at, mark_comma, mark_close_parenthesis, mark_dot, mark_hash, mark_open_parenthesis, mark_semicolon, mark_star}
-use Rattle.rr_syntax.specs.Tree.{Tree, Trees, End, More, Identifier, Range, PortDeclaration, ParameterDeclaration, NetIdentifier, NetAssignment, EdgeEvent, EventControl, Star, Edges, Levels, NamedConnection, Connections, Positions, Names, ModuleInstance, ModuleItem, Ports, Nets, Variables, Integers, Parameters, Assigns, Always, Instances, Statement, bare_statement, bare_edge, bare_events, bare_connection, bare_connections, bare_instance, bare_item}
+use Rattle.rr_syntax.specs.Tree.{Tree, Trees, End, More, Identifier, Range, PortDeclaration, ParameterDeclaration, DeclaredName, NetAssignment, EdgeEvent, EventControl, Star, Edges, Levels, NamedConnection, Connections, Positions, Names, ModuleInstance, ModuleItem, Ports, Nets, Variables, Integers, Parameters, Assigns, Always, Instances, Statement, bare_statement, bare_edge, bare_events, bare_connection, bare_connections, bare_instance, bare_item}
 use Rattle.rr_syntax.specs.Statements.{spell_statement, depth_statement, WellFormedStatement, NumberedStatement}
 use Rattle.rr_syntax.specs.Items.{spell_edge, spell_events, spell_connection, spell_connections, spell_instance, spell_item, count, NumberedEdge, NumberedEvents}
 use Rattle.rr_parse_expr.specs.Reading.{Found, mark, rest}
 use Rattle.rr_parse_stmt.specs.Reading.{keyword, statement}
 use Rattle.rr_grammar.specs.Formats.{Format, Anything, both, after_mark, before_mark, shaped, respelled, narrowed, behind_mark, imaged, list, repeated, choose, nothing_of}
 use Rattle.rr_grammar.specs.Leaves.{identifier, expression, where_mark, range, NoType, typed, choice}
-use Rattle.rr_grammar.specs.Declarations.{port, net, pair, parameter}
+use Rattle.rr_grammar.specs.Declarations.{port, declarator, pair, parameter}
 
 -- a comma where `true`, or the word `or` (section 9.7.3)
 abbrev pub separator_of : Format Bool

@@ -1,16 +1,17 @@
 -- What is good is well-formed and within the depth.
 use Rattle.std.proofs.Common.{◌≡◌, ℕ, suc, ◌≤◌, List, [], ◌∷◌, length, refl, arith, Bool, true, false, not, Option, Some, None, inl, inr}
 use Rattle.std.specs.List.{AllByRecursion}
-use Rattle.rr_syntax.specs.Tree.{Tree, Trees, End, More, Identifier, Range, PortDeclaration, ParamAssignment, ParameterDeclaration, NetIdentifier, NetAssignment, EventControl, Star, Edges, Levels, NamedConnection, Connections, Positions, Names, ModuleInstance, ModuleItem, Ports, Nets, Variables, Integers, Parameters, Assigns, Always, Instances, ModuleDeclaration}
+use Rattle.rr_syntax.specs.Tree.{Tree, Trees, End, More, Identifier, Range, PortDeclaration, ParamAssignment, ParameterDeclaration, DeclaredName, NetAssignment, EventControl, Star, Edges, Levels, NamedConnection, Connections, Positions, Names, ModuleInstance, ModuleItem, Ports, Nets, Variables, Integers, Parameters, Assigns, Always, Initial, Instances, ModuleDeclaration}
 use Rattle.rr_syntax.specs.Expressions.{WellFormed, WellFormedMore, depth, height}
-use Rattle.rr_syntax.specs.Items.{greatest, IsHeader, WellFormedRange, WellFormedPort, WellFormedAssignment, WellFormedParameter, WellFormedValue, WellFormedNet, WellFormedPair, WellFormedEvents, WellFormedConnection, WellFormedConnections, WellFormedOverrides, WellFormedInstance, WellFormedItem, WellFormedHead, WellFormedModule, depth_range, depth_port, depth_assignment, depth_parameter, depth_value, depth_net, depth_pair, depth_events, depth_connection, depth_connections, depth_overrides, depth_instance, depth_item, height_item, depth_module, height_module}
+use Rattle.rr_syntax.specs.Items.{greatest, IsHeader, WellFormedRange, WellFormedPort, WellFormedAssignment, WellFormedParameter, WellFormedValue, WellFormedDeclarator, WellFormedPair, WellFormedEvents, WellFormedConnection, WellFormedConnections, WellFormedOverrides, WellFormedInstance, WellFormedItem, WellFormedHead, WellFormedModule, depth_range, depth_port, depth_assignment, depth_parameter, depth_value, depth_declarator, depth_pair, depth_events, depth_connection, depth_connections, depth_overrides, depth_instance, depth_item, height_item, depth_module, height_module}
 use Rattle.rr_grammar.specs.Formats.{list}
 use Rattle.rr_grammar.specs.Leaves.{expression, range, AllOption}
-use Rattle.rr_grammar.specs.Declarations.{port, setting, net, pair, parameter, head_parameter}
+use Rattle.rr_grammar.specs.Declarations.{port, setting, declarator, pair, parameter, head_parameter}
 use Rattle.rr_grammar.specs.Parts.{AllTrees, events}
 use Rattle.rr_grammar.specs.Connections.{optional_closed, connection, connections, overrides, one_instance}
 use Rattle.rr_grammar.specs.ItemForms.{item}
 use Rattle.rr_grammar.specs.ModuleForms.{heads, port_list, one_module}
+use Rattle.rr_grammar.proofs.Goods.{starts_back}
 
 -- each of a list is good, so each is right, and the greatest is within the bound
 all_back : {A : Type 0} (W G : A → Type 0) (f : A → ℕ) (n : ℕ) → ((a : A) → G a → W a × (f a ≤ n)) → (xs : List A) → AllByRecursion G xs → AllByRecursion W xs × (greatest f xs ≤ n)
@@ -23,9 +24,21 @@ unfolding WellFormedRange depth_range
 range_back k None w = (tt, omega arith)
 range_back k (Some r) w = ((w.0.0, w.1.0), omega (arith, w.0.1, w.1.1))
 
+value_back : (k : ℕ) (v : Option Tree) → AllOption (expression k).Good v → WellFormedValue v × (depth_value v ≤ suc k)
+unfolding WellFormedValue depth_value
+value_back k None w = (tt, omega arith)
+value_back k (Some t) w = (w.0, omega (arith, w.1))
+
+declarator_back : (k : ℕ) (n : DeclaredName) → (declarator k).Good n → WellFormedDeclarator n × (depth_declarator n ≤ suc k)
+unfolding WellFormedDeclarator depth_declarator
+declarator_back k n w = value_back k n.value w.1
+
 port_back : (k : ℕ) (p : PortDeclaration) → (port k).Good p → WellFormedPort p × (depth_port p ≤ suc k)
 unfolding WellFormedPort depth_port
-port_back k p w = let r = range_back k p.range w.1.0.1 in ((r.0, w.1.1.0), r.1)
+port_back k p w =
+    let r = range_back k p.range w.0.1.0.1 in
+    let q = all_back WellFormedDeclarator (declarator k).Good depth_declarator (suc k) (declarator_back k) p.names w.0.1.1.1 in
+    ((r.0, w.0.1.1.0, q.0, starts_back p.dir p.names w.1), omega (arith, r.1, q.1))
 
 setting_back : (k : ℕ) (a : ParamAssignment) → (setting k).Good a → WellFormedAssignment a × (depth_assignment a ≤ suc k)
 unfolding WellFormedAssignment depth_assignment
@@ -45,15 +58,6 @@ local_back false h = refl
 head_back : (k : ℕ) (p : ParameterDeclaration) → (head_parameter k).Good p → WellFormedHead p × (depth_parameter p ≤ suc k)
 unfolding WellFormedHead
 head_back k p w = let r = parameter_back k p w.0 in ((local_back p.local w.1, r.0), r.1)
-
-value_back : (k : ℕ) (v : Option Tree) → AllOption (expression k).Good v → WellFormedValue v × (depth_value v ≤ suc k)
-unfolding WellFormedValue depth_value
-value_back k None w = (tt, omega arith)
-value_back k (Some t) w = (w.0, omega (arith, w.1))
-
-net_back : (k : ℕ) (n : NetIdentifier) → (net k).Good n → WellFormedNet n × (depth_net n ≤ suc k)
-unfolding WellFormedNet depth_net
-net_back k n w = value_back k n.value w.1
 
 pair_back : (k : ℕ) (p : NetAssignment) → (pair k).Good p → WellFormedPair p × (depth_pair p ≤ suc k)
 unfolding WellFormedPair depth_pair
@@ -114,23 +118,26 @@ item_back k (Ports p) (inr (inr (inr (inl w)))) = absurd w
 item_back k (Ports p) (inr (inr (inr (inr (inl w))))) = absurd w
 item_back k (Ports p) (inr (inr (inr (inr (inr (inl w)))))) = absurd w
 item_back k (Ports p) (inr (inr (inr (inr (inr (inr (inl w))))))) = absurd w
-item_back k (Ports p) (inr (inr (inr (inr (inr (inr (inr w))))))) = absurd w
+item_back k (Ports p) (inr (inr (inr (inr (inr (inr (inr (inl w)))))))) = absurd w
+item_back k (Ports p) (inr (inr (inr (inr (inr (inr (inr (inr w)))))))) = absurd w
 item_back k (Nets s r ns) (inl w) = absurd w
-item_back k (Nets s r ns) (inr (inl w)) = let r0 = range_back k r w.0.1 in let q = all_back WellFormedNet (net k).Good depth_net (suc k) (net_back k) ns w.1.1 in ((r0.0, w.1.0, q.0), omega (arith, r0.1, q.1))
+item_back k (Nets s r ns) (inr (inl w)) = let r0 = range_back k r w.0.1 in let q = all_back WellFormedDeclarator (declarator k).Good depth_declarator (suc k) (declarator_back k) ns w.1.1 in ((r0.0, w.1.0, q.0), omega (arith, r0.1, q.1))
 item_back k (Nets s r ns) (inr (inr (inl w))) = absurd w
 item_back k (Nets s r ns) (inr (inr (inr (inl w)))) = absurd w
 item_back k (Nets s r ns) (inr (inr (inr (inr (inl w))))) = absurd w
 item_back k (Nets s r ns) (inr (inr (inr (inr (inr (inl w)))))) = absurd w
 item_back k (Nets s r ns) (inr (inr (inr (inr (inr (inr (inl w))))))) = absurd w
-item_back k (Nets s r ns) (inr (inr (inr (inr (inr (inr (inr w))))))) = absurd w
+item_back k (Nets s r ns) (inr (inr (inr (inr (inr (inr (inr (inl w)))))))) = absurd w
+item_back k (Nets s r ns) (inr (inr (inr (inr (inr (inr (inr (inr w)))))))) = absurd w
 item_back k (Variables s r ns) (inl w) = absurd w
 item_back k (Variables s r ns) (inr (inl w)) = absurd w
-item_back k (Variables s r ns) (inr (inr (inl w))) = let r0 = range_back k r w.0.1 in ((r0.0, w.1.0), r0.1)
+item_back k (Variables s r ns) (inr (inr (inl w))) = let r0 = range_back k r w.0.1 in let q = all_back WellFormedDeclarator (declarator k).Good depth_declarator (suc k) (declarator_back k) ns w.1.1 in ((r0.0, w.1.0, q.0), omega (arith, r0.1, q.1))
 item_back k (Variables s r ns) (inr (inr (inr (inl w)))) = absurd w
 item_back k (Variables s r ns) (inr (inr (inr (inr (inl w))))) = absurd w
 item_back k (Variables s r ns) (inr (inr (inr (inr (inr (inl w)))))) = absurd w
 item_back k (Variables s r ns) (inr (inr (inr (inr (inr (inr (inl w))))))) = absurd w
-item_back k (Variables s r ns) (inr (inr (inr (inr (inr (inr (inr w))))))) = absurd w
+item_back k (Variables s r ns) (inr (inr (inr (inr (inr (inr (inr (inl w)))))))) = absurd w
+item_back k (Variables s r ns) (inr (inr (inr (inr (inr (inr (inr (inr w)))))))) = absurd w
 item_back k (Integers ns) (inl w) = absurd w
 item_back k (Integers ns) (inr (inl w)) = absurd w
 item_back k (Integers ns) (inr (inr (inl w))) = absurd w
@@ -138,7 +145,8 @@ item_back k (Integers ns) (inr (inr (inr (inl w)))) = (w.0, omega arith)
 item_back k (Integers ns) (inr (inr (inr (inr (inl w))))) = absurd w
 item_back k (Integers ns) (inr (inr (inr (inr (inr (inl w)))))) = absurd w
 item_back k (Integers ns) (inr (inr (inr (inr (inr (inr (inl w))))))) = absurd w
-item_back k (Integers ns) (inr (inr (inr (inr (inr (inr (inr w))))))) = absurd w
+item_back k (Integers ns) (inr (inr (inr (inr (inr (inr (inr (inl w)))))))) = absurd w
+item_back k (Integers ns) (inr (inr (inr (inr (inr (inr (inr (inr w)))))))) = absurd w
 item_back k (Parameters p) (inl w) = absurd w
 item_back k (Parameters p) (inr (inl w)) = absurd w
 item_back k (Parameters p) (inr (inr (inl w))) = absurd w
@@ -146,7 +154,8 @@ item_back k (Parameters p) (inr (inr (inr (inl w)))) = absurd w
 item_back k (Parameters p) (inr (inr (inr (inr (inl w))))) = parameter_back k p w
 item_back k (Parameters p) (inr (inr (inr (inr (inr (inl w)))))) = absurd w
 item_back k (Parameters p) (inr (inr (inr (inr (inr (inr (inl w))))))) = absurd w
-item_back k (Parameters p) (inr (inr (inr (inr (inr (inr (inr w))))))) = absurd w
+item_back k (Parameters p) (inr (inr (inr (inr (inr (inr (inr (inl w)))))))) = absurd w
+item_back k (Parameters p) (inr (inr (inr (inr (inr (inr (inr (inr w)))))))) = absurd w
 item_back k (Assigns ps) (inl w) = absurd w
 item_back k (Assigns ps) (inr (inl w)) = absurd w
 item_back k (Assigns ps) (inr (inr (inl w))) = absurd w
@@ -154,7 +163,8 @@ item_back k (Assigns ps) (inr (inr (inr (inl w)))) = absurd w
 item_back k (Assigns ps) (inr (inr (inr (inr (inl w))))) = absurd w
 item_back k (Assigns ps) (inr (inr (inr (inr (inr (inl w)))))) = let q = all_back WellFormedPair (pair k).Good depth_pair (suc k) (pair_back k) ps w.1 in ((w.0, q.0), q.1)
 item_back k (Assigns ps) (inr (inr (inr (inr (inr (inr (inl w))))))) = absurd w
-item_back k (Assigns ps) (inr (inr (inr (inr (inr (inr (inr w))))))) = absurd w
+item_back k (Assigns ps) (inr (inr (inr (inr (inr (inr (inr (inl w)))))))) = absurd w
+item_back k (Assigns ps) (inr (inr (inr (inr (inr (inr (inr (inr w)))))))) = absurd w
 item_back k (Always e s n) (inl w) = absurd w
 item_back k (Always e s n) (inr (inl w)) = absurd w
 item_back k (Always e s n) (inr (inr (inl w))) = absurd w
@@ -162,7 +172,17 @@ item_back k (Always e s n) (inr (inr (inr (inl w)))) = absurd w
 item_back k (Always e s n) (inr (inr (inr (inr (inl w))))) = absurd w
 item_back k (Always e s n) (inr (inr (inr (inr (inr (inl w)))))) = absurd w
 item_back k (Always e s n) (inr (inr (inr (inr (inr (inr (inl w))))))) = let q = events_back k e w.1.0 in ((q.0, w.1.1.0), omega (arith, q.1, w.1.1.1))
-item_back k (Always e s n) (inr (inr (inr (inr (inr (inr (inr w))))))) = absurd w
+item_back k (Always e s n) (inr (inr (inr (inr (inr (inr (inr (inl w)))))))) = absurd w
+item_back k (Always e s n) (inr (inr (inr (inr (inr (inr (inr (inr w)))))))) = absurd w
+item_back k (Initial s n) (inl w) = absurd w
+item_back k (Initial s n) (inr (inl w)) = absurd w
+item_back k (Initial s n) (inr (inr (inl w))) = absurd w
+item_back k (Initial s n) (inr (inr (inr (inl w)))) = absurd w
+item_back k (Initial s n) (inr (inr (inr (inr (inl w))))) = absurd w
+item_back k (Initial s n) (inr (inr (inr (inr (inr (inl w)))))) = absurd w
+item_back k (Initial s n) (inr (inr (inr (inr (inr (inr (inl w))))))) = absurd w
+item_back k (Initial s n) (inr (inr (inr (inr (inr (inr (inr (inl w)))))))) = ((w.1.1, w.1.0.0), omega (arith, w.1.0.1))
+item_back k (Initial s n) (inr (inr (inr (inr (inr (inr (inr (inr w)))))))) = absurd w
 item_back k (Instances m n o is) (inl w) = absurd w
 item_back k (Instances m n o is) (inr (inl w)) = absurd w
 item_back k (Instances m n o is) (inr (inr (inl w))) = absurd w
@@ -170,7 +190,8 @@ item_back k (Instances m n o is) (inr (inr (inr (inl w)))) = absurd w
 item_back k (Instances m n o is) (inr (inr (inr (inr (inl w))))) = absurd w
 item_back k (Instances m n o is) (inr (inr (inr (inr (inr (inl w)))))) = absurd w
 item_back k (Instances m n o is) (inr (inr (inr (inr (inr (inr (inl w))))))) = absurd w
-item_back k (Instances m n o is) (inr (inr (inr (inr (inr (inr (inr w))))))) = let q = overrides_back k o w.1.0 in let p = all_back WellFormedInstance (one_instance k).Good depth_instance (suc k) (instance_back k) is w.1.1.1 in ((q.0, w.1.1.0, p.0), omega (arith, q.1, p.1))
+item_back k (Instances m n o is) (inr (inr (inr (inr (inr (inr (inr (inl w)))))))) = absurd w
+item_back k (Instances m n o is) (inr (inr (inr (inr (inr (inr (inr (inr w)))))))) = let q = overrides_back k o w.1.0 in let p = all_back WellFormedInstance (one_instance k).Good depth_instance (suc k) (instance_back k) is w.1.1.1 in ((q.0, w.1.1.0, p.0), omega (arith, q.1, p.1))
 
 heads_back : (k : ℕ) (ps : List ParameterDeclaration) → (heads k).Good ps → AllByRecursion WellFormedHead ps × (greatest depth_parameter ps ≤ suc k)
 unfolding greatest

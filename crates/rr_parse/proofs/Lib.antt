@@ -1,6 +1,7 @@
 pub mod Backs
 pub mod Chained
 pub mod Founds
+pub mod InitialForms
 pub mod ListsRead
 pub mod MadeConnections
 pub mod MadeDeclarations

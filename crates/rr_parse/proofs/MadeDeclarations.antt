@@ -1,27 +1,31 @@
 -- Declarations that were read, from their parts.
-use Rattle.std.proofs.Common.{◌≡◌, ℕ, ◌+◌, ◌≤◌, List, [], ◌∷◌, ◌++◌, length, drop, map, Bool, true, false, not, cond, nat_eq, refl, ap, ◌∙◌, sym, arith, Option, Some, None, length-append, append_assoc, subst}
+use Rattle.std.proofs.Common.{◌≡◌, ℕ, ◌+◌, ◌≤◌, List, [], ◌∷◌, ◌++◌, length, drop, map, Bool, true, false, not, ◌||◌, cond, nat_eq, refl, ap, ◌∙◌, sym, arith, Option, Some, None, length-append, append_assoc, subst}
+use Rattle.std.specs.List.{list_all}
+use Rattle.std.specs.Option.{is_some}
 use Rattle.rr_syntax.specs.declared.token.Token.{Token}
 use Rattle.rr_syntax.specs.declared.tree.Dir.{Dir}
 use Rattle.rr_syntax.specs.declared.tree.Dir.TheVariants as dir
 use Rattle.rr_syntax.specs.declared.tree.Expr.{Expr}
 use Rattle.rr_syntax.specs.declared.tree.Named.{Named as Name}
 use Rattle.rr_syntax.specs.declared.tree.Bounds.{Bounds}
+use Rattle.rr_syntax.specs.declared.tree.Declarator.{Declarator}
+use Rattle.rr_syntax.specs.declared.tree.Group.{Group}
 use Rattle.rr_syntax.specs.declared.tree.Setting.{Setting}
 use Rattle.rr_syntax.specs.declared.tree.Params.{Params}
 use Rattle.rr_syntax.specs.Words.{Word, Marked, Reserved, words, keyword_input, keyword_integer, keyword_localparam, keyword_output, keyword_parameter, keyword_reg, keyword_signed, keyword_wire, mark_colon, mark_equals, mark_open_bracket}
-use Rattle.rr_syntax.specs.Tree.{Tree, bare_range, bare_identifier, bare_port, bare_assignment, bare_parameter, bare_net, bare_pair}
+use Rattle.rr_syntax.specs.Tree.{Tree, bare_range, bare_identifier, bare_port, bare_assignment, bare_parameter, bare_declarator, bare_pair}
 use Rattle.rr_syntax.specs.Expressions.{spell, Numbered}
-use Rattle.rr_syntax.specs.Items.{spell_where, spell_identifier, spell_range, spell_type, spell_dir, spell_port, spell_assignment, spell_parameter, spell_net, spell_pair, spell_separated, NumberedIdentifier, NumberedRange, NumberedType, NumberedPort, NumberedAssignment, NumberedParameter, NumberedValue, NumberedNet, NumberedPair, NumberedSeparated}
-use Rattle.rr_syntax.specs.View.{plain, plain_identifier, plain_range, plain_port, plain_assignment, plain_parameter, plain_value, plain_net, plain_pair}
+use Rattle.rr_syntax.specs.Items.{spell_where, spell_identifier, spell_range, spell_type, spell_dir, spell_port, spell_assignment, spell_parameter, spell_declarator, spell_pair, spell_separated, NumberedIdentifier, NumberedRange, NumberedType, NumberedPort, NumberedAssignment, NumberedParameter, NumberedValue, NumberedDeclarator, NumberedPair, NumberedSeparated}
+use Rattle.rr_syntax.specs.View.{plain, plain_identifier, plain_range, plain_port, plain_assignment, plain_parameter, plain_value, plain_declarator, plain_pair}
 use Rattle.rr_parse_expr.specs.Reading.{mapped, mark, rest}
 use Rattle.rr_parse_expr.proofs.Answered.{not_equal, rest_drop}
 use Rattle.rr_parse_stmt.specs.Reading.{keyword}
-use Rattle.rr_grammar.specs.Formats.{list, Finds, FindsNone}
+use Rattle.rr_grammar.specs.Formats.{both, shaped, respelled, list, Finds, FindsNone}
 use Rattle.rr_grammar.specs.Leaves.{identifier, expression, target_of, flag, choice, where_mark, range, typed, direction, of_input, of_output}
-use Rattle.rr_grammar.specs.Declarations.{port, to_port, of_port, setting, to_setting, of_setting, net, to_net, of_net, pair, to_pair, of_pair, kind, parameter, to_parameter, of_parameter, head_parameter, is_global}
+use Rattle.rr_grammar.specs.Declarations.{declarator, to_declarator, of_declarator, is_output_reg, has_no_value, starts_right, port, to_port, of_port, setting, to_setting, of_setting, pair, to_pair, of_pair, kind, parameter, to_parameter, of_parameter, head_parameter, is_global}
 use Rattle.rr_grammar.proofs.Exacts.{mapped_some}
 use Rattle.rr_grammar.proofs.LeavesExact.{range_words, range_bare}
-use Rattle.rr_grammar.proofs.DeclarationsExact.{net_words, net_bare}
+use Rattle.rr_grammar.proofs.DeclarationsExact.{declarator_words, declarator_bare, starts_bare}
 use Rattle.rr_parse_expr.specs.declared.lists.Piece.{Piece}
 use Rattle.rr_parse.specs.declared.declarations.Type as typing
 use Rattle.rr_parse.specs.declared.declarations.ParameterType.{ParameterType}
@@ -124,18 +128,68 @@ output_alone T from i h j =
       taken = omega arith;
     }
 
-pub made_port : {k : ℕ} {T : List Token} {from : ℕ} (d : Dir) (t : typing.Type) (ns : Bor (List Name)) {first second next : ℕ} →
-    Finds direction T from d first → Finds (typed k) T first (plain_type t) second → Finds (list identifier) T second (map plain_identifier ns.now) next →
-    Finds (port k) T from (plain_port (record { dir = d; signed = t.signed; range = t.range; names = ns })) next
+-- before its starting values are tested
+declared_port : {k : ℕ} {T : List Token} {from : ℕ} (d : Dir) (t : typing.Type) (ns : Bor (List Declarator)) {first second next : ℕ} →
+    Finds direction T from d first → Finds (typed k) T first (plain_type t) second → Finds (list (declarator k)) T second (map plain_declarator ns.now) next →
+    Finds (respelled (shaped (both direction (both (typed k) (list (declarator k)))) to_port of_port) spell_port bare_port NumberedPort) T from (plain_port (record { dir = d; signed = t.signed; range = t.range; names = ns })) next
 unfolding plain_port spell_port spell_type bare_port NumberedPort NumberedType NumberedRange
-made_port {k = k} {from = from} d t ns f g h =
+declared_port {k = k} {from = from} d t ns f g h =
     let p = plain_port (record { dir = d; signed = t.signed; range = t.range; names = ns }) in
     let w = finds_both f (finds_both g h) in
     finds_respelled spell_port bare_port NumberedPort refl refl
-    (subst (NumberedRange (plain_range t.range)) (omega (arith, f.taken)) g.numbered.1, subst (NumberedSeparated spell_identifier NumberedIdentifier (map plain_identifier ns.now)) (omega (arith, f.taken, g.taken)) h.numbered)
+    (subst (NumberedRange (plain_range t.range)) (omega (arith, f.taken)) g.numbered.1, subst (NumberedSeparated spell_declarator NumberedDeclarator (map plain_declarator ns.now)) (omega (arith, f.taken, g.taken)) h.numbered)
     (finds_shaped to_port of_port p w)
 
--- ---- settings, nets and assignments
+pub made_port : {k : ℕ} {T : List Token} {from : ℕ} (d : Dir) (t : typing.Type) (ns : Bor (List Declarator)) {first second next : ℕ} → starts_right (plain_port (record { dir = d; signed = t.signed; range = t.range; names = ns })) ≡ true →
+    Finds direction T from d first → Finds (typed k) T first (plain_type t) second → Finds (list (declarator k)) T second (map plain_declarator ns.now) next →
+    Finds (port k) T from (plain_port (record { dir = d; signed = t.signed; range = t.range; names = ns })) next
+made_port d t ns s f g h =
+    let p = plain_port (record { dir = d; signed = t.signed; range = t.range; names = ns }) in
+    finds_guarded starts_right (starts_bare p ∙ s) (declared_port d t ns f g h)
+
+-- a port with a starting value that it may not have
+pub no_start : {k : ℕ} {T : List Token} {from : ℕ} (d : Dir) (t : typing.Type) (ns : Bor (List Declarator)) {first second next : ℕ} → starts_right (plain_port (record { dir = d; signed = t.signed; range = t.range; names = ns })) ≡ false →
+    Finds direction T from d first → Finds (typed k) T first (plain_type t) second → Finds (list (declarator k)) T second (map plain_declarator ns.now) next → FindsNone (port k) T from
+no_start d t ns s f g h =
+    let p = plain_port (record { dir = d; signed = t.signed; range = t.range; names = ns }) in
+    record { none_is = chain_then _ (declared_port d t ns f g h).found_is (cond_second _ (starts_bare p ∙ s) refl) }
+
+is_some_plain : (v : Option (Bor Expr)) → is_some (plain_value v) ≡ is_some v
+unfolding plain_value
+is_some_plain None = refl
+is_some_plain (Some e) = refl
+
+list_all_plain : (ns : List Declarator) → list_all has_no_value (map plain_declarator ns) ≡ list_all (λ n. not (is_some n.value)) ns
+unfolding plain_declarator
+list_all_plain [] = refl
+list_all_plain (n ∷ ns) = let e = list_all_plain ns in let f = is_some_plain n.value in rw (e, f) refl
+
+starts_plain : (g : Group) → starts_right (plain_port g) ≡ (is_output_reg g.dir || list_all (λ n. not (is_some n.value)) g.names.now)
+unfolding plain_port
+starts_plain g = ap (λ (b : Bool). is_output_reg g.dir || b) (list_all_plain g.names.now)
+
+-- the test of the code
+pub starts-OutputReg : (g : Group) → g.dir ≡ dir.OutputReg → starts_right (plain_port g) ≡ true
+starts-OutputReg g e = let s = starts_plain g in rw (s, e) refl
+
+other_start : (g : Group) → is_output_reg g.dir ≡ false → starts_right (plain_port g) ≡ list_all (λ n. not (is_some n.value)) g.names.now
+other_start g e = let s = starts_plain g in rw (s, e) refl
+
+pub starts-Input : (g : Group) → g.dir ≡ dir.Input → starts_right (plain_port g) ≡ list_all (λ n. not (is_some n.value)) g.names.now
+starts-Input g e = other_start g (ap is_output_reg e)
+
+pub starts-InputWire : (g : Group) → g.dir ≡ dir.InputWire → starts_right (plain_port g) ≡ list_all (λ n. not (is_some n.value)) g.names.now
+starts-InputWire g e = other_start g (ap is_output_reg e)
+
+pub starts-Output : (g : Group) → g.dir ≡ dir.Output → starts_right (plain_port g) ≡ list_all (λ n. not (is_some n.value)) g.names.now
+starts-Output g e = other_start g (ap is_output_reg e)
+
+pub starts-OutputWire : (g : Group) → g.dir ≡ dir.OutputWire → starts_right (plain_port g) ≡ list_all (λ n. not (is_some n.value)) g.names.now
+starts-OutputWire g e = other_start g (ap is_output_reg e)
+
+pub ruleset starts_forms = (starts-OutputReg, starts-Input, starts-InputWire, starts-Output, starts-OutputWire)
+
+-- ---- settings, declared names and assignments
 
 pub made_setting : {k : ℕ} {T : List Token} {from : ℕ} (n : Name) (v : Bor Expr) {first second next : ℕ} → Finds identifier T from (plain_identifier n) first → MarkAt T first mark_equals second → Finds (expression k) T second (plain v.now) next →
     Finds (setting k) T from (plain_assignment (record { token = n.token; name = n.name; value = v })) next
@@ -157,13 +211,13 @@ unfolding NumberedValue
 value_numbered k None at n = tt
 value_numbered k (Some t) at n = n
 
-pub made_net : {k : ℕ} {T : List Token} {from : ℕ} (n : Name) (v : Option (Bor Expr)) {middle next : ℕ} → Finds identifier T from (plain_identifier n) middle → Finds (where_mark mark_equals (expression k)) T middle (plain_value v) next →
-    Finds (net k) T from (plain_net (record { token = n.token; name = n.name; value = v })) next
-unfolding plain_net plain_identifier spell_identifier bare_identifier NumberedNet NumberedIdentifier
-made_net {k = k} n v {middle = middle} f g =
-    let a = plain_net (record { token = n.token; name = n.name; value = v }) in
-    finds_respelled spell_net bare_net NumberedNet (net_words a) (net_bare a) (f.numbered, subst (NumberedValue (plain_value v)) (omega (arith, f.taken)) (value_numbered k (plain_value v) middle g.numbered))
-    (finds_shaped to_net of_net a (finds_both f g))
+pub made_declarator : {k : ℕ} {T : List Token} {from : ℕ} (n : Name) (v : Option (Bor Expr)) {middle next : ℕ} → Finds identifier T from (plain_identifier n) middle → Finds (where_mark mark_equals (expression k)) T middle (plain_value v) next →
+    Finds (declarator k) T from (plain_declarator (record { token = n.token; name = n.name; value = v })) next
+unfolding plain_declarator plain_identifier spell_identifier bare_identifier NumberedDeclarator NumberedIdentifier
+made_declarator {k = k} n v {middle = middle} f g =
+    let a = plain_declarator (record { token = n.token; name = n.name; value = v }) in
+    finds_respelled spell_declarator bare_declarator NumberedDeclarator (declarator_words a) (declarator_bare a) (f.numbered, subst (NumberedValue (plain_value v)) (omega (arith, f.taken)) (value_numbered k (plain_value v) middle g.numbered))
+    (finds_shaped to_declarator of_declarator a (finds_both f g))
 
 pub made_pair : {k : ℕ} {T : List Token} {from : ℕ} (t v : Bor Expr) {first second next : ℕ} → Finds (target_of k) T from (plain t.now) first → MarkAt T first mark_equals second → Finds (expression k) T second (plain v.now) next →
     Finds (pair k) T from (plain_pair (record { target = t; value = v })) next

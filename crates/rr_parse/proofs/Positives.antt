@@ -4,9 +4,9 @@ use Rattle.rr_syntax.specs.declared.token.Token.{Token}
 use Rattle.rr_syntax.specs.declared.tree.Dir.{Dir}
 use Rattle.rr_syntax.specs.declared.tree.Dir.TheVariants as dir
 use Rattle.rr_syntax.specs.Words.{Marked, mark_equals}
-use Rattle.rr_syntax.specs.Tree.{Identifier, PortDeclaration, ParamAssignment, ParameterDeclaration, NetIdentifier, NetAssignment, NamedConnection, ModuleInstance}
+use Rattle.rr_syntax.specs.Tree.{Identifier, PortDeclaration, ParamAssignment, ParameterDeclaration, DeclaredName, NetAssignment, NamedConnection, ModuleInstance}
 use Rattle.rr_syntax.specs.Expressions.{spell}
-use Rattle.rr_syntax.specs.Items.{spell_identifier, spell_type, spell_dir, spell_port, spell_assignment, spell_parameter, spell_net, spell_pair, spell_connection, spell_instance, spell_separated}
+use Rattle.rr_syntax.specs.Items.{spell_identifier, spell_type, spell_dir, spell_port, spell_assignment, spell_parameter, spell_declarator, spell_pair, spell_connection, spell_instance, spell_separated}
 use Rattle.rr_grammar.specs.Formats.{Format}
 use Rattle.rr_parse_expr.specs.declared.lists.Piece.{Piece}
 use Rattle.rr_parse.specs.Answer.{Answers}
@@ -19,9 +19,9 @@ pub assignment_some : (a : ParamAssignment) → 0 < length (spell_assignment a)
 unfolding spell_assignment
 assignment_some a = omega arith
 
-pub net_some : (n : NetIdentifier) → 0 < length (spell_net n)
-unfolding spell_net
-net_some n = omega arith
+pub declarator_some : (n : DeclaredName) → 0 < length (spell_declarator n)
+unfolding spell_declarator
+declarator_some n = omega arith
 
 pub pair_some : (p : NetAssignment) → 0 < length (spell_pair p)
 unfolding spell_pair
@@ -41,7 +41,7 @@ dir_some dir.OutputReg = omega arith
 
 pub port_some : (p : PortDeclaration) → 0 < length (spell_port p)
 unfolding spell_port
-port_some p = omega (arith, dir_some p.dir, length-append (spell_dir p.dir) (spell_type p.signed p.range ++ spell_separated spell_identifier p.names))
+port_some p = omega (arith, dir_some p.dir, length-append (spell_dir p.dir) (spell_type p.signed p.range ++ spell_separated spell_declarator p.names))
 
 pub connection_some : (c : NamedConnection) → 0 < length (spell_connection c)
 unfolding spell_connection

@@ -7,11 +7,11 @@ use Rattle.rr_syntax.specs.declared.token.Token.{Token}
 use Rattle.rr_syntax.specs.declared.tree.Dir.{Dir}
 use Rattle.rr_syntax.specs.declared.tree.Dir.TheVariants as dir
 use Rattle.rr_syntax.specs.Words.{Word, Named, System, Digits, Marked, Reserved, words, keyword_case, keyword_casex, keyword_casez, keyword_localparam, keyword_negedge, keyword_parameter, keyword_posedge, keyword_signed, mark_equals, mark_hash, mark_less_or_equal, mark_open_parenthesis, mark_part_down, mark_part_up}
-use Rattle.rr_syntax.specs.Tree.{Tree, Trees, Name, Literal, Bit, Part, Indexed, Unary, Binary, Cond, Concat, Repeat, Cast, Paren, End, More, Identifier, Statement, Statements, Arm, Arms, Null, Block, If, IfElse, Case, Assign, Done, Then, CaseItem, NoArms, MoreArms, Range, PortDeclaration, ParamAssignment, ParameterDeclaration, NetIdentifier, NetAssignment, EdgeEvent, EventControl, Star, Edges, Levels, NamedConnection, Connections, Positions, Names, ModuleInstance, ModuleItem, Ports, Nets, Variables, Integers, Parameters, Assigns, Always, Instances, ModuleDeclaration, SourceText}
+use Rattle.rr_syntax.specs.Tree.{Tree, Trees, Name, Literal, Bit, Part, Indexed, Unary, Binary, Cond, Concat, Repeat, Cast, Paren, End, More, Identifier, Statement, Statements, Arm, Arms, Null, Block, If, IfElse, Case, Assign, Done, Then, CaseItem, NoArms, MoreArms, Range, PortDeclaration, ParamAssignment, ParameterDeclaration, DeclaredName, NetAssignment, EdgeEvent, EventControl, Star, Edges, Levels, NamedConnection, Connections, Positions, Names, ModuleInstance, ModuleItem, Ports, Nets, Variables, Integers, Parameters, Assigns, Always, Initial, Instances, ModuleDeclaration, SourceText}
 use Rattle.rr_syntax.specs.Expressions.{spell, spell_parts, spell_more, WellFormed, WellFormedParts, WellFormedMore, infix_level, is_prefix}
 use Rattle.rr_syntax.specs.Statements.{spell_label, spell_labels, spell_statement, spell_statements, spell_arm, spell_arms, is_case, WellFormedStatement, WellFormedStatements, WellFormedArm, WellFormedArms}
 use Rattle.rr_syntax.specs.Items as items
-use Rattle.rr_syntax.specs.Items.{spell_each, spell_separated, spell_all, spell_where, spell_identifier, spell_range, spell_type, spell_dir, spell_port, spell_assignment, spell_parameter, spell_value, spell_net, spell_pair, spell_edge, spell_more_edges, spell_edges, spell_more_levels, spell_levels, spell_events, spell_optional, spell_connection, spell_connections, spell_overrides, spell_instance, spell_item, spell_parameters, spell_ports, spell_module, spell_source, separator, WellFormedRange, WellFormedPort, WellFormedAssignment, WellFormedParameter, WellFormedValue, WellFormedNet, WellFormedPair, WellFormedEvents, WellFormedConnection, WellFormedConnections, WellFormedOverrides, WellFormedInstance, WellFormedItem, WellFormedHead, WellFormedModule, WellFormedSource}
+use Rattle.rr_syntax.specs.Items.{spell_each, spell_separated, spell_all, spell_where, spell_identifier, spell_range, spell_type, spell_dir, spell_port, spell_assignment, spell_parameter, spell_value, spell_declarator, spell_pair, spell_edge, spell_more_edges, spell_edges, spell_more_levels, spell_levels, spell_events, spell_optional, spell_connection, spell_connections, spell_overrides, spell_instance, spell_item, spell_parameters, spell_ports, spell_module, spell_source, separator, WellFormedRange, WellFormedPort, WellFormedAssignment, WellFormedParameter, WellFormedValue, WellFormedDeclarator, WellFormedPair, WellFormedEvents, WellFormedConnection, WellFormedConnections, WellFormedOverrides, WellFormedInstance, WellFormedItem, WellFormedHead, WellFormedModule, WellFormedSource}
 use Rattle.rr_profile.specs.Profile.{is_used, is_cast, opens, is_outside, has_no_rule, NoneOutside}
 
 -- each of these words has a rule, whatever stands behind them
@@ -216,9 +216,18 @@ direction dir.Output = keyword _ refl none
 direction dir.OutputWire = keyword _ refl (keyword _ refl none)
 direction dir.OutputReg = keyword _ refl (keyword _ refl none)
 
+value : (v : Option Tree) → WellFormedValue v → Ruled (spell_value v)
+unfolding spell_value WellFormedValue
+value None w = none
+value (Some t) w = mark _ refl (expression t w)
+
+declarator : (n : DeclaredName) → WellFormedDeclarator n → Ruled (spell_declarator n)
+unfolding spell_declarator WellFormedDeclarator
+declarator n w = name n.text (value n.value w)
+
 port : (p : PortDeclaration) → WellFormedPort p → Ruled (spell_port p)
 unfolding spell_port WellFormedPort
-port p w = joined (direction p.dir) (joined (type_of p.signed p.range w.0) (identifiers p.names))
+port p w = joined (direction p.dir) (joined (type_of p.signed p.range w.0) (list_of spell_declarator WellFormedDeclarator declarator p.names w.2))
 
 assignment : (a : ParamAssignment) → WellFormedAssignment a → Ruled (spell_assignment a)
 unfolding spell_assignment WellFormedAssignment
@@ -232,15 +241,6 @@ local_word false = refl
 parameter : (p : ParameterDeclaration) → WellFormedParameter p → Ruled (spell_parameter p)
 unfolding spell_parameter WellFormedParameter is_used
 parameter p w = keyword _ (local_word p.local) (joined (flag p.integer _ refl) (joined (type_of p.signed p.range w.1) (list_of spell_assignment WellFormedAssignment assignment p.sets w.3)))
-
-value : (v : Option Tree) → WellFormedValue v → Ruled (spell_value v)
-unfolding spell_value WellFormedValue
-value None w = none
-value (Some t) w = mark _ refl (expression t w)
-
-net : (n : NetIdentifier) → WellFormedNet n → Ruled (spell_net n)
-unfolding spell_net WellFormedNet
-net n w = name n.text (value n.value w)
 
 pair : (p : NetAssignment) → WellFormedPair p → Ruled (spell_pair p)
 unfolding spell_pair WellFormedPair
@@ -333,12 +333,13 @@ instance i w = name i.text (connections i.connections w)
 item : (i : ModuleItem) → WellFormedItem i → Ruled (spell_item i)
 unfolding spell_item WellFormedItem is_used
 item (Ports p) w = joined (port p w) (mark _ refl none)
-item (Nets s r ns) w = keyword _ refl (joined (type_of s r w.0) (joined (list_of spell_net WellFormedNet net ns w.2) (mark _ refl none)))
-item (Variables s r ns) w = keyword _ refl (joined (type_of s r w.0) (joined (identifiers ns) (mark _ refl none)))
+item (Nets s r ns) w = keyword _ refl (joined (type_of s r w.0) (joined (list_of spell_declarator WellFormedDeclarator declarator ns w.2) (mark _ refl none)))
+item (Variables s r ns) w = keyword _ refl (joined (type_of s r w.0) (joined (list_of spell_declarator WellFormedDeclarator declarator ns w.2) (mark _ refl none)))
 item (Integers ns) w = keyword _ refl (joined (identifiers ns) (mark _ refl none))
 item (Parameters p) w = joined (parameter p w) (mark _ refl none)
 item (Assigns ps) w = keyword _ refl (joined (list_of spell_pair WellFormedPair pair ps w.1) (mark _ refl none))
 item (Always e s n) w = keyword _ refl (mark _ refl (joined (events e w.0) (statement s w.1)))
+item (Initial s n) w = keyword _ refl (statement s w.1)
 item (Instances m n o is) w = name m (joined (overrides o w.0) (joined (list_of spell_instance WellFormedInstance instance is w.2) (mark _ refl none)))
 
 head : (p : ParameterDeclaration) → WellFormedHead p → Ruled (spell_parameter p)

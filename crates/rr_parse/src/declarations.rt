@@ -1,10 +1,10 @@
-//! Declarations and continuous assignments (IEEE 1364-2005 sections 6.1 and 12.2, annexes A.2.1 and
-//! A.2.4).
+//! Declarations and continuous assignments (IEEE 1364-2005 sections 6.1, 6.2.1 and 12.2, annexes A.2.1
+//! and A.2.4).
 
 ghost use Rattle.std.specs.Prelude.{◌≡◌, ◌≤◌, ◌<◌, ◌+◌, ◌^◌, drop, length};
-ghost use Rattle.rr_syntax.specs.View.{plain_assignment, plain_identifier, plain_net, plain_pair, plain_parameter, plain_value};
+ghost use Rattle.rr_syntax.specs.View.{plain_assignment, plain_identifier, plain_declarator, plain_pair, plain_parameter, plain_value};
 ghost use Rattle.rr_syntax.specs.Words.{mark_equals, words};
-ghost use Rattle.rr_grammar.specs.Declarations.{head_parameter as head_of, kind as kind_of, net as net_of, pair as pair_of, parameter as parameter_of, setting as setting_of};
+ghost use Rattle.rr_grammar.specs.Declarations.{declarator as declarator_of, head_parameter as head_of, kind as kind_of, pair as pair_of, parameter as parameter_of, setting as setting_of};
 ghost use Rattle.rr_grammar.specs.Formats.{list as list_of};
 ghost use Rattle.rr_grammar.specs.ItemForms.{front_parameters};
 ghost use Rattle.rr_grammar.specs.Leaves.{expression as expression_of, identifier, typed as typed_of, where_mark};
@@ -14,7 +14,7 @@ ghost use Rattle.rr_parse.specs.Trees.{plain_kind, plain_list_by, plain_type};
 use crate::expressions::{expression, range, target};
 use crate::tokens::{choice, flag, mark, name};
 use rr_parse_expr::{Input, ParseFault, Piece, is_keyword, is_mark, list};
-use rr_syntax::{Bounds, Expr, Keyword, Mark, Named, NetName, Pair, Params, Setting, Token};
+use rr_syntax::{Bounds, Declarator, Expr, Keyword, Mark, Named, Pair, Params, Setting, Token};
 
 /// `signed` and a range, where they stand.
 #[derive(Clone, Copy)]
@@ -96,8 +96,8 @@ fn settings<'a>(
     )
 }
 
-/// `=` and what drives a net, where they stand.
-fn driver<'a>(
+/// `=` and what drives a net, or what a variable begins with, where they stand.
+fn declared_value<'a>(
     input: Input<'a>,
     from: u32,
     depth: u32,
@@ -120,16 +120,21 @@ fn driver<'a>(
     })
 }
 
-/// A net and its driver, where it has one (section 6.1.1).
-fn net<'a>(input: Input<'a>, from: u32, depth: u32) -> Result<Piece<NetName<'a>>, ParseFault>
+/// A net and its driver, or a variable and its starting value, where it has one (sections 6.1.1 and
+/// 6.2.1).
+fn declarator<'a>(
+    input: Input<'a>,
+    from: u32,
+    depth: u32,
+) -> Result<Piece<Declarator<'a>>, ParseFault>
     requires short { length input.tokens.now < 2 ^ 32 }
     requires shallow { depth ≤ 500 }
-    ensures { Answers (net_of depth) plain_net input.entry.tokens.now from result }
+    ensures { Answers (declarator_of depth) plain_declarator input.entry.tokens.now from result }
 {
     let name = name(input.tokens, from)?;
-    let value = driver(input, name.next, depth)?;
+    let value = declared_value(input, name.next, depth)?;
     Ok(Piece {
-        value: NetName {
+        value: Declarator {
             token: name.value.token,
             name: name.value.name,
             value: value.value,
@@ -138,16 +143,22 @@ fn net<'a>(input: Input<'a>, from: u32, depth: u32) -> Result<Piece<NetName<'a>>
     })
 }
 
-pub(crate) fn nets<'a>(
+/// Such names, with commas between.
+pub(crate) fn declarators<'a>(
     input: Input<'a>,
     from: u32,
     depth: u32,
-) -> Result<Piece<&'a [NetName<'a>]>, ParseFault>
+) -> Result<Piece<&'a [Declarator<'a>]>, ParseFault>
     requires short { length input.tokens.now < 2 ^ 32 }
     requires shallow { depth ≤ 500 }
-    ensures { Answers (list_of (net_of depth)) (plain_list_by plain_net) input.entry.tokens.now from result }
+    ensures { Answers (list_of (declarator_of depth)) (plain_list_by plain_declarator) input.entry.tokens.now from result }
 {
-    list(input.tokens, from, input.arena, |at| net(input, at, depth))
+    list(
+        input.tokens,
+        from,
+        input.arena,
+        |at| declarator(input, at, depth),
+    )
 }
 
 /// A target and what drives it (section 6.1, annex A.6.1).

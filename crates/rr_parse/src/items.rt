@@ -3,14 +3,15 @@
 ghost use Rattle.std.specs.Prelude.{◌≤◌, ◌<◌, ◌^◌, length};
 ghost use Rattle.rr_syntax.specs.View.{plain_item};
 ghost use Rattle.rr_grammar.specs.Formats.{repeated};
-ghost use Rattle.rr_grammar.specs.ItemForms.{always_item as always_of, assigns_item as assigns_of, instances_item as instances_of, integers_item as integers_of, item as item_of, nets_item as nets_of, parameters_item as parameters_of, ports_item as ports_of, variables_item as variables_of};
+ghost use Rattle.rr_grammar.specs.ItemForms.{always_item as always_of, assigns_item as assigns_of, initial_item as initial_of, instances_item as instances_of, integers_item as integers_of, item as item_of, nets_item as nets_of, parameters_item as parameters_of, ports_item as ports_of, variables_item as variables_of};
 ghost use Rattle.rr_parse.specs.Answer.{Answers};
 ghost use Rattle.rr_parse.specs.Trees.{plain_list_by};
 
 use crate::connections::{instances, overrides};
-use crate::declarations::{begins_parameter, names, nets, pairs, parameters, typed};
+use crate::declarations::{begins_parameter, declarators, names, pairs, parameters, typed};
 use crate::events::events;
 use crate::expressions::statement;
+use crate::initial::initial_statement;
 use crate::lists::all;
 use crate::ports::{begins_port, port};
 use crate::tokens::{mark, name, word};
@@ -39,7 +40,7 @@ fn net_item<'a>(input: Input<'a>, from: u32, depth: u32) -> Result<Piece<Item<'a
 {
     let wire = word(input.tokens, from, Keyword::WIRE)?;
     let typed = typed(input, wire, depth)?;
-    let names = nets(input, typed.next, depth)?;
+    let names = declarators(input, typed.next, depth)?;
     let next = mark(input.tokens, names.next, Mark::SEMICOLON)?;
     Ok(Piece {
         value: Item::Nets {
@@ -51,7 +52,7 @@ fn net_item<'a>(input: Input<'a>, from: u32, depth: u32) -> Result<Piece<Item<'a
     })
 }
 
-/// Variables (section 3.2, annex A.2.1.3).
+/// Variables (sections 3.2 and 6.2.1, annex A.2.1.3).
 fn variable_item<'a>(input: Input<'a>, from: u32, depth: u32) -> Result<Piece<Item<'a>>, ParseFault>
     requires short { length input.tokens.now < 2 ^ 32 }
     requires shallow { depth ≤ 500 }
@@ -59,7 +60,7 @@ fn variable_item<'a>(input: Input<'a>, from: u32, depth: u32) -> Result<Piece<It
 {
     let reg = word(input.tokens, from, Keyword::REG)?;
     let typed = typed(input, reg, depth)?;
-    let names = names(input, typed.next)?;
+    let names = declarators(input, typed.next, depth)?;
     let next = mark(input.tokens, names.next, Mark::SEMICOLON)?;
     Ok(Piece {
         value: Item::Variables {
@@ -138,6 +139,24 @@ fn always_item<'a>(input: Input<'a>, from: u32, depth: u32) -> Result<Piece<Item
     })
 }
 
+/// `initial` and its statement (section 9.9.1).
+fn initial_item<'a>(input: Input<'a>, from: u32, depth: u32) -> Result<Piece<Item<'a>>, ParseFault>
+    requires short { length input.tokens.now < 2 ^ 32 }
+    requires shallow { depth ≤ 500 }
+    ensures { Answers (initial_of depth) plain_item input.entry.tokens.now from result }
+{
+    let initial = word(input.tokens, from, Keyword::INITIAL)?;
+    let body = initial_statement(input, initial, depth)?;
+    let value = Item::Initial {
+        body: body.value,
+        token: from,
+    };
+    Ok(Piece {
+        value,
+        next: body.next,
+    })
+}
+
 /// Instances of a module (section 12.1.2).
 fn instance_item<'a>(input: Input<'a>, from: u32, depth: u32) -> Result<Piece<Item<'a>>, ParseFault>
     requires short { length input.tokens.now < 2 ^ 32 }
@@ -180,6 +199,8 @@ fn item<'a>(input: Input<'a>, from: u32, depth: u32) -> Result<Piece<Item<'a>>, 
         assign_item(input, from, depth)
     } else if is_keyword(tokens, from, Keyword::ALWAYS) {
         always_item(input, from, depth)
+    } else if is_keyword(tokens, from, Keyword::INITIAL) {
+        initial_item(input, from, depth)
     } else {
         instance_item(input, from, depth)
     }

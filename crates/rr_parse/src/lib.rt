@@ -7,6 +7,7 @@ mod connections;
 mod declarations;
 mod events;
 mod expressions;
+mod initial;
 mod items;
 mod laws;
 mod lists;

@@ -1,18 +1,20 @@
 //! Port declarations (IEEE 1364-2005 section 12.3.3, annex A.2.1.2).
 
-ghost use Rattle.std.specs.Prelude.{◌≡◌, ◌≤◌, ◌<◌, ◌+◌, ◌^◌, drop, length};
+ghost use Rattle.std.specs.Prelude.{◌≡◌, ◌≤◌, ◌<◌, ◌+◌, ◌^◌, drop, length, not};
+ghost use Rattle.std.specs.List.{list_all};
+ghost use Rattle.std.specs.Option.{is_some};
 ghost use Rattle.rr_syntax.specs.Words.{words};
 ghost use Rattle.rr_syntax.specs.View.{plain_port};
-ghost use Rattle.rr_grammar.specs.Declarations.{port as port_of};
+ghost use Rattle.rr_grammar.specs.Declarations.{port as port_of, starts_right as starts_right_of};
 ghost use Rattle.rr_grammar.specs.Formats.{list as list_of};
 ghost use Rattle.rr_grammar.specs.ItemForms.{front_ports};
 ghost use Rattle.rr_grammar.specs.Leaves.{direction as direction_of, of_input, of_output};
 ghost use Rattle.rr_parse.specs.Answer.{Answers, FindsDirection, the_same};
 ghost use Rattle.rr_parse.specs.Trees.{plain_list_by};
 
-use crate::declarations::{names, typed};
+use crate::declarations::{declarators, typed};
 use rr_parse_expr::{Input, ParseFault, Piece, is_keyword, list};
-use rr_syntax::{Dir, Group, Keyword, Token};
+use rr_syntax::{Declarator, Dir, Group, Keyword, Token};
 
 /// Whether port declarations begin at a token.
 pub(crate) fn begins_port(tokens: &[Token], at: u32) -> bool
@@ -78,6 +80,24 @@ fn direction(tokens: &[Token], from: u32) -> Result<Piece<Dir>, ParseFault>
     }
 }
 
+/// Whether no name has a value.
+fn have_no_values(names: &[Declarator]) -> bool
+    ensures { result ≡ list_all (λ n. not (is_some n.value)) names.now }
+{
+    names.iter().all(|name| name.value.is_none())
+}
+
+/// Whether starting values stand only behind `output reg` (annex A.2.3).
+#[tactic(auto, using(crate::proofs::MadeDeclarations::starts_forms))]
+fn starts_right(group: &Group) -> bool
+    ensures { result ≡ starts_right_of (plain_port group.now) }
+{
+    match group.dir {
+        Dir::OutputReg => true,
+        Dir::Input | Dir::InputWire | Dir::Output | Dir::OutputWire => have_no_values(group.names),
+    }
+}
+
 /// Ports that are declared together, without a semicolon.
 pub(crate) fn port<'a>(
     input: Input<'a>,
@@ -90,14 +110,18 @@ pub(crate) fn port<'a>(
 {
     let dir = direction(input.tokens, from)?;
     let typed = typed(input, dir.next, depth)?;
-    let names = names(input, typed.next)?;
+    let names = declarators(input, typed.next, depth)?;
+    let value = Group {
+        dir: dir.value,
+        signed: typed.value.signed,
+        range: typed.value.range,
+        names: names.value,
+    };
+    if !starts_right(&value) {
+        return Err(ParseFault::Syntax(from));
+    }
     Ok(Piece {
-        value: Group {
-            dir: dir.value,
-            signed: typed.value.signed,
-            range: typed.value.range,
-            names: names.value,
-        },
+        value,
         next: names.next,
     })
 }

@@ -7,7 +7,7 @@ ghost use Rattle.rr_stop.specs.Going.{Goes, Takes};
 use crate::cursor::Cursor;
 use crate::expressions::{expression, range, target};
 use crate::lists::listed;
-use crate::statements::statement;
+use crate::statements::{initial_statement, statement};
 use rr_parse_expr::is_keyword;
 use rr_syntax::{Keyword, Mark, Token};
 
@@ -127,37 +127,67 @@ fn ports(cursor: &mut Cursor) -> Option<()>
     if !cursor.take(Mark::OPEN_PARENTHESIS) || cursor.take(Mark::CLOSE_PARENTHESIS) {
         return Some(());
     }
-    let declared = is_direction(cursor);
-    listed(cursor, |part| port(part, declared), Mark::CLOSE_PARENTHESIS)
+    if is_direction(cursor) {
+        declared_ports(cursor)
+    } else {
+        listed(cursor, |part| part.name(), Mark::CLOSE_PARENTHESIS)
+    }
 }
 
-/// The name of a port, with its direction where ports are declared in the brackets and one stands there.
-fn port(cursor: &mut Cursor, declared: bool) -> Option<()>
+/// Ports that are declared in the brackets, of which each has the direction that was the last.
+fn declared_ports(cursor: &mut Cursor) -> Option<()>
     ensures { Goes cursor.old cursor.new }
 {
-    if declared && is_direction(cursor) {
-        direction(cursor, BRACKETS)?;
+    let mut starts = direction(cursor, BRACKETS)?;
+    declarator(cursor, starts, BRACKETS)?;
+    while cursor.take(Mark::COMMA) {
+        if is_direction(cursor) {
+            starts = direction(cursor, BRACKETS)?;
+        }
+        declarator(cursor, starts, BRACKETS)?;
     }
-    cursor.name()
+    cursor.expect(Mark::CLOSE_PARENTHESIS)
 }
 
 fn is_direction(cursor: &Cursor) -> bool {
     cursor.is_keyword(Keyword::INPUT) || cursor.is_keyword(Keyword::OUTPUT)
 }
 
-/// What stands before the names of ports.
-fn direction(cursor: &mut Cursor, room: u32) -> Option<()>
+/// What stands before the names of ports, and whether starting values may stand behind them.
+fn direction(cursor: &mut Cursor, room: u32) -> Option<bool>
     ensures { Goes cursor.old cursor.new }
 {
     let output = cursor.take_word(Keyword::OUTPUT);
     if !output {
         cursor.expect_word(Keyword::INPUT)?;
     }
-    if !cursor.take_word(Keyword::WIRE) && output {
-        cursor.take_word(Keyword::REG);
-    }
+    let starts = !cursor.take_word(Keyword::WIRE) && output && cursor.take_word(Keyword::REG);
     cursor.take_word(Keyword::SIGNED);
-    range(cursor, room)
+    range(cursor, room)?;
+    Some(starts)
+}
+
+/// A declared name, and its value where it may have one and one stands there.
+fn declarator(cursor: &mut Cursor, starts: bool, room: u32) -> Option<()>
+    ensures { Goes cursor.old cursor.new }
+{
+    cursor.name()?;
+    if starts && cursor.take(Mark::EQUALS) {
+        expression(cursor, room)?;
+    }
+    Some(())
+}
+
+/// Declared names with commas between, one or more, up to a semicolon.
+fn declarators(cursor: &mut Cursor, starts: bool) -> Option<()>
+    ensures goes { Goes cursor.old cursor.new }
+    ensures takes { IfSome result (λ t. Takes cursor.old cursor.new) }
+{
+    listed(
+        cursor,
+        |part| declarator(part, starts, ITEM),
+        Mark::SEMICOLON,
+    )
 }
 
 /// Names with commas between, one or more, up to a semicolon.
@@ -173,14 +203,12 @@ fn item(cursor: &mut Cursor) -> Option<()>
     ensures takes { IfSome result (λ t. Takes cursor.old cursor.new) }
 {
     if is_direction(cursor) {
-        direction(cursor, ITEM)?;
-        names(cursor)
-    } else if cursor.take_word(Keyword::WIRE) {
-        nets(cursor)
-    } else if cursor.take_word(Keyword::REG) {
+        let starts = direction(cursor, ITEM)?;
+        declarators(cursor, starts)
+    } else if cursor.take_word(Keyword::WIRE) || cursor.take_word(Keyword::REG) {
         cursor.take_word(Keyword::SIGNED);
         range(cursor, ITEM)?;
-        names(cursor)
+        declarators(cursor, true)
     } else if cursor.take_word(Keyword::INTEGER) {
         names(cursor)
     } else if cursor.take_word(Keyword::PARAMETER) || cursor.take_word(Keyword::LOCALPARAM) {
@@ -191,30 +219,11 @@ fn item(cursor: &mut Cursor) -> Option<()>
         cursor.expect(Mark::AT)?;
         events(cursor)?;
         statement(cursor, ITEM)
+    } else if cursor.take_word(Keyword::INITIAL) {
+        initial_statement(cursor, ITEM)
     } else {
         instances(cursor)
     }
-}
-
-/// A net, and its value where it has one.
-fn net(cursor: &mut Cursor) -> Option<()>
-    ensures { Goes cursor.old cursor.new }
-{
-    cursor.name()?;
-    if cursor.take(Mark::EQUALS) {
-        expression(cursor, ITEM)?;
-    }
-    Some(())
-}
-
-/// Behind `wire`.
-fn nets(cursor: &mut Cursor) -> Option<()>
-    ensures goes { Goes cursor.old cursor.new }
-    ensures takes { IfSome result (λ t. Takes cursor.old cursor.new) }
-{
-    cursor.take_word(Keyword::SIGNED);
-    range(cursor, ITEM)?;
-    listed(cursor, |part| net(part), Mark::SEMICOLON)
 }
 
 /// Behind `parameter` and `localparam`.

@@ -1,5 +1,5 @@
-//! Statements (IEEE 1364-2005 annex A.6.4). The room is the greatest depth, the root counted as 0,
-//! and one more.
+//! Statements (IEEE 1364-2005 annexes A.6.2 and A.6.4). The room is the greatest depth, the root counted
+//! as 0, and one more.
 
 ghost use Rattle.std.specs.Prelude.{IfSome};
 ghost use Rattle.rr_stop.specs.Going.{Goes, Takes};
@@ -138,4 +138,41 @@ fn arm(cursor: &mut Cursor, inside: u32, default: bool) -> Option<bool>
     cursor.expect(Mark::COLON)?;
     statement(cursor, inside)?;
     Some(default)
+}
+
+/// What an `initial` item may hold (section 9.9.1): `;`, blocks, and whole variables that are set by `=`.
+#[cycle(initials)]
+pub(crate) fn initial_statement(cursor: &mut Cursor, room: u32) -> Option<()>
+    ensures goes { Goes cursor.old cursor.new }
+    ensures takes { IfSome result (λ t. Takes cursor.old cursor.new) }
+{
+    if room == 0 {
+        return None;
+    }
+    if cursor.take(Mark::SEMICOLON) {
+        return Some(());
+    }
+    if cursor.is_keyword(Keyword::BEGIN) {
+        return initial_block(cursor, room);
+    }
+    let inside = inner(room)?;
+    cursor.name()?;
+    cursor.expect(Mark::EQUALS)?;
+    expression(cursor, inside)?;
+    cursor.expect(Mark::SEMICOLON)
+}
+
+/// Such statements between `begin` and `end`.
+#[cycle(initials)]
+fn initial_block(cursor: &mut Cursor, room: u32) -> Option<()>
+    ensures goes { Goes cursor.old cursor.new }
+    ensures takes { IfSome result (λ t. Takes cursor.old cursor.new) }
+{
+    cursor.expect_word(Keyword::BEGIN)?;
+    label(cursor)?;
+    while !cursor.take_word(Keyword::END) {
+        let inside = inner(room)?;
+        initial_statement(cursor, inside)?;
+    }
+    Some(())
 }

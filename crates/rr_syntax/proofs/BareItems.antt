@@ -1,13 +1,15 @@
 -- An item, a module and a source text with every token number 0 keep their spelling, their rules and their measures.
-use Rattle.std.proofs.Common.{◌≡◌, ℕ, Bool, true, false, suc, length, map, List, [], ◌∷◌, Option, None, Some, refl, ap}
+use Rattle.std.proofs.Common.{◌≡◌, ℕ, Bool, true, false, suc, length, map, List, [], ◌∷◌, Option, None, Some, IsNone, refl, ap}
 use Rattle.std.specs.List.{AllByRecursion}
+use Rattle.rr_syntax.specs.declared.tree.Dir.{Dir}
+use Rattle.rr_syntax.specs.declared.tree.Dir.TheVariants as dir
 use Rattle.rr_syntax.specs.Words.{Word}
-use Rattle.rr_syntax.specs.Tree.{Tree, Trees, End, More, Identifier, Range, PortDeclaration, ParamAssignment, ParameterDeclaration, NetIdentifier, NetAssignment, EdgeEvent, EventControl, Star, Edges, Levels, NamedConnection, Connections, Positions, Names, ModuleInstance, ModuleItem, Ports, Nets, Variables, Integers, Parameters, Assigns, Always, Instances, ModuleDeclaration, SourceText, bare, bare_parts, bare_identifier, bare_range, bare_port, bare_assignment, bare_parameter, bare_value, bare_net, bare_pair, bare_edge, bare_events, bare_connection, bare_connections, bare_overrides, bare_instance, bare_item, bare_header, bare_module, bare_source}
-use Rattle.rr_syntax.specs.Items.{spell_each, spell_separated, spell_all, spell_identifier, spell_range, spell_type, spell_port, spell_assignment, spell_parameter, spell_value, spell_net, spell_pair, spell_edge, spell_more_edges, spell_edges, spell_more_levels, spell_levels, rest, spell_events, spell_optional, spell_connection, spell_connections, spell_overrides, spell_instance, spell_item, spell_parameters, spell_ports, spell_module, spell_source}
-use Rattle.rr_syntax.specs.Items.{WellFormedRange, WellFormedPort, IsTypedOnce, WellFormedAssignment, WellFormedParameter, WellFormedValue, WellFormedNet, WellFormedPair, count, WellFormedEvents, WellFormedConnection, WellFormedConnections, WellFormedOverrides, WellFormedInstance, WellFormedItem, WellFormedHead, IsHeader, WellFormedModule, WellFormedSource}
-use Rattle.rr_syntax.specs.Items.{greatest, depth_range, depth_port, depth_assignment, depth_parameter, depth_value, depth_net, depth_pair, depth_events, depth_connection, depth_connections, depth_overrides, depth_instance, depth_item, height_item, depth_module, height_module, depth_source}
+use Rattle.rr_syntax.specs.Tree.{Tree, Trees, End, More, Identifier, Range, PortDeclaration, ParamAssignment, ParameterDeclaration, DeclaredName, NetAssignment, EdgeEvent, EventControl, Star, Edges, Levels, NamedConnection, Connections, Positions, Names, ModuleInstance, ModuleItem, Ports, Nets, Variables, Integers, Parameters, Assigns, Always, Initial, Instances, ModuleDeclaration, SourceText, bare, bare_parts, bare_identifier, bare_range, bare_port, bare_assignment, bare_parameter, bare_value, bare_declarator, bare_pair, bare_edge, bare_events, bare_connection, bare_connections, bare_overrides, bare_instance, bare_item, bare_header, bare_module, bare_source}
+use Rattle.rr_syntax.specs.Items.{spell_each, spell_separated, spell_all, spell_identifier, spell_range, spell_type, spell_port, spell_assignment, spell_parameter, spell_value, spell_declarator, spell_pair, spell_edge, spell_more_edges, spell_edges, spell_more_levels, spell_levels, rest, spell_events, spell_optional, spell_connection, spell_connections, spell_overrides, spell_instance, spell_item, spell_parameters, spell_ports, spell_module, spell_source}
+use Rattle.rr_syntax.specs.Items.{WellFormedRange, MayStart, WellFormedPort, IsTypedOnce, WellFormedAssignment, WellFormedParameter, WellFormedValue, WellFormedDeclarator, WellFormedPair, count, WellFormedEvents, WellFormedConnection, WellFormedConnections, WellFormedOverrides, WellFormedInstance, WellFormedItem, WellFormedHead, IsHeader, WellFormedModule, WellFormedSource}
+use Rattle.rr_syntax.specs.Items.{greatest, depth_range, depth_port, depth_assignment, depth_parameter, depth_value, depth_declarator, depth_pair, depth_events, depth_connection, depth_connections, depth_overrides, depth_instance, depth_item, height_item, depth_module, height_module, depth_source}
 use Rattle.rr_syntax.proofs.BareExpressions.{spell-bare, spell_parts-bare, WellFormed-bare, WellFormedMore-bare, is_target-bare, depth-bare, height-bare, bare-bare, bare_parts-bare}
-use Rattle.rr_syntax.proofs.BareStatements.{spell_statement-bare, WellFormedStatement-bare, depth_statement-bare, bare_statement-bare}
+use Rattle.rr_syntax.proofs.BareStatements.{is_initial-bare, spell_statement-bare, WellFormedStatement-bare, depth_statement-bare, bare_statement-bare}
 
 -- what f gives each element, it gives the changed element
 pub spell_each-map : {A : Type 0} (f : A → List Word) (g : A → A) → ((x : A) → f (g x) ≡ f x) → (xs : List A) → spell_each f (map g xs) ≡ spell_each f xs
@@ -59,9 +61,21 @@ pub spell_type-bare : (signed : Bool) (r : Option Range) → spell_type signed (
 unfolding spell_type
 spell_type-bare signed r = rw (spell_range-bare r) refl
 
+spell_value-bare : (v : Option Tree) → spell_value (bare_value v) ≡ spell_value v
+unfolding spell_value bare_value
+spell_value-bare None = refl
+spell_value-bare (Some t) = rw (spell-bare t) refl
+
+pub spell_declarator-bare : (n : DeclaredName) → spell_declarator (bare_declarator n) ≡ spell_declarator n
+unfolding spell_declarator bare_declarator
+spell_declarator-bare n = rw (spell_value-bare n.value) refl
+
+pub spell_declarators-bare : (names : List DeclaredName) → spell_separated spell_declarator (map bare_declarator names) ≡ spell_separated spell_declarator names
+spell_declarators-bare names = spell_separated-map spell_declarator bare_declarator spell_declarator-bare names
+
 pub spell_port-bare : (p : PortDeclaration) → spell_port (bare_port p) ≡ spell_port p
 unfolding spell_port bare_port
-spell_port-bare p = rw (spell_type-bare p.signed p.range, spell_names-bare p.names) refl
+spell_port-bare p = rw (spell_type-bare p.signed p.range, spell_declarators-bare p.names) refl
 
 pub spell_assignment-bare : (a : ParamAssignment) → spell_assignment (bare_assignment a) ≡ spell_assignment a
 unfolding spell_assignment bare_assignment
@@ -70,15 +84,6 @@ spell_assignment-bare a = rw (spell-bare a.value) refl
 pub spell_parameter-bare : (p : ParameterDeclaration) → spell_parameter (bare_parameter p) ≡ spell_parameter p
 unfolding spell_parameter bare_parameter
 spell_parameter-bare p = rw (spell_type-bare p.signed p.range, spell_separated-map spell_assignment bare_assignment spell_assignment-bare p.sets) refl
-
-spell_value-bare : (v : Option Tree) → spell_value (bare_value v) ≡ spell_value v
-unfolding spell_value bare_value
-spell_value-bare None = refl
-spell_value-bare (Some t) = rw (spell-bare t) refl
-
-pub spell_net-bare : (n : NetIdentifier) → spell_net (bare_net n) ≡ spell_net n
-unfolding spell_net bare_net
-spell_net-bare n = rw (spell_value-bare n.value) refl
 
 pub spell_pair-bare : (p : NetAssignment) → spell_pair (bare_pair p) ≡ spell_pair p
 unfolding spell_pair bare_pair
@@ -140,12 +145,13 @@ spell_instance-bare i = rw (spell_connections-bare i.connections) refl
 pub spell_item-bare : (i : ModuleItem) → spell_item (bare_item i) ≡ spell_item i
 unfolding spell_item bare_item
 spell_item-bare (Ports p) = rw (spell_port-bare p) refl
-spell_item-bare (Nets signed range names) = rw (spell_type-bare signed range, spell_separated-map spell_net bare_net spell_net-bare names) refl
-spell_item-bare (Variables signed range names) = rw (spell_type-bare signed range, spell_names-bare names) refl
+spell_item-bare (Nets signed range names) = rw (spell_type-bare signed range, spell_separated-map spell_declarator bare_declarator spell_declarator-bare names) refl
+spell_item-bare (Variables signed range names) = rw (spell_type-bare signed range, spell_declarators-bare names) refl
 spell_item-bare (Integers names) = rw (spell_names-bare names) refl
 spell_item-bare (Parameters p) = rw (spell_parameter-bare p) refl
 spell_item-bare (Assigns pairs) = rw (spell_separated-map spell_pair bare_pair spell_pair-bare pairs) refl
 spell_item-bare (Always events s token) = rw (spell_events-bare events, spell_statement-bare s) refl
+spell_item-bare (Initial s token) = rw (spell_statement-bare s) refl
 spell_item-bare (Instances m token overrides list) = rw (spell_overrides-bare overrides, spell_separated-map spell_instance bare_instance spell_instance-bare list) refl
 
 pub spell_parameters-bare : (ps : List ParameterDeclaration) → spell_parameters (map bare_parameter ps) ≡ spell_parameters ps
@@ -172,9 +178,32 @@ unfolding WellFormedRange bare_range
 WellFormedRange-bare None = refl
 WellFormedRange-bare (Some r) = rw (WellFormed-bare r.left, WellFormed-bare r.right) refl
 
+WellFormedValue-bare : (v : Option Tree) → WellFormedValue (bare_value v) ≡ WellFormedValue v
+unfolding WellFormedValue bare_value
+WellFormedValue-bare None = refl
+WellFormedValue-bare (Some t) = WellFormed-bare t
+
+WellFormedDeclarator-bare : (n : DeclaredName) → WellFormedDeclarator (bare_declarator n) ≡ WellFormedDeclarator n
+unfolding WellFormedDeclarator bare_declarator
+WellFormedDeclarator-bare n = WellFormedValue-bare n.value
+
+IsNone-bare : (v : Option Tree) → IsNone (bare_value v) ≡ IsNone v
+unfolding bare_value
+IsNone-bare None = refl
+IsNone-bare (Some t) = refl
+
+MayStart-bare : (d : Dir) (n : DeclaredName) → MayStart d (bare_declarator n) ≡ MayStart d n
+unfolding MayStart bare_declarator
+MayStart-bare dir.OutputReg n = refl
+MayStart-bare dir.Input n = IsNone-bare n.value
+MayStart-bare dir.InputWire n = IsNone-bare n.value
+MayStart-bare dir.Output n = IsNone-bare n.value
+MayStart-bare dir.OutputWire n = IsNone-bare n.value
+
 pub WellFormedPort-bare : (p : PortDeclaration) → WellFormedPort (bare_port p) ≡ WellFormedPort p
 unfolding WellFormedPort bare_port
-WellFormedPort-bare p = rw (WellFormedRange-bare p.range, length-map' bare_identifier p.names) refl
+WellFormedPort-bare p =
+    rw (WellFormedRange-bare p.range, length-map' bare_declarator p.names, all-map WellFormedDeclarator bare_declarator WellFormedDeclarator-bare p.names, all-map (MayStart p.dir) bare_declarator (MayStart-bare p.dir) p.names) refl
 
 IsTypedOnce-bare : (integer signed : Bool) (r : Option Range) → IsTypedOnce integer signed (bare_range r) ≡ IsTypedOnce integer signed r
 unfolding bare_range
@@ -190,15 +219,6 @@ pub WellFormedParameter-bare : (p : ParameterDeclaration) → WellFormedParamete
 unfolding WellFormedParameter bare_parameter
 WellFormedParameter-bare p =
     rw (IsTypedOnce-bare p.integer p.signed p.range, WellFormedRange-bare p.range, length-map' bare_assignment p.sets, all-map WellFormedAssignment bare_assignment WellFormedAssignment-bare p.sets) refl
-
-WellFormedValue-bare : (v : Option Tree) → WellFormedValue (bare_value v) ≡ WellFormedValue v
-unfolding WellFormedValue bare_value
-WellFormedValue-bare None = refl
-WellFormedValue-bare (Some t) = WellFormed-bare t
-
-WellFormedNet-bare : (n : NetIdentifier) → WellFormedNet (bare_net n) ≡ WellFormedNet n
-unfolding WellFormedNet bare_net
-WellFormedNet-bare n = WellFormedValue-bare n.value
 
 WellFormedPair-bare : (p : NetAssignment) → WellFormedPair (bare_pair p) ≡ WellFormedPair p
 unfolding WellFormedPair bare_pair
@@ -237,12 +257,14 @@ pub WellFormedItem-bare : (i : ModuleItem) → WellFormedItem (bare_item i) ≡ 
 unfolding WellFormedItem bare_item
 WellFormedItem-bare (Ports p) = WellFormedPort-bare p
 WellFormedItem-bare (Nets signed range names) =
-    rw (WellFormedRange-bare range, length-map' bare_net names, all-map WellFormedNet bare_net WellFormedNet-bare names) refl
-WellFormedItem-bare (Variables signed range names) = rw (WellFormedRange-bare range, length-map' bare_identifier names) refl
+    rw (WellFormedRange-bare range, length-map' bare_declarator names, all-map WellFormedDeclarator bare_declarator WellFormedDeclarator-bare names) refl
+WellFormedItem-bare (Variables signed range names) =
+    rw (WellFormedRange-bare range, length-map' bare_declarator names, all-map WellFormedDeclarator bare_declarator WellFormedDeclarator-bare names) refl
 WellFormedItem-bare (Integers names) = rw (length-map' bare_identifier names) refl
 WellFormedItem-bare (Parameters p) = WellFormedParameter-bare p
 WellFormedItem-bare (Assigns pairs) = rw (length-map' bare_pair pairs, all-map WellFormedPair bare_pair WellFormedPair-bare pairs) refl
 WellFormedItem-bare (Always events s token) = rw (WellFormedEvents-bare events, WellFormedStatement-bare s) refl
+WellFormedItem-bare (Initial s token) = rw (is_initial-bare s, WellFormedStatement-bare s) refl
 WellFormedItem-bare (Instances m token overrides list) =
     rw (WellFormedOverrides-bare overrides, length-map' bare_instance list, all-map WellFormedInstance bare_instance WellFormedInstance-bare list) refl
 
@@ -270,9 +292,18 @@ unfolding depth_range bare_range
 depth_range-bare None = refl
 depth_range-bare (Some r) = rw (depth-bare r.left, depth-bare r.right) refl
 
+depth_value-bare : (v : Option Tree) → depth_value (bare_value v) ≡ depth_value v
+unfolding depth_value bare_value
+depth_value-bare None = refl
+depth_value-bare (Some t) = rw (depth-bare t) refl
+
+depth_declarator-bare : (n : DeclaredName) → depth_declarator (bare_declarator n) ≡ depth_declarator n
+unfolding depth_declarator bare_declarator
+depth_declarator-bare n = depth_value-bare n.value
+
 depth_port-bare : (p : PortDeclaration) → depth_port (bare_port p) ≡ depth_port p
 unfolding depth_port bare_port
-depth_port-bare p = depth_range-bare p.range
+depth_port-bare p = rw (depth_range-bare p.range, greatest-map depth_declarator bare_declarator depth_declarator-bare p.names) refl
 
 depth_assignment-bare : (a : ParamAssignment) → depth_assignment (bare_assignment a) ≡ depth_assignment a
 unfolding depth_assignment bare_assignment
@@ -281,15 +312,6 @@ depth_assignment-bare a = rw (depth-bare a.value) refl
 depth_parameter-bare : (p : ParameterDeclaration) → depth_parameter (bare_parameter p) ≡ depth_parameter p
 unfolding depth_parameter bare_parameter
 depth_parameter-bare p = rw (depth_range-bare p.range, greatest-map depth_assignment bare_assignment depth_assignment-bare p.sets) refl
-
-depth_value-bare : (v : Option Tree) → depth_value (bare_value v) ≡ depth_value v
-unfolding depth_value bare_value
-depth_value-bare None = refl
-depth_value-bare (Some t) = rw (depth-bare t) refl
-
-depth_net-bare : (n : NetIdentifier) → depth_net (bare_net n) ≡ depth_net n
-unfolding depth_net bare_net
-depth_net-bare n = depth_value-bare n.value
 
 depth_pair-bare : (p : NetAssignment) → depth_pair (bare_pair p) ≡ depth_pair p
 unfolding depth_pair bare_pair
@@ -322,12 +344,13 @@ depth_instance-bare i = depth_connections-bare i.connections
 pub depth_item-bare : (i : ModuleItem) → depth_item (bare_item i) ≡ depth_item i
 unfolding depth_item bare_item
 depth_item-bare (Ports p) = depth_port-bare p
-depth_item-bare (Nets signed range names) = rw (depth_range-bare range, greatest-map depth_net bare_net depth_net-bare names) refl
-depth_item-bare (Variables signed range names) = depth_range-bare range
+depth_item-bare (Nets signed range names) = rw (depth_range-bare range, greatest-map depth_declarator bare_declarator depth_declarator-bare names) refl
+depth_item-bare (Variables signed range names) = rw (depth_range-bare range, greatest-map depth_declarator bare_declarator depth_declarator-bare names) refl
 depth_item-bare (Integers names) = refl
 depth_item-bare (Parameters p) = depth_parameter-bare p
 depth_item-bare (Assigns pairs) = greatest-map depth_pair bare_pair depth_pair-bare pairs
 depth_item-bare (Always events s token) = rw (depth_events-bare events, depth_statement-bare s) refl
+depth_item-bare (Initial s token) = ap suc (depth_statement-bare s)
 depth_item-bare (Instances m token overrides list) = rw (depth_overrides-bare overrides, greatest-map depth_instance bare_instance depth_instance-bare list) refl
 
 height_item-bare : (i : ModuleItem) → height_item (bare_item i) ≡ height_item i
@@ -360,9 +383,18 @@ unfolding bare_range
 bare_range-bare None = refl
 bare_range-bare (Some r) = rw (bare-bare r.left, bare-bare r.right) refl
 
+bare_value-bare : (v : Option Tree) → bare_value (bare_value v) ≡ bare_value v
+unfolding bare_value
+bare_value-bare None = refl
+bare_value-bare (Some t) = rw (bare-bare t) refl
+
+bare_declarator-bare : (n : DeclaredName) → bare_declarator (bare_declarator n) ≡ bare_declarator n
+unfolding bare_declarator
+bare_declarator-bare n = rw (bare_value-bare n.value) refl
+
 bare_port-bare : (p : PortDeclaration) → bare_port (bare_port p) ≡ bare_port p
 unfolding bare_port
-bare_port-bare p = rw (bare_range-bare p.range, names-twice p.names) refl
+bare_port-bare p = rw (bare_range-bare p.range, map-map bare_declarator bare_declarator-bare p.names) refl
 
 bare_assignment-bare : (a : ParamAssignment) → bare_assignment (bare_assignment a) ≡ bare_assignment a
 unfolding bare_assignment
@@ -371,15 +403,6 @@ bare_assignment-bare a = rw (bare-bare a.value) refl
 bare_parameter-bare : (p : ParameterDeclaration) → bare_parameter (bare_parameter p) ≡ bare_parameter p
 unfolding bare_parameter
 bare_parameter-bare p = rw (bare_range-bare p.range, map-map bare_assignment bare_assignment-bare p.sets) refl
-
-bare_value-bare : (v : Option Tree) → bare_value (bare_value v) ≡ bare_value v
-unfolding bare_value
-bare_value-bare None = refl
-bare_value-bare (Some t) = rw (bare-bare t) refl
-
-bare_net-bare : (n : NetIdentifier) → bare_net (bare_net n) ≡ bare_net n
-unfolding bare_net
-bare_net-bare n = rw (bare_value-bare n.value) refl
 
 bare_pair-bare : (p : NetAssignment) → bare_pair (bare_pair p) ≡ bare_pair p
 unfolding bare_pair
@@ -416,12 +439,13 @@ bare_instance-bare i = rw (bare_connections-bare i.connections) refl
 pub bare_item-bare : (i : ModuleItem) → bare_item (bare_item i) ≡ bare_item i
 unfolding bare_item
 bare_item-bare (Ports p) = rw (bare_port-bare p) refl
-bare_item-bare (Nets signed range names) = rw (bare_range-bare range, map-map bare_net bare_net-bare names) refl
-bare_item-bare (Variables signed range names) = rw (bare_range-bare range, names-twice names) refl
+bare_item-bare (Nets signed range names) = rw (bare_range-bare range, map-map bare_declarator bare_declarator-bare names) refl
+bare_item-bare (Variables signed range names) = rw (bare_range-bare range, map-map bare_declarator bare_declarator-bare names) refl
 bare_item-bare (Integers names) = rw (names-twice names) refl
 bare_item-bare (Parameters p) = rw (bare_parameter-bare p) refl
 bare_item-bare (Assigns pairs) = rw (map-map bare_pair bare_pair-bare pairs) refl
 bare_item-bare (Always events s token) = rw (bare_events-bare events, bare_statement-bare s) refl
+bare_item-bare (Initial s token) = rw (bare_statement-bare s) refl
 bare_item-bare (Instances m token overrides list) = rw (bare_overrides-bare overrides, map-map bare_instance bare_instance-bare list) refl
 
 bare_header-bare : (header : Option (List Identifier)) → bare_header (bare_header header) ≡ bare_header header

@@ -1,8 +1,8 @@
 -- A statement with every token number 0 keeps its spelling, its rules and its measures.
-use Rattle.std.proofs.Common.{◌≡◌, ◌≤◌, Bool, suc, [], ◌∷◌, ◌++◌, Option, None, Some, refl, ap}
+use Rattle.std.proofs.Common.{◌≡◌, ◌≤◌, Bool, ◌&&◌, suc, [], ◌∷◌, ◌++◌, Option, None, Some, refl, ap}
 use Rattle.rr_syntax.specs.Words.{Marked, mark_colon}
-use Rattle.rr_syntax.specs.Tree.{Trees, End, More, Identifier, Statement, Statements, Arm, Arms, Null, Block, If, IfElse, Case, Assign, Done, Then, CaseItem, NoArms, MoreArms, bare, bare_parts, bare_identifier, bare_label, bare_statement, bare_statements, bare_arm, bare_arms}
-use Rattle.rr_syntax.specs.Statements.{is_open, spell_label, spell_labels, spell_statement, spell_statements, spell_arm, spell_arms, HasColon, defaults, HasArms, WellFormedStatement, WellFormedStatements, WellFormedArm, WellFormedArms, depth_statement, height_statements, depth_arm, height_arms, FitLiteralsStatement, FitLiteralsStatements, FitLiteralsArm, FitLiteralsArms}
+use Rattle.rr_syntax.specs.Tree.{Tree, Name, Literal, Bit, Part, Indexed, Unary, Binary, Cond, Concat, Repeat, Cast, Paren, Trees, End, More, Identifier, Statement, Statements, Arm, Arms, Null, Block, If, IfElse, Case, Assign, Done, Then, CaseItem, NoArms, MoreArms, bare, bare_parts, bare_identifier, bare_label, bare_statement, bare_statements, bare_arm, bare_arms}
+use Rattle.rr_syntax.specs.Statements.{is_open, is_name, is_initial, are_initial, spell_label, spell_labels, spell_statement, spell_statements, spell_arm, spell_arms, HasColon, defaults, HasArms, WellFormedStatement, WellFormedStatements, WellFormedArm, WellFormedArms, depth_statement, height_statements, depth_arm, height_arms, FitLiteralsStatement, FitLiteralsStatements, FitLiteralsArm, FitLiteralsArms}
 use Rattle.rr_syntax.proofs.BareExpressions.{spell-bare, spell_parts-bare, WellFormed-bare, WellFormedMore-bare, is_target-bare, depth-bare, height-bare, FitLiterals-bare, FitLiteralsParts-bare, bare-bare, bare_parts-bare}
 
 pub is_open-bare : (s : Statement) → is_open (bare_statement s) ≡ is_open s
@@ -13,6 +13,36 @@ is_open-bare (If t s) = refl
 is_open-bare (IfElse t s u) = is_open-bare u
 is_open-bare (Case kind t arms) = refl
 is_open-bare (Assign t now v) = refl
+
+pub is_name-bare : (t : Tree) → is_name (bare t) ≡ is_name t
+unfolding bare
+is_name-bare (Name token text) = refl
+is_name-bare (Literal token n) = refl
+is_name-bare (Bit token text i) = refl
+is_name-bare (Part token text l r) = refl
+is_name-bare (Indexed token text f w up) = refl
+is_name-bare (Unary op t) = refl
+is_name-bare (Binary op l r) = refl
+is_name-bare (Cond a b c) = refl
+is_name-bare (Concat ts) = refl
+is_name-bare (Repeat t ts) = refl
+is_name-bare (Cast signed t) = refl
+is_name-bare (Paren t) = refl
+
+mutual
+  unfolding is_initial bare_statement
+
+  pub is_initial-bare : (s : Statement) → is_initial (bare_statement s) ≡ is_initial s
+  is_initial-bare Null = refl
+  is_initial-bare (Block label ss) = are_initial-bare ss
+  is_initial-bare (If t s) = refl
+  is_initial-bare (IfElse t s u) = refl
+  is_initial-bare (Case kind t arms) = refl
+  is_initial-bare (Assign t now v) = ap (λ b. now && b) (is_name-bare t)
+
+  pub are_initial-bare : (ss : Statements) → are_initial (bare_statements ss) ≡ are_initial ss
+  are_initial-bare Done = refl
+  are_initial-bare (Then s ss) = rw (is_initial-bare s, are_initial-bare ss) refl
 
 pub spell_label-bare : (l : Option Identifier) → spell_label (bare_label l) ≡ spell_label l
 unfolding spell_label bare_label bare_identifier

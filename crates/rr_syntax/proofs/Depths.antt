@@ -19,7 +19,7 @@ use Rattle.rr_syntax.specs.declared.tree.Item.{Item}
 use Rattle.rr_syntax.specs.declared.tree.Item.TheVariants as item
 use Rattle.rr_syntax.specs.declared.tree.Module.{Module}
 use Rattle.rr_syntax.specs.declared.tree.Named.{Named as Name}
-use Rattle.rr_syntax.specs.declared.tree.NetName.{NetName}
+use Rattle.rr_syntax.specs.declared.tree.Declarator.{Declarator}
 use Rattle.rr_syntax.specs.declared.tree.Pair.{Pair}
 use Rattle.rr_syntax.specs.declared.tree.Params.{Params}
 use Rattle.rr_syntax.specs.declared.tree.Setting.{Setting}
@@ -28,8 +28,8 @@ use Rattle.rr_syntax.specs.declared.tree.Stmt.{Stmt, the_lemmas as stmt_lemmas}
 use Rattle.rr_syntax.specs.declared.tree.Stmt.TheVariants as stmt
 use Rattle.rr_syntax.specs.Expressions.{depth, height}
 use Rattle.rr_syntax.specs.Statements.{depth_statement, height_statements, height_arms}
-use Rattle.rr_syntax.specs.Items.{greatest, depth_range, depth_port, depth_assignment, depth_parameter, depth_value, depth_net, depth_pair, depth_events, depth_connection, depth_connections, depth_overrides, depth_instance, depth_item, height_item, depth_module, height_module, depth_source}
-use Rattle.rr_syntax.specs.View.{plain, plain_list, plain_statement, plain_statements, plain_arm, plain_arms, plain_range, plain_port, plain_assignment, plain_parameter, plain_value, plain_net, plain_pair, plain_events, plain_connection, plain_connections, plain_overrides, plain_instance, plain_item, plain_module, plain_source}
+use Rattle.rr_syntax.specs.Items.{greatest, depth_range, depth_port, depth_assignment, depth_parameter, depth_value, depth_declarator, depth_pair, depth_events, depth_connection, depth_connections, depth_overrides, depth_instance, depth_item, height_item, depth_module, height_module, depth_source}
+use Rattle.rr_syntax.specs.View.{plain, plain_list, plain_statement, plain_statements, plain_arm, plain_arms, plain_range, plain_port, plain_assignment, plain_parameter, plain_value, plain_declarator, plain_pair, plain_events, plain_connection, plain_connections, plain_overrides, plain_instance, plain_item, plain_module, plain_source}
 use Rattle.rr_syntax.proofs.Rows.{plain_concat, plain_repeat, plain_block, plain_case}
 use Rattle.rr_syntax.proofs.Sums.{IsGreatest}
 use denote.Ref.{Bor}
@@ -172,9 +172,15 @@ deep-value-some e = omega arith
 
 pub ruleset value_depths = (deep-value-none, deep-value-some)
 
-pub deep-port : (g : Group) → depth_port (plain_port g) ≡ depth_range (plain_range g.range)
+pub deep-declarator : (n : Declarator) → depth_declarator (plain_declarator n) ≡ depth_value (plain_value n.value)
+unfolding depth_declarator plain_declarator
+deep-declarator n = refl
+
+pub deep-port : (g : Group) → depth_port (plain_port g) ≡ max (depth_range (plain_range g.range)) (greatest depth_declarator (map plain_declarator g.names.now))
 unfolding depth_port plain_port
 deep-port g = refl
+
+pub ruleset port_depths = deep-port
 
 pub deep-setting : (s : Setting) → depth_assignment (plain_assignment s) ≡ 1 + depth (plain s.value.now)
 unfolding depth_assignment plain_assignment
@@ -185,10 +191,6 @@ unfolding depth_parameter plain_parameter
 deep-parameter p = refl
 
 pub ruleset parameter_depths = deep-parameter
-
-pub deep-net : (n : NetName) → depth_net (plain_net n) ≡ depth_value (plain_value n.value)
-unfolding depth_net plain_net
-deep-net n = refl
 
 pub deep-pair : (p : Pair) → depth_pair (plain_pair p) ≡ 1 + max (depth (plain p.target.now)) (depth (plain p.value.now))
 unfolding depth_pair plain_pair
@@ -236,15 +238,15 @@ pub deep-instance : (i : Instance) → depth_instance (plain_instance i) ≡ dep
 unfolding depth_instance plain_instance
 deep-instance i = refl
 
-pub deep-Ports : (g : Group) → depth_item (plain_item (item.Ports g)) ≡ depth_range (plain_range g.range)
-unfolding depth_item plain_item depth_port plain_port
+pub deep-Ports : (g : Group) → depth_item (plain_item (item.Ports g)) ≡ depth_port (plain_port g)
+unfolding depth_item plain_item
 deep-Ports g = refl
 
-pub deep-Nets : (signed : Bool) (range : Option Bounds) (names : Bor (List NetName)) → depth_item (plain_item (item.Nets signed range names)) ≡ max (depth_range (plain_range range)) (greatest depth_net (map plain_net names.now))
+pub deep-Nets : (signed : Bool) (range : Option Bounds) (names : Bor (List Declarator)) → depth_item (plain_item (item.Nets signed range names)) ≡ max (depth_range (plain_range range)) (greatest depth_declarator (map plain_declarator names.now))
 unfolding depth_item plain_item
 deep-Nets signed range names = refl
 
-pub deep-Variables : (signed : Bool) (range : Option Bounds) (names : Bor (List Name)) → depth_item (plain_item (item.Variables signed range names)) ≡ depth_range (plain_range range)
+pub deep-Variables : (signed : Bool) (range : Option Bounds) (names : Bor (List Declarator)) → depth_item (plain_item (item.Variables signed range names)) ≡ max (depth_range (plain_range range)) (greatest depth_declarator (map plain_declarator names.now))
 unfolding depth_item plain_item
 deep-Variables signed range names = refl
 
@@ -264,11 +266,15 @@ pub deep-Always : (e : Events) (s : Bor Stmt) (token : ℕ) → depth_item (plai
 unfolding depth_item plain_item
 deep-Always e s token = omega arith
 
+pub deep-Initial : (s : Bor Stmt) (token : ℕ) → depth_item (plain_item (item.Initial s token)) ≡ 1 + depth_statement (plain_statement s.now)
+unfolding depth_item plain_item
+deep-Initial s token = omega arith
+
 pub deep-Instances : (m : Bor (List ℕ)) (token : ℕ) (o : Option Conns) (list : Bor (List Instance)) → depth_item (plain_item (item.Instances m token o list)) ≡ max (depth_overrides (plain_overrides o)) (greatest depth_instance (map plain_instance list.now))
 unfolding depth_item plain_item
 deep-Instances m token o list = refl
 
-pub ruleset item_depths = (deep-Ports, deep-Nets, deep-Variables, deep-Integers, deep-Parameters, deep-Assigns, deep-Always, deep-Instances)
+pub ruleset item_depths = (deep-Ports, deep-Nets, deep-Variables, deep-Integers, deep-Parameters, deep-Assigns, deep-Always, deep-Initial, deep-Instances)
 
 pub deep-item : (i : Item) → height_item (plain_item i) ≡ 1 + depth_item (plain_item i)
 unfolding height_item

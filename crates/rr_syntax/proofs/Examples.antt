@@ -2,11 +2,11 @@
 use Rattle.std.proofs.Common.{◌≡◌, Bool, true, false, List, [], ◌∷◌, codes, Option, None, Some, refl, arith, inl, inr}
 use Rattle.rr_syntax.specs.declared.token.Number.{Number}
 use Rattle.rr_syntax.specs.declared.tree.Dir.TheVariants as dir
-use Rattle.rr_syntax.specs.Words.{Word, Named, System, Digits, Reserved, Marked, mark_open_parenthesis, mark_close_parenthesis, mark_open_bracket, mark_close_bracket, mark_open_brace, mark_close_brace, mark_comma, mark_semicolon, mark_colon, mark_dot, mark_hash, mark_at, mark_question, mark_equals, mark_plus, mark_minus, mark_star, mark_tilde, mark_less_or_equal, mark_part_up, keyword_always, keyword_assign, keyword_begin, keyword_case, keyword_casez, keyword_default, keyword_else, keyword_end, keyword_endcase, keyword_endmodule, keyword_if, keyword_input, keyword_integer, keyword_localparam, keyword_module, keyword_negedge, keyword_or, keyword_output, keyword_parameter, keyword_posedge, keyword_reg, keyword_signed, keyword_wire}
-use Rattle.rr_syntax.specs.Tree.{Tree, Name, Literal, Bit, Part, Indexed, Unary, Binary, Cond, Concat, Repeat, Cast, Paren, End, More, Identifier, Statement, Null, Block, If, IfElse, Case, Assign, Done, Then, CaseItem, NoArms, MoreArms, Range, PortDeclaration, ParameterDeclaration, EventControl, Star, Edges, Levels, Positions, Names, Ports, Nets, Variables, Integers, Parameters, Assigns, Always, Instances, ModuleDeclaration}
+use Rattle.rr_syntax.specs.Words.{Word, Named, System, Digits, Reserved, Marked, mark_open_parenthesis, mark_close_parenthesis, mark_open_bracket, mark_close_bracket, mark_open_brace, mark_close_brace, mark_comma, mark_semicolon, mark_colon, mark_dot, mark_hash, mark_at, mark_question, mark_equals, mark_plus, mark_minus, mark_star, mark_tilde, mark_less_or_equal, mark_part_up, keyword_always, keyword_assign, keyword_begin, keyword_case, keyword_casez, keyword_default, keyword_else, keyword_end, keyword_endcase, keyword_endmodule, keyword_if, keyword_initial, keyword_input, keyword_integer, keyword_localparam, keyword_module, keyword_negedge, keyword_or, keyword_output, keyword_parameter, keyword_posedge, keyword_reg, keyword_signed, keyword_wire}
+use Rattle.rr_syntax.specs.Tree.{Tree, Name, Literal, Bit, Part, Indexed, Unary, Binary, Cond, Concat, Repeat, Cast, Paren, End, More, Identifier, Statement, Null, Block, If, IfElse, Case, Assign, Done, Then, CaseItem, NoArms, MoreArms, Range, PortDeclaration, ParameterDeclaration, DeclaredName, EventControl, Star, Edges, Levels, Positions, Names, Ports, Nets, Variables, Integers, Parameters, Assigns, Always, Initial, Instances, ModuleDeclaration}
 use Rattle.rr_syntax.specs.Expressions.{infix_level, is_prefix, level, spell, WellFormed, is_target, depth}
-use Rattle.rr_syntax.specs.Statements.{is_open, spell_label, spell_labels, spell_statement, defaults, WellFormedStatement, depth_statement}
-use Rattle.rr_syntax.specs.Items.{spell_each, spell_separated, spell_all, spell_where, spell_identifier, spell_range, spell_type, spell_dir, spell_port, spell_assignment, spell_parameter, spell_value, spell_net, spell_pair, spell_edge, separator, rest, spell_more_edges, spell_edges, spell_more_levels, spell_levels, spell_events, spell_optional, spell_connection, spell_connections, spell_overrides, spell_instance, spell_item, spell_parameters, spell_ports, spell_module, WellFormedParameter, WellFormedHead, count, WellFormedEvents, WellFormedConnections, WellFormedItem, WellFormedModule}
+use Rattle.rr_syntax.specs.Statements.{is_open, is_initial, spell_label, spell_labels, spell_statement, defaults, WellFormedStatement, depth_statement}
+use Rattle.rr_syntax.specs.Items.{spell_each, spell_separated, spell_all, spell_where, spell_identifier, spell_range, spell_type, spell_dir, spell_port, spell_assignment, spell_parameter, spell_value, spell_declarator, spell_pair, spell_edge, separator, rest, spell_more_edges, spell_edges, spell_more_levels, spell_levels, spell_events, spell_optional, spell_connection, spell_connections, spell_overrides, spell_instance, spell_item, spell_parameters, spell_ports, spell_module, WellFormedRange, WellFormedValue, WellFormedDeclarator, MayStart, WellFormedPort, WellFormedParameter, WellFormedHead, count, WellFormedEvents, WellFormedConnections, WellFormedItem, WellFormedModule}
 
 abbrev a : Tree
 a = Name 0 (codes "a")
@@ -212,26 +212,36 @@ id_a = record { token = 0; text = codes "a" }
 abbrev id_b : Identifier
 id_b = record { token = 0; text = codes "b" }
 
+-- `a`, `b` and `b = c`, declared
+abbrev declared_a : DeclaredName
+declared_a = record { token = 0; text = codes "a"; value = None }
+
+abbrev declared_b : DeclaredName
+declared_b = record { token = 0; text = codes "b"; value = None }
+
+abbrev started_b : DeclaredName
+started_b = record { token = 0; text = codes "b"; value = Some c }
+
 abbrev a_to_b : Option Range
 a_to_b = Some record { left = a; right = b }
 
--- `output reg signed [a:b] a, b;`
-spelled-ports : spell_item (Ports record { dir = dir.OutputReg; signed = true; range = a_to_b; names = id_a ∷ id_b ∷ [] }) ≡
+-- `output reg signed [a:b] a, b = c;`
+spelled-ports : spell_item (Ports record { dir = dir.OutputReg; signed = true; range = a_to_b; names = declared_a ∷ started_b ∷ [] }) ≡
     Reserved keyword_output ∷ Reserved keyword_reg ∷ Reserved keyword_signed ∷ Marked mark_open_bracket ∷ A ∷ Marked mark_colon ∷ B ∷
-    Marked mark_close_bracket ∷ A ∷ Marked mark_comma ∷ B ∷ Marked mark_semicolon ∷ []
-unfolding spell_item spell_port spell_dir spell_type spell_where spell_range spell_separated spell_each spell_identifier spell
+    Marked mark_close_bracket ∷ A ∷ Marked mark_comma ∷ B ∷ Marked mark_equals ∷ C ∷ Marked mark_semicolon ∷ []
+unfolding spell_item spell_port spell_dir spell_type spell_where spell_range spell_separated spell_each spell_declarator spell_value spell
 spelled-ports = refl
 
 -- `wire a, b = c;`
-spelled-nets : spell_item (Nets false None (record { token = 0; text = codes "a"; value = None } ∷ record { token = 0; text = codes "b"; value = Some c } ∷ [])) ≡
+spelled-nets : spell_item (Nets false None (declared_a ∷ started_b ∷ [])) ≡
     Reserved keyword_wire ∷ A ∷ Marked mark_comma ∷ B ∷ Marked mark_equals ∷ C ∷ Marked mark_semicolon ∷ []
-unfolding spell_item spell_type spell_where spell_range spell_separated spell_each spell_net spell_value spell
+unfolding spell_item spell_type spell_where spell_range spell_separated spell_each spell_declarator spell_value spell
 spelled-nets = refl
 
--- `reg [a:b] a;` and `integer a, b;`
-spelled-variables : spell_item (Variables false a_to_b (id_a ∷ [])) ≡
-    Reserved keyword_reg ∷ Marked mark_open_bracket ∷ A ∷ Marked mark_colon ∷ B ∷ Marked mark_close_bracket ∷ A ∷ Marked mark_semicolon ∷ []
-unfolding spell_item spell_type spell_where spell_range spell_separated spell_each spell_identifier spell
+-- `reg [a:b] b = c;` and `integer a, b;`
+spelled-variables : spell_item (Variables false a_to_b (started_b ∷ [])) ≡
+    Reserved keyword_reg ∷ Marked mark_open_bracket ∷ A ∷ Marked mark_colon ∷ B ∷ Marked mark_close_bracket ∷ B ∷ Marked mark_equals ∷ C ∷ Marked mark_semicolon ∷ []
+unfolding spell_item spell_type spell_where spell_range spell_separated spell_each spell_declarator spell_value spell
 spelled-variables = refl
 
 spelled-integers : spell_item (Integers (id_a ∷ id_b ∷ [])) ≡ Reserved keyword_integer ∷ A ∷ Marked mark_comma ∷ B ∷ Marked mark_semicolon ∷ []
@@ -277,6 +287,33 @@ spelled-levels : spell_item (Always (Levels (More a (More b End)) (true ∷ []))
 unfolding spell_item spell_events spell_levels spell_more_levels separator rest spell spell_statement
 spelled-levels = refl
 
+-- `initial begin b = c; end`, and what an `initial` item may hold
+spelled-initial : spell_item (Initial (Block None (Then (Assign b true c) Done)) 0) ≡
+    Reserved keyword_initial ∷ Reserved keyword_begin ∷ B ∷ Marked mark_equals ∷ C ∷ Marked mark_semicolon ∷ Reserved keyword_end ∷ []
+unfolding spell_item spell_statement spell_label spell
+spelled-initial = refl
+
+well-initial : WellFormedItem (Initial (Block None (Then (Assign b true c) Done)) 0)
+unfolding WellFormedItem is_initial WellFormedStatement WellFormed is_target
+well-initial = search
+
+not-initial-later : WellFormedItem (Initial (Assign b false c) 0) → ⊥
+unfolding WellFormedItem is_initial
+not-initial-later h = let e = h.0 in cc
+
+not-initial-if : WellFormedItem (Initial (If a Null) 0) → ⊥
+unfolding WellFormedItem is_initial
+not-initial-if h = let e = h.0 in cc
+
+-- a starting value stands behind `output reg` alone
+well-started : WellFormedPort record { dir = dir.OutputReg; signed = false; range = None; names = started_b ∷ [] }
+unfolding WellFormedPort WellFormedRange WellFormedDeclarator WellFormedValue WellFormed MayStart
+well-started = (tt, omega arith, (tt, tt), (tt, tt))
+
+not-started : WellFormedPort record { dir = dir.Output; signed = false; range = None; names = started_b ∷ [] } → ⊥
+unfolding WellFormedPort MayStart
+not-started h = let e = h.3.0 in cc
+
 -- `a #(b) b(.c(a), .a()), c();`
 spelled-instances : spell_item (Instances (codes "a") 0 (Some (Positions (More b End)))
     (record { token = 0; text = codes "b"; connections = Names (record { token = 0; text = codes "c"; value = Some a } ∷ record { token = 0; text = codes "a"; value = None } ∷ []) } ∷
@@ -293,10 +330,10 @@ abbrev head_a : ParameterDeclaration
 head_a = record { local = false; integer = false; signed = false; range = None; sets = record { token = 0; text = codes "a"; value = b } ∷ [] }
 
 abbrev input_a : PortDeclaration
-input_a = record { dir = dir.Input; signed = false; range = None; names = id_a ∷ [] }
+input_a = record { dir = dir.Input; signed = false; range = None; names = declared_a ∷ [] }
 
 abbrev output_b : PortDeclaration
-output_b = record { dir = dir.Output; signed = false; range = None; names = id_b ∷ [] }
+output_b = record { dir = dir.Output; signed = false; range = None; names = declared_b ∷ [] }
 
 abbrev module_a : ModuleDeclaration
 module_a = record { text = codes "a"; token = 0; params = head_a ∷ []; header = Some []; groups = input_a ∷ output_b ∷ []; items = [] }
@@ -305,7 +342,7 @@ spelled-module : spell_module module_a ≡
     Reserved keyword_module ∷ A ∷ Marked mark_hash ∷ Marked mark_open_parenthesis ∷ Reserved keyword_parameter ∷ A ∷ Marked mark_equals ∷ B ∷
     Marked mark_close_parenthesis ∷ Marked mark_open_parenthesis ∷ Reserved keyword_input ∷ A ∷ Marked mark_comma ∷ Reserved keyword_output ∷ B ∷
     Marked mark_close_parenthesis ∷ Marked mark_semicolon ∷ Reserved keyword_endmodule ∷ []
-unfolding spell_module spell_parameters spell_parameter spell_ports spell_port spell_dir spell_type spell_where spell_range spell_separated spell_each spell_assignment spell_identifier spell_all spell
+unfolding spell_module spell_parameters spell_parameter spell_ports spell_port spell_dir spell_type spell_where spell_range spell_separated spell_each spell_assignment spell_identifier spell_declarator spell_value spell_all spell
 spelled-module = refl
 
 -- `module a; endmodule`, `module a(); endmodule`

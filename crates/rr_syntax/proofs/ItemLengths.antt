@@ -15,7 +15,7 @@ use Rattle.rr_syntax.specs.declared.tree.Instance.{Instance}
 use Rattle.rr_syntax.specs.declared.tree.Item.TheVariants as item
 use Rattle.rr_syntax.specs.declared.tree.Module.{Module}
 use Rattle.rr_syntax.specs.declared.tree.Named.{Named as Name}
-use Rattle.rr_syntax.specs.declared.tree.NetName.{NetName}
+use Rattle.rr_syntax.specs.declared.tree.Declarator.{Declarator}
 use Rattle.rr_syntax.specs.declared.tree.Pair.{Pair}
 use Rattle.rr_syntax.specs.declared.tree.Params.{Params}
 use Rattle.rr_syntax.specs.declared.tree.Setting.{Setting}
@@ -24,8 +24,8 @@ use Rattle.rr_syntax.specs.declared.tree.Stmt.{Stmt}
 use Rattle.rr_syntax.specs.Tree.{Trees, End, More}
 use Rattle.rr_syntax.specs.Expressions.{spell, spell_parts, spell_more}
 use Rattle.rr_syntax.specs.Statements.{spell_label, spell_labels, spell_statement}
-use Rattle.rr_syntax.specs.Items.{spell_each, spell_separated, spell_all, spell_where, spell_identifier, spell_range, spell_type, spell_dir, spell_port, spell_assignment, spell_parameter, spell_value, spell_net, spell_pair, spell_edge, spell_more_edges, spell_edges, spell_more_levels, spell_levels, rest, spell_events, spell_optional, spell_connection, spell_connections, spell_overrides, spell_instance, spell_item, spell_parameters, spell_ports, spell_module, spell_source}
-use Rattle.rr_syntax.specs.View.{plain, plain_list, plain_label, plain_identifier, plain_statement, plain_range, plain_port, plain_assignment, plain_parameter, plain_value, plain_net, plain_pair, plain_edge, plain_events, plain_connection, plain_connections, plain_overrides, plain_instance, plain_item, plain_header, plain_module, plain_source}
+use Rattle.rr_syntax.specs.Items.{spell_each, spell_separated, spell_all, spell_where, spell_identifier, spell_range, spell_type, spell_dir, spell_port, spell_assignment, spell_parameter, spell_value, spell_declarator, spell_pair, spell_edge, spell_more_edges, spell_edges, spell_more_levels, spell_levels, rest, spell_events, spell_optional, spell_connection, spell_connections, spell_overrides, spell_instance, spell_item, spell_parameters, spell_ports, spell_module, spell_source}
+use Rattle.rr_syntax.specs.View.{plain, plain_list, plain_label, plain_identifier, plain_statement, plain_range, plain_port, plain_assignment, plain_parameter, plain_value, plain_declarator, plain_pair, plain_edge, plain_events, plain_connection, plain_connections, plain_overrides, plain_instance, plain_item, plain_header, plain_module, plain_source}
 use Rattle.rr_syntax.proofs.Equations.{statement_spellings}
 use Rattle.rr_syntax.proofs.Lengths.{parts_len}
 use Rattle.rr_syntax.proofs.Sums.{IsSum}
@@ -123,7 +123,7 @@ pub port_output_reg : length (spell_dir dir.OutputReg) ≡ 2
 unfolding spell_dir
 port_output_reg = refl
 
-pub size-port : (g : Group) → length (spell_port (plain_port g)) ≡ length (spell_dir g.dir) + length (spell_type g.signed (plain_range g.range)) + length (spell_separated spell_identifier (map plain_identifier g.names.now))
+pub size-port : (g : Group) → length (spell_port (plain_port g)) ≡ length (spell_dir g.dir) + length (spell_type g.signed (plain_range g.range)) + length (spell_separated spell_declarator (map plain_declarator g.names.now))
 unfolding spell_port plain_port
 size-port g = simp length-append (omega arith)
 
@@ -135,13 +135,13 @@ pub size-parameter : (p : Params) → length (spell_parameter (plain_parameter p
 unfolding spell_parameter plain_parameter
 size-parameter p = simp length-append (omega (arith, where_len p.integer keyword_integer))
 
-pub size-net-none : (n : NetName) → n.value ≡ None → length (spell_net (plain_net n)) ≡ 1
-unfolding spell_net plain_net spell_value plain_value
-size-net-none n h = rw h refl
+pub size-declarator-none : (n : Declarator) → n.value ≡ None → length (spell_declarator (plain_declarator n)) ≡ 1
+unfolding spell_declarator plain_declarator spell_value plain_value
+size-declarator-none n h = rw h refl
 
-pub size-net-some : (n : NetName) (e : Bor Expr) → n.value ≡ Some e → length (spell_net (plain_net n)) ≡ 2 + length (spell (plain e.now))
-unfolding spell_net plain_net spell_value plain_value
-size-net-some n e h = rw h (omega arith)
+pub size-declarator-some : (n : Declarator) (e : Bor Expr) → n.value ≡ Some e → length (spell_declarator (plain_declarator n)) ≡ 2 + length (spell (plain e.now))
+unfolding spell_declarator plain_declarator spell_value plain_value
+size-declarator-some n e h = rw h (omega arith)
 
 pub size-pair : (p : Pair) → length (spell_pair (plain_pair p)) ≡ 1 + length (spell (plain p.target.now)) + length (spell (plain p.value.now))
 unfolding spell_pair plain_pair
@@ -212,11 +212,11 @@ pub size-Ports : (g : Group) → length (spell_item (plain_item (item.Ports g)))
 unfolding spell_item plain_item
 size-Ports g = simp length-append (omega arith)
 
-pub size-Nets : (signed : Bool) (range : Option Bounds) (names : Bor (List NetName)) → length (spell_item (plain_item (item.Nets signed range names))) ≡ 2 + length (spell_type signed (plain_range range)) + length (spell_separated spell_net (map plain_net names.now))
+pub size-Nets : (signed : Bool) (range : Option Bounds) (names : Bor (List Declarator)) → length (spell_item (plain_item (item.Nets signed range names))) ≡ 2 + length (spell_type signed (plain_range range)) + length (spell_separated spell_declarator (map plain_declarator names.now))
 unfolding spell_item plain_item
 size-Nets signed range names = simp length-append (omega arith)
 
-pub size-Variables : (signed : Bool) (range : Option Bounds) (names : Bor (List Name)) → length (spell_item (plain_item (item.Variables signed range names))) ≡ 2 + length (spell_type signed (plain_range range)) + length (spell_separated spell_identifier (map plain_identifier names.now))
+pub size-Variables : (signed : Bool) (range : Option Bounds) (names : Bor (List Declarator)) → length (spell_item (plain_item (item.Variables signed range names))) ≡ 2 + length (spell_type signed (plain_range range)) + length (spell_separated spell_declarator (map plain_declarator names.now))
 unfolding spell_item plain_item
 size-Variables signed range names = simp length-append (omega arith)
 
@@ -235,6 +235,10 @@ size-Assigns pairs = simp length-append (omega arith)
 pub size-Always : (e : Events) (s : Bor Stmt) (token : ℕ) → length (spell_item (plain_item (item.Always e s token))) ≡ 2 + length (spell_events (plain_events e)) + length (spell_statement (plain_statement s.now))
 unfolding spell_item plain_item
 size-Always e s token = simp length-append (omega arith)
+
+pub size-Initial : (s : Bor Stmt) (token : ℕ) → length (spell_item (plain_item (item.Initial s token))) ≡ 1 + length (spell_statement (plain_statement s.now))
+unfolding spell_item plain_item
+size-Initial s token = omega arith
 
 pub size-Instances : (m : Bor (List ℕ)) (token : ℕ) (o : Option Conns) (list : Bor (List Instance)) → length (spell_item (plain_item (item.Instances m token o list))) ≡ 2 + length (spell_overrides (plain_overrides o)) + length (spell_separated spell_instance (map plain_instance list.now))
 unfolding spell_item plain_item
@@ -266,7 +270,7 @@ pub source_len : (s : Source) → length (spell_source (plain_source s)) ≡ len
 unfolding spell_source plain_source
 source_len s = refl
 
-pub ruleset item_sizes = (size-Ports, size-Nets, size-Variables, size-Integers, size-Parameters, size-Assigns, size-Always, size-Instances, separated_len)
+pub ruleset item_sizes = (size-Ports, size-Nets, size-Variables, size-Integers, size-Parameters, size-Assigns, size-Always, size-Initial, size-Instances, separated_len)
 
 pub ruleset connection_sizes = (size-connection-none, size-connection-some)
 
@@ -274,12 +278,12 @@ pub ruleset connections_sizes = (size-positions, size-named, parts_len, separate
 
 pub ruleset events_sizes = (size-star, size-edges, size-levels, parts_len)
 
-pub ruleset net_sizes = (size-net-none, size-net-some)
+pub ruleset declarator_sizes = (size-declarator-none, size-declarator-some)
 
 pub ruleset overrides_sizes = (size-overrides-none, size-overrides-some)
 
 pub ruleset parameter_sizes = (size-parameter, separated_len)
 
-pub ruleset port_sizes = (size-port, port_input, port_input_wire, port_output, port_output_wire, port_output_reg)
+pub ruleset port_sizes = (size-port, separated_len, port_input, port_input_wire, port_output, port_output_wire, port_output_reg)
 
 pub ruleset module_sizes = (size-module, head_none, head_some, header_none, header_some, separated_len)

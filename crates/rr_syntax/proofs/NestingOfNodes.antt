@@ -1,10 +1,10 @@
 -- Depth is the greatest nesting of nodes.
 use Rattle.std.proofs.Common.{◌≡◌, ℕ, zero, suc, max, ◌≤◌, ◌<◌, ◌⊎◌, inl, inr, List, [], ◌∷◌, ◌++◌, Option, None, Some, refl, ◌∙◌, arith}
-use Rattle.rr_syntax.specs.Tree.{Tree, Trees, Name, Literal, Bit, Part, Indexed, Unary, Binary, Cond, Concat, Repeat, Cast, Paren, End, More, Statement, Statements, Arm, Arms, Null, Block, If, IfElse, Case, Assign, Done, Then, CaseItem, NoArms, MoreArms, Range, PortDeclaration, ParamAssignment, ParameterDeclaration, NetIdentifier, NetAssignment, EventControl, Star, Edges, Levels, NamedConnection, Connections, Positions, Names, ModuleInstance, ModuleItem, Ports, Nets, Variables, Integers, Parameters, Assigns, Always, Instances, ModuleDeclaration, SourceText}
+use Rattle.rr_syntax.specs.Tree.{Tree, Trees, Name, Literal, Bit, Part, Indexed, Unary, Binary, Cond, Concat, Repeat, Cast, Paren, End, More, Statement, Statements, Arm, Arms, Null, Block, If, IfElse, Case, Assign, Done, Then, CaseItem, NoArms, MoreArms, Range, PortDeclaration, ParamAssignment, ParameterDeclaration, DeclaredName, NetAssignment, EventControl, Star, Edges, Levels, NamedConnection, Connections, Positions, Names, ModuleInstance, ModuleItem, Ports, Nets, Variables, Integers, Parameters, Assigns, Always, Initial, Instances, ModuleDeclaration, SourceText}
 use Rattle.rr_syntax.specs.Expressions.{depth, height}
 use Rattle.rr_syntax.specs.Statements.{depth_statement, height_statements, depth_arm, height_arms}
-use Rattle.rr_syntax.specs.Items.{greatest, depth_range, depth_port, depth_assignment, depth_parameter, depth_value, depth_net, depth_pair, depth_events, depth_connection, depth_connections, depth_overrides, depth_instance, depth_item, height_item, depth_module, height_module, depth_source}
-use Rattle.rr_syntax.specs.Nesting.{Node, Expression, OfStatement, OfArm, OfItem, OfModule, OfSource, gather, nodes_trees, nodes_statements, nodes_arms, nodes_range, nodes_value, nodes_port, nodes_assignment, nodes_parameter, nodes_net, nodes_pair, nodes_events, nodes_connection, nodes_connections, nodes_overrides, nodes_instance, node_item, node_module, children, IsIn, first, later, Reaches, here, below, IsGreatestNesting}
+use Rattle.rr_syntax.specs.Items.{greatest, depth_range, depth_port, depth_assignment, depth_parameter, depth_value, depth_declarator, depth_pair, depth_events, depth_connection, depth_connections, depth_overrides, depth_instance, depth_item, height_item, depth_module, height_module, depth_source}
+use Rattle.rr_syntax.specs.Nesting.{Node, Expression, OfStatement, OfArm, OfItem, OfModule, OfSource, gather, nodes_trees, nodes_statements, nodes_arms, nodes_range, nodes_value, nodes_port, nodes_assignment, nodes_parameter, nodes_declarator, nodes_pair, nodes_events, nodes_connection, nodes_connections, nodes_overrides, nodes_instance, node_item, node_module, children, IsIn, first, later, Reaches, here, below, IsGreatestNesting}
 
 abbrev depth_node : Node → ℕ
 depth_node (Expression t) = depth t
@@ -54,9 +54,14 @@ unfolding tallest nodes_value depth_value
 tallest-value None = refl
 tallest-value (Some t) = omega arith
 
+tallest-declarator : (n : DeclaredName) → tallest (nodes_declarator n) ≡ depth_declarator n
+unfolding nodes_declarator depth_declarator
+tallest-declarator n = tallest-value n.value
+
 tallest-port : (p : PortDeclaration) → tallest (nodes_port p) ≡ depth_port p
 unfolding nodes_port depth_port
-tallest-port p = tallest-range p.range
+tallest-port p =
+    tallest-append (nodes_range p.range) (gather nodes_declarator p.names) ∙ omega (arith, tallest-range p.range, tallest-gather nodes_declarator depth_declarator tallest-declarator p.names)
 
 tallest-assignment : (a : ParamAssignment) → tallest (nodes_assignment a) ≡ depth_assignment a
 unfolding tallest nodes_assignment depth_assignment
@@ -66,10 +71,6 @@ tallest-parameter : (p : ParameterDeclaration) → tallest (nodes_parameter p) �
 unfolding nodes_parameter depth_parameter
 tallest-parameter p =
     tallest-append (nodes_range p.range) (gather nodes_assignment p.sets) ∙ omega (arith, tallest-range p.range, tallest-gather nodes_assignment depth_assignment tallest-assignment p.sets)
-
-tallest-net : (n : NetIdentifier) → tallest (nodes_net n) ≡ depth_net n
-unfolding nodes_net depth_net
-tallest-net n = tallest-value n.value
 
 tallest-pair : (p : NetAssignment) → tallest (nodes_pair p) ≡ depth_pair p
 unfolding tallest nodes_pair depth_pair
@@ -140,12 +141,14 @@ tallest-of_item : (i : ModuleItem) → tallest (children (OfItem i)) ≡ depth_i
 unfolding tallest children depth_item
 tallest-of_item (Ports p) = tallest-port p
 tallest-of_item (Nets signed range names) =
-    tallest-append (nodes_range range) (gather nodes_net names) ∙ omega (arith, tallest-range range, tallest-gather nodes_net depth_net tallest-net names)
-tallest-of_item (Variables signed range names) = tallest-range range
+    tallest-append (nodes_range range) (gather nodes_declarator names) ∙ omega (arith, tallest-range range, tallest-gather nodes_declarator depth_declarator tallest-declarator names)
+tallest-of_item (Variables signed range names) =
+    tallest-append (nodes_range range) (gather nodes_declarator names) ∙ omega (arith, tallest-range range, tallest-gather nodes_declarator depth_declarator tallest-declarator names)
 tallest-of_item (Integers names) = refl
 tallest-of_item (Parameters p) = tallest-parameter p
 tallest-of_item (Assigns pairs) = tallest-gather nodes_pair depth_pair tallest-pair pairs
 tallest-of_item (Always events s token) = tallest-append (nodes_events events) (OfStatement s ∷ []) ∙ omega (arith, tallest-events events)
+tallest-of_item (Initial s token) = omega arith
 tallest-of_item (Instances m token overrides list) =
     tallest-append (nodes_overrides overrides) (gather nodes_instance list) ∙ omega (arith, tallest-overrides overrides, tallest-gather nodes_instance depth_instance tallest-instance list)
 

@@ -2,7 +2,7 @@
 use Rattle.std.proofs.Common.{◌≡◌, ◌<◌, List, [], ◌∷◌, length, refl, arith, length-append}
 use Rattle.rr_syntax.specs.declared.tree.Dir.{Dir}
 use Rattle.rr_syntax.specs.declared.tree.Dir.TheVariants as dir
-use Rattle.rr_syntax.specs.Tree.{Tree, Name, Literal, Bit, Part, Indexed, Unary, Binary, Cond, Concat, Repeat, Cast, Paren, Statement, Arm, Null, Block, If, IfElse, Case, Assign, CaseItem, PortDeclaration, ParameterDeclaration, ModuleItem, Ports, Nets, Variables, Integers, Parameters, Assigns, Always, Instances, ModuleDeclaration, SourceText}
+use Rattle.rr_syntax.specs.Tree.{Tree, Name, Literal, Bit, Part, Indexed, Unary, Binary, Cond, Concat, Repeat, Cast, Paren, Statement, Arm, Null, Block, If, IfElse, Case, Assign, CaseItem, PortDeclaration, ParameterDeclaration, ModuleItem, Ports, Nets, Variables, Integers, Parameters, Assigns, Always, Initial, Instances, ModuleDeclaration, SourceText}
 use Rattle.rr_syntax.specs.Expressions.{spell}
 use Rattle.rr_syntax.specs.Statements.{spell_statement, spell_arm}
 use Rattle.rr_syntax.specs.Items.{spell_all, spell_dir, spell_port, spell_parameter, spell_item, spell_module, spell_source}
@@ -60,6 +60,7 @@ spell_item-some (Integers names) = omega arith
 spell_item-some (Parameters p) = rw length-append (omega (arith, spell_parameter-some p))
 spell_item-some (Assigns pairs) = omega arith
 spell_item-some (Always events s token) = omega arith
+spell_item-some (Initial s token) = omega arith
 spell_item-some (Instances m token overrides list) = omega arith
 
 pub spell_module-some : (m : ModuleDeclaration) → 0 < length (spell_module m)

@@ -4,10 +4,10 @@ use Rattle.std.specs.Prelude.{ℕ, suc, ◌+◌, ◌<◌, ◌≡◌, ◌⊎◌, 
 use Rattle.std.specs.List.{AllByRecursion}
 use Rattle.rr_syntax.specs.declared.tree.Dir.{Dir}
 use Rattle.rr_syntax.specs.declared.tree.Dir.TheVariants as dir
-use Rattle.rr_syntax.specs.Words.{Word, Named, Reserved, Marked, keyword_always, keyword_assign, keyword_endmodule, keyword_input, keyword_integer, keyword_localparam, keyword_module, keyword_negedge, keyword_or, keyword_output, keyword_parameter, keyword_posedge, keyword_reg, keyword_signed, keyword_wire, mark_open_parenthesis, mark_close_parenthesis, mark_open_bracket, mark_close_bracket, mark_comma, mark_semicolon, mark_colon, mark_dot, mark_hash, mark_at, mark_equals, mark_star}
-use Rattle.rr_syntax.specs.Tree.{Tree, Trees, End, More, Identifier, Range, PortDeclaration, ParamAssignment, ParameterDeclaration, NetIdentifier, NetAssignment, EdgeEvent, EventControl, Star, Edges, Levels, NamedConnection, Connections, Positions, Names, ModuleInstance, ModuleItem, Ports, Nets, Variables, Integers, Parameters, Assigns, Always, Instances, ModuleDeclaration, SourceText}
+use Rattle.rr_syntax.specs.Words.{Word, Named, Reserved, Marked, keyword_always, keyword_assign, keyword_endmodule, keyword_initial, keyword_input, keyword_integer, keyword_localparam, keyword_module, keyword_negedge, keyword_or, keyword_output, keyword_parameter, keyword_posedge, keyword_reg, keyword_signed, keyword_wire, mark_open_parenthesis, mark_close_parenthesis, mark_open_bracket, mark_close_bracket, mark_comma, mark_semicolon, mark_colon, mark_dot, mark_hash, mark_at, mark_equals, mark_star}
+use Rattle.rr_syntax.specs.Tree.{Tree, Trees, End, More, Identifier, Range, PortDeclaration, ParamAssignment, ParameterDeclaration, DeclaredName, NetAssignment, EdgeEvent, EventControl, Star, Edges, Levels, NamedConnection, Connections, Positions, Names, ModuleInstance, ModuleItem, Ports, Nets, Variables, Integers, Parameters, Assigns, Always, Initial, Instances, ModuleDeclaration, SourceText}
 use Rattle.rr_syntax.specs.Expressions.{spell, spell_parts, WellFormed, WellFormedMore, is_target, depth, height, Numbered, NumberedMore, FitLiterals, FitLiteralsParts}
-use Rattle.rr_syntax.specs.Statements.{spell_statement, WellFormedStatement, depth_statement, NumberedStatement, FitLiteralsStatement}
+use Rattle.rr_syntax.specs.Statements.{spell_statement, is_initial, WellFormedStatement, depth_statement, NumberedStatement, FitLiteralsStatement}
 
 -- a list, with a comma before each
 unfoldable pub spell_each : {A : Type 0} → (A → List Word) → List A → List Word
@@ -48,8 +48,16 @@ spell_dir dir.Output = Reserved keyword_output ∷ []
 spell_dir dir.OutputWire = Reserved keyword_output ∷ (Reserved keyword_wire ∷ [])
 spell_dir dir.OutputReg = Reserved keyword_output ∷ (Reserved keyword_reg ∷ [])
 
+-- sections 6.1.1 and 6.2.1
+unfoldable pub spell_value : Option Tree → List Word
+spell_value None = []
+spell_value (Some t) = Marked mark_equals ∷ spell t
+
+unfoldable pub spell_declarator : DeclaredName → List Word
+spell_declarator n = Named n.text ∷ spell_value n.value
+
 unfoldable pub spell_port : PortDeclaration → List Word
-spell_port p = spell_dir p.dir ++ (spell_type p.signed p.range ++ spell_separated spell_identifier p.names)
+spell_port p = spell_dir p.dir ++ (spell_type p.signed p.range ++ spell_separated spell_declarator p.names)
 
 -- annex A.2.4
 unfoldable pub spell_assignment : ParamAssignment → List Word
@@ -60,14 +68,6 @@ unfoldable pub spell_parameter : ParameterDeclaration → List Word
 spell_parameter p =
     Reserved (cond p.local keyword_localparam keyword_parameter) ∷
     (spell_where p.integer keyword_integer ++ (spell_type p.signed p.range ++ spell_separated spell_assignment p.sets))
-
--- section 6.1.1
-unfoldable pub spell_value : Option Tree → List Word
-spell_value None = []
-spell_value (Some t) = Marked mark_equals ∷ spell t
-
-unfoldable pub spell_net : NetIdentifier → List Word
-spell_net n = Named n.text ∷ spell_value n.value
 
 -- section 6.1, annex A.6.1
 unfoldable pub spell_pair : NetAssignment → List Word
@@ -135,13 +135,14 @@ spell_instance i = Named i.text ∷ spell_connections i.connections
 unfoldable pub spell_item : ModuleItem → List Word
 spell_item (Ports p) = spell_port p ++ (Marked mark_semicolon ∷ [])
 spell_item (Nets signed range names) =
-    Reserved keyword_wire ∷ (spell_type signed range ++ (spell_separated spell_net names ++ (Marked mark_semicolon ∷ [])))
+    Reserved keyword_wire ∷ (spell_type signed range ++ (spell_separated spell_declarator names ++ (Marked mark_semicolon ∷ [])))
 spell_item (Variables signed range names) =
-    Reserved keyword_reg ∷ (spell_type signed range ++ (spell_separated spell_identifier names ++ (Marked mark_semicolon ∷ [])))
+    Reserved keyword_reg ∷ (spell_type signed range ++ (spell_separated spell_declarator names ++ (Marked mark_semicolon ∷ [])))
 spell_item (Integers names) = Reserved keyword_integer ∷ (spell_separated spell_identifier names ++ (Marked mark_semicolon ∷ []))
 spell_item (Parameters p) = spell_parameter p ++ (Marked mark_semicolon ∷ [])
 spell_item (Assigns pairs) = Reserved keyword_assign ∷ (spell_separated spell_pair pairs ++ (Marked mark_semicolon ∷ []))
 spell_item (Always events s token) = Reserved keyword_always ∷ (Marked mark_at ∷ (spell_events events ++ spell_statement s))
+spell_item (Initial s token) = Reserved keyword_initial ∷ spell_statement s
 spell_item (Instances m token overrides list) =
     Named m ∷ (spell_overrides overrides ++ (spell_separated spell_instance list ++ (Marked mark_semicolon ∷ [])))
 
@@ -175,8 +176,24 @@ unfoldable pub WellFormedRange : Option Range → Type 0
 WellFormedRange None = Unit {0}
 WellFormedRange (Some r) = WellFormed r.left × WellFormed r.right
 
+unfoldable pub WellFormedValue : Option Tree → Type 0
+WellFormedValue None = Unit {0}
+WellFormedValue (Some t) = WellFormed t
+
+unfoldable pub WellFormedDeclarator : DeclaredName → Type 0
+WellFormedDeclarator n = WellFormedValue n.value
+
+-- of the ports, those that are declared `output reg` alone have starting values (section 12.3.3, annex A.2.3)
+unfoldable pub MayStart : Dir → DeclaredName → Type 0
+MayStart dir.OutputReg n = Unit {0}
+MayStart dir.Input n = IsNone n.value
+MayStart dir.InputWire n = IsNone n.value
+MayStart dir.Output n = IsNone n.value
+MayStart dir.OutputWire n = IsNone n.value
+
 unfoldable pub WellFormedPort : PortDeclaration → Type 0
-WellFormedPort p = WellFormedRange p.range × (0 < length p.names)
+WellFormedPort p =
+    WellFormedRange p.range × (0 < length p.names) × AllByRecursion WellFormedDeclarator p.names × AllByRecursion (MayStart p.dir) p.names
 
 -- an `integer` parameter has neither `signed` nor a range
 abbrev pub IsTypedOnce : Bool → Bool → Option Range → Type 0
@@ -189,13 +206,6 @@ WellFormedAssignment a = WellFormed a.value
 unfoldable pub WellFormedParameter : ParameterDeclaration → Type 0
 WellFormedParameter p =
     IsTypedOnce p.integer p.signed p.range × WellFormedRange p.range × (0 < length p.sets) × AllByRecursion WellFormedAssignment p.sets
-
-unfoldable pub WellFormedValue : Option Tree → Type 0
-WellFormedValue None = Unit {0}
-WellFormedValue (Some t) = WellFormed t
-
-unfoldable pub WellFormedNet : NetIdentifier → Type 0
-WellFormedNet n = WellFormedValue n.value
 
 unfoldable pub WellFormedPair : NetAssignment → Type 0
 WellFormedPair p = IsTrue (is_target p.target) × WellFormed p.target × WellFormed p.value
@@ -228,12 +238,13 @@ WellFormedInstance i = WellFormedConnections i.connections
 
 unfoldable pub WellFormedItem : ModuleItem → Type 0
 WellFormedItem (Ports p) = WellFormedPort p
-WellFormedItem (Nets signed range names) = WellFormedRange range × (0 < length names) × AllByRecursion WellFormedNet names
-WellFormedItem (Variables signed range names) = WellFormedRange range × (0 < length names)
+WellFormedItem (Nets signed range names) = WellFormedRange range × (0 < length names) × AllByRecursion WellFormedDeclarator names
+WellFormedItem (Variables signed range names) = WellFormedRange range × (0 < length names) × AllByRecursion WellFormedDeclarator names
 WellFormedItem (Integers names) = 0 < length names
 WellFormedItem (Parameters p) = WellFormedParameter p
 WellFormedItem (Assigns pairs) = (0 < length pairs) × AllByRecursion WellFormedPair pairs
 WellFormedItem (Always events s token) = WellFormedEvents events × WellFormedStatement s
+WellFormedItem (Initial s token) = IsTrue (is_initial s) × WellFormedStatement s
 WellFormedItem (Instances m token overrides list) = WellFormedOverrides overrides × (0 < length list) × AllByRecursion WellFormedInstance list
 
 -- what stands between `#(` and `)` of a module is no `localparam`
@@ -262,21 +273,21 @@ unfoldable pub depth_range : Option Range → ℕ
 depth_range None = 0
 depth_range (Some r) = suc (max (depth r.left) (depth r.right))
 
+unfoldable pub depth_value : Option Tree → ℕ
+depth_value None = 0
+depth_value (Some t) = suc (depth t)
+
+unfoldable pub depth_declarator : DeclaredName → ℕ
+depth_declarator n = depth_value n.value
+
 unfoldable pub depth_port : PortDeclaration → ℕ
-depth_port p = depth_range p.range
+depth_port p = max (depth_range p.range) (greatest depth_declarator p.names)
 
 unfoldable pub depth_assignment : ParamAssignment → ℕ
 depth_assignment a = suc (depth a.value)
 
 unfoldable pub depth_parameter : ParameterDeclaration → ℕ
 depth_parameter p = max (depth_range p.range) (greatest depth_assignment p.sets)
-
-unfoldable pub depth_value : Option Tree → ℕ
-depth_value None = 0
-depth_value (Some t) = suc (depth t)
-
-unfoldable pub depth_net : NetIdentifier → ℕ
-depth_net n = depth_value n.value
 
 unfoldable pub depth_pair : NetAssignment → ℕ
 depth_pair p = suc (max (depth p.target) (depth p.value))
@@ -303,12 +314,13 @@ depth_instance i = depth_connections i.connections
 -- the levels of nodes below the item
 unfoldable pub depth_item : ModuleItem → ℕ
 depth_item (Ports p) = depth_port p
-depth_item (Nets signed range names) = max (depth_range range) (greatest depth_net names)
-depth_item (Variables signed range names) = depth_range range
+depth_item (Nets signed range names) = max (depth_range range) (greatest depth_declarator names)
+depth_item (Variables signed range names) = max (depth_range range) (greatest depth_declarator names)
 depth_item (Integers names) = 0
 depth_item (Parameters p) = depth_parameter p
 depth_item (Assigns pairs) = greatest depth_pair pairs
 depth_item (Always events s token) = max (depth_events events) (suc (depth_statement s))
+depth_item (Initial s token) = suc (depth_statement s)
 depth_item (Instances m token overrides list) = max (depth_overrides overrides) (greatest depth_instance list)
 
 unfoldable pub height_item : ModuleItem → ℕ
@@ -347,10 +359,18 @@ NumberedRange (Some r) at = Numbered r.left (at + 1) × Numbered r.right (at + 1
 unfoldable pub NumberedType : Bool → Option Range → ℕ → Type 0
 NumberedType signed range at = NumberedRange range (at + length (spell_where signed keyword_signed))
 
+-- `at` is the number of the mark before the value
+unfoldable pub NumberedValue : Option Tree → ℕ → Type 0
+NumberedValue None at = Unit {0}
+NumberedValue (Some t) at = Numbered t (at + 1)
+
+unfoldable pub NumberedDeclarator : DeclaredName → ℕ → Type 0
+NumberedDeclarator n at = (n.token ≡ at) × NumberedValue n.value (at + 1)
+
 unfoldable pub NumberedPort : PortDeclaration → ℕ → Type 0
 NumberedPort p at =
     NumberedType p.signed p.range (at + length (spell_dir p.dir)) ×
-    NumberedSeparated spell_identifier NumberedIdentifier p.names (at + length (spell_dir p.dir) + length (spell_type p.signed p.range))
+    NumberedSeparated spell_declarator NumberedDeclarator p.names (at + length (spell_dir p.dir) + length (spell_type p.signed p.range))
 
 unfoldable pub NumberedAssignment : ParamAssignment → ℕ → Type 0
 NumberedAssignment a at = (a.token ≡ at) × Numbered a.value (at + 2)
@@ -360,14 +380,6 @@ NumberedParameter p at =
     NumberedType p.signed p.range (at + 1 + length (spell_where p.integer keyword_integer)) ×
     NumberedSeparated spell_assignment NumberedAssignment p.sets
     (at + 1 + length (spell_where p.integer keyword_integer) + length (spell_type p.signed p.range))
-
--- `at` is the number of the mark before the value
-unfoldable pub NumberedValue : Option Tree → ℕ → Type 0
-NumberedValue None at = Unit {0}
-NumberedValue (Some t) at = Numbered t (at + 1)
-
-unfoldable pub NumberedNet : NetIdentifier → ℕ → Type 0
-NumberedNet n at = (n.token ≡ at) × NumberedValue n.value (at + 1)
 
 unfoldable pub NumberedPair : NetAssignment → ℕ → Type 0
 NumberedPair p at = Numbered p.target at × Numbered p.value (at + length (spell p.target) + 1)
@@ -400,14 +412,15 @@ NumberedInstance i at = (i.token ≡ at) × NumberedConnections i.connections (a
 unfoldable pub NumberedItem : ModuleItem → ℕ → Type 0
 NumberedItem (Ports p) at = NumberedPort p at
 NumberedItem (Nets signed range names) at =
-    NumberedType signed range (at + 1) × NumberedSeparated spell_net NumberedNet names (at + 1 + length (spell_type signed range))
+    NumberedType signed range (at + 1) × NumberedSeparated spell_declarator NumberedDeclarator names (at + 1 + length (spell_type signed range))
 NumberedItem (Variables signed range names) at =
-    NumberedType signed range (at + 1) × NumberedSeparated spell_identifier NumberedIdentifier names (at + 1 + length (spell_type signed range))
+    NumberedType signed range (at + 1) × NumberedSeparated spell_declarator NumberedDeclarator names (at + 1 + length (spell_type signed range))
 NumberedItem (Integers names) at = NumberedSeparated spell_identifier NumberedIdentifier names (at + 1)
 NumberedItem (Parameters p) at = NumberedParameter p at
 NumberedItem (Assigns pairs) at = NumberedSeparated spell_pair NumberedPair pairs (at + 1)
 NumberedItem (Always events s token) at =
     (token ≡ at) × NumberedEvents events (at + 2) × NumberedStatement s (at + 2 + length (spell_events events))
+NumberedItem (Initial s token) at = (token ≡ at) × NumberedStatement s (at + 1)
 NumberedItem (Instances m token overrides list) at =
     (token ≡ at) × NumberedOverrides overrides (at + 1) ×
     NumberedSeparated spell_instance NumberedInstance list (at + 1 + length (spell_overrides overrides))
@@ -439,21 +452,21 @@ unfoldable pub FitLiteralsRange : Option Range → Type 0
 FitLiteralsRange None = Unit {0}
 FitLiteralsRange (Some r) = FitLiterals r.left × FitLiterals r.right
 
+unfoldable pub FitLiteralsValue : Option Tree → Type 0
+FitLiteralsValue None = Unit {0}
+FitLiteralsValue (Some t) = FitLiterals t
+
+unfoldable pub FitLiteralsDeclarator : DeclaredName → Type 0
+FitLiteralsDeclarator n = FitLiteralsValue n.value
+
 unfoldable pub FitLiteralsPort : PortDeclaration → Type 0
-FitLiteralsPort p = FitLiteralsRange p.range
+FitLiteralsPort p = FitLiteralsRange p.range × AllByRecursion FitLiteralsDeclarator p.names
 
 unfoldable pub FitLiteralsAssignment : ParamAssignment → Type 0
 FitLiteralsAssignment a = FitLiterals a.value
 
 unfoldable pub FitLiteralsParameter : ParameterDeclaration → Type 0
 FitLiteralsParameter p = FitLiteralsRange p.range × AllByRecursion FitLiteralsAssignment p.sets
-
-unfoldable pub FitLiteralsValue : Option Tree → Type 0
-FitLiteralsValue None = Unit {0}
-FitLiteralsValue (Some t) = FitLiterals t
-
-unfoldable pub FitLiteralsNet : NetIdentifier → Type 0
-FitLiteralsNet n = FitLiteralsValue n.value
 
 unfoldable pub FitLiteralsPair : NetAssignment → Type 0
 FitLiteralsPair p = FitLiterals p.target × FitLiterals p.value
@@ -479,12 +492,13 @@ FitLiteralsInstance i = FitLiteralsConnections i.connections
 
 unfoldable pub FitLiteralsItem : ModuleItem → Type 0
 FitLiteralsItem (Ports p) = FitLiteralsPort p
-FitLiteralsItem (Nets signed range names) = FitLiteralsRange range × AllByRecursion FitLiteralsNet names
-FitLiteralsItem (Variables signed range names) = FitLiteralsRange range
+FitLiteralsItem (Nets signed range names) = FitLiteralsRange range × AllByRecursion FitLiteralsDeclarator names
+FitLiteralsItem (Variables signed range names) = FitLiteralsRange range × AllByRecursion FitLiteralsDeclarator names
 FitLiteralsItem (Integers names) = Unit {0}
 FitLiteralsItem (Parameters p) = FitLiteralsParameter p
 FitLiteralsItem (Assigns pairs) = AllByRecursion FitLiteralsPair pairs
 FitLiteralsItem (Always events s token) = FitLiteralsEvents events × FitLiteralsStatement s
+FitLiteralsItem (Initial s token) = FitLiteralsStatement s
 FitLiteralsItem (Instances m token overrides list) = FitLiteralsOverrides overrides × AllByRecursion FitLiteralsInstance list
 
 unfoldable pub FitLiteralsModule : ModuleDeclaration → Type 0

@@ -1,6 +1,6 @@
 -- The nodes of a tree, and how far they nest: depth in its own words.
 use Rattle.std.specs.Prelude.{ℕ, zero, suc, ◌≤◌, List, [], ◌∷◌, ◌++◌, Option, None, Some}
-use Rattle.rr_syntax.specs.Tree.{Tree, Trees, Name, Literal, Bit, Part, Indexed, Unary, Binary, Cond, Concat, Repeat, Cast, Paren, End, More, Statement, Statements, Arm, Arms, Null, Block, If, IfElse, Case, Assign, Done, Then, CaseItem, NoArms, MoreArms, Range, PortDeclaration, ParamAssignment, ParameterDeclaration, NetIdentifier, NetAssignment, EventControl, Star, Edges, Levels, NamedConnection, Connections, Positions, Names, ModuleInstance, ModuleItem, Ports, Nets, Variables, Integers, Parameters, Assigns, Always, Instances, ModuleDeclaration, SourceText}
+use Rattle.rr_syntax.specs.Tree.{Tree, Trees, Name, Literal, Bit, Part, Indexed, Unary, Binary, Cond, Concat, Repeat, Cast, Paren, End, More, Statement, Statements, Arm, Arms, Null, Block, If, IfElse, Case, Assign, Done, Then, CaseItem, NoArms, MoreArms, Range, PortDeclaration, ParamAssignment, ParameterDeclaration, DeclaredName, NetAssignment, EventControl, Star, Edges, Levels, NamedConnection, Connections, Positions, Names, ModuleInstance, ModuleItem, Ports, Nets, Variables, Integers, Parameters, Assigns, Always, Initial, Instances, ModuleDeclaration, SourceText}
 use Rattle.rr_syntax.specs.Items.{depth_source}
 
 pub data Node : Type 0 where
@@ -36,17 +36,17 @@ unfoldable pub nodes_value : Option Tree → List Node
 nodes_value None = []
 nodes_value (Some t) = Expression t ∷ []
 
+unfoldable pub nodes_declarator : DeclaredName → List Node
+nodes_declarator n = nodes_value n.value
+
 unfoldable pub nodes_port : PortDeclaration → List Node
-nodes_port p = nodes_range p.range
+nodes_port p = nodes_range p.range ++ gather nodes_declarator p.names
 
 unfoldable pub nodes_assignment : ParamAssignment → List Node
 nodes_assignment a = Expression a.value ∷ []
 
 unfoldable pub nodes_parameter : ParameterDeclaration → List Node
 nodes_parameter p = nodes_range p.range ++ gather nodes_assignment p.sets
-
-unfoldable pub nodes_net : NetIdentifier → List Node
-nodes_net n = nodes_value n.value
 
 unfoldable pub nodes_pair : NetAssignment → List Node
 nodes_pair p = Expression p.target ∷ Expression p.value ∷ []
@@ -98,12 +98,13 @@ children (OfStatement (Case kind t arms)) = Expression t ∷ nodes_arms arms
 children (OfStatement (Assign t now v)) = Expression t ∷ Expression v ∷ []
 children (OfArm (CaseItem labels colon s)) = nodes_trees labels ++ OfStatement s ∷ []
 children (OfItem (Ports p)) = nodes_port p
-children (OfItem (Nets signed range names)) = nodes_range range ++ gather nodes_net names
-children (OfItem (Variables signed range names)) = nodes_range range
+children (OfItem (Nets signed range names)) = nodes_range range ++ gather nodes_declarator names
+children (OfItem (Variables signed range names)) = nodes_range range ++ gather nodes_declarator names
 children (OfItem (Integers names)) = []
 children (OfItem (Parameters p)) = nodes_parameter p
 children (OfItem (Assigns pairs)) = gather nodes_pair pairs
 children (OfItem (Always events s token)) = nodes_events events ++ OfStatement s ∷ []
+children (OfItem (Initial s token)) = OfStatement s ∷ []
 children (OfItem (Instances m token overrides list)) = nodes_overrides overrides ++ gather nodes_instance list
 children (OfModule m) = gather nodes_parameter m.params ++ (gather nodes_port m.groups ++ gather node_item m.items)
 children (OfSource s) = gather node_module s.modules

@@ -1,8 +1,8 @@
 -- Statements (IEEE 1364-2005 section 9, annex A.6): their spelling, the rules that well-formed ones keep,
 -- their depth, and the numbers of their tokens.
-use Rattle.std.specs.Prelude.{ℕ, suc, ◌+◌, ◌≤◌, ◌≡◌, max, List, [], ◌∷◌, ◌++◌, length, IsTrue, ◌==◌, ◌||◌, Bool, true, false, cond, Option, None, Some}
+use Rattle.std.specs.Prelude.{ℕ, suc, ◌+◌, ◌≤◌, ◌≡◌, max, List, [], ◌∷◌, ◌++◌, length, IsTrue, ◌==◌, ◌||◌, ◌&&◌, Bool, true, false, cond, Option, None, Some}
 use Rattle.rr_syntax.specs.Words.{Word, Named, Reserved, Marked, keyword_begin, keyword_case, keyword_casex, keyword_casez, keyword_default, keyword_else, keyword_end, keyword_endcase, keyword_if, mark_open_parenthesis, mark_close_parenthesis, mark_colon, mark_semicolon, mark_equals, mark_less_or_equal}
-use Rattle.rr_syntax.specs.Tree.{Trees, End, More, Identifier, Statement, Statements, Arm, Arms, Null, Block, If, IfElse, Case, Assign, Done, Then, CaseItem, NoArms, MoreArms}
+use Rattle.rr_syntax.specs.Tree.{Tree, Name, Literal, Bit, Part, Indexed, Unary, Binary, Cond, Concat, Repeat, Cast, Paren, Trees, End, More, Identifier, Statement, Statements, Arm, Arms, Null, Block, If, IfElse, Case, Assign, Done, Then, CaseItem, NoArms, MoreArms}
 use Rattle.rr_syntax.specs.Expressions.{spell, spell_parts, WellFormed, WellFormedMore, is_target, depth, height, Numbered, NumberedMore, FitLiterals, FitLiteralsParts}
 
 -- an `else` after the statement would belong to it (section 9.4)
@@ -13,6 +13,35 @@ is_open (If t s) = true
 is_open (IfElse t s u) = is_open u
 is_open (Case kind t arms) = false
 is_open (Assign t now v) = false
+
+-- a bare name
+abbrev pub is_name : Tree → Bool
+is_name (Name token text) = true
+is_name (Literal token n) = false
+is_name (Bit token text i) = false
+is_name (Part token text l r) = false
+is_name (Indexed token text f w up) = false
+is_name (Unary op t) = false
+is_name (Binary op l r) = false
+is_name (Cond a b c) = false
+is_name (Concat ts) = false
+is_name (Repeat t ts) = false
+is_name (Cast signed t) = false
+is_name (Paren t) = false
+
+-- what an `initial` item may hold: `;`, blocks, and whole variables that are set by `=` (section 9.9.1)
+unfoldable mutual
+  pub is_initial : Statement → Bool
+  is_initial Null = true
+  is_initial (Block label ss) = are_initial ss
+  is_initial (If t s) = false
+  is_initial (IfElse t s u) = false
+  is_initial (Case kind t arms) = false
+  is_initial (Assign t now v) = now && is_name t
+
+  pub are_initial : Statements → Bool
+  are_initial Done = true
+  are_initial (Then s ss) = is_initial s && are_initial ss
 
 -- the name of a block (section 9.8.1)
 unfoldable pub spell_label : Option Identifier → List Word

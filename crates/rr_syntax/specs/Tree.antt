@@ -56,12 +56,19 @@ pub record Range : Type 0 where
   pub left : Tree
   pub right : Tree
 
+-- a declared net and what drives it, or a declared variable and its starting value, where it has one (sections 6.1.1 and 6.2.1,
+-- annex A.2.4)
+pub record DeclaredName : Type 0 where
+  pub token : ℕ
+  pub text : List ℕ
+  pub value : Option Tree
+
 -- a port declaration without its semicolon (section 12.3.3, annex A.2.1.2)
 pub record PortDeclaration : Type 0 where
   pub dir : Dir
   pub signed : Bool
   pub range : Option Range
-  pub names : List Identifier
+  pub names : List DeclaredName
 
 -- `NAME = value` (annex A.2.4)
 pub record ParamAssignment : Type 0 where
@@ -76,12 +83,6 @@ pub record ParameterDeclaration : Type 0 where
   pub signed : Bool
   pub range : Option Range
   pub sets : List ParamAssignment
-
--- a declared net and its value, where it has one (section 6.1.1, annex A.2.4)
-pub record NetIdentifier : Type 0 where
-  pub token : ℕ
-  pub text : List ℕ
-  pub value : Option Tree
 
 -- `target = value` of a continuous assignment (section 6.1, annex A.6.1)
 pub record NetAssignment : Type 0 where
@@ -116,15 +117,16 @@ pub record ModuleInstance : Type 0 where
   pub text : List ℕ
   pub connections : Connections
 
--- the items of a module (section 12.1, annex A.1.4); the last two begin at the token whose number they hold
+-- the items of a module (section 12.1, annex A.1.4); the last three begin at the token whose number they hold
 pub data ModuleItem : Type 0 where
   Ports : PortDeclaration → ModuleItem
-  Nets : Bool → Option Range → List NetIdentifier → ModuleItem
-  Variables : Bool → Option Range → List Identifier → ModuleItem
+  Nets : Bool → Option Range → List DeclaredName → ModuleItem
+  Variables : Bool → Option Range → List DeclaredName → ModuleItem
   Integers : List Identifier → ModuleItem
   Parameters : ParameterDeclaration → ModuleItem
   Assigns : List NetAssignment → ModuleItem
   Always : EventControl → Statement → ℕ → ModuleItem
+  Initial : Statement → ℕ → ModuleItem
   Instances : List ℕ → ℕ → Option Connections → List ModuleInstance → ModuleItem
 
 -- a module (section 12.1, annex A.1.2); `header` is the plain names in its port brackets, where it has these
@@ -195,21 +197,21 @@ unfoldable pub bare_range : Option Range → Option Range
 bare_range None = None
 bare_range (Some r) = Some (record { left = bare r.left; right = bare r.right })
 
+unfoldable pub bare_value : Option Tree → Option Tree
+bare_value None = None
+bare_value (Some t) = Some (bare t)
+
+unfoldable pub bare_declarator : DeclaredName → DeclaredName
+bare_declarator n = record { token = 0; text = n.text; value = bare_value n.value }
+
 unfoldable pub bare_port : PortDeclaration → PortDeclaration
-bare_port p = record p { range = bare_range p.range; names = map bare_identifier p.names }
+bare_port p = record p { range = bare_range p.range; names = map bare_declarator p.names }
 
 unfoldable pub bare_assignment : ParamAssignment → ParamAssignment
 bare_assignment a = record { token = 0; text = a.text; value = bare a.value }
 
 unfoldable pub bare_parameter : ParameterDeclaration → ParameterDeclaration
 bare_parameter p = record p { range = bare_range p.range; sets = map bare_assignment p.sets }
-
-unfoldable pub bare_value : Option Tree → Option Tree
-bare_value None = None
-bare_value (Some t) = Some (bare t)
-
-unfoldable pub bare_net : NetIdentifier → NetIdentifier
-bare_net n = record { token = 0; text = n.text; value = bare_value n.value }
 
 unfoldable pub bare_pair : NetAssignment → NetAssignment
 bare_pair p = record { target = bare p.target; value = bare p.value }
@@ -238,12 +240,13 @@ bare_instance i = record { token = 0; text = i.text; connections = bare_connecti
 
 unfoldable pub bare_item : ModuleItem → ModuleItem
 bare_item (Ports p) = Ports (bare_port p)
-bare_item (Nets signed range names) = Nets signed (bare_range range) (map bare_net names)
-bare_item (Variables signed range names) = Variables signed (bare_range range) (map bare_identifier names)
+bare_item (Nets signed range names) = Nets signed (bare_range range) (map bare_declarator names)
+bare_item (Variables signed range names) = Variables signed (bare_range range) (map bare_declarator names)
 bare_item (Integers names) = Integers (map bare_identifier names)
 bare_item (Parameters p) = Parameters (bare_parameter p)
 bare_item (Assigns pairs) = Assigns (map bare_pair pairs)
 bare_item (Always events s token) = Always (bare_events events) (bare_statement s) 0
+bare_item (Initial s token) = Initial (bare_statement s) 0
 bare_item (Instances m token overrides list) = Instances m 0 (bare_overrides overrides) (map bare_instance list)
 
 unfoldable pub bare_header : Option (List Identifier) → Option (List Identifier)

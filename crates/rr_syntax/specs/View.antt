@@ -10,7 +10,7 @@ use Rattle.rr_syntax.specs.declared.tree.Bounds.{Bounds}
 use Rattle.rr_syntax.specs.declared.tree.Group.{Group}
 use Rattle.rr_syntax.specs.declared.tree.Setting.{Setting}
 use Rattle.rr_syntax.specs.declared.tree.Params.{Params}
-use Rattle.rr_syntax.specs.declared.tree.NetName.{NetName}
+use Rattle.rr_syntax.specs.declared.tree.Declarator.{Declarator}
 use Rattle.rr_syntax.specs.declared.tree.Pair.{Pair}
 use Rattle.rr_syntax.specs.declared.tree.Event.{Event}
 use Rattle.rr_syntax.specs.declared.tree.Events.{Events}
@@ -24,7 +24,7 @@ use Rattle.rr_syntax.specs.declared.tree.Item.TheVariants as item
 use Rattle.rr_syntax.specs.declared.tree.Module.{Module}
 use Rattle.rr_syntax.specs.declared.tree.Source.{Source}
 use denote.Ref.{Bor}
-use Rattle.rr_syntax.specs.Tree.{Tree, Trees, Name, Literal, Bit, Part, Indexed, Unary, Binary, Cond, Concat, Repeat, Cast, Paren, End, More, Identifier, Statement, Statements, Arm, Arms, Null, Block, If, IfElse, Case, Assign, Done, Then, CaseItem, NoArms, MoreArms, Range, PortDeclaration, ParamAssignment, ParameterDeclaration, NetIdentifier, NetAssignment, EdgeEvent, EventControl, Star, Edges, Levels, NamedConnection, Connections, Positions, Names, ModuleInstance, ModuleItem, Ports, Nets, Variables, Integers, Parameters, Assigns, Always, Instances, ModuleDeclaration, SourceText}
+use Rattle.rr_syntax.specs.Tree.{Tree, Trees, Name, Literal, Bit, Part, Indexed, Unary, Binary, Cond, Concat, Repeat, Cast, Paren, End, More, Identifier, Statement, Statements, Arm, Arms, Null, Block, If, IfElse, Case, Assign, Done, Then, CaseItem, NoArms, MoreArms, Range, PortDeclaration, ParamAssignment, ParameterDeclaration, DeclaredName, NetAssignment, EdgeEvent, EventControl, Star, Edges, Levels, NamedConnection, Connections, Positions, Names, ModuleInstance, ModuleItem, Ports, Nets, Variables, Integers, Parameters, Assigns, Always, Initial, Instances, ModuleDeclaration, SourceText}
 
 unfoldable mutual
   pub plain : Expr → Tree
@@ -93,8 +93,15 @@ unfoldable pub plain_range : Option Bounds → Option Range
 plain_range None = None
 plain_range (Some b) = Some (record { left = plain b.left.now; right = plain b.right.now })
 
+unfoldable pub plain_value : Option (Bor Expr) → Option Tree
+plain_value None = None
+plain_value (Some e) = Some (plain e.now)
+
+unfoldable pub plain_declarator : Declarator → DeclaredName
+plain_declarator n = record { token = n.token; text = n.name.now; value = plain_value n.value }
+
 unfoldable pub plain_port : Group → PortDeclaration
-plain_port g = record { dir = g.dir; signed = g.signed; range = plain_range g.range; names = map plain_identifier g.names.now }
+plain_port g = record { dir = g.dir; signed = g.signed; range = plain_range g.range; names = map plain_declarator g.names.now }
 
 unfoldable pub plain_assignment : Setting → ParamAssignment
 plain_assignment s = record { token = s.token; text = s.name.now; value = plain s.value.now }
@@ -107,13 +114,6 @@ plain_parameter p = record {
   range = plain_range p.range;
   sets = map plain_assignment p.sets.now;
 }
-
-unfoldable pub plain_value : Option (Bor Expr) → Option Tree
-plain_value None = None
-plain_value (Some e) = Some (plain e.now)
-
-unfoldable pub plain_net : NetName → NetIdentifier
-plain_net n = record { token = n.token; text = n.name.now; value = plain_value n.value }
 
 unfoldable pub plain_pair : Pair → NetAssignment
 plain_pair p = record { target = plain p.target.now; value = plain p.value.now }
@@ -142,12 +142,13 @@ plain_instance i = record { token = i.token; text = i.name.now; connections = pl
 
 unfoldable pub plain_item : Item → ModuleItem
 plain_item (item.Ports g) = Ports (plain_port g)
-plain_item (item.Nets signed range names) = Nets signed (plain_range range) (map plain_net names.now)
-plain_item (item.Variables signed range names) = Variables signed (plain_range range) (map plain_identifier names.now)
+plain_item (item.Nets signed range names) = Nets signed (plain_range range) (map plain_declarator names.now)
+plain_item (item.Variables signed range names) = Variables signed (plain_range range) (map plain_declarator names.now)
 plain_item (item.Integers names) = Integers (map plain_identifier names.now)
 plain_item (item.Parameters p) = Parameters (plain_parameter p)
 plain_item (item.Assigns pairs) = Assigns (map plain_pair pairs.now)
 plain_item (item.Always events body token) = Always (plain_events events) (plain_statement body.now) token
+plain_item (item.Initial body token) = Initial (plain_statement body.now) token
 plain_item (item.Instances m token overrides list) = Instances m.now token (plain_overrides overrides) (map plain_instance list.now)
 
 unfoldable pub plain_header : Option (Bor (List Named)) → Option (List Identifier)

@@ -97,6 +97,9 @@ keyword_endmodule = 26
 abbrev pub keyword_if : ℕ
 keyword_if = 41
 
+abbrev pub keyword_initial : ℕ
+keyword_initial = 45
+
 abbrev pub keyword_input : ℕ
 keyword_input = 47
 

@@ -22,6 +22,6 @@ pub use spelling::{events_len, expression_len, spell_len};
 pub use targets::is_target;
 pub use token::{KEYWORDS, Keyword, Kind, MARKS, Mark, Number, Span, Token};
 pub use tree::{
-    Arm, Bounds, Connection, Conns, Dir, Event, Events, Expr, Group, Instance, Item, Module, Named,
-    NetName, Pair, Params, Setting, Source, Stmt,
+    Arm, Bounds, Connection, Conns, Declarator, Dir, Event, Events, Expr, Group, Instance, Item,
+    Module, Named, Pair, Params, Setting, Source, Stmt,
 };

@@ -2,12 +2,12 @@
 
 ghost use Rattle.std.specs.Prelude.{◌≡◌, ◌<◌, ◌+◌, ◌^◌, map};
 ghost use Rattle.rr_syntax.specs.Expressions.{depth as depth_tree, height};
-ghost use Rattle.rr_syntax.specs.Items.{depth_assignment, depth_connection, depth_connections, depth_events, depth_instance, depth_item, depth_module, depth_net, depth_overrides, depth_pair, depth_parameter, depth_port, depth_range, depth_source, depth_value, greatest, height_item};
+ghost use Rattle.rr_syntax.specs.Items.{depth_assignment, depth_connection, depth_connections, depth_events, depth_instance, depth_item, depth_module, depth_declarator, depth_overrides, depth_pair, depth_parameter, depth_port, depth_range, depth_source, depth_value, greatest, height_item};
 ghost use Rattle.rr_syntax.specs.Statements.{depth_statement, height_arms, height_statements};
-ghost use Rattle.rr_syntax.specs.View.{plain, plain_arms, plain_assignment, plain_connection, plain_connections, plain_events, plain_instance, plain_item, plain_list, plain_module, plain_net, plain_overrides, plain_pair, plain_parameter, plain_port, plain_range, plain_source, plain_statement, plain_statements, plain_value};
+ghost use Rattle.rr_syntax.specs.View.{plain, plain_arms, plain_assignment, plain_connection, plain_connections, plain_events, plain_instance, plain_item, plain_list, plain_module, plain_declarator, plain_overrides, plain_pair, plain_parameter, plain_port, plain_range, plain_source, plain_statement, plain_statements, plain_value};
 
 use crate::tree::{
-    Arm, Bounds, Connection, Conns, Events, Expr, Group, Instance, Item, Module, NetName, Pair,
+    Arm, Bounds, Connection, Conns, Declarator, Events, Expr, Group, Instance, Item, Module, Pair,
     Params, Setting, Source, Stmt,
 };
 
@@ -125,13 +125,43 @@ fn range_height(range: &Option<Bounds>) -> u32
     }
 }
 
+#[tactic(auto, using(crate::proofs::Depths::value_depths))]
+fn value_height(value: &Option<&Expr>) -> u32
+    requires fits { depth_value (plain_value value.now) < 2 ^ 32 }
+    ensures { result ≡ depth_value (plain_value value.now) }
+{
+    match value {
+        None => 0,
+        Some(expr) => 1 + expression_depth(expr),
+    }
+}
+
+fn declarators_height(names: &[Declarator]) -> u32
+    requires fits { greatest depth_declarator (map plain_declarator names.now) < 2 ^ 32 }
+    ensures { result ≡ greatest depth_declarator (map plain_declarator names.now) }
+{
+    let mut deepest = 0;
+    for declarator in names.iter() {
+        deepest = deepest.max(value_height(&declarator.value));
+    }
+    deepest
+}
+
+#[tactic(auto, using(crate::proofs::Depths::port_depths))]
+fn port_height(group: &Group) -> u32
+    requires fits { depth_port (plain_port group.now) < 2 ^ 32 }
+    ensures { result ≡ depth_port (plain_port group.now) }
+{
+    range_height(&group.range).max(declarators_height(group.names))
+}
+
 fn ports_height(groups: &[Group]) -> u32
     requires fits { greatest depth_port (map plain_port groups.now) < 2 ^ 32 }
     ensures { result ≡ greatest depth_port (map plain_port groups.now) }
 {
     let mut deepest = 0;
     for group in groups.iter() {
-        deepest = deepest.max(range_height(&group.range));
+        deepest = deepest.max(port_height(group));
     }
     deepest
 }
@@ -162,28 +192,6 @@ fn parameters_height(params: &[Params]) -> u32
     let mut deepest = 0;
     for group in params.iter() {
         deepest = deepest.max(parameter_height(group));
-    }
-    deepest
-}
-
-#[tactic(auto, using(crate::proofs::Depths::value_depths))]
-fn value_height(value: &Option<&Expr>) -> u32
-    requires fits { depth_value (plain_value value.now) < 2 ^ 32 }
-    ensures { result ≡ depth_value (plain_value value.now) }
-{
-    match value {
-        None => 0,
-        Some(expr) => 1 + expression_depth(expr),
-    }
-}
-
-fn nets_height(nets: &[NetName]) -> u32
-    requires fits { greatest depth_net (map plain_net nets.now) < 2 ^ 32 }
-    ensures { result ≡ greatest depth_net (map plain_net nets.now) }
-{
-    let mut deepest = 0;
-    for net in nets.iter() {
-        deepest = deepest.max(value_height(&net.value));
     }
     deepest
 }
@@ -261,13 +269,15 @@ fn item_depth(item: &Item) -> u32
     ensures { result ≡ depth_item (plain_item item.now) }
 {
     match item {
-        Item::Ports(group) => range_height(&group.range),
-        Item::Nets { range, names, .. } => range_height(range).max(nets_height(names)),
-        Item::Variables { range, .. } => range_height(range),
+        Item::Ports(group) => port_height(group),
+        Item::Nets { range, names, .. } | Item::Variables { range, names, .. } => {
+            range_height(range).max(declarators_height(names))
+        }
         Item::Integers { .. } => 0,
         Item::Parameters(params) => parameter_height(params),
         Item::Assigns { pairs } => pairs_height(pairs),
         Item::Always { events, body, .. } => events_height(events).max(1 + statement_depth(body)),
+        Item::Initial { body, .. } => 1 + statement_depth(body),
         Item::Instances {
             overrides,
             list,

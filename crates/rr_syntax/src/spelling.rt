@@ -2,13 +2,13 @@
 
 ghost use Rattle.std.specs.Prelude.{◌≡◌, ◌<◌, ◌^◌, length, map};
 ghost use Rattle.rr_syntax.specs.Expressions.{spell, spell_more, spell_parts};
-ghost use Rattle.rr_syntax.specs.Items.{spell_all, spell_assignment, spell_connection, spell_connections, spell_each, spell_events, spell_identifier, spell_instance, spell_item, spell_module, spell_net, spell_overrides, spell_pair, spell_parameter, spell_parameters, spell_port, spell_ports, spell_separated, spell_source, spell_type};
+ghost use Rattle.rr_syntax.specs.Items.{spell_all, spell_assignment, spell_connection, spell_connections, spell_each, spell_events, spell_identifier, spell_instance, spell_item, spell_module, spell_declarator, spell_overrides, spell_pair, spell_parameter, spell_parameters, spell_port, spell_ports, spell_separated, spell_source, spell_type};
 ghost use Rattle.rr_syntax.specs.Statements.{spell_arms, spell_label, spell_labels, spell_statement, spell_statements};
-ghost use Rattle.rr_syntax.specs.View.{plain, plain_arms, plain_assignment, plain_connection, plain_connections, plain_events, plain_header, plain_identifier, plain_instance, plain_item, plain_label, plain_list, plain_module, plain_net, plain_overrides, plain_pair, plain_parameter, plain_port, plain_range, plain_source, plain_statement, plain_statements};
+ghost use Rattle.rr_syntax.specs.View.{plain, plain_arms, plain_assignment, plain_connection, plain_connections, plain_events, plain_header, plain_identifier, plain_instance, plain_item, plain_label, plain_list, plain_module, plain_declarator, plain_overrides, plain_pair, plain_parameter, plain_port, plain_range, plain_source, plain_statement, plain_statements};
 
 use crate::tree::{
-    Arm, Bounds, Connection, Conns, Dir, Events, Expr, Group, Instance, Item, Module, Named,
-    NetName, Pair, Params, Setting, Source, Stmt,
+    Arm, Bounds, Connection, Conns, Declarator, Dir, Events, Expr, Group, Instance, Item, Module,
+    Named, Pair, Params, Setting, Source, Stmt,
 };
 
 /// The number of tokens that spell the source.
@@ -151,6 +151,28 @@ fn names_len(names: &[Named]) -> u64
     (2 * names.len() as u64).saturating_sub(1)
 }
 
+#[tactic(auto, using(crate::proofs::ItemLengths::declarator_sizes))]
+fn declarator_len(declarator: &Declarator) -> u64
+    requires fits { length (spell_declarator (plain_declarator declarator.now)) < 2 ^ 64 }
+    ensures { result ≡ length (spell_declarator (plain_declarator declarator.now)) }
+{
+    match declarator.value {
+        None => 1,
+        Some(value) => 2 + expression_len(value),
+    }
+}
+
+fn declarators_len(names: &[Declarator]) -> u64
+    requires fits { length (spell_each spell_declarator (map plain_declarator names.now)) < 2 ^ 64 }
+    ensures { result ≡ length (spell_separated spell_declarator (map plain_declarator names.now)) }
+{
+    let mut total: u64 = 0;
+    for declarator in names.iter() {
+        total += 1 + declarator_len(declarator);
+    }
+    total.saturating_sub(1)
+}
+
 #[tactic(auto, using(crate::proofs::ItemLengths::port_sizes))]
 fn port_len(group: &Group) -> u64
     requires fits { length (spell_port (plain_port group.now)) < 2 ^ 64 }
@@ -160,7 +182,7 @@ fn port_len(group: &Group) -> u64
         Dir::Input | Dir::Output => 1,
         Dir::InputWire | Dir::OutputWire | Dir::OutputReg => 2,
     };
-    words + type_len(group.signed, &group.range) + names_len(group.names)
+    words + type_len(group.signed, &group.range) + declarators_len(group.names)
 }
 
 fn ports_len(groups: &[Group]) -> u64
@@ -201,28 +223,6 @@ fn parameters_len(params: &[Params]) -> u64
     let mut total: u64 = 0;
     for group in params.iter() {
         total += 1 + parameter_len(group);
-    }
-    total.saturating_sub(1)
-}
-
-#[tactic(auto, using(crate::proofs::ItemLengths::net_sizes))]
-fn net_len(net: &NetName) -> u64
-    requires fits { length (spell_net (plain_net net.now)) < 2 ^ 64 }
-    ensures { result ≡ length (spell_net (plain_net net.now)) }
-{
-    match net.value {
-        None => 1,
-        Some(value) => 2 + expression_len(value),
-    }
-}
-
-fn nets_len(nets: &[NetName]) -> u64
-    requires fits { length (spell_each spell_net (map plain_net nets.now)) < 2 ^ 64 }
-    ensures { result ≡ length (spell_separated spell_net (map plain_net nets.now)) }
-{
-    let mut total: u64 = 0;
-    for net in nets.iter() {
-        total += 1 + net_len(net);
     }
     total.saturating_sub(1)
 }
@@ -320,16 +320,17 @@ fn item_len(item: &Item) -> u64
             signed,
             range,
             names,
-        } => 2 + type_len(*signed, range) + nets_len(names),
+        } => 2 + type_len(*signed, range) + declarators_len(names),
         Item::Variables {
             signed,
             range,
             names,
-        } => 2 + type_len(*signed, range) + names_len(names),
+        } => 2 + type_len(*signed, range) + declarators_len(names),
         Item::Integers { names } => 2 + names_len(names),
         Item::Parameters(params) => parameter_len(params) + 1,
         Item::Assigns { pairs } => 2 + pairs_len(pairs),
         Item::Always { events, body, .. } => 2 + events_len(events) + statement_len(body),
+        Item::Initial { body, .. } => 1 + statement_len(body),
         Item::Instances {
             overrides,
             list,

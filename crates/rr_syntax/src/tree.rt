@@ -123,13 +123,23 @@ pub enum Dir {
     OutputReg,
 }
 
-/// Ports that are declared together (annex A.2.1.2); `names` is not empty.
+/// A declared net and its driver, or a declared variable and its starting value, where the
+/// declaration gives one (sections 6.1.1 and 6.2.1).
+#[derive(Clone, Copy)]
+pub struct Declarator<'a> {
+    pub token: u32,
+    pub name: &'a str,
+    pub value: Option<&'a Expr<'a>>,
+}
+
+/// Ports that are declared together (annex A.2.1.2); `names` is not empty, and those of an `output
+/// reg` alone have starting values.
 #[derive(Clone, Copy)]
 pub struct Group<'a> {
     pub dir: Dir,
     pub signed: bool,
     pub range: Option<Bounds<'a>>,
-    pub names: &'a [Named<'a>],
+    pub names: &'a [Declarator<'a>],
 }
 
 /// A parameter and its value (annex A.2.4).
@@ -149,14 +159,6 @@ pub struct Params<'a> {
     pub signed: bool,
     pub range: Option<Bounds<'a>>,
     pub sets: &'a [Setting<'a>],
-}
-
-/// A net and its driver, where its declaration gives one (section 6.1.1).
-#[derive(Clone, Copy)]
-pub struct NetName<'a> {
-    pub token: u32,
-    pub name: &'a str,
-    pub value: Option<&'a Expr<'a>>,
 }
 
 /// A target and what drives it (section 6.1, annex A.6.1).
@@ -214,20 +216,20 @@ pub struct Instance<'a> {
     pub conns: Conns<'a>,
 }
 
-/// An item of a module (section 12.1, annex A.1.4). The token of `Always` is that of its first word,
-/// and that of `Instances` is its module's name. `overrides` is `None` where no `#` stands.
+/// An item of a module (section 12.1, annex A.1.4). The token of `Always` and of `Initial` is that of
+/// its first word, and that of `Instances` is its module's name. `overrides` is `None` where no `#` stands.
 #[derive(Clone, Copy)]
 pub enum Item<'a> {
     Ports(Group<'a>),
     Nets {
         signed: bool,
         range: Option<Bounds<'a>>,
-        names: &'a [NetName<'a>],
+        names: &'a [Declarator<'a>],
     },
     Variables {
         signed: bool,
         range: Option<Bounds<'a>>,
-        names: &'a [Named<'a>],
+        names: &'a [Declarator<'a>],
     },
     Integers {
         names: &'a [Named<'a>],
@@ -238,6 +240,10 @@ pub enum Item<'a> {
     },
     Always {
         events: Events<'a>,
+        body: &'a Stmt<'a>,
+        token: u32,
+    },
+    Initial {
         body: &'a Stmt<'a>,
         token: u32,
     },

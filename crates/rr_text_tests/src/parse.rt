@@ -6,7 +6,7 @@ use rr_lex::lex;
 use rr_parse::parse;
 use rr_parse_expr::ParseFault;
 use rr_stop::stop;
-use rr_syntax::{Item, KEYWORDS, Source, Stmt, depth, spell_len};
+use rr_syntax::{Declarator, Group, Item, KEYWORDS, Source, Stmt, depth, spell_len};
 use std::alloc::{AllocError, Global};
 use std::test::Fail;
 
@@ -58,7 +58,7 @@ fn is_rule(alloc: Global, before: &str, rule: Rule, behind: &str) -> Result<bool
 }
 
 /// Source texts, modules and their heads.
-const HEADS: [Rule; 12] = [
+const HEADS: [Rule; 16] = [
     ("module m; endmodule", "", "wire w;"),
     ("module m; endmodule", "module", "; endmodule"),
     ("module m (); endmodule", "module m (", "; endmodule"),
@@ -98,11 +98,31 @@ const HEADS: [Rule; 12] = [
         "module m (input [1:0",
         ":0] a); endmodule",
     ),
+    (
+        "module m (output reg [3:0] q = 4'd5, input x); endmodule",
+        "module m (output q",
+        "= 1'b0); endmodule",
+    ),
+    (
+        "module m (output reg a, b = 1, c, output d); endmodule",
+        "module m (input q",
+        "= 1'b0); endmodule",
+    ),
+    (
+        "module m (input a, output reg b = 1); endmodule",
+        "module m (output reg a = 1, b = 2, output wire c",
+        "= 1); endmodule",
+    ),
+    (
+        "module m (output reg signed a = -1); endmodule",
+        "module m (output reg a = 1, input wire b",
+        "= 1); endmodule",
+    ),
     ("module m; wire w; endmodule", "module m; wire w;", "module"),
 ];
 
 /// Items, declarations, connections and event controls.
-const ITEMS: [Rule; 18] = [
+const ITEMS: [Rule; 27] = [
     ("input a, b; output reg [1:0] c;", "input a", "output b;"),
     (
         "output signed d; output wire e; input wire f;",
@@ -111,7 +131,28 @@ const ITEMS: [Rule; 18] = [
     ),
     ("wire a, b = 1, c;", "wire", ";"),
     ("wire signed [3:0] a;", "wire [3:0]", "signed a;"),
-    ("reg a, b; reg signed [7:0] c;", "reg a", "= 1;"),
+    ("reg a, b; reg signed [7:0] c;", "reg a =", ";"),
+    ("reg q = 1'b0;", "integer i", "= 0;"),
+    ("reg [3:0] a = 1 + 2, b, c = 4'd5;", "reg a", "[0] = 1;"),
+    ("output reg q = 1'b0, r;", "output q", "= 1'b0;"),
+    ("output reg [3:0] q = 4'd5; input x;", "input q", "= 1'b0;"),
+    ("initial q = 1'b1;", "initial q", "<= 1'b1;"),
+    (
+        "initial begin : n a = 1'b1; ; begin b = 1'b0; end end",
+        "initial",
+        "if (a) q = 1'b1;",
+    ),
+    ("initial ; initial begin end", "initial q", "[0] = 1'b1;"),
+    (
+        "initial begin q = a ? b : c; end",
+        "initial",
+        "{a, b} = 2'd0;",
+    ),
+    (
+        "initial a = 1; reg b; initial b = 2;",
+        "initial begin : n a = 1;",
+        "case (a) default: ; endcase end",
+    ),
     ("integer i, j;", "integer", "[1:0] i;"),
     (
         "parameter a = 1, b = 2; parameter integer c = 3;",
@@ -191,7 +232,7 @@ fn each_rule(rt: HostRuntime) -> Result<(), Fail> {
 }
 
 /// Texts with what is read of them.
-const WORDS_OUTSIDE: [(&str, Outcome); 8] = [
+const WORDS_OUTSIDE: [(&str, Outcome); 10] = [
     ("", Outcome::Tree(0)),
     ("module m; $display(a); endmodule", Outcome::Unsupported(3)),
     (
@@ -199,7 +240,12 @@ const WORDS_OUTSIDE: [(&str, Outcome); 8] = [
         Outcome::Unsupported(6),
     ),
     ("module m; n #(5) a (b); endmodule", Outcome::Tree(1)),
-    ("module m; ; wire = 1 initial", Outcome::Unsupported(7)),
+    ("module m; ; wire = 1 forever", Outcome::Unsupported(7)),
+    ("module m; ; wire = 1 initial", Outcome::Syntax(3)),
+    (
+        "module m; initial #5 a = b; endmodule",
+        Outcome::Unsupported(4),
+    ),
     ("module m; function f; for", Outcome::Unsupported(3)),
     ("module m; wire a; endmodule wait", Outcome::Unsupported(7)),
     ("module a; endmodule module b; endmodule", Outcome::Tree(2)),
@@ -259,10 +305,58 @@ fn nearest_if(rt: HostRuntime) -> Result<(), Fail> {
     Ok(())
 }
 
-/// Blocks in one another, and an assignment of a name in brackets.
-fn nested(alloc: Global, blocks: u32, brackets: u32) -> Result<String<Global>, AllocError> {
+/// A variable with a starting value, a port with one, and what an `initial` item sets.
+#[test]
+fn starting_values(rt: HostRuntime) -> Result<(), Fail> {
+    let arena = Bump::new(rt.alloc());
+    let text =
+        "module m(input a, output reg q = 1'b1); reg r, s = 1'b0; initial r = 1'b1; endmodule";
+    let tokens = tokens_of(text, &arena)?;
+    let Ok(source) = parse(tokens, &arena) else {
+        return Err(Fail::from("tree"));
+    };
+    let Some(module) = source.modules.get(0) else {
+        return Err(Fail::from("module"));
+    };
+    assert!(rt; starts(module.groups.get(0), 0) == Some(false));
+    assert!(rt; starts(module.groups.get(1), 0) == Some(true));
+    let Some(Item::Variables { names, .. }) = module.items.get(0) else {
+        return Err(Fail::from("variables"));
+    };
+    assert!(rt; has_value(names, 0) == Some(false) && has_value(names, 1) == Some(true));
+    assert!(rt;
+        matches!(
+            module.items.get(1),
+            Some(Item::Initial {
+                body: Stmt::Assign { now: true, .. },
+                token: 20,
+            })
+        )
+    );
+    Ok(())
+}
+
+/// Whether a name of a list has a value.
+fn has_value(names: &[Declarator], at: usize) -> Option<bool> {
+    names.get(at).map(|name| name.value.is_some())
+}
+
+/// Whether a port of a group has a starting value.
+fn starts(group: Option<&Group>, at: usize) -> Option<bool> {
+    has_value(group?.names, at)
+}
+
+/// An item of blocks in one another, and an assignment of a name in brackets.
+fn nested(
+    alloc: Global,
+    item: &str,
+    blocks: u32,
+    brackets: u32,
+) -> Result<String<Global>, AllocError> {
     let mut text = String::new(alloc);
-    text.push_str("module m; always @* ")?;
+    text.push_str("module m; ")?;
+    text.push_str(item)?;
+    text.push_str(" ")?;
     push_times(&mut text, "begin ", blocks)?;
     text.push_str("a = ")?;
     push_times(&mut text, "(", brackets)?;
@@ -277,17 +371,21 @@ fn nested(alloc: Global, blocks: u32, brackets: u32) -> Result<String<Global>, A
 /// The levels of modules, items, statements and expressions count together.
 #[test]
 fn depth_five_hundred(rt: HostRuntime) -> Result<(), Fail> {
-    for (blocks, brackets, wanted) in [
-        (200, 296, Outcome::Tree(1)),
-        (496, 0, Outcome::Tree(1)),
-        (0, 496, Outcome::Tree(1)),
-        (200, 297, Outcome::Syntax(504)),
-        (497, 0, Outcome::Syntax(503)),
-        (0, 497, Outcome::Syntax(504)),
+    for (item, blocks, brackets, wanted) in [
+        ("always @*", 200, 296, Outcome::Tree(1)),
+        ("always @*", 496, 0, Outcome::Tree(1)),
+        ("always @*", 0, 496, Outcome::Tree(1)),
+        ("always @*", 200, 297, Outcome::Syntax(504)),
+        ("always @*", 497, 0, Outcome::Syntax(503)),
+        ("always @*", 0, 497, Outcome::Syntax(504)),
+        ("initial", 200, 296, Outcome::Tree(1)),
+        ("initial", 496, 0, Outcome::Tree(1)),
+        ("initial", 200, 297, Outcome::Syntax(502)),
+        ("initial", 497, 0, Outcome::Syntax(501)),
     ] {
-        let text = nested(rt.alloc(), blocks, brackets)?;
+        let text = nested(rt.alloc(), item, blocks, brackets)?;
         let (outcome, _, _) = read_text(rt.alloc(), text.as_str())?;
-        assert!(rt; outcome == wanted, "{blocks} {brackets}");
+        assert!(rt; outcome == wanted, "{item} {blocks} {brackets}");
     }
     Ok(())
 }
@@ -323,8 +421,8 @@ endmodule
 ";
 
 /// A design without blanks, where tokens stand side by side.
-const TOKEN_EDGES: &str = "module m(input clk,input s,output reg[3:0]q);\
-    always@(posedge clk)q<=s?4'd3:4'd0;endmodule";
+const TOKEN_EDGES: &str = "module m(input clk,input s,output reg[3:0]q=4'd2,r);reg t=1'b1,u;\
+    initial begin:n r=4'd0;u=1'b0;end always@(posedge clk)q<=s?4'd3:4'd0;endmodule";
 
 /// Whether a text has a tree that spells as many tokens.
 fn spells(alloc: Global, text: &str) -> bool {

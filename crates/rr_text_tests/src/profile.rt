@@ -26,7 +26,7 @@ fn each_reserved_word(rt: HostRuntime) -> Result<(), Fail> {
         let wanted = if has_rule { None } else { Some(1) };
         assert!(rt; first(rt.alloc(), text.as_str())? == wanted, "{word}");
     }
-    assert!(rt; used == 24);
+    assert!(rt; used == 25);
     Ok(())
 }
 
@@ -43,7 +43,7 @@ const NAMES_AND_DELAYS: [(&str, Option<u32>); 13] = [
     ("m # ( 5 ) i ( ) ;", None),
     ("a #", Some(1)),
     ("a # # ( 5 )", Some(1)),
-    ("a wait initial b", Some(1)),
+    ("a initial wait b", Some(2)),
     ("a ; ; ) 5 5 $f function", Some(6)),
 ];
 

@@ -22,7 +22,7 @@ fn leaves_behind(alloc: Global, head: &str, first: &str, rest: &str) -> Result<b
     Ok(place as usize == count)
 }
 
-const MODULES: [(&str, &str); 24] = [
+const MODULES: [(&str, &str); 34] = [
     ("", ""),
     ("", "wire w;"),
     ("module m; endmodule", ""),
@@ -38,7 +38,32 @@ const MODULES: [(&str, &str); 24] = [
         "end",
     ),
     ("module m #(", "); endmodule"),
-    ("module m; wire w = 1, v; reg r", "= 1; endmodule"),
+    (
+        "module m; wire w = 1, v; reg r = 1, s; integer i",
+        "= 1; endmodule",
+    ),
+    ("module m(output reg a = 1, b, input c", "= 1); endmodule"),
+    (
+        "module m(output reg a, b = 2, output wire c",
+        "= 1); endmodule",
+    ),
+    ("module m(output a", "= 1); endmodule"),
+    (
+        "module m; output reg signed a = 1, b = 2; output c",
+        "= 1; endmodule",
+    ),
+    ("module m; input a", "= 1; endmodule"),
+    (
+        "module m; initial ; initial begin : n a = b; begin end end initial a",
+        "<= 1; endmodule",
+    ),
+    ("module m; initial", "if (a) ; endmodule"),
+    ("module m; initial a", "[0] = 1; endmodule"),
+    ("module m; initial", "{a, b} = 1; endmodule"),
+    (
+        "module m; initial begin : n a = 1;",
+        "case (a) default: ; endcase end endmodule",
+    ),
     ("module m; integer", "[3:0] i; endmodule"),
     ("module m; localparam p = 1, q", "; endmodule"),
     (
@@ -128,9 +153,15 @@ fn takes_nested(alloc: Global, count: u32) -> Result<bool, Fail> {
 }
 
 /// Whether a text in so many blocks leaves the grammar directly behind its first part.
-fn leaves_in_blocks(alloc: Global, count: u32, first: &str, rest: &str) -> Result<bool, Fail> {
+fn leaves_in_blocks(
+    alloc: Global,
+    before: &str,
+    count: u32,
+    first: &str,
+    rest: &str,
+) -> Result<bool, Fail> {
     let mut head = String::new(alloc);
-    head.push_str(HEAD)?;
+    head.push_str(before)?;
     push_times(&mut head, "begin ", count)?;
     leaves_behind(alloc, head.as_str(), first, rest)
 }
@@ -153,6 +184,16 @@ const IN_BLOCKS: [(u32, &str, &str); 14] = [
     (498, "", "begin end"),
 ];
 
+/// The same in an `initial` item.
+const IN_INITIAL_BLOCKS: [(u32, &str, &str); 6] = [
+    (496, "a = b;", "= c"),
+    (496, "a =", "(b);"),
+    (495, "a = $signed(b", "+ c);"),
+    (497, "", "a = b;"),
+    (498, "end", "= ;"),
+    (498, "", "begin end"),
+];
+
 // The levels of modules, items, statements, arms and expressions count together: a token is taken
 // where what it begins may still have its least depth.
 #[test]
@@ -164,7 +205,13 @@ fn depth_five_hundred(rt: HostRuntime) -> Result<(), Fail> {
     );
     for &(count, first, rest) in IN_BLOCKS.iter() {
         assert!(rt;
-            leaves_in_blocks(rt.alloc(), count, first, rest)?,
+            leaves_in_blocks(rt.alloc(), HEAD, count, first, rest)?,
+            "{count} {first} {rest}"
+        );
+    }
+    for &(count, first, rest) in IN_INITIAL_BLOCKS.iter() {
+        assert!(rt;
+            leaves_in_blocks(rt.alloc(), "module m; initial ", count, first, rest)?,
             "{count} {first} {rest}"
         );
     }

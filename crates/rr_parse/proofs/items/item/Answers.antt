@@ -1,5 +1,5 @@
 use Rattle.std.proofs.Common.{lit<, sym, ◌∙◌}
-use Rattle.rr_parse.proofs.MadeItems.{item_always, item_assigns, item_instances, item_integers, item_nets, item_parameters, item_ports, item_variables}
+use Rattle.rr_parse.proofs.MadeItems.{item_always, item_assigns, item_initial, item_instances, item_integers, item_nets, item_parameters, item_ports, item_variables}
 use Rattle.rr_parse_stmt.proofs.FrontWords.{keyword_differs, keyword_stands}
 use Rattle.rr_parse.proofs.items.item.Goals as goal
 
@@ -24,5 +24,8 @@ returns-then-is_keyword-4 c = item_assigns c.args.depth c.args.input.tokens.now 
 pub returns-then-is_keyword-5 : goal.returns-then-is_keyword-5
 returns-then-is_keyword-5 c = item_always c.args.depth c.args.input.tokens.now c.args.from (sym c.begins_port.ensures ∙ c.if-begins_port.false) (keyword_differs _ c.is_keyword.ensures c.if-is_keyword.false (lit< tt)) (keyword_differs _ c.is_keyword-else-is_keyword.ensures c.if-is_keyword-2.false (lit< tt)) (keyword_differs _ c.is_keyword-else-is_keyword-2.ensures c.if-is_keyword-3.false (lit< tt)) (sym c.begins_parameter.ensures ∙ c.if-begins_parameter.false) (keyword_differs _ c.is_keyword-else-begins_parameter.ensures c.if-is_keyword-4.false (lit< tt)) (keyword_stands _ c.is_keyword-else-is_keyword-4.ensures c.if-is_keyword-5.true) c.always_item.result c.always_item.ensures
 
-pub returns-else-is_keyword-5 : goal.returns-else-is_keyword-5
-returns-else-is_keyword-5 c = item_instances c.args.depth c.args.input.tokens.now c.args.from (sym c.begins_port.ensures ∙ c.if-begins_port.false) (keyword_differs _ c.is_keyword.ensures c.if-is_keyword.false (lit< tt)) (keyword_differs _ c.is_keyword-else-is_keyword.ensures c.if-is_keyword-2.false (lit< tt)) (keyword_differs _ c.is_keyword-else-is_keyword-2.ensures c.if-is_keyword-3.false (lit< tt)) (sym c.begins_parameter.ensures ∙ c.if-begins_parameter.false) (keyword_differs _ c.is_keyword-else-begins_parameter.ensures c.if-is_keyword-4.false (lit< tt)) (keyword_differs _ c.is_keyword-else-is_keyword-4.ensures c.if-is_keyword-5.false (lit< tt)) c.instance_item.result c.instance_item.ensures
+pub returns-then-is_keyword-6 : goal.returns-then-is_keyword-6
+returns-then-is_keyword-6 c = item_initial c.args.depth c.args.input.tokens.now c.args.from (sym c.begins_port.ensures ∙ c.if-begins_port.false) (keyword_differs _ c.is_keyword.ensures c.if-is_keyword.false (lit< tt)) (keyword_differs _ c.is_keyword-else-is_keyword.ensures c.if-is_keyword-2.false (lit< tt)) (keyword_differs _ c.is_keyword-else-is_keyword-2.ensures c.if-is_keyword-3.false (lit< tt)) (sym c.begins_parameter.ensures ∙ c.if-begins_parameter.false) (keyword_differs _ c.is_keyword-else-begins_parameter.ensures c.if-is_keyword-4.false (lit< tt)) (keyword_differs _ c.is_keyword-else-is_keyword-4.ensures c.if-is_keyword-5.false (lit< tt)) (keyword_stands _ c.is_keyword-else-is_keyword-5.ensures c.if-is_keyword-6.true) c.initial_item.result c.initial_item.ensures
+
+pub returns-else-is_keyword-6 : goal.returns-else-is_keyword-6
+returns-else-is_keyword-6 c = item_instances c.args.depth c.args.input.tokens.now c.args.from (sym c.begins_port.ensures ∙ c.if-begins_port.false) (keyword_differs _ c.is_keyword.ensures c.if-is_keyword.false (lit< tt)) (keyword_differs _ c.is_keyword-else-is_keyword.ensures c.if-is_keyword-2.false (lit< tt)) (keyword_differs _ c.is_keyword-else-is_keyword-2.ensures c.if-is_keyword-3.false (lit< tt)) (sym c.begins_parameter.ensures ∙ c.if-begins_parameter.false) (keyword_differs _ c.is_keyword-else-begins_parameter.ensures c.if-is_keyword-4.false (lit< tt)) (keyword_differs _ c.is_keyword-else-is_keyword-4.ensures c.if-is_keyword-5.false (lit< tt)) (keyword_differs _ c.is_keyword-else-is_keyword-5.ensures c.if-is_keyword-6.false (lit< tt)) c.instance_item.result c.instance_item.ensures

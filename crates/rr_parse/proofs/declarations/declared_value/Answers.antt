@@ -5,7 +5,7 @@ use Rattle.rr_parse.proofs.MadeDeclarations.{made_no_value, made_value}
 use Rattle.rr_parse_expr.proofs.Answered.{mark_inside}
 use Rattle.rr_syntax.specs.Words.{mark_equals}
 use Rattle.rr_parse_expr.proofs.FrontMarks.{mark_differs, mark_stands}
-use Rattle.rr_parse.proofs.declarations.driver.Goals as goal
+use Rattle.rr_parse.proofs.declarations.declared_value.Goals as goal
 
 pub returns-then-not-is_mark : goal.returns-then-not-is_mark
 returns-then-not-is_mark c = made_no_value c.args.depth c.args.input.tokens.now c.args.from (mark_differs _ c.is_mark.ensures c.if-not-is_mark.true (lit< tt)) c.requires.inside
