@@ -1,5 +1,5 @@
 -- The targets are right exactly where none is at fault.
-use Rattle.std.proofs.Common.{◌≡◌, ◌∙◌, sym, ap, ℕ, Bool, true, false, not, cond, ◌&&◌, [], ◌∷◌, Some, refl}
+use Rattle.std.proofs.Common.{◌≡◌, ◌∙◌, sym, ap, ℕ, Bool, true, false, not, cond, ◌&&◌, [], ◌∷◌, ◌++◌, Some, refl}
 use Rattle.std.specs.Prelude.{flat_map, nat_eq}
 use Rattle.std.proofs.lemmas.Bool.{eqb-true, eq-eqb, and_parts}
 use Rattle.rr_syntax.specs.Expressions.{is_target}
@@ -9,15 +9,16 @@ use Rattle.rr_expr.specs.Scopes.{meant}
 use Rattle.rr_flat.specs.declared.signal.Port.{Port}
 use Rattle.rr_flat.specs.declared.signal.Port.TheVariants.{Inner, Input, Output}
 use Rattle.rr_flat.specs.Signals.{Signal, signal_at}
-use Rattle.rr_flat.specs.Lawful.{MayDrive, MayAssign, DeclaredTarget, DriverTarget, BlockTargets, RightTargets}
+use Rattle.rr_flat.specs.Lawful.{MayDrive, MayAssign, DeclaredTarget, DriverTarget, MayAssignAll, RightTargets}
 use Rattle.rr_flat.specs.Plain.{Side, Written, Whole, Block, Flat}
+use Rattle.rr_syntax.specs.Tree.{Statement}
 use Rattle.rr_flat.specs.Reads.{assigned_by}
 use Rattle.rr_flat.specs.Targets.{target_parts, part_name, is_fixed}
-use Rattle.rr_flat.specs.Writers.{scope_at, driver_at, block_at, entity_of_signal, no_block}
-use Rattle.rr_assign.specs.Aims.{may_drive, may_assign, unless, bad_driven, bad_assigned, bad_declared, bad_side, bad_of_driver, bad_of_block, bad_of_part, bad_targets}
+use Rattle.rr_flat.specs.Writers.{scope_at, driver_at, block_at, initial_at, entity_of_signal, no_block, no_initial}
+use Rattle.rr_assign.specs.Aims.{may_drive, may_assign, unless, bad_driven, bad_assigned, bad_declared, bad_side, bad_of_driver, bad_of_statement, bad_of_block, bad_of_initial, bad_of_part, bad_targets}
 use Rattle.rr_parts.specs.Names.{signal_of, signal_named, part_token, is_input}
 use Rattle.rr_parts.proofs.Covering.{HasWalk, none_at, at_none, all_of_empty, empty_of_all}
-use Rattle.rr_parts.proofs.Walks.{left_empty}
+use Rattle.rr_parts.proofs.Walks.{left_empty, right_empty}
 
 unless_yes : (ok : Bool) (token : ℕ) → unless ok token ≡ [] → ok ≡ true
 unless_yes true token h = refl
@@ -102,21 +103,27 @@ right_side flat (Written t i) value token d =
 
 -- of a block
 
-block_right : (flat : Flat) (b : Block) → bad_of_block flat b ≡ [] → BlockTargets flat b
-block_right flat b h =
-    all_of_empty (λ a. MayAssign flat (meant (scope_at flat b.scope) (part_name a.part))) (bad_assigned flat b.scope)
-    (λ a q. assigns flat (meant (scope_at flat b.scope) (part_name a.part)) (unless_yes (may_assign flat (signal_named flat b.scope (part_name a.part))) (part_token a.part) q))
-    (assigned_by b.body) h
+statement_right : (flat : Flat) (i : ℕ) (s : Statement) → bad_of_statement flat i s ≡ [] → MayAssignAll flat i s
+statement_right flat i s h =
+    all_of_empty (λ a. MayAssign flat (meant (scope_at flat i) (part_name a.part))) (bad_assigned flat i)
+    (λ a q. assigns flat (meant (scope_at flat i) (part_name a.part)) (unless_yes (may_assign flat (signal_named flat i (part_name a.part))) (part_token a.part) q))
+    (assigned_by s) h
 
-right_block : (flat : Flat) (b : Block) → BlockTargets flat b → bad_of_block flat b ≡ []
-right_block flat b h =
-    empty_of_all (λ a. MayAssign flat (meant (scope_at flat b.scope) (part_name a.part))) (bad_assigned flat b.scope)
-    (λ a q. yes_unless (may_assign flat (signal_named flat b.scope (part_name a.part))) (part_token a.part) (assigned flat (meant (scope_at flat b.scope) (part_name a.part)) q))
-    (assigned_by b.body) h
+right_statement : (flat : Flat) (i : ℕ) (s : Statement) → MayAssignAll flat i s → bad_of_statement flat i s ≡ []
+right_statement flat i s h =
+    empty_of_all (λ a. MayAssign flat (meant (scope_at flat i) (part_name a.part))) (bad_assigned flat i)
+    (λ a q. yes_unless (may_assign flat (signal_named flat i (part_name a.part))) (part_token a.part) (assigned flat (meant (scope_at flat i) (part_name a.part)) q))
+    (assigned_by s) h
 
 no_text : (flat : Flat) → bad_of_block flat no_block ≡ []
 unfolding assigned_by
 no_text flat = refl
+
+block_alone : (flat : Flat) (b : Block) → bad_of_block flat b ++ bad_of_initial flat no_initial ≡ [] → bad_of_block flat b ≡ []
+block_alone flat b h = left_empty (bad_of_block flat b) (bad_of_initial flat no_initial) h
+
+alone_block : (flat : Flat) (b : Block) → bad_of_block flat b ≡ [] → bad_of_block flat b ++ bad_of_initial flat no_initial ≡ []
+alone_block flat b h = rw h (no_text flat)
 
 -- of a design
 
@@ -124,14 +131,16 @@ pub right_targets : (flat : Flat) → HasWalk flat → bad_targets flat ≡ [] �
 right_targets flat w h =
     let n = none_at flat (bad_of_part flat) w h in
     record {
-      drivers = λ k l. side_right flat (driver_at flat k).target (driver_at flat k).value (driver_at flat k).token (left_empty (bad_of_driver flat (driver_at flat k)) (bad_of_block flat no_block) (n.drivers k l));
-      clocked = λ k l. block_right flat (block_at flat.clocked k) (n.clocked k l);
-      combinational = λ k l. block_right flat (block_at flat.combinational k) (n.combinational k l);
+      drivers = λ k l. side_right flat (driver_at flat k).target (driver_at flat k).value (driver_at flat k).token (left_empty (bad_of_driver flat (driver_at flat k)) (bad_of_block flat no_block ++ bad_of_initial flat no_initial) (n.drivers k l));
+      clocked = λ k l. statement_right flat (block_at flat.clocked k).scope (block_at flat.clocked k).body (block_alone flat (block_at flat.clocked k) (n.clocked k l));
+      combinational = λ k l. statement_right flat (block_at flat.combinational k).scope (block_at flat.combinational k).body (block_alone flat (block_at flat.combinational k) (n.combinational k l));
+      initials = λ k l. statement_right flat (initial_at flat.initials k).scope (initial_at flat.initials k).body (right_empty (bad_of_block flat no_block) (bad_of_initial flat (initial_at flat.initials k)) (n.initials k l));
     }
 
 pub no_bad_targets : (flat : Flat) → HasWalk flat → RightTargets flat → bad_targets flat ≡ []
 no_bad_targets flat w r = at_none flat (bad_of_part flat) w (record {
-  drivers = λ k l. rw (right_side flat (driver_at flat k).target (driver_at flat k).value (driver_at flat k).token (r.drivers k l)) (no_text flat);
-  clocked = λ k l. right_block flat (block_at flat.clocked k) (r.clocked k l);
-  combinational = λ k l. right_block flat (block_at flat.combinational k) (r.combinational k l);
+  drivers = λ k l. rw (right_side flat (driver_at flat k).target (driver_at flat k).value (driver_at flat k).token (r.drivers k l)) (alone_block flat no_block (no_text flat));
+  clocked = λ k l. alone_block flat (block_at flat.clocked k) (right_statement flat (block_at flat.clocked k).scope (block_at flat.clocked k).body (r.clocked k l));
+  combinational = λ k l. alone_block flat (block_at flat.combinational k) (right_statement flat (block_at flat.combinational k).scope (block_at flat.combinational k).body (r.combinational k l));
+  initials = λ k l. rw (no_text flat) (right_statement flat (initial_at flat.initials k).scope (initial_at flat.initials k).body (r.initials k l));
 })

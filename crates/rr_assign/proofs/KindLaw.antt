@@ -223,16 +223,21 @@ nothing_assigned : (flat : Flat) (k : ℕ) (a : Aim) → Member a (aims_of_part 
 unfolding assigned_by
 nothing_assigned flat k a m = m
 
+nothing_begun : (flat : Flat) (k : ℕ) (a : Aim) → Member a (aims_of_part flat (part.Initial k)) → ⊥
+unfolding assigned_by
+nothing_begun flat k a m = m
+
 aim_some : (flat : Flat) → HasWalk flat → (a : Aim) (id : ℕ) → Member a (aims flat) → a.signal ≡ Some id → AssignedSomewhere flat id a.now
-aim_some flat w a id m h = go x.0 (all_member (IsPart (length flat.drivers) (length flat.clocked) (length flat.combinational)) flat.walk x.0 w.parts_in x.1.0) x.1.1
+aim_some flat w a id m h = go x.0 (all_member (IsPart (length flat.drivers) (length flat.clocked) (length flat.combinational) (length flat.initials)) flat.walk x.0 w.parts_in x.1.0) x.1.1
   where
     x : (p : design.Part) × (Member p flat.walk × Member a (aims_of_part flat p))
     x = flat_member (aims_of_part flat) flat.walk a m
 
-    go : (p : design.Part) → IsPart (length flat.drivers) (length flat.clocked) (length flat.combinational) p → Member a (aims_of_part flat p) → AssignedSomewhere flat id a.now
+    go : (p : design.Part) → IsPart (length flat.drivers) (length flat.clocked) (length flat.combinational) (length flat.initials) p → Member a (aims_of_part flat p) → AssignedSomewhere flat id a.now
     go (part.Driver k) l n = absurd (nothing_assigned flat k a n)
     go (part.Clocked k) l n = inl (k, (l, there_aim flat (part.Clocked k) a id n h))
     go (part.Combinational k) l n = inr (k, (l, there_aim flat (part.Combinational k) a id n h))
+    go (part.Initial k) l n = absurd (nothing_begun flat k a n)
 
 pub right_kinds : (flat : Flat) → HasWalk flat → wrong_kinds flat ≡ [] → RightKinds flat
 right_kinds flat w h = record { combinational = combinational; one = one }
@@ -269,12 +274,12 @@ pub no_wrong_kinds : (flat : Flat) → HasWalk flat → RightKinds flat → wron
 no_wrong_kinds flat w r = all_fine [] (aims flat) (record { alone = alone; pairs = pairs })
   where
     alone : (a : Aim) → Member a (aims flat) → Alone a ≡ false
-    alone a m = go x.0 (all_member (IsPart (length flat.drivers) (length flat.clocked) (length flat.combinational)) flat.walk x.0 w.parts_in x.1.0) x.1.1
+    alone a m = go x.0 (all_member (IsPart (length flat.drivers) (length flat.clocked) (length flat.combinational) (length flat.initials)) flat.walk x.0 w.parts_in x.1.0) x.1.1
       where
         x : (p : design.Part) × (Member p flat.walk × Member a (aims_of_part flat p))
         x = flat_member (aims_of_part flat) flat.walk a m
 
-        go : (p : design.Part) → IsPart (length flat.drivers) (length flat.clocked) (length flat.combinational) p → Member a (aims_of_part flat p) → Alone a ≡ false
+        go : (p : design.Part) → IsPart (length flat.drivers) (length flat.clocked) (length flat.combinational) (length flat.initials) p → Member a (aims_of_part flat p) → Alone a ≡ false
         go (part.Driver k) l n = absurd (nothing_assigned flat k a n)
         go (part.Clocked k) l n =
             let y = map_member (aim_of flat (block_at flat.clocked k).scope false) (assigned_by (block_at flat.clocked k).body) a n in
@@ -284,6 +289,7 @@ no_wrong_kinds flat w r = all_fine [] (aims flat) (record { alone = alone; pairs
             let y = map_member (aim_of flat b.scope true) (assigned_by b.body) a n in
             let now = all_member (λ z. z.now ≡ true) (assigned_by b.body) y.0 (r.combinational k l) y.1.0 in
             subst (λ z. Alone z ≡ false) y.1.1 (rw now refl)
+        go (part.Initial k) l n = absurd (nothing_begun flat k a n)
 
     pairs : (a b : Aim) → Member a (aims flat) → Member b (aims flat) → Clash b a ≡ false
     pairs a b m n = go b.signal refl a.signal refl b.now refl a.now refl

@@ -110,4 +110,5 @@ no_wild_labels flat w r = at_none flat (wild_of_part flat) w (record {
   drivers = λ k l. nothing;
   clocked = λ k l. fits_empty (block_at flat.clocked k).body (r.clocked k l);
   combinational = λ k l. fits_empty (block_at flat.combinational k).body (r.combinational k l);
+  initials = λ k l. nothing;
 })

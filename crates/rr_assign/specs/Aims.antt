@@ -2,15 +2,15 @@
 -- their names, in the order of the text.
 use Rattle.std.specs.Prelude.{ℕ, List, [], ◌∷◌, ◌++◌, Bool, true, false, not, cond, ◌&&◌, Option, Some, None, nat_eq, flat_map}
 use Rattle.rr_syntax.specs.Expressions.{is_target}
-use Rattle.rr_syntax.specs.Tree.{Tree}
+use Rattle.rr_syntax.specs.Tree.{Tree, Statement}
 use Rattle.rr_flat.specs.Signals.{signal_at}
 use Rattle.rr_flat.specs.declared.design.Part as design
-use Rattle.rr_flat.specs.Plain.{Side, Written, Whole, Driver, Block, Flat}
+use Rattle.rr_flat.specs.Plain.{Side, Written, Whole, Driver, Block, Initial, Flat}
 use Rattle.rr_flat.specs.Reads.{Assigned, assigned_by}
 use Rattle.rr_flat.specs.Targets.{target_parts, part_name, is_fixed}
 use Rattle.rr_flat.specs.Writers.{scope_at}
 use Rattle.rr_parts.specs.Firsts.{walked}
-use Rattle.rr_flat.specs.Parts.{driver_of, block_of}
+use Rattle.rr_flat.specs.Parts.{driver_of, block_of, initial_of}
 use Rattle.rr_parts.specs.Names.{signal_named, part_token, is_input}
 
 -- a continuous assignment drives a net that is no input, by constant indices
@@ -18,7 +18,7 @@ abbrev pub may_drive : Flat → Option ℕ → Bool → Bool
 may_drive flat None fixed = false
 may_drive flat (Some id) fixed = not (signal_at flat.signals id).variable && (not (is_input (signal_at flat.signals id).port) && fixed)
 
--- a procedural one assigns a variable that is none
+-- a procedural one and an `initial` item assign a variable that is none
 abbrev pub may_assign : Flat → Option ℕ → Bool
 may_assign flat None = false
 may_assign flat (Some id) = (signal_at flat.signals id).variable && not (is_input (signal_at flat.signals id).port)
@@ -47,11 +47,17 @@ bad_side flat (Written t i) value token = cond (is_target t) (flat_map (bad_driv
 abbrev pub bad_of_driver : Flat → Driver → List ℕ
 bad_of_driver flat d = bad_side flat d.target d.value d.token
 
+abbrev pub bad_of_statement : Flat → ℕ → Statement → List ℕ
+bad_of_statement flat i s = flat_map (bad_assigned flat i) (assigned_by s)
+
 abbrev pub bad_of_block : Flat → Block → List ℕ
-bad_of_block flat b = flat_map (bad_assigned flat b.scope) (assigned_by b.body)
+bad_of_block flat b = bad_of_statement flat b.scope b.body
+
+abbrev pub bad_of_initial : Flat → Initial → List ℕ
+bad_of_initial flat x = bad_of_statement flat x.scope x.body
 
 abbrev pub bad_of_part : Flat → design.Part → List ℕ
-bad_of_part flat p = bad_of_driver flat (driver_of flat p) ++ bad_of_block flat (block_of flat p)
+bad_of_part flat p = bad_of_driver flat (driver_of flat p) ++ (bad_of_block flat (block_of flat p) ++ bad_of_initial flat (initial_of flat p))
 
 -- of a design
 abbrev pub bad_targets : Flat → List ℕ

@@ -24,6 +24,7 @@ abbrev pub is_combinational : design.Part → Bool
 is_combinational (part.Driver k) = false
 is_combinational (part.Clocked k) = false
 is_combinational (part.Combinational k) = true
+is_combinational (part.Initial k) = false
 
 abbrev pub aims_of_part : Flat → design.Part → List Aim
 aims_of_part flat p = map (aim_of flat (block_of flat p).scope (is_combinational p)) (assigned_by (block_of flat p).body)

@@ -1,23 +1,23 @@
 //! Targets that may not be assigned as they are (IEEE 1364-2005 sections 6.1, 9.2 and 12.3.9.2).
-ghost use Rattle.std.specs.Prelude.{◌≡◌, IfOk, IfSome, IfNone, flat_map};
-ghost use Rattle.rr_syntax.specs.View.{plain};
+ghost use Rattle.std.specs.Prelude.{◌≡◌, ◌++◌, IfOk, IfSome, IfNone, flat_map};
+ghost use Rattle.rr_syntax.specs.View.{plain, plain_statement};
 ghost use Rattle.rr_flat.specs.Lawful.{RightTargets};
 ghost use Rattle.rr_expr.specs.Scopes.{meant};
 ghost use Rattle.rr_flat.specs.Targets.{is_fixed as is_fixed_in, target_parts};
 ghost use Rattle.rr_flat.specs.Writers.{scope_at};
-ghost use Rattle.rr_flat.specs.Parts.{block_of as block_of_part, driver_of as driver_of_part};
+ghost use Rattle.rr_flat.specs.Parts.{block_of as block_of_part, driver_of as driver_of_part, initial_of as initial_of_part};
 ghost use Rattle.rr_parts.specs.Names.{signal_of as signal_of_entity};
-ghost use Rattle.rr_flat.specs.View.{plain_block, plain_driver, plain_flat, plain_side};
-ghost use Rattle.rr_assign.specs.Aims.{may_drive as may_drive_in, may_assign as may_assign_in, bad_driven, bad_assigned, bad_declared as bad_declared_in, bad_of_driver as bad_of_driver_in, bad_of_block as bad_of_block_in, bad_of_part as bad_of_part_in, bad_targets};
+ghost use Rattle.rr_flat.specs.View.{plain_driver, plain_flat, plain_side};
+ghost use Rattle.rr_assign.specs.Aims.{may_drive as may_drive_in, may_assign as may_assign_in, bad_driven, bad_assigned, bad_declared as bad_declared_in, bad_of_driver as bad_of_driver_in, bad_of_statement as bad_of_statement_in, bad_of_block as bad_of_block_in, bad_of_initial as bad_of_initial_in, bad_of_part as bad_of_part_in, bad_targets};
 ghost use Rattle.rr_parts.specs.Firsts.{earliest};
 ghost use Rattle.rr_parts.specs.View.{plain_target};
 
-use rr_flat::{Block, Driver, Flat, Part, Side};
+use rr_flat::{Driver, Flat, Part, Side};
 use rr_parts::{
     Target, add_assigned_targets, add_parts, identifier_of, instance_of, is_fixed, is_input,
     is_variable, signal_named, signal_of,
 };
-use rr_syntax::{Expr, is_target};
+use rr_syntax::{Expr, Stmt, is_target};
 use std::alloc::{AllocError, Global};
 
 fn may_drive(flat: &Flat, id: Option<u32>, fixed: bool) -> bool
@@ -145,16 +145,17 @@ fn bad_of_driver<'a>(
     }
 }
 
-fn bad_of_block<'a>(
+fn bad_of_statement<'a>(
     alloc: Global,
     flat: &Flat<'a>,
-    block: &Block<'a>,
+    scope: u32,
+    body: &'a Stmt<'a>,
 ) -> Result<Option<u32>, AllocError>
-    ensures { IfOk result (λ r. r ≡ earliest (bad_of_block_in (plain_flat flat.now) (plain_block block.now))) }
+    ensures { IfOk result (λ r. r ≡ earliest (bad_of_statement_in (plain_flat flat.now) scope (plain_statement body.now))) }
 {
     let mut targets = Vec::new(alloc);
-    add_assigned_targets(&mut targets, block.body)?;
-    Ok(first_bad_assigned(flat, block.scope, targets.as_slice()))
+    add_assigned_targets(&mut targets, body)?;
+    Ok(first_bad_assigned(flat, scope, targets.as_slice()))
 }
 
 #[tactic(auto, unfolding(rr_parts::specs::Firsts::earliest))]
@@ -172,9 +173,31 @@ fn bad_block<'a>(alloc: Global, flat: &Flat<'a>, part: Part) -> Result<Option<u3
     ensures { IfOk result (λ r. r ≡ earliest (bad_of_block_in (plain_flat flat.now) (block_of_part (plain_flat flat.now) part))) }
 {
     match flat.block_of(part) {
-        Some(block) => bad_of_block(alloc, flat, &block),
+        Some(block) => bad_of_statement(alloc, flat, block.scope, block.body),
         None => Ok(None),
     }
+}
+
+#[tactic(auto, unfolding(rr_flat::specs::Reads::assigned_by, rr_parts::specs::Firsts::earliest))]
+fn bad_initial<'a>(alloc: Global, flat: &Flat<'a>, part: Part) -> Result<Option<u32>, AllocError>
+    ensures { IfOk result (λ r. r ≡ earliest (bad_of_initial_in (plain_flat flat.now) (initial_of_part (plain_flat flat.now) part))) }
+{
+    match flat.initial_of(part) {
+        Some(initial) => bad_of_statement(alloc, flat, initial.scope, initial.body),
+        None => Ok(None),
+    }
+}
+
+/// Of a block or of an `initial` item.
+#[tactic(auto, using(rr_parts::proofs::Walks::earliest_hit, rr_parts::proofs::Walks::earliest_skip))]
+fn bad_body<'a>(alloc: Global, flat: &Flat<'a>, part: Part) -> Result<Option<u32>, AllocError>
+    ensures { IfOk result (λ r. r ≡ earliest (bad_of_block_in (plain_flat flat.now) (block_of_part (plain_flat flat.now) part) ++ bad_of_initial_in (plain_flat flat.now) (initial_of_part (plain_flat flat.now) part))) }
+{
+    let found = bad_block(alloc, flat, part)?;
+    if found.is_some() {
+        return Ok(found);
+    }
+    bad_initial(alloc, flat, part)
 }
 
 #[tactic(auto, using(rr_parts::proofs::Walks::earliest_hit, rr_parts::proofs::Walks::earliest_skip))]
@@ -185,12 +208,13 @@ fn bad_of_part<'a>(alloc: Global, flat: &Flat<'a>, part: Part) -> Result<Option<
     if found.is_some() {
         return Ok(found);
     }
-    bad_block(alloc, flat, part)
+    bad_body(alloc, flat, part)
 }
 
 /// The first target that may not be assigned as it is, by its name's token, or where a connection of an
 /// output port is no target, by the connection's first token: a continuous assignment drives a net by
-/// constant indices, a procedural one assigns a variable, and neither an input port or a parameter.
+/// constant indices, a procedural one and an `initial` item assign a variable, and none an input port
+/// or a parameter.
 pub fn first_bad_target(alloc: Global, flat: &Flat) -> Result<Option<u32>, AllocError>
     ensures first { IfOk result (λ r. r ≡ earliest (bad_targets (plain_flat flat.now))) }
     ensures none { IfOk result (λ r. IfNone r (RightTargets (plain_flat flat.now))) }

@@ -26,7 +26,7 @@ fn is_combinational(part: Part) -> bool
 {
     match part {
         Part::Combinational(_) => true,
-        Part::Driver(_) | Part::Clocked(_) => false,
+        Part::Driver(_) | Part::Clocked(_) | Part::Initial(_) => false,
     }
 }
 
@@ -73,7 +73,7 @@ fn add_part<'a>(
 /// The targets of all blocks, in the order of the walk and of the text.
 fn assignments<'a>(alloc: Global, flat: &Flat<'a>) -> Result<Vec<Assignment<'a>>, AllocError>
     ensures aims { IfOk result (λ r. map (plain_aim (plain_flat flat.now)) r.items ≡ aims (plain_flat flat.now)) }
-    ensures walked { IfOk result (λ r. IsWalk (length flat.now.drivers) (length flat.now.clocked) (length flat.now.combinational) flat.now.walk) }
+    ensures walked { IfOk result (λ r. IsWalk (length flat.now.drivers) (length flat.now.clocked) (length flat.now.combinational) (length flat.now.initials) flat.now.walk) }
 {
     let mut list = Vec::new(alloc);
     let walk = flat.parts();

@@ -118,6 +118,7 @@ no_uses flat clock set t w u = at_none flat (uses_of_part flat set) w (record {
   drivers = λ k l. rw (without_driver flat clock set (driver_at flat k) t (u.drivers k l)) (nothing_named flat set);
   clocked = λ k l. rw (nothing_driven flat set) (unused_names flat clock set (block_at flat.clocked k).scope (names_of (block_at flat.clocked k).body) t (u.clocked k l));
   combinational = λ k l. rw (nothing_driven flat set) (unused_names flat clock set (block_at flat.combinational k).scope (names_of (block_at flat.combinational k).body) t (u.combinational k l));
+  initials = λ k l. rw (nothing_driven flat set) (nothing_named flat set);
 })
 
 pub no_driver_uses : (flat : Flat) (set : ℕ → Bool) → earliest (uses_of_driver flat set no_driver) ≡ None

@@ -194,7 +194,7 @@ fn first_use_in_walk(
     clock: u32,
 ) -> Result<Option<u32>, AllocError>
     ensures first { IfOk result (λ r. r ≡ earliest (all_uses (plain_flat flat.now) (λ x. is_the_clock clock (entry table.now x)))) }
-    ensures walked { IfOk result (λ r. IsWalk (length flat.now.drivers) (length flat.now.clocked) (length flat.now.combinational) flat.now.walk) }
+    ensures walked { IfOk result (λ r. IsWalk (length flat.now.drivers) (length flat.now.clocked) (length flat.now.combinational) (length flat.now.initials) flat.now.walk) }
 {
     let walk = flat.parts();
     for part in walk.iter() {

@@ -52,9 +52,9 @@ fn hierarchy(rt: HostRuntime) -> Result<(), Fail> {
 fn faults_in_order(rt: HostRuntime) -> Result<(), Fail> {
     let alloc = rt.alloc();
     assert!(rt;
-        fault_of(alloc, "module m; wire w = 4'h; initial endmodule")
+        fault_of(alloc, "module m; wire w = 4'h; event endmodule")
             == Some(DesignFault::Text(Wrong::Number, 19))
-            && fault_of(alloc, "module m; wire w initial endmodule")
+            && fault_of(alloc, "module m; wire w event endmodule")
                 == Some(DesignFault::Unsupported(17))
     );
     assert!(rt;

@@ -1,64 +1,23 @@
 //! Heads of modules, with the facts or the fault that IEEE 1364-2005 sections 3 and 12 and the rules
 //! of the profile give them.
+use crate::modules::{Place, Row, Word, Z, module_of, pieces_of};
 use bumpalo::Bump;
 use rr_bits::Bits;
 use rr_expr::{Entity, Scope};
 use rr_head::{Head, open_head};
-use rr_syntax::{Bounds, Dir, Expr, Group, Item, Module, Named, NetName, Number, Params, Setting};
+use rr_syntax::{Dir, Module};
 use std::alloc::{AllocError, Global};
 use std::test::Fail;
 
-/// A bound or a value: a literal with its width, sign and number, a name, or bit 0 of a name.
-#[derive(Clone, Copy)]
-enum Word {
-    Literal(u32, bool, u128),
-    Name(&'static str),
-    Bit(&'static str),
-}
-
-/// Where and how a name is declared: as a plain name of the header, by a port declaration in the
-/// header or among the items, as a net or a variable, or as a parameter before the ports or among
-/// the items.
-#[derive(Clone, Copy)]
-enum Place {
-    Plain,
-    Header(Dir),
-    Port(Dir),
-    Wire,
-    Reg,
-    Integer,
-    First,
-    Parameter,
-    Local,
-    IntegerParameter,
-}
-
-/// A declaration: its place, `signed`, its range, its name and a value. The range of the declaration
-/// with number i begins at token 10i + 1, its bounds at 10i + 2 and 10i + 4, its name is token
-/// 10i + 6, and its value 10i + 8.
-type Row = (Place, bool, Option<(Word, Word)>, &'static str, Word);
-
 /// An override of a parameter by a word of that width, sign and number, the declarations, and what
 /// the head of their module is: its signals, each with its name, port, whether it is a variable,
-/// range, sign and token, and its parameters, each with its name, width, sign and number.
+/// range, sign and token, and its starting value where that is not 0, and its parameters, each with
+/// its name, width, sign and number.
 type Case = (
     &'static Option<(&'static str, u32, bool, u128)>,
     &'static [Row],
     &'static str,
 );
-
-static ZERO: Expr<'static> = Expr::Literal {
-    token: 0,
-    number: Number {
-        width: 32,
-        signed: true,
-        value: 0,
-        any: 0,
-        unknown: 0,
-    },
-};
-
-const Z: Word = Word::Literal(32, true, 0);
 
 const THREE: Word = Word::Literal(32, true, 3);
 
@@ -408,218 +367,142 @@ const PARAMETERS: [Case; 13] = [
     ),
 ];
 
-fn make_expr(token: u32, of: Word) -> Expr<'static> {
-    match of {
-        Word::Literal(width, signed, value) => Expr::Literal {
-            token,
-            number: Number {
-                width,
-                signed,
-                value,
-                any: 0,
-                unknown: 0,
-            },
-        },
-        Word::Name(name) => Expr::Name { token, name },
-        Word::Bit(name) => Expr::Bit {
-            token,
-            name,
-            index: &ZERO,
-        },
-    }
-}
+const FIVE: Word = Word::Literal(4, false, 5);
 
-/// The bounds and the value of each declaration.
-fn words<'a>(alloc: Global, arena: &'a Bump, rows: &[Row]) -> Result<&'a [Expr<'a>], AllocError> {
-    let mut exprs = Vec::new(alloc);
-    let mut token = 0u32;
-    for row in rows.iter() {
-        let range = row.2.unwrap_or((Z, Z));
-        exprs.push(make_expr(token.wrapping_add(2), range.0))?;
-        exprs.push(make_expr(token.wrapping_add(4), range.1))?;
-        exprs.push(make_expr(token.wrapping_add(8), row.4))?;
-        token = token.wrapping_add(10);
-    }
-    Ok(arena.try_alloc_slice_copy(exprs.as_slice())?)
-}
+/// Starting values of each declaration, extended and cut.
+const STARTS: [Case; 8] = [
+    (
+        &None,
+        &[(Place::StartedReg, false, NIBBLE, "q", FIVE)],
+        "q Inner true Some((3, 0)) false 6; starts 5; ",
+    ),
+    (
+        &None,
+        &[(Place::StartedReg, false, None, "q", FIVE)],
+        "q Inner true None false 6; starts 1; ",
+    ),
+    (
+        &None,
+        &[(
+            Place::StartedReg,
+            false,
+            NIBBLE,
+            "q",
+            Word::Literal(8, false, 48),
+        )],
+        "q Inner true Some((3, 0)) false 6; ",
+    ),
+    (
+        &None,
+        &[(Place::StartedHeader, false, BYTE, "q", MINUS_ONE)],
+        "q Output true Some((7, 0)) false 6; starts 255; ",
+    ),
+    (
+        &None,
+        &[(
+            Place::StartedHeader,
+            true,
+            BYTE,
+            "q",
+            Word::Literal(4, false, 15),
+        )],
+        "q Output true Some((7, 0)) true 6; starts 15; ",
+    ),
+    (
+        &None,
+        &[
+            (Place::Plain, false, None, "q", Z),
+            (Place::StartedPort, false, NIBBLE, "q", THREE),
+        ],
+        "q Output true Some((3, 0)) false 16; starts 3; ",
+    ),
+    (
+        &None,
+        &[
+            (Place::Plain, false, None, "q", Z),
+            (Place::Port(Dir::Output), false, BYTE, "q", Z),
+            (Place::StartedReg, false, BYTE, "q", SEVEN),
+        ],
+        "q Output true Some((7, 0)) false 16; starts 7; ",
+    ),
+    (
+        &None,
+        &[
+            (Place::Header(Dir::Output), false, None, "q", Z),
+            (Place::StartedReg, true, None, "q", FIVE),
+        ],
+        "q Output true None true 6; starts 1; ",
+    ),
+];
 
-/// The names of the declarations.
-fn names<'a>(alloc: Global, arena: &'a Bump, rows: &[Row]) -> Result<&'a [Named<'a>], AllocError> {
-    let mut list = Vec::new(alloc);
-    let mut token = 6u32;
-    for row in rows.iter() {
-        list.push(Named { token, name: row.3 })?;
-        token = token.wrapping_add(10);
-    }
-    Ok(arena.try_alloc_slice_copy(list.as_slice())?)
-}
+/// Parameters in starting values, and faults of these.
+const VALUES_OF_STARTS: [Case; 9] = [
+    (
+        &Some(("P", 8, false, 9)),
+        &[
+            (Place::First, false, None, "P", THREE),
+            (Place::StartedReg, false, NIBBLE, "q", Word::Name("P")),
+        ],
+        "q Inner true Some((3, 0)) false 16; starts 9; P 8 false 9; ",
+    ),
+    (
+        &None,
+        &[
+            (Place::StartedHeader, false, NIBBLE, "q", Word::Name("P")),
+            (Place::Parameter, false, None, "P", THREE),
+        ],
+        "q Output true Some((3, 0)) false 6; starts 3; P 32 true 3; ",
+    ),
+    (
+        &None,
+        &[
+            (Place::StartedReg, false, None, "q", Word::Name("a")),
+            (Place::Wire, false, None, "a", Z),
+        ],
+        "NotConstant(8)",
+    ),
+    (
+        &None,
+        &[
+            (Place::Header(Dir::Output), false, None, "q", Z),
+            (Place::StartedReg, false, None, "q", Word::Name("q")),
+        ],
+        "NotConstant(18)",
+    ),
+    (
+        &None,
+        &[(Place::StartedReg, false, None, "q", Word::Name("z"))],
+        "UnknownName(8)",
+    ),
+    (
+        &None,
+        &[(Place::StartedReg, false, WIDER, "q", Word::Name("z"))],
+        "TooWide(6, 129)",
+    ),
+    (
+        &None,
+        &[(Place::StartedPort, false, None, "q", Word::Name("z"))],
+        "UnknownName(6)",
+    ),
+    (
+        &None,
+        &[
+            (Place::Wire, false, None, "q", Z),
+            (Place::StartedReg, false, None, "q", Word::Name("z")),
+        ],
+        "NameTwice(16)",
+    ),
+    (
+        &None,
+        &[
+            (Place::Header(Dir::Output), false, BYTE, "q", Z),
+            (Place::StartedReg, false, NIBBLE, "q", Word::Name("z")),
+        ],
+        "BadRange(16)",
+    ),
+];
 
-/// The same as nets.
-fn nets<'a>(alloc: Global, arena: &'a Bump, rows: &[Row]) -> Result<&'a [NetName<'a>], AllocError> {
-    let mut list = Vec::new(alloc);
-    let mut token = 6u32;
-    for row in rows.iter() {
-        list.push(NetName {
-            token,
-            name: row.3,
-            value: None,
-        })?;
-        token = token.wrapping_add(10);
-    }
-    Ok(arena.try_alloc_slice_copy(list.as_slice())?)
-}
-
-/// The element at a place, alone.
-fn one<T>(list: &[T], at: usize) -> &[T] {
-    list.get(at..at.saturating_add(1)).unwrap_or(&[])
-}
-
-fn bounds<'a>(exprs: &'a [Expr<'a>], place: usize, row: &Row) -> Option<Bounds<'a>> {
-    let at = place.wrapping_mul(3);
-    match row.2 {
-        None => None,
-        Some(_) => Some(Bounds {
-            left: exprs.get(at).unwrap_or(&ZERO),
-            right: exprs.get(at.wrapping_add(1)).unwrap_or(&ZERO),
-        }),
-    }
-}
-
-/// The declarations as parameters, each with its value.
-fn settings<'a>(
-    alloc: Global,
-    arena: &'a Bump,
-    rows: &[Row],
-    exprs: &'a [Expr<'a>],
-) -> Result<&'a [Setting<'a>], AllocError> {
-    let mut list = Vec::new(alloc);
-    let mut token = 6u32;
-    let mut at = 2usize;
-    for row in rows.iter() {
-        list.push(Setting {
-            token,
-            name: row.3,
-            value: exprs.get(at).unwrap_or(&ZERO),
-        })?;
-        token = token.wrapping_add(10);
-        at = at.wrapping_add(3);
-    }
-    Ok(arena.try_alloc_slice_copy(list.as_slice())?)
-}
-
-fn declared<'a>(row: &Row, range: Option<Bounds<'a>>, sets: &'a [Setting<'a>]) -> Params<'a> {
-    Params {
-        local: matches!(row.0, Place::Local),
-        integer: matches!(row.0, Place::IntegerParameter),
-        signed: row.1,
-        range,
-        sets,
-    }
-}
-
-/// The slices that the declarations of a module borrow.
-#[derive(Clone, Copy)]
-struct Pieces<'a> {
-    rows: &'static [Row],
-    exprs: &'a [Expr<'a>],
-    names: &'a [Named<'a>],
-    nets: &'a [NetName<'a>],
-    sets: &'a [Setting<'a>],
-}
-
-fn item<'a>(pieces: &Pieces<'a>, place: usize, row: &Row) -> Option<Item<'a>> {
-    let range = bounds(pieces.exprs, place, row);
-    let names = one(pieces.names, place);
-    match row.0 {
-        Place::Plain | Place::Header(_) | Place::First => None,
-        Place::Port(dir) => Some(Item::Ports(Group {
-            dir,
-            signed: row.1,
-            range,
-            names,
-        })),
-        Place::Wire => Some(Item::Nets {
-            signed: row.1,
-            range,
-            names: one(pieces.nets, place),
-        }),
-        Place::Reg => Some(Item::Variables {
-            signed: row.1,
-            range,
-            names,
-        }),
-        Place::Integer => Some(Item::Integers { names }),
-        Place::Parameter | Place::Local | Place::IntegerParameter => Some(Item::Parameters(declared(
-            row,
-            range,
-            one(pieces.sets, place),
-        ))),
-    }
-}
-
-fn items<'a>(
-    alloc: Global,
-    arena: &'a Bump,
-    pieces: &Pieces<'a>,
-) -> Result<&'a [Item<'a>], AllocError> {
-    let mut list = Vec::new(alloc);
-    for (place, row) in pieces.rows.iter().enumerate() {
-        if let Some(item) = item(pieces, place, row) {
-            list.push(item)?;
-        }
-    }
-    Ok(arena.try_alloc_slice_copy(list.as_slice())?)
-}
-
-fn params<'a>(
-    alloc: Global,
-    arena: &'a Bump,
-    pieces: &Pieces<'a>,
-) -> Result<&'a [Params<'a>], AllocError> {
-    let mut list = Vec::new(alloc);
-    for (place, row) in pieces.rows.iter().enumerate() {
-        if let Place::First = row.0 {
-            let range = bounds(pieces.exprs, place, row);
-            list.push(declared(row, range, one(pieces.sets, place)))?;
-        }
-    }
-    Ok(arena.try_alloc_slice_copy(list.as_slice())?)
-}
-
-fn groups<'a>(
-    alloc: Global,
-    arena: &'a Bump,
-    pieces: &Pieces<'a>,
-) -> Result<&'a [Group<'a>], AllocError> {
-    let mut list = Vec::new(alloc);
-    for (place, row) in pieces.rows.iter().enumerate() {
-        if let Place::Header(dir) = row.0 {
-            list.push(Group {
-                dir,
-                signed: row.1,
-                range: bounds(pieces.exprs, place, row),
-                names: one(pieces.names, place),
-            })?;
-        }
-    }
-    Ok(arena.try_alloc_slice_copy(list.as_slice())?)
-}
-
-fn header<'a>(
-    alloc: Global,
-    arena: &'a Bump,
-    pieces: &Pieces<'a>,
-) -> Result<&'a [Named<'a>], AllocError> {
-    let mut list = Vec::new(alloc);
-    for (named, row) in pieces.names.iter().zip(pieces.rows.iter()) {
-        if let Place::Plain = row.0 {
-            list.push(*named)?;
-        }
-    }
-    Ok(arena.try_alloc_slice_copy(list.as_slice())?)
-}
-
-/// Names, ports, kinds, ranges, signs and tokens of the signals.
+/// Names, ports, kinds, ranges, signs and tokens of the signals, and their starting values.
 fn signals_told(text: &mut String, head: &Head) -> Result<(), AllocError> {
     for s in head.signals.iter() {
         write!(
@@ -627,6 +510,9 @@ fn signals_told(text: &mut String, head: &Head) -> Result<(), AllocError> {
             "{} {:?} {} {:?} {} {}; ",
             s.name, s.port, s.variable, s.range, s.signed, s.token
         )?;
+        if s.start != 0 {
+            write!(text, "starts {}; ", s.start)?;
+        }
     }
     Ok(())
 }
@@ -660,47 +546,6 @@ fn told(
             Ok(text)
         }
     }
-}
-
-/// The plain names of a header, where there are port brackets.
-fn bracketed<'a>(header: &'a [Named<'a>], groups: &'a [Group<'a>]) -> Option<&'a [Named<'a>]> {
-    if groups.is_empty() && header.is_empty() {
-        None
-    } else {
-        Some(header)
-    }
-}
-
-fn module_of<'a>(
-    alloc: Global,
-    arena: &'a Bump,
-    pieces: &Pieces<'a>,
-) -> Result<Module<'a>, AllocError> {
-    let groups = groups(alloc, arena, pieces)?;
-    let header = header(alloc, arena, pieces)?;
-    Ok(Module {
-        name: "m",
-        token: 0,
-        params: params(alloc, arena, pieces)?,
-        header: bracketed(header, groups),
-        groups,
-        items: items(alloc, arena, pieces)?,
-    })
-}
-
-fn pieces_of<'a>(
-    alloc: Global,
-    arena: &'a Bump,
-    rows: &'static [Row],
-) -> Result<Pieces<'a>, AllocError> {
-    let exprs = words(alloc, arena, rows)?;
-    Ok(Pieces {
-        rows,
-        exprs,
-        names: names(alloc, arena, rows)?,
-        nets: nets(alloc, arena, rows)?,
-        sets: settings(alloc, arena, rows, exprs)?,
-    })
 }
 
 /// What the head of a module of these declarations is, in a design of that many bits before.
@@ -748,6 +593,11 @@ fn all_right(alloc: Global, tables: &[&[Case]]) -> Result<(), Fail> {
 #[test]
 fn ports_ranges_parameters(rt: HostRuntime) -> Result<(), Fail> {
     all_right(rt.alloc(), &[&PORTS, &RANGES, &PARAMETERS])
+}
+
+#[test]
+fn starting_values(rt: HostRuntime) -> Result<(), Fail> {
+    all_right(rt.alloc(), &[&STARTS, &VALUES_OF_STARTS])
 }
 
 #[test]

@@ -18,6 +18,8 @@ mod expressions;
 #[cfg(test)]
 mod heads;
 #[cfg(test)]
+mod modules;
+#[cfg(test)]
 mod parts;
 #[cfg(test)]
 mod tables;

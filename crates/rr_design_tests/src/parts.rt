@@ -166,3 +166,29 @@ fn names_in_a_scope(rt: HostRuntime) {
         }
     }
 }
+
+const STARTED: &str =
+    "module m(output reg [3:0] y = 4'd9, output z); reg q; initial q = 1'b1; assign z = q; endmodule";
+
+/// Starting values, and an `initial` item.
+#[test]
+fn starts_of_a_design(rt: HostRuntime) {
+    let arena = Bump::new(rt.alloc());
+    let found = design_of(rt.alloc(), STARTED, None, &arena);
+    assert!(rt; found.is_ok());
+    if let Ok(design) = found {
+        let flat = &design.flat;
+        assert!(rt;
+            flat.start_list() == [9, 0, 1].as_slice()
+                && flat.initial_list().len() == 1
+                && flat.initial(0).is_some()
+                && flat.initial(1).is_none()
+        );
+        assert!(rt;
+            flat.initial_of(Part::Initial(0)).is_some()
+                && flat.initial_of(Part::Driver(0)).is_none()
+                && flat.block_of(Part::Initial(0)).is_none()
+                && flat.driver_of(Part::Initial(0)).is_none()
+        );
+    }
+}

@@ -4,7 +4,7 @@ use crate::texts::design_of;
 use bumpalo::Bump;
 use rr_elaborate::DesignFault;
 use rr_expr::first_token;
-use rr_flat::{Block, Driver, Flat, Part, Side, Signal};
+use rr_flat::{Block, Driver, Flat, Initial, Part, Side, Signal};
 use std::alloc::{AllocError, Global};
 use std::test::Fail;
 
@@ -275,10 +275,137 @@ const EXPRESSIONS: [Case; 8] = [
     ("module m; wire w = q; endmodule", &None, "UnknownName(19)"),
 ];
 
-/// Number of the instance, name and width of each signal.
-fn signals_told(text: &mut String, signals: &[Signal]) -> Result<(), AllocError> {
-    for s in signals.iter() {
-        write!(text, "{}.{}:{} ", s.instance, s.name, s.width)?;
+/// Starting values of declarations (section 6.2.1), and of instances with parameters.
+const STARTS: [Case; 4] = [
+    (
+        "module m(output reg [7:0] q = 4'd15 + 4'd1); reg signed [7:0] a = 4'sd15; reg [3:0] b = 4'b1x01, c, d = 9 / 2; endmodule",
+        &None,
+        "0.q:8=16 0.a:8=255 0.b:4=9 0.c:4 0.d:4=4 | | | | | 0 | 0 | 0 | 1",
+    ),
+    (
+        "module m(q); output q; reg q = 1'b1; endmodule",
+        &None,
+        "0.q:1=1 | | | | | 0 | 0 | 0 | 1",
+    ),
+    (
+        "module m; reg [7:0] a = {W{1'b1}}; reg signed [3:0] b = -W; localparam W = 5; endmodule",
+        &None,
+        "0.a:8=31 0.b:4=11 | | | | | | 0 | 0 | 1",
+    ),
+    (
+        "module n #(parameter P = 3)(output reg [3:0] q = P); endmodule module m; n u(); n #(.P(9)) v(); n #(20) w(); endmodule",
+        &None,
+        "1.q:4=3 2.q:4=9 3.q:4=4 | | | | | | 1 0 0 0 | 0 1 | 24",
+    ),
+];
+
+/// `initial` items (section 9.9.1): of the values of one variable the last one counts.
+const INITIALS: [Case; 4] = [
+    (
+        "module m; reg [3:0] a = 4'd1, b = 4'd2, c = 4'd3; initial begin a = 4'd5; b = 4'd6; ; begin a = 4'd7; end end endmodule",
+        &None,
+        "0.a:4=7 0.b:4=6 0.c:4=3 | | i0 | 21/0 | | | 0 | 0 | 1",
+    ),
+    (
+        "module m(output y); initial a = 2'd1; reg [1:0] a; assign y = a[0]; initial a = 2'd2; initial ; endmodule",
+        &None,
+        "0.y:1 0.a:2=2 | 21/0<23/0@21 | i0 d0 i1 i2 | 7/0 28/0 33/0 | | 0 | 0 | 0 | 1",
+    ),
+    (
+        "module n #(parameter P = 1)(output reg [1:0] q); initial q = P + 1; endmodule module m; n u(); n #(.P(6)) v(); endmodule",
+        &None,
+        "1.q:2=2 2.q:2=3 | | i0 i1 | 20/1 20/2 | | | 1 0 0 | 0 1 | 29",
+    ),
+    (
+        "module m; reg [7:0] a; integer i; initial begin a = 4'sd15; i = -1; end endmodule",
+        &None,
+        "0.a:8=255 0.i:32=4294967295 | | i0 | 14/0 | | | 0 | 0 | 1",
+    ),
+];
+
+/// Faults of starting values.
+const FAULTS_OF_STARTS: [Case; 8] = [
+    (
+        "module m(output reg q = a, input a);wire [128:0] w;endmodule",
+        &None,
+        "NotConstant(24)",
+    ),
+    (
+        "module m;reg [3:0] a = b[0], b;endmodule",
+        &None,
+        "NotConstant(23)",
+    ),
+    (
+        "module n;endmodule module m;n u();reg a = u;endmodule",
+        &None,
+        "UnknownName(42)",
+    ),
+    ("module m;reg a;reg a = x;endmodule", &None, "NameTwice(19)"),
+    (
+        "module m(output [3:0] q);reg [2:0] q = x;endmodule",
+        &None,
+        "BadRange(35)",
+    ),
+    (
+        "module m;reg a = {129{1'b1}};endmodule",
+        &None,
+        "TooWide(17, 129)",
+    ),
+    (
+        "module m;parameter P = 1;reg a = P[0:1];endmodule",
+        &None,
+        "BadRange(33)",
+    ),
+    (
+        "module n;reg a = b;endmodule module m;n u();reg a = c;endmodule",
+        &None,
+        "UnknownName(52)",
+    ),
+];
+
+/// Faults of `initial` items.
+const FAULTS_OF_INITIALS: [Case; 7] = [
+    (
+        "module m(input a, output reg y);initial y = a;endmodule",
+        &None,
+        "NotConstant(44)",
+    ),
+    (
+        "module m(output reg y);initial y = x;endmodule",
+        &None,
+        "UnknownName(35)",
+    ),
+    ("module m;initial x = y;endmodule", &None, "UnknownName(17)"),
+    (
+        "module m;initial x = 1'b0;reg a = y;endmodule",
+        &None,
+        "UnknownName(34)",
+    ),
+    (
+        "module m;reg a;initial begin a = 1'b0; a = a; end initial b = a;endmodule",
+        &None,
+        "NotConstant(43)",
+    ),
+    (
+        "module n;endmodule module m;n u();initial u = 1'b0;endmodule",
+        &None,
+        "UnknownName(42)",
+    ),
+    (
+        "module m(output reg y);initial y = {2{1'b1}} + {129{1'b1}};endmodule",
+        &None,
+        "TooWide(47, 129)",
+    ),
+];
+
+/// Number of the instance, name and width of each signal, and its starting value where that is not 0.
+fn signals_told(text: &mut String, signals: &[Signal], starts: &[u128]) -> Result<(), AllocError> {
+    for (s, start) in signals.iter().zip(starts.iter()) {
+        write!(text, "{}.{}:{}", s.instance, s.name, s.width)?;
+        if *start != 0 {
+            write!(text, "={start}")?;
+        }
+        write!(text, " ")?;
     }
     Ok(())
 }
@@ -311,6 +438,7 @@ fn walk_told(text: &mut String, walk: &[Part]) -> Result<(), AllocError> {
             Part::Driver(k) => write!(text, "d{k} ")?,
             Part::Clocked(k) => write!(text, "c{k} ")?,
             Part::Combinational(k) => write!(text, "b{k} ")?,
+            Part::Initial(k) => write!(text, "i{k} ")?,
         }
     }
     Ok(())
@@ -330,6 +458,14 @@ fn blocks_told(text: &mut String, blocks: &[Block]) -> Result<(), AllocError> {
     Ok(())
 }
 
+/// The token and the number of the scope of each `initial` item.
+fn initials_told(text: &mut String, initials: &[Initial]) -> Result<(), AllocError> {
+    for initial in initials.iter() {
+        write!(text, "{}/{} ", initial.token, initial.scope)?;
+    }
+    Ok(())
+}
+
 fn numbers_told(text: &mut String, numbers: &[u32]) -> Result<(), AllocError> {
     write!(text, "| ")?;
     for number in numbers.iter() {
@@ -338,10 +474,10 @@ fn numbers_told(text: &mut String, numbers: &[u32]) -> Result<(), AllocError> {
     Ok(())
 }
 
-/// Signals, drivers, walk, clocked and combinational blocks, inputs, outputs, owners, modules that are
-/// reached, and the token of the top.
+/// Signals, drivers, walk, clocked and combinational blocks, `initial` items, inputs, outputs, owners,
+/// modules that are reached, and the token of the top.
 fn flat_told(text: &mut String, flat: &Flat) -> Result<(), AllocError> {
-    signals_told(text, flat.signals.as_slice())?;
+    signals_told(text, flat.signals.as_slice(), flat.starts.as_slice())?;
     write!(text, "| ")?;
     drivers_told(text, flat.drivers.as_slice())?;
     write!(text, "| ")?;
@@ -349,6 +485,7 @@ fn flat_told(text: &mut String, flat: &Flat) -> Result<(), AllocError> {
     write!(text, "| ")?;
     blocks_told(text, flat.clocked.as_slice())?;
     blocks_told(text, flat.combinational.as_slice())?;
+    initials_told(text, flat.initials.as_slice())?;
     numbers_told(text, flat.inputs.as_slice())?;
     numbers_told(text, flat.outputs.as_slice())?;
     numbers_told(text, flat.owners.as_slice())?;
@@ -405,5 +542,13 @@ fn flat_designs(rt: HostRuntime) -> Result<(), Fail> {
             &MISMATCHES,
             &EXPRESSIONS,
         ],
+    )
+}
+
+#[test]
+fn starting_values(rt: HostRuntime) -> Result<(), Fail> {
+    all_right(
+        rt.alloc(),
+        &[&STARTS, &INITIALS, &FAULTS_OF_STARTS, &FAULTS_OF_INITIALS],
     )
 }

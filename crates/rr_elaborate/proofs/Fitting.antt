@@ -6,10 +6,10 @@ use Rattle.std.proofs.lemmas.List.Elements.{recursion_from_All}
 use Rattle.rr_lex.specs.Tokens.{IsSound}
 use Rattle.std.specs.List.{AllByRecursion}
 use Rattle.rr_syntax.specs.Words.{Word, Named, System, Digits, Reserved, Marked}
-use Rattle.rr_syntax.specs.Tree.{Tree, Trees, Name, Literal, Bit, Part, Indexed, Unary, Binary, Cond, Concat, Repeat, Cast, Paren, End, More, Statement, Statements, Arm, Arms, Null, Block, If, IfElse, Case, Assign, Done, Then, CaseItem, NoArms, MoreArms, Identifier, Range, PortDeclaration, ParamAssignment, ParameterDeclaration, NetIdentifier, NetAssignment, EventControl, Star, Edges, Levels, NamedConnection, Connections, Positions, Names, ModuleInstance, ModuleItem, Ports, Nets, Variables, Integers, Parameters, Assigns, Always, Instances, ModuleDeclaration, SourceText}
+use Rattle.rr_syntax.specs.Tree.{Tree, Trees, Name, Literal, Bit, Part, Indexed, Unary, Binary, Cond, Concat, Repeat, Cast, Paren, End, More, Statement, Statements, Arm, Arms, Null, Block, If, IfElse, Case, Assign, Done, Then, CaseItem, NoArms, MoreArms, Identifier, Range, PortDeclaration, ParamAssignment, ParameterDeclaration, DeclaredName, NetAssignment, EventControl, Star, Edges, Levels, NamedConnection, Connections, Positions, Names, ModuleInstance, ModuleItem, Ports, Nets, Variables, Integers, Parameters, Assigns, Always, Initial, Instances, ModuleDeclaration, SourceText}
 use Rattle.rr_syntax.specs.Expressions.{spell, spell_parts, spell_more, IsFit, FitLiterals, FitLiteralsParts}
 use Rattle.rr_syntax.specs.Statements.{spell_label, spell_labels, spell_statement, spell_statements, spell_arm, spell_arms, FitLiteralsStatement, FitLiteralsStatements, FitLiteralsArm, FitLiteralsArms}
-use Rattle.rr_syntax.specs.Items.{spell_each, spell_separated, spell_all, spell_where, spell_identifier, spell_range, spell_type, spell_dir, spell_port, spell_assignment, spell_parameter, spell_value, spell_net, spell_pair, spell_more_levels, spell_levels, spell_events, spell_optional, spell_connection, spell_connections, spell_overrides, spell_instance, spell_item, spell_parameters, spell_ports, spell_module, spell_source, rest, FitLiteralsRange, FitLiteralsPort, FitLiteralsAssignment, FitLiteralsParameter, FitLiteralsValue, FitLiteralsNet, FitLiteralsPair, FitLiteralsEvents, FitLiteralsConnection, FitLiteralsConnections, FitLiteralsOverrides, FitLiteralsInstance, FitLiteralsItem, FitLiteralsModule, FitLiteralsSource, IsHeader, WellFormedModule, WellFormedSource}
+use Rattle.rr_syntax.specs.Items.{spell_each, spell_separated, spell_all, spell_where, spell_identifier, spell_range, spell_type, spell_dir, spell_port, spell_assignment, spell_parameter, spell_value, spell_declarator, spell_pair, spell_more_levels, spell_levels, spell_events, spell_optional, spell_connection, spell_connections, spell_overrides, spell_instance, spell_item, spell_parameters, spell_ports, spell_module, spell_source, rest, FitLiteralsRange, FitLiteralsPort, FitLiteralsAssignment, FitLiteralsParameter, FitLiteralsValue, FitLiteralsDeclarator, FitLiteralsPair, FitLiteralsEvents, FitLiteralsConnection, FitLiteralsConnections, FitLiteralsOverrides, FitLiteralsInstance, FitLiteralsItem, FitLiteralsModule, FitLiteralsSource, IsHeader, WellFormedModule, WellFormedSource}
 
 abbrev pub IsFitWord : Word → Type 0
 IsFitWord (Named s) = Unit {0}
@@ -113,9 +113,20 @@ fit_type : (signed : Bool) (r : Option Range) → Fit (spell_type signed r) → 
 unfolding spell_type
 fit_type signed r h = fit_range r (back (spell_where signed _) _ h)
 
+fit_value : (v : Option Tree) → Fit (spell_value v) → FitLiteralsValue v
+unfolding spell_value FitLiteralsValue
+fit_value None h = tt
+fit_value (Some t) h = fit t h.1
+
+fit_declarator : (n : DeclaredName) → Fit (spell_declarator n) → FitLiteralsDeclarator n
+unfolding spell_declarator FitLiteralsDeclarator
+fit_declarator n h = fit_value n.value h.1
+
 fit_port : (p : PortDeclaration) → Fit (spell_port p) → FitLiteralsPort p
 unfolding spell_port FitLiteralsPort
-fit_port p h = fit_type p.signed p.range (front (spell_type p.signed p.range) _ (back (spell_dir p.dir) _ h))
+fit_port p h =
+    let k = back (spell_dir p.dir) _ h in
+    (fit_type p.signed p.range (front (spell_type p.signed p.range) _ k), fit_separated spell_declarator FitLiteralsDeclarator fit_declarator p.names (back (spell_type p.signed p.range) _ k))
 
 fit_assignment : (a : ParamAssignment) → Fit (spell_assignment a) → FitLiteralsAssignment a
 unfolding spell_assignment FitLiteralsAssignment
@@ -127,19 +138,10 @@ fit_parameter p h =
     let k = back (spell_where p.integer _) _ h.1 in
     (fit_type p.signed p.range (front (spell_type p.signed p.range) _ k), fit_separated spell_assignment FitLiteralsAssignment fit_assignment p.sets (back (spell_type p.signed p.range) _ k))
 
-fit_value : (v : Option Tree) → Fit (spell_value v) → FitLiteralsValue v
-unfolding spell_value FitLiteralsValue
-fit_value None h = tt
-fit_value (Some t) h = fit t h.1
-
 fit_optional : (v : Option Tree) → Fit (spell_optional v) → FitLiteralsValue v
 unfolding spell_optional FitLiteralsValue
 fit_optional None h = tt
 fit_optional (Some t) h = fit t h
-
-fit_net : (n : NetIdentifier) → Fit (spell_net n) → FitLiteralsNet n
-unfolding spell_net FitLiteralsNet
-fit_net n h = fit_value n.value h.1
 
 fit_pair : (p : NetAssignment) → Fit (spell_pair p) → FitLiteralsPair p
 unfolding spell_pair FitLiteralsPair
@@ -184,12 +186,15 @@ unfolding spell_item FitLiteralsItem
 fit_item (Ports p) h = fit_port p (front (spell_port p) _ h)
 fit_item (Nets signed range names) h =
     let k = back (spell_type signed range) _ h.1 in
-    (fit_type signed range (front (spell_type signed range) _ h.1), fit_separated spell_net FitLiteralsNet fit_net names (front (spell_separated spell_net names) _ k))
-fit_item (Variables signed range names) h = fit_type signed range (front (spell_type signed range) _ h.1)
+    (fit_type signed range (front (spell_type signed range) _ h.1), fit_separated spell_declarator FitLiteralsDeclarator fit_declarator names (front (spell_separated spell_declarator names) _ k))
+fit_item (Variables signed range names) h =
+    let k = back (spell_type signed range) _ h.1 in
+    (fit_type signed range (front (spell_type signed range) _ h.1), fit_separated spell_declarator FitLiteralsDeclarator fit_declarator names (front (spell_separated spell_declarator names) _ k))
 fit_item (Integers names) h = tt
 fit_item (Parameters p) h = fit_parameter p (front (spell_parameter p) _ h)
 fit_item (Assigns pairs) h = fit_separated spell_pair FitLiteralsPair fit_pair pairs (front (spell_separated spell_pair pairs) _ h.1)
 fit_item (Always events s token) h = (fit_events events (front (spell_events events) _ h.1.1), fit_statement s (back (spell_events events) _ h.1.1))
+fit_item (Initial s token) h = fit_statement s h.1
 fit_item (Instances m token overrides list) h =
     let k = back (spell_overrides overrides) _ h.1 in
     (fit_overrides overrides (front (spell_overrides overrides) _ h.1), fit_separated spell_instance FitLiteralsInstance fit_instance list (front (spell_separated spell_instance list) _ k))

@@ -2,23 +2,24 @@
 -- equal without token numbers, and have the numbers of their tokens, are equal.
 use Rattle.std.proofs.Common.{ℕ, ◌≡◌, ◌∙◌, ◌+◌, List, [], ◌∷◌, length, map, Option, None, Some, refl, ap, sym, arith}
 use Rattle.std.specs.List.{AllByRecursion}
-use Rattle.rr_syntax.specs.Tree.{Identifier, PortDeclaration, ParameterDeclaration, NetAssignment, ModuleItem, Ports, Nets, Variables, Integers, Parameters, Assigns, Always, Instances, ModuleDeclaration, SourceText, IsSameSource, bare_port, bare_parameter, bare_net, bare_pair, bare_instance, bare_item, bare_header, bare_module, bare_source}
-use Rattle.rr_syntax.specs.Items.{spell_type, spell_port, spell_parameter, spell_net, spell_pair, spell_events, spell_overrides, spell_instance, spell_item, spell_parameters, spell_ports, spell_module, spell_separated, spell_identifier, IsHeader, WellFormedModule, WellFormedSource, NumberedAll, NumberedNet, NumberedPair, NumberedInstance, NumberedItem, NumberedPort, NumberedParameter, NumberedParameters, NumberedPorts, NumberedModule, NumberedSource}
-use Rattle.rr_syntax.proofs.BareItems.{spell_port-bare, spell_parameter-bare, spell_item-bare, spell_module-bare, spell_names-bare, spell_type-bare, spell_net-bare, spell_pair-bare, spell_events-bare, spell_overrides-bare, spell_instance-bare, spell_parameters-bare, spell_ports-bare}
+use Rattle.rr_syntax.specs.Tree.{Identifier, PortDeclaration, ParameterDeclaration, NetAssignment, ModuleItem, Ports, Nets, Variables, Integers, Parameters, Assigns, Always, Initial, Instances, ModuleDeclaration, SourceText, IsSameSource, bare_port, bare_parameter, bare_declarator, bare_pair, bare_instance, bare_item, bare_header, bare_module, bare_source}
+use Rattle.rr_syntax.specs.Items.{spell_type, spell_port, spell_parameter, spell_declarator, spell_pair, spell_events, spell_overrides, spell_instance, spell_item, spell_parameters, spell_ports, spell_module, spell_separated, spell_identifier, IsHeader, WellFormedModule, WellFormedSource, NumberedAll, NumberedDeclarator, NumberedPair, NumberedInstance, NumberedItem, NumberedPort, NumberedParameter, NumberedParameters, NumberedPorts, NumberedModule, NumberedSource}
+use Rattle.rr_syntax.proofs.BareItems.{spell_port-bare, spell_parameter-bare, spell_item-bare, spell_module-bare, spell_names-bare, spell_type-bare, spell_declarator-bare, spell_pair-bare, spell_events-bare, spell_overrides-bare, spell_instance-bare, spell_parameters-bare, spell_ports-bare}
 use Rattle.rr_elaborate.proofs.RenumberedStatements.{renumbered_statement, renumbered_statement-bare}
-use Rattle.rr_elaborate.proofs.RenumberedParts.{renumbered_separated, renumbered_all, separated-bare, all-bare, renumbered_names, names-bare, renumbered_type, type-bare, renumbered_port, port-bare, renumbered_parameter, parameter-bare, renumbered_net, net-bare, renumbered_pair, pair-bare, renumbered_events, events-bare, renumbered_overrides, overrides-bare, renumbered_instance, instance-bare}
+use Rattle.rr_elaborate.proofs.RenumberedParts.{renumbered_separated, renumbered_all, separated-bare, all-bare, renumbered_names, names-bare, renumbered_type, type-bare, renumbered_port, port-bare, renumbered_parameter, parameter-bare, renumbered_declarator, declarator-bare, renumbered_pair, pair-bare, renumbered_events, events-bare, renumbered_overrides, overrides-bare, renumbered_instance, instance-bare}
 
 -- items
 unfoldable pub renumbered_item : ModuleItem → ℕ → ModuleItem
 renumbered_item (Ports p) at = Ports (renumbered_port p at)
 renumbered_item (Nets signed range names) at =
-    Nets signed (renumbered_type signed range (at + 1)) (renumbered_separated spell_net renumbered_net names (at + 1 + length (spell_type signed range)))
+    Nets signed (renumbered_type signed range (at + 1)) (renumbered_separated spell_declarator renumbered_declarator names (at + 1 + length (spell_type signed range)))
 renumbered_item (Variables signed range names) at =
-    Variables signed (renumbered_type signed range (at + 1)) (renumbered_names names (at + 1 + length (spell_type signed range)))
+    Variables signed (renumbered_type signed range (at + 1)) (renumbered_separated spell_declarator renumbered_declarator names (at + 1 + length (spell_type signed range)))
 renumbered_item (Integers names) at = Integers (renumbered_names names (at + 1))
 renumbered_item (Parameters p) at = Parameters (renumbered_parameter p at)
 renumbered_item (Assigns pairs) at = Assigns (renumbered_separated spell_pair renumbered_pair pairs (at + 1))
 renumbered_item (Always events s token) at = Always (renumbered_events events (at + 2)) (renumbered_statement s (at + 2 + length (spell_events events))) at
+renumbered_item (Initial s token) at = Initial (renumbered_statement s (at + 1)) at
 renumbered_item (Instances m token overrides list) at =
     Instances m at (renumbered_overrides overrides (at + 1)) (renumbered_separated spell_instance renumbered_instance list (at + 1 + length (spell_overrides overrides)))
 
@@ -29,16 +30,21 @@ item-bare (Nets signed range names) at h =
     rw (
       spell_type-bare signed range,
       type-bare signed range (at + 1) h.0,
-      separated-bare spell_net bare_net renumbered_net NumberedNet spell_net-bare net-bare names (at + 1 + length (spell_type signed range)) h.1,
+      separated-bare spell_declarator bare_declarator renumbered_declarator NumberedDeclarator spell_declarator-bare declarator-bare names (at + 1 + length (spell_type signed range)) h.1,
     ) refl
 item-bare (Variables signed range names) at h =
-    rw (spell_type-bare signed range, type-bare signed range (at + 1) h.0, names-bare names (at + 1 + length (spell_type signed range)) h.1) refl
+    rw (
+      spell_type-bare signed range,
+      type-bare signed range (at + 1) h.0,
+      separated-bare spell_declarator bare_declarator renumbered_declarator NumberedDeclarator spell_declarator-bare declarator-bare names (at + 1 + length (spell_type signed range)) h.1,
+    ) refl
 item-bare (Integers names) at h = ap (λ (n : List Identifier). Integers n) (names-bare names (at + 1) h)
 item-bare (Parameters p) at h = ap (λ (q : ParameterDeclaration). Parameters q) (parameter-bare p at h)
 item-bare (Assigns pairs) at h =
     ap (λ (l : List NetAssignment). Assigns l) (separated-bare spell_pair bare_pair renumbered_pair NumberedPair spell_pair-bare pair-bare pairs (at + 1) h)
 item-bare (Always events s token) at h =
     rw (h.0, spell_events-bare events, events-bare events (at + 2) h.1, renumbered_statement-bare s (at + 2 + length (spell_events events)) h.2) refl
+item-bare (Initial s token) at h = rw (h.0, renumbered_statement-bare s (at + 1) h.1) refl
 item-bare (Instances m token overrides list) at h =
     rw (
       h.0,

@@ -1,11 +1,11 @@
 -- The parts of items have their token numbers from the bare parts and the number of their first token.
 use Rattle.std.proofs.Common.{ℕ, ◌≡◌, ◌+◌, Bool, List, [], ◌∷◌, length, map, Option, None, Some, refl, ap, sym}
 use Rattle.rr_syntax.specs.Words.{Word, keyword_signed, keyword_integer}
-use Rattle.rr_syntax.specs.Tree.{Tree, Trees, Identifier, Range, PortDeclaration, ParamAssignment, ParameterDeclaration, NetIdentifier, NetAssignment, EdgeEvent, EventControl, Star, Edges, Levels, NamedConnection, Connections, Positions, Names, ModuleInstance, bare_identifier, bare_range, bare_port, bare_assignment, bare_parameter, bare_value, bare_net, bare_pair, bare_edge, bare_events, bare_connection, bare_connections, bare_overrides, bare_instance}
+use Rattle.rr_syntax.specs.Tree.{Tree, Trees, Identifier, Range, PortDeclaration, ParamAssignment, ParameterDeclaration, DeclaredName, NetAssignment, EdgeEvent, EventControl, Star, Edges, Levels, NamedConnection, Connections, Positions, Names, ModuleInstance, bare_identifier, bare_range, bare_port, bare_assignment, bare_parameter, bare_value, bare_declarator, bare_pair, bare_edge, bare_events, bare_connection, bare_connections, bare_overrides, bare_instance}
 use Rattle.rr_syntax.specs.Expressions.{spell}
-use Rattle.rr_syntax.specs.Items.{spell_where, spell_identifier, spell_type, spell_dir, spell_assignment, spell_edge, spell_connection, NumberedEach, NumberedSeparated, NumberedAll, NumberedIdentifier, NumberedRange, NumberedType, NumberedPort, NumberedAssignment, NumberedParameter, NumberedValue, NumberedNet, NumberedPair, NumberedEdge, NumberedEvents, NumberedConnection, NumberedConnections, NumberedOverrides, NumberedInstance}
+use Rattle.rr_syntax.specs.Items.{spell_where, spell_identifier, spell_type, spell_dir, spell_declarator, spell_assignment, spell_edge, spell_connection, NumberedEach, NumberedSeparated, NumberedAll, NumberedIdentifier, NumberedRange, NumberedType, NumberedPort, NumberedAssignment, NumberedParameter, NumberedValue, NumberedDeclarator, NumberedPair, NumberedEdge, NumberedEvents, NumberedConnection, NumberedConnections, NumberedOverrides, NumberedInstance}
 use Rattle.rr_syntax.proofs.BareExpressions.{spell-bare}
-use Rattle.rr_syntax.proofs.BareItems.{spell_identifier-bare, spell_type-bare, spell_assignment-bare, spell_edge-bare, spell_connection-bare}
+use Rattle.rr_syntax.proofs.BareItems.{spell_identifier-bare, spell_declarator-bare, spell_type-bare, spell_assignment-bare, spell_edge-bare, spell_connection-bare}
 use Rattle.rr_elaborate.proofs.RenumberedExpressions.{renumbered, renumbered_more, renumbered-bare, renumbered_more-bare}
 
 -- lists, of which R numbers each
@@ -68,11 +68,28 @@ pub type-bare : (signed : Bool) (r : Option Range) (at : ℕ) → NumberedType s
 unfolding renumbered_type NumberedType
 type-bare signed r at h = range-bare r (at + length (spell_where signed keyword_signed)) h
 
+-- declared names; `at` of a value is the number of the mark before it
+unfoldable pub renumbered_value : Option Tree → ℕ → Option Tree
+renumbered_value None at = None
+renumbered_value (Some t) at = Some (renumbered t (at + 1))
+
+value-bare : (v : Option Tree) (at : ℕ) → NumberedValue v at → renumbered_value (bare_value v) at ≡ v
+unfolding renumbered_value bare_value NumberedValue
+value-bare None at h = refl
+value-bare (Some t) at h = rw (renumbered-bare t (at + 1) h) refl
+
+unfoldable pub renumbered_declarator : DeclaredName → ℕ → DeclaredName
+renumbered_declarator n at = record { token = at; text = n.text; value = renumbered_value n.value (at + 1) }
+
+pub declarator-bare : (n : DeclaredName) (at : ℕ) → NumberedDeclarator n at → renumbered_declarator (bare_declarator n) at ≡ n
+unfolding renumbered_declarator bare_declarator NumberedDeclarator
+declarator-bare n at h = λ k. record { token = sym h.0 k; text = n.text; value = value-bare n.value (at + 1) h.1 k }
+
 -- ports
 unfoldable pub renumbered_port : PortDeclaration → ℕ → PortDeclaration
 renumbered_port p at = record p {
   range = renumbered_type p.signed p.range (at + length (spell_dir p.dir));
-  names = renumbered_names p.names (at + length (spell_dir p.dir) + length (spell_type p.signed p.range));
+  names = renumbered_separated spell_declarator renumbered_declarator p.names (at + length (spell_dir p.dir) + length (spell_type p.signed p.range));
 }
 
 pub port-bare : (p : PortDeclaration) (at : ℕ) → NumberedPort p at → renumbered_port (bare_port p) at ≡ p
@@ -81,7 +98,7 @@ port-bare p at h =
     rw (
       spell_type-bare p.signed p.range,
       type-bare p.signed p.range (at + length (spell_dir p.dir)) h.0,
-      names-bare p.names (at + length (spell_dir p.dir) + length (spell_type p.signed p.range)) h.1,
+      separated-bare spell_declarator bare_declarator renumbered_declarator NumberedDeclarator spell_declarator-bare declarator-bare p.names (at + length (spell_dir p.dir) + length (spell_type p.signed p.range)) h.1,
     ) refl
 
 -- parameters
@@ -109,23 +126,7 @@ parameter-bare p at h =
           (at + 1 + length (spell_where p.integer keyword_integer) + length (spell_type p.signed p.range)) h.1,
     ) refl
 
--- nets and assignments; `at` is the number of the mark before the value
-unfoldable pub renumbered_value : Option Tree → ℕ → Option Tree
-renumbered_value None at = None
-renumbered_value (Some t) at = Some (renumbered t (at + 1))
-
-value-bare : (v : Option Tree) (at : ℕ) → NumberedValue v at → renumbered_value (bare_value v) at ≡ v
-unfolding renumbered_value bare_value NumberedValue
-value-bare None at h = refl
-value-bare (Some t) at h = rw (renumbered-bare t (at + 1) h) refl
-
-unfoldable pub renumbered_net : NetIdentifier → ℕ → NetIdentifier
-renumbered_net n at = record { token = at; text = n.text; value = renumbered_value n.value (at + 1) }
-
-pub net-bare : (n : NetIdentifier) (at : ℕ) → NumberedNet n at → renumbered_net (bare_net n) at ≡ n
-unfolding renumbered_net bare_net NumberedNet
-net-bare n at h = λ k. record { token = sym h.0 k; text = n.text; value = value-bare n.value (at + 1) h.1 k }
-
+-- assignments
 unfoldable pub renumbered_pair : NetAssignment → ℕ → NetAssignment
 renumbered_pair p at = record { target = renumbered p.target at; value = renumbered p.value (at + length (spell p.target) + 1) }
 

@@ -3,7 +3,7 @@
 //! on `rr_syntax`'s trees and `rr_bits`'s words.
 #![tactic(auto)]
 
-ghost use Rattle.std.specs.Prelude.{◌≡◌, ◌≤◌, IfOk, IfErr, Some, None, true, false, []};
+ghost use Rattle.std.specs.Prelude.{◌≡◌, ◌≤◌, max, IfOk, IfErr, Some, None, true, false, []};
 ghost use Rattle.rr_syntax.specs.View.{plain};
 ghost use Rattle.rr_expr.specs.Faults.{fault};
 ghost use Rattle.rr_expr.specs.Scopes.{env_of};
@@ -82,4 +82,22 @@ pub fn constant(expr: &Expr, scope: &Scope) -> Result<(Bits, bool), ExprFault>
     let mut notes = Notes::new();
     let shape = shape_in(expr, scope, true, &mut notes)?;
     Ok((value_in(expr, scope, &[], shape, &mut notes), shape.signed))
+}
+
+/// The value of a constant expression as the right side of an assignment to so many bits (IEEE
+/// 1364-2005 section 5.4), in the wider of the two widths; or its first fault, as that of `constant`.
+pub fn assigned_constant(expr: &Expr, scope: &Scope, width: u32) -> Result<Bits, ExprFault>
+    requires low { 1 ≤ width }
+    requires high { width ≤ 128 }
+    ensures none { IfOk result (λ b. fault scope.now (plain expr.now) true ≡ None) }
+    ensures value { IfOk result (λ b. b ≡ value_of scope.now (plain expr.now) nowhere (max width (form scope.now (plain expr.now)).width) (form scope.now (plain expr.now)).signed) }
+    ensures fault { IfErr result (λ f. fault scope.now (plain expr.now) true ≡ Some f) }
+{
+    let mut notes = Notes::new();
+    let own = shape_in(expr, scope, true, &mut notes)?;
+    let context = Shape {
+        width: width.max(own.width),
+        signed: own.signed,
+    };
+    Ok(value_in(expr, scope, &[], context, &mut notes))
 }

@@ -1,10 +1,11 @@
 -- What a flat design keeps as it grows.
-use Rattle.std.proofs.Common.{◌≡◌, ◌∙◌, sym, ap, ℕ, ◌+◌, ◌-◌, ◌<◌, ◌≤◌, List, [], ◌∷◌, ◌++◌, length, map, Bool, true, false, cond, is_some, subst, refl, arith, length-append}
+use Rattle.std.proofs.Common.{◌≡◌, ◌∙◌, sym, ap, ℕ, zero, suc, ◌+◌, ◌-◌, ◌^◌, ◌<◌, ◌≤◌, List, [], ◌∷◌, ◌++◌, length, map, All, Bool, true, false, cond, nat_lt, get_or, is_some, subst, refl, arith, length-append}
 use Rattle.std.proofs.Math.Dec.{eqb}
+use Rattle.std.proofs.lemmas.Bool.Decides.{nat_tests}
 use Rattle.std.proofs.Math.ListN.{get_or-append, set}
 use Rattle.std.proofs.lemmas.Bool.{eqb-true, eqb-false}
 use Rattle.std.proofs.lemmas.List.{length-map, map-append, length-set, get_or-set_same, get_or-set_other, get_or-append-add}
-use Rattle.std.proofs.lemmas.List.Elements.{All-push, All-weaker, All-append, All-set, All-get_or}
+use Rattle.std.proofs.lemmas.List.Elements.{All-head, All-tail, All-push, All-weaker, All-append, All-set, All-get_or}
 use Rattle.rr_syntax.specs.Tree.{Connections}
 use Rattle.rr_syntax.specs.View.{plain, plain_statement}
 use Rattle.rr_expr.specs.Scopes.{Names, lookup, meant}
@@ -20,8 +21,9 @@ use Rattle.rr_flat.specs.declared.design.Side as declared_side
 use Rattle.rr_flat.specs.declared.design.Side.TheVariants as side
 use Rattle.rr_flat.specs.declared.design.Driver.{Driver}
 use Rattle.rr_flat.specs.declared.design.Block.{Block}
+use Rattle.rr_flat.specs.declared.design.Initial.{Initial}
 use Rattle.rr_flat.specs.declared.design.Part as design
-use Rattle.rr_flat.specs.Sound.{IsSignal, IsScope, names_at, IsSide, IsDriver, IsBlock, AreConnected, IsFlat}
+use Rattle.rr_flat.specs.Sound.{IsSignal, IsScope, names_at, IsSide, IsDriver, IsBlock, IsInitial, AreStarts, AreConnected, IsFlat}
 use Rattle.rr_flat.proofs.Alike.{Alike, alike_named, expression_alike, statement_alike, connected_alike}
 
 -- scopes that are as they were for each name, and perhaps more
@@ -44,11 +46,17 @@ block_later before after b h i = record {
   body = statement_alike (names_at before b.scope) (names_at after b.scope) (plain_statement b.body.now) (h.1 b.scope i.there) i.body;
 }
 
+initial_later : (before after : List Names) (x : Initial) → AsBefore before after → IsInitial before x → IsInitial after x
+initial_later before after x h i = record {
+  there = omega (arith, h.0, i.there);
+  body = statement_alike (names_at before x.scope) (names_at after x.scope) (plain_statement x.body.now) (h.1 x.scope i.there) i.body;
+}
+
 signal_later : (j k : ℕ) (s : Signal) → j ≤ k → IsSignal j s → IsSignal k s
-signal_later j k s le h = record { instance = omega (arith, le, h.instance); width = h.width; low = h.low; high = h.high }
+signal_later j k s le h = record { instance = omega (arith, le, h.instance); width = h.width; low = h.low; high = h.high; start = h.start }
 
 signal_of : (i k : ℕ) (s : Signal) → i < k → IsOwn i s → IsSignal k s
-signal_of i k s lt h = record { instance = rw h.instance lt; width = h.width; low = h.low; high = h.high }
+signal_of i k s lt h = record { instance = rw h.instance lt; width = h.width; low = h.low; high = h.high; start = h.start }
 
 -- the first signals stay where they are, and those of a head come after them
 
@@ -82,10 +90,72 @@ scope_of_head base signals more names b h =
 as_opened : (scopes : List Names) (scope : Names) → AsBefore scopes (scopes ++ scope ∷ [])
 as_opened scopes scope = (omega (arith, length-append scopes (scope ∷ [])), λ j lt n. ap (λ s. meant s n) (sym (get_or-append scopes (scope ∷ []) [] j lt)))
 
-pub flat_opened : (signals more : List Signal) (scopes : List Names) (scope : Names) (drivers : List Driver) (clocked combinational : List Block) (walk : List design.Part) (inputs outputs owners : List ℕ) (i base bits owner : ℕ)
-    → IsFlat signals scopes drivers clocked combinational walk inputs outputs owners → IsHead i base bits more scope → i ≡ length scopes → base ≡ length signals → length scopes < 256
-    → IsFlat (signals ++ more) (scopes ++ scope ∷ []) drivers clocked combinational walk inputs outputs (owners ++ owner ∷ [])
-flat_opened signals more scopes scope drivers clocked combinational walk inputs outputs owners i base bits owner f h here there few =
+-- the starting values of declarations come after those that are there
+
+starts_opened : (i : ℕ) (signals more : List Signal) (starts : List ℕ) → AreStarts signals starts → All (λ s. IsOwn i s) more → AreStarts (signals ++ more) (starts ++ map (λ s. s.start) more)
+starts_opened i signals more starts a own = record {
+  all = omega (arith, length-append signals more, length-append starts (map (λ s. s.start) more), length-map more (λ (s : Signal). s.start), a.all);
+  fit = λ id lt. rw (map-append plain_signal signals more) (fits id (nat_lt id (length signals)) refl lt);
+}
+  where
+    first : (id : ℕ) → id < length signals → get_or (starts ++ map (λ s. s.start) more) id 0 < 2 ^ (signal_at (map plain_signal signals ++ map plain_signal more) id).width
+    first id lt =
+        rw (get_or-append starts (map (λ s. s.start) more) 0 id (omega (arith, lt, a.all)), get_or-append (map plain_signal signals) (map plain_signal more) no_signal id (omega (arith, lt, length-map signals plain_signal))) (a.fit id lt)
+
+    start_is : (xs : List Signal) (k : ℕ) → k < length xs → get_or (map (λ s. s.start) xs) k 0 ≡ (signal_at (map plain_signal xs) k).start
+    start_is [] k lt = absurd (omega (arith, lt))
+    start_is (x ∷ xs) zero lt = refl
+    start_is (x ∷ xs) (suc k) lt = start_is xs k (omega (arith, lt))
+
+    own_fit : (xs : List Signal) (k : ℕ) → All (λ s. IsOwn i s) xs → k < length xs → (signal_at (map plain_signal xs) k).start < 2 ^ (signal_at (map plain_signal xs) k).width
+    own_fit [] k h lt = absurd (omega (arith, lt))
+    own_fit (x ∷ xs) zero h lt = (All-head (λ s. IsOwn i s) x xs h).start
+    own_fit (x ∷ xs) (suc k) h lt = own_fit xs k (All-tail (λ s. IsOwn i s) x xs h) (omega (arith, lt))
+
+    second : (id k : ℕ) → id ≡ length signals + k → k < length more → get_or (starts ++ map (λ s. s.start) more) id 0 < 2 ^ (signal_at (map plain_signal signals ++ map plain_signal more) id).width
+    second id k e lt =
+        let at : id ≡ length starts + k = omega (arith, e, a.all) in
+        let here : get_or (starts ++ map (λ s. s.start) more) id 0 ≡ get_or (map (λ s. s.start) more) k 0 = rw at (get_or-append-add starts (map (λ s. s.start) more) k 0) in
+        let place : id ≡ length (map plain_signal signals) + k = omega (arith, e, length-map signals plain_signal) in
+        let there : signal_at (map plain_signal signals ++ map plain_signal more) id ≡ signal_at (map plain_signal more) k = rw place (get_or-append-add (map plain_signal signals) (map plain_signal more) k no_signal) in
+        rw (here, there, start_is more k lt) (own_fit more k own lt)
+
+    fits : (id : ℕ) (b : Bool) → nat_lt id (length signals) ≡ b → id < length (signals ++ more) → get_or (starts ++ map (λ s. s.start) more) id 0 < 2 ^ (signal_at (map plain_signal signals ++ map plain_signal more) id).width
+    fits id true e lt = first id (grind (arith, nat_tests))
+    fits id false e lt = second id (id - length signals) (grind (arith, nat_tests)) (grind (arith, nat_tests, length-append signals more))
+
+-- another starting value of a signal
+
+pub flat_started : (signals : List Signal) (scopes : List Names) (drivers : List Driver) (clocked combinational : List Block) (walk : List design.Part) (inputs outputs owners starts : List ℕ) (initials : List Initial) (id v : ℕ)
+    → IsFlat signals scopes drivers clocked combinational walk inputs outputs owners starts initials → id < length signals → v < 2 ^ (signal_at (map plain_signal signals) id).width
+    → IsFlat signals scopes drivers clocked combinational walk inputs outputs owners (set starts id v) initials
+flat_started signals scopes drivers clocked combinational walk inputs outputs owners starts initials id v f lt fit = record {
+  signals_in = f.signals_in;
+  starts_in = record { all = length-set starts id v ∙ f.starts_in.all; fit = λ j there. go j (eqb j id) refl there };
+  scopes_in = f.scopes_in;
+  drivers_in = f.drivers_in;
+  clocked_in = f.clocked_in;
+  combinational_in = f.combinational_in;
+  initials_in = f.initials_in;
+  walked = f.walked;
+  inputs_in = f.inputs_in;
+  outputs_in = f.outputs_in;
+  owned = f.owned;
+  numbers = f.numbers;
+  instances = f.instances;
+}
+  where
+    same : (j : ℕ) → j ≡ id → get_or (set starts id v) j 0 < 2 ^ (signal_at (map plain_signal signals) j).width
+    same j e = rw (e, get_or-set_same starts id v 0 (omega (arith, lt, f.starts_in.all))) fit
+
+    go : (j : ℕ) (b : Bool) → eqb j id ≡ b → j < length signals → get_or (set starts id v) j 0 < 2 ^ (signal_at (map plain_signal signals) j).width
+    go j true e there = same j (eqb-true j id e)
+    go j false e there = rw (get_or-set_other starts id j v 0 (eqb-false j id e)) (f.starts_in.fit j there)
+
+pub flat_opened : (signals more : List Signal) (scopes : List Names) (scope : Names) (drivers : List Driver) (clocked combinational : List Block) (walk : List design.Part) (inputs outputs owners starts : List ℕ) (initials : List Initial) (i base bits owner : ℕ)
+    → IsFlat signals scopes drivers clocked combinational walk inputs outputs owners starts initials → IsHead i base bits more scope → i ≡ length scopes → base ≡ length signals → length scopes < 256
+    → IsFlat (signals ++ more) (scopes ++ scope ∷ []) drivers clocked combinational walk inputs outputs (owners ++ owner ∷ []) (starts ++ map (λ s. s.start) more) initials
+flat_opened signals more scopes scope drivers clocked combinational walk inputs outputs owners starts initials i base bits owner f h here there few =
     let n : length (scopes ++ scope ∷ []) ≡ length scopes + 1 = length-append scopes (scope ∷ []) in
     let m : length (signals ++ more) ≡ length signals + length more = length-append signals more in
     let k : length (owners ++ owner ∷ []) ≡ length owners + 1 = length-append owners (owner ∷ []) in
@@ -94,12 +164,14 @@ flat_opened signals more scopes scope drivers clocked combinational walk inputs 
       signals_in = All-append (λ s. IsSignal (length (scopes ++ scope ∷ [])) s) signals more
           (All-weaker (λ s. IsSignal (length scopes) s) (λ s. IsSignal (length (scopes ++ scope ∷ [])) s) (λ s. signal_later _ _ s (omega (arith, n))) signals f.signals_in)
           (All-weaker (λ s. IsOwn i s) (λ s. IsSignal (length (scopes ++ scope ∷ [])) s) (λ s. signal_of i _ s (omega (arith, n, here))) more h.signals_in);
+      starts_in = starts_opened i signals more starts f.starts_in h.signals_in;
       scopes_in = All-push (λ s. IsScope (signals ++ more) s) scopes scope
           (All-weaker (λ s. IsScope signals s) (λ s. IsScope (signals ++ more) s) (λ s. scope_first signals more s) scopes f.scopes_in)
           (scope_of_head base signals more scope there h.scope_in);
       drivers_in = All-weaker (λ d. IsDriver signals scopes d) (λ d. IsDriver (signals ++ more) (scopes ++ scope ∷ []) d) (λ d. driver_later signals (signals ++ more) scopes (scopes ++ scope ∷ []) d (omega (arith, m)) later) drivers f.drivers_in;
       clocked_in = All-weaker (λ b. IsBlock scopes b) (λ b. IsBlock (scopes ++ scope ∷ []) b) (λ b. block_later scopes (scopes ++ scope ∷ []) b later) clocked f.clocked_in;
       combinational_in = All-weaker (λ b. IsBlock scopes b) (λ b. IsBlock (scopes ++ scope ∷ []) b) (λ b. block_later scopes (scopes ++ scope ∷ []) b later) combinational f.combinational_in;
+      initials_in = All-weaker (λ b. IsInitial scopes b) (λ b. IsInitial (scopes ++ scope ∷ []) b) (λ b. initial_later scopes (scopes ++ scope ∷ []) b later) initials f.initials_in;
       walked = f.walked;
       inputs_in = All-weaker (λ id. id < length signals) (λ id. id < length (signals ++ more)) (λ id lt. omega (arith, m, lt)) inputs f.inputs_in;
       outputs_in = All-weaker (λ id. id < length signals) (λ id. id < length (signals ++ more)) (λ id lt. omega (arith, m, lt)) outputs f.outputs_in;
@@ -127,18 +199,20 @@ named_scope signals names name h = go (is_some (lookup name names))
     go true = h
     go false = All-push (λ x. IsNamed 0 (map plain_signal signals) x.1) names (name, entity.Instance) h tt
 
-pub flat_named : (signals : List Signal) (scopes : List Names) (drivers : List Driver) (clocked combinational : List Block) (walk : List design.Part) (inputs outputs owners : List ℕ) (i : ℕ) (name : List ℕ)
-    → IsFlat signals scopes drivers clocked combinational walk inputs outputs owners → i < length scopes
-    → IsFlat signals (set scopes i (with_name (names_at scopes i) name entity.Instance)) drivers clocked combinational walk inputs outputs owners
-flat_named signals scopes drivers clocked combinational walk inputs outputs owners i name f lt =
+pub flat_named : (signals : List Signal) (scopes : List Names) (drivers : List Driver) (clocked combinational : List Block) (walk : List design.Part) (inputs outputs owners starts : List ℕ) (initials : List Initial) (i : ℕ) (name : List ℕ)
+    → IsFlat signals scopes drivers clocked combinational walk inputs outputs owners starts initials → i < length scopes
+    → IsFlat signals (set scopes i (with_name (names_at scopes i) name entity.Instance)) drivers clocked combinational walk inputs outputs owners starts initials
+flat_named signals scopes drivers clocked combinational walk inputs outputs owners starts initials i name f lt =
     let n : length (set scopes i (with_name (names_at scopes i) name entity.Instance)) ≡ length scopes = length-set scopes i _ in
     let later = as_named scopes i name lt in
     record {
       signals_in = All-weaker (λ s. IsSignal (length scopes) s) (λ s. IsSignal (length (set scopes i (with_name (names_at scopes i) name entity.Instance))) s) (λ s. signal_later _ _ s (omega (arith, n))) signals f.signals_in;
+      starts_in = f.starts_in;
       scopes_in = All-set (λ s. IsScope signals s) scopes i _ (named_scope signals (names_at scopes i) name (All-get_or (λ s. IsScope signals s) scopes i [] lt f.scopes_in)) f.scopes_in;
       drivers_in = All-weaker (λ d. IsDriver signals scopes d) (λ d. IsDriver signals (set scopes i (with_name (names_at scopes i) name entity.Instance)) d) (λ d. driver_later signals signals scopes _ d (omega arith) later) drivers f.drivers_in;
       clocked_in = All-weaker (λ b. IsBlock scopes b) (λ b. IsBlock (set scopes i (with_name (names_at scopes i) name entity.Instance)) b) (λ b. block_later scopes _ b later) clocked f.clocked_in;
       combinational_in = All-weaker (λ b. IsBlock scopes b) (λ b. IsBlock (set scopes i (with_name (names_at scopes i) name entity.Instance)) b) (λ b. block_later scopes _ b later) combinational f.combinational_in;
+      initials_in = All-weaker (λ b. IsInitial scopes b) (λ b. IsInitial (set scopes i (with_name (names_at scopes i) name entity.Instance)) b) (λ b. initial_later scopes _ b later) initials f.initials_in;
       walked = f.walked;
       inputs_in = f.inputs_in;
       outputs_in = f.outputs_in;
@@ -147,12 +221,12 @@ flat_named signals scopes drivers clocked combinational walk inputs outputs owne
       instances = omega (arith, n, f.instances);
     }
 
-pub flat_named_at : (signals : List Signal) (scopes : List Names) (drivers : List Driver) (clocked combinational : List Block) (walk : List design.Part) (inputs outputs owners : List ℕ) (i : ℕ) (name : List ℕ) (old new : Names)
-    → IsFlat signals scopes drivers clocked combinational walk inputs outputs owners → i < length scopes → old ≡ names_at scopes i → new ≡ with_name old name entity.Instance
-    → IsFlat signals (set scopes i new) drivers clocked combinational walk inputs outputs owners
-flat_named_at signals scopes drivers clocked combinational walk inputs outputs owners i name old new f lt o e =
+pub flat_named_at : (signals : List Signal) (scopes : List Names) (drivers : List Driver) (clocked combinational : List Block) (walk : List design.Part) (inputs outputs owners starts : List ℕ) (initials : List Initial) (i : ℕ) (name : List ℕ) (old new : Names)
+    → IsFlat signals scopes drivers clocked combinational walk inputs outputs owners starts initials → i < length scopes → old ≡ names_at scopes i → new ≡ with_name old name entity.Instance
+    → IsFlat signals (set scopes i new) drivers clocked combinational walk inputs outputs owners starts initials
+flat_named_at signals scopes drivers clocked combinational walk inputs outputs owners starts initials i name old new f lt o e =
     let same : new ≡ with_name (names_at scopes i) name entity.Instance = e ∙ ap (λ s. with_name s name entity.Instance) o in
-    rw same (flat_named signals scopes drivers clocked combinational walk inputs outputs owners i name f lt)
+    rw same (flat_named signals scopes drivers clocked combinational walk inputs outputs owners starts initials i name f lt)
 
 -- the name of an instance in the walk
 

@@ -5,3 +5,4 @@ pub mod Flats
 pub mod WalkLemmas
 pub mod Lists
 pub mod Shaping
+pub mod Relaxing

@@ -16,7 +16,7 @@ forwards flat word clock rising steps o i b l w n = let h = o.after i i l l b w 
 
 -- a design without a part
 abbrev empty : Flat
-empty = record { top = 0; signals = []; scopes = []; drivers = []; clocked = []; combinational = []; walk = []; inputs = []; outputs = []; owners = []; reached = [] }
+empty = record { top = 0; signals = []; starts = []; scopes = []; drivers = []; clocked = []; combinational = []; initials = []; walk = []; inputs = []; outputs = []; owners = []; reached = [] }
 
 one_clock : OneClock empty None None true
 one_clock = record { chosen = refl; direction = refl; all = tt }
@@ -38,7 +38,7 @@ nothing_assigned id now (inr a) = absurd (omega (arith, a.1.0))
 lawful : Lawful empty None
 lawful = record {
   named = tt;
-  targets = record { drivers = λ k l. absurd (omega (arith, l)); clocked = λ k l. absurd (omega (arith, l)); combinational = λ k l. absurd (omega (arith, l)) };
+  targets = record { drivers = λ k l. absurd (omega (arith, l)); clocked = λ k l. absurd (omega (arith, l)); combinational = λ k l. absurd (omega (arith, l)); initials = λ k l. absurd (omega (arith, l)) };
   labels = record { clocked = λ k l. absurd (omega (arith, l)); combinational = λ k l. absurd (omega (arith, l)) };
   clock = None;
   rising = true;

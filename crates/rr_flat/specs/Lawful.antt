@@ -12,20 +12,20 @@ use Rattle.rr_expr.specs.declared.types.Entity.TheVariants.{Constant, Signal as 
 use Rattle.rr_expr.specs.Scopes.{meant}
 use Rattle.rr_flat.specs.declared.signal.Port.TheVariants.{Input}
 use Rattle.rr_flat.specs.Signals.{Text, signal_at}
-use Rattle.rr_flat.specs.Plain.{Side, Written, Whole, Driver, Block, Flat}
+use Rattle.rr_flat.specs.Plain.{Side, Written, Whole, Driver, Block, Initial, Flat}
 use Rattle.rr_flat.specs.Clocks.{IsInputNamed, IsBareName, NameLeads, OneClock}
 use Rattle.rr_flat.specs.Latches.{NoLatch}
 use Rattle.rr_flat.specs.Reads.{LiteralToken, Assigned, names_in, literals_in, names_of, names_read, assigned_by}
 use Rattle.rr_flat.specs.Targets.{target_parts, part_name, is_fixed}
-use Rattle.rr_flat.specs.Writers.{scope_at, driver_at, block_at, entity_of_signal, Writer, Writes, BitNames}
+use Rattle.rr_flat.specs.Writers.{scope_at, driver_at, block_at, initial_at, entity_of_signal, Writer, Writes, BitNames}
 
 -- 11: the word for the clock names a scalar input of the top
 abbrev pub ClockNamed : Flat → Option Text → Type 0
 ClockNamed flat None = Unit {0}
 ClockNamed flat (Some name) = (id : ℕ) × IsInputNamed flat name id
 
--- 24, of a name or select: a continuous assignment drives a net by constant indices, a procedural one a variable
--- (sections 6.1 and 9.2), and neither an input port or a parameter
+-- 24, of a name or select: a continuous assignment drives a net by constant indices, a procedural one and an `initial` item
+-- set a variable (sections 6.1, 9.2 and 9.9.1), and none an input port or a parameter
 abbrev pub MayDrive : Flat → Entity → Bool → Type 0
 MayDrive flat (Constant bits signed) fixed = ⊥
 MayDrive flat (SignalEntity id range signed) fixed =
@@ -48,13 +48,21 @@ DriverTarget flat (Whole id) value = DeclaredTarget flat id value
 DriverTarget flat (Written t i) value =
     IsTrue (is_target t) × All (λ p. MayDrive flat (meant (scope_at flat i) (part_name p)) (is_fixed (scope_at flat i) p)) (target_parts t)
 
+abbrev pub MayAssignAll : Flat → ℕ → Statement → Type 0
+MayAssignAll flat i s = All (λ a. MayAssign flat (meant (scope_at flat i) (part_name a.part))) (assigned_by s)
+
 abbrev pub BlockTargets : Flat → Block → Type 0
-BlockTargets flat block = All (λ a. MayAssign flat (meant (scope_at flat block.scope) (part_name a.part))) (assigned_by block.body)
+BlockTargets flat block = MayAssignAll flat block.scope block.body
+
+-- an `initial` item sets variables, as an `always` does (section 9.9)
+abbrev pub InitialTargets : Flat → Initial → Type 0
+InitialTargets flat x = MayAssignAll flat x.scope x.body
 
 pub record RightTargets (flat : Flat) : Type 0 where
   pub drivers : (k : ℕ) → k < length flat.drivers → DriverTarget flat (driver_at flat k).target (driver_at flat k).value
   pub clocked : (k : ℕ) → k < length flat.clocked → BlockTargets flat (block_at flat.clocked k)
   pub combinational : (k : ℕ) → k < length flat.combinational → BlockTargets flat (block_at flat.combinational k)
+  pub initials : (k : ℕ) → k < length flat.initials → InitialTargets flat (initial_at flat.initials k)
 
 -- 25, of a label (section 9.5.1): digits that match anything stand in `casez` and `casex` alone, x digits in `casex`
 -- alone, and both only in a label that is one literal, in brackets or not

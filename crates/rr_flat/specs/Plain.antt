@@ -23,16 +23,24 @@ pub record Block : Type 0 where
   pub scope : ℕ
   pub token : ℕ
 
--- the token of the top module's name; the scopes and the owners, which are numbers of modules, are those of the
--- instances in order; walk are the drivers and blocks in the order in which they were met; inputs and outputs are numbers
+-- an `initial` item (section 9.9.1), with the number of its scope and the token of its word
+pub record Initial : Type 0 where
+  pub body : Statement
+  pub scope : ℕ
+  pub token : ℕ
+
+-- the token of the top module's name; starts are the starting values of the signals; the scopes and the owners, which are numbers of modules, are those of the
+-- instances in order; walk are the drivers, blocks and `initial` items in the order in which they were met; inputs and outputs are numbers
 -- of signals, in port order; reached are the modules of the instances, each once
 pub record Flat : Type 0 where
   pub top : ℕ
   pub signals : List Signal
+  pub starts : List ℕ
   pub scopes : List Names
   pub drivers : List Driver
   pub clocked : List Block
   pub combinational : List Block
+  pub initials : List Initial
   pub walk : List part.Part
   pub inputs : List ℕ
   pub outputs : List ℕ
@@ -41,4 +49,4 @@ pub record Flat : Type 0 where
 
 -- no instances, where the name of the top has this token
 abbrev pub no_design : ℕ → Flat
-no_design top = record { top = top; signals = []; scopes = []; drivers = []; clocked = []; combinational = []; walk = []; inputs = []; outputs = []; owners = []; reached = [] }
+no_design top = record { top = top; signals = []; starts = []; scopes = []; drivers = []; clocked = []; combinational = []; initials = []; walk = []; inputs = []; outputs = []; owners = []; reached = [] }

@@ -8,6 +8,7 @@ use Rattle.rr_flat.specs.declared.signal.Port.TheVariants.{Inner}
 abbrev pub Text : Type 0
 Text = List ℕ
 
+-- `start` is the starting value of the declaration, 0 where it has none (section 6.2.1)
 pub record Signal : Type 0 where
   pub instance : ℕ
   pub name : Text
@@ -17,10 +18,11 @@ pub record Signal : Type 0 where
   pub signed : Bool
   pub width : ℕ
   pub token : ℕ
+  pub start : ℕ
 
 -- what stands where there is none
 abbrev pub no_signal : Signal
-no_signal = record { instance = 0; name = []; variable = false; port = Inner; range = None; signed = false; width = 1; token = 0 }
+no_signal = record { instance = 0; name = []; variable = false; port = Inner; range = None; signed = false; width = 1; token = 0; start = 0 }
 
 abbrev pub signal_at : List Signal → ℕ → Signal
 signal_at signals id = slice_index_or signals id no_signal

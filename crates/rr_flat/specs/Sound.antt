@@ -1,5 +1,5 @@
 -- What every flat design keeps.
-use Rattle.std.specs.Prelude.{◌≡◌, ℕ, ◌+◌, ◌-◌, ◌<◌, ◌≤◌, false, List, [], ◌∷◌, length, map, All, Option, Some, None, slice_index_or}
+use Rattle.std.specs.Prelude.{◌≡◌, ℕ, ◌+◌, ◌-◌, ◌^◌, ◌<◌, ◌≤◌, false, List, [], ◌∷◌, length, map, All, Option, Some, None, get_or, slice_index_or}
 use Rattle.std.specs.List.{AllByRecursion, range_with_len}
 use Rattle.rr_syntax.specs.Tree.{Tree, Trees, End, More, Statement, NamedConnection, Connections, Positions}
 use Rattle.rr_syntax.specs.Tree.{Names as Named}
@@ -18,16 +18,18 @@ use Rattle.rr_flat.specs.declared.design.Side as declared_side
 use Rattle.rr_flat.specs.declared.design.Side.TheVariants as side
 use Rattle.rr_flat.specs.declared.design.Driver.{Driver}
 use Rattle.rr_flat.specs.declared.design.Block.{Block}
+use Rattle.rr_flat.specs.declared.design.Initial.{Initial}
 use Rattle.rr_flat.specs.declared.design.Part as design
 use Rattle.rr_flat.specs.declared.design.Part.TheVariants as part
 use Rattle.rr_flat.specs.Shapes.{statement_faults}
 
--- of that instance, with the width of its range, which is 1 to 128
+-- of that instance, with the width of its range, which is 1 to 128 and holds the starting value
 pub record IsOwn (i : ℕ) (s : Signal) : Type 0 where
   pub instance : s.instance ≡ i
   pub width : s.width ≡ range_width s.range
   pub low : 1 ≤ s.width
   pub high : s.width ≤ 128
+  pub start : s.start < 2 ^ s.width
 
 -- a constant, or one of these signals, of which the first has number base, with its range and sign
 abbrev pub IsNamed : ℕ → List plain.Signal → Entity → Type 0
@@ -46,12 +48,13 @@ pub record IsHead (i base bits : ℕ) (signals : List Signal) (scope : Names) : 
   pub numbers : base + length signals ≤ 65536
   pub few : bits ≤ 65536
 
--- of an instance that there is, with the width of its range, which is 1 to 128
+-- of an instance that there is, with the width of its range, which is 1 to 128 and holds the starting value
 pub record IsSignal (instances : ℕ) (s : Signal) : Type 0 where
   pub instance : s.instance < instances
   pub width : s.width ≡ range_width s.range
   pub low : 1 ≤ s.width
   pub high : s.width ≤ 128
+  pub start : s.start < 2 ^ s.width
 
 -- each name that stands for a signal has the number of one, with its range and sign
 abbrev pub IsScope : List Signal → Names → Type 0
@@ -100,45 +103,68 @@ pub record IsBlock (scopes : List Names) (b : Block) : Type 0 where
   pub there : b.scope < length scopes
   pub body : IsStatement (names_at scopes b.scope) (plain_statement b.body.now)
 
+pub record IsInitial (scopes : List Names) (x : Initial) : Type 0 where
+  pub there : x.scope < length scopes
+  pub body : IsStatement (names_at scopes x.scope) (plain_statement x.body.now)
+
+-- one starting value for each signal, which its bits hold
+pub record AreStarts (signals : List Signal) (starts : List ℕ) : Type 0 where
+  pub all : length starts ≡ length signals
+  pub fit : (id : ℕ) → id < length signals → get_or starts id 0 < 2 ^ (signal_at (map plain_signal signals) id).width
+
 -- the drivers of a walk by their numbers, in the order of the walk
 unfoldable pub drivers_of : List design.Part → List ℕ
 drivers_of [] = []
 drivers_of (part.Driver k ∷ ps) = k ∷ drivers_of ps
 drivers_of (part.Clocked k ∷ ps) = drivers_of ps
 drivers_of (part.Combinational k ∷ ps) = drivers_of ps
+drivers_of (part.Initial k ∷ ps) = drivers_of ps
 
 unfoldable pub clocked_of : List design.Part → List ℕ
 clocked_of [] = []
 clocked_of (part.Driver k ∷ ps) = clocked_of ps
 clocked_of (part.Clocked k ∷ ps) = k ∷ clocked_of ps
 clocked_of (part.Combinational k ∷ ps) = clocked_of ps
+clocked_of (part.Initial k ∷ ps) = clocked_of ps
 
 unfoldable pub combinational_of : List design.Part → List ℕ
 combinational_of [] = []
 combinational_of (part.Driver k ∷ ps) = combinational_of ps
 combinational_of (part.Clocked k ∷ ps) = combinational_of ps
 combinational_of (part.Combinational k ∷ ps) = k ∷ combinational_of ps
+combinational_of (part.Initial k ∷ ps) = combinational_of ps
 
-abbrev pub IsPart : ℕ → ℕ → ℕ → design.Part → Type 0
-IsPart drivers clocked combinational (part.Driver k) = k < drivers
-IsPart drivers clocked combinational (part.Clocked k) = k < clocked
-IsPart drivers clocked combinational (part.Combinational k) = k < combinational
+unfoldable pub initials_of : List design.Part → List ℕ
+initials_of [] = []
+initials_of (part.Driver k ∷ ps) = initials_of ps
+initials_of (part.Clocked k ∷ ps) = initials_of ps
+initials_of (part.Combinational k ∷ ps) = initials_of ps
+initials_of (part.Initial k ∷ ps) = k ∷ initials_of ps
 
--- so many drivers and blocks stand in the walk, each once and in the order of its number
-pub record IsWalk (drivers clocked combinational : ℕ) (walk : List design.Part) : Type 0 where
-  pub parts_in : All (IsPart drivers clocked combinational) walk
+abbrev pub IsPart : ℕ → ℕ → ℕ → ℕ → design.Part → Type 0
+IsPart drivers clocked combinational initials (part.Driver k) = k < drivers
+IsPart drivers clocked combinational initials (part.Clocked k) = k < clocked
+IsPart drivers clocked combinational initials (part.Combinational k) = k < combinational
+IsPart drivers clocked combinational initials (part.Initial k) = k < initials
+
+-- so many drivers, blocks and `initial` items stand in the walk, each once and in the order of its number
+pub record IsWalk (drivers clocked combinational initials : ℕ) (walk : List design.Part) : Type 0 where
+  pub parts_in : All (IsPart drivers clocked combinational initials) walk
   pub all_drivers : drivers_of walk ≡ range_with_len 0 drivers
   pub all_clocked : clocked_of walk ≡ range_with_len 0 clocked
   pub all_combinational : combinational_of walk ≡ range_with_len 0 combinational
+  pub all_initials : initials_of walk ≡ range_with_len 0 initials
 
 -- every number of a signal or a scope is that of an entry, and every expression has a shape in its scope
-pub record IsFlat (signals : List Signal) (scopes : List Names) (drivers : List Driver) (clocked combinational : List Block) (walk : List design.Part) (inputs outputs owners : List ℕ) : Type 0 where
+pub record IsFlat (signals : List Signal) (scopes : List Names) (drivers : List Driver) (clocked combinational : List Block) (walk : List design.Part) (inputs outputs owners : List ℕ) (starts : List ℕ) (initials : List Initial) : Type 0 where
   pub signals_in : All (IsSignal (length scopes)) signals
+  pub starts_in : AreStarts signals starts
   pub scopes_in : All (IsScope signals) scopes
   pub drivers_in : All (IsDriver signals scopes) drivers
   pub clocked_in : All (IsBlock scopes) clocked
   pub combinational_in : All (IsBlock scopes) combinational
-  pub walked : IsWalk (length drivers) (length clocked) (length combinational) walk
+  pub initials_in : All (IsInitial scopes) initials
+  pub walked : IsWalk (length drivers) (length clocked) (length combinational) (length initials) walk
   pub inputs_in : All (λ id. id < length signals) inputs
   pub outputs_in : All (λ id. id < length signals) outputs
   pub owned : length owners ≡ length scopes

@@ -9,7 +9,7 @@ use Rattle.rr_expr.specs.Reading.{NamesBit}
 use Rattle.rr_expr.specs.Scopes.{Names}
 use Rattle.rr_expr.specs.Values.{form, nowhere}
 use Rattle.rr_flat.specs.Signals.{signal_at}
-use Rattle.rr_flat.specs.Plain.{Side, Written, Whole, Driver, Block, Flat}
+use Rattle.rr_flat.specs.Plain.{Side, Written, Whole, Driver, Block, Initial, Flat}
 use Rattle.rr_flat.specs.Reads.{StatementReads, writes}
 use Rattle.rr_flat.specs.Targets.{bits_there, target_bits, is_constant}
 
@@ -27,6 +27,12 @@ no_block = record { body = Null; edges = []; scope = 0; token = 0 }
 
 abbrev pub block_at : List Block → ℕ → Block
 block_at blocks k = get_or blocks k no_block
+
+abbrev pub no_initial : Initial
+no_initial = record { body = Null; scope = 0; token = 0 }
+
+abbrev pub initial_at : List Initial → ℕ → Initial
+initial_at initials k = get_or initials k no_initial
 
 -- what a whole signal stands for
 abbrev pub entity_of_signal : Flat → ℕ → Entity

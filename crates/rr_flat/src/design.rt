@@ -1,9 +1,9 @@
 //! The flat design.
-ghost use Rattle.std.specs.Prelude.{ℕ, ◌≡◌, ◌<◌, ◌++◌, ◌∷◌, [], length, slice_set, OnOk, OnErr, IfOk, All};
+ghost use Rattle.std.specs.Prelude.{ℕ, ◌≡◌, ◌+◌, ◌^◌, ◌≤◌, ◌<◌, ◌++◌, ◌∷◌, [], length, map, slice_set, vec_capacity, vec_len, OnOk, OnErr, IfOk, All};
 ghost use Rattle.rr_expr.specs.declared.types.Entity.TheVariants as entity;
-ghost use Rattle.rr_flat.specs.Signals.{with_name};
+ghost use Rattle.rr_flat.specs.Signals.{signal_at, with_name};
 ghost use Rattle.rr_flat.specs.declared.design.Part.TheVariants as part;
-ghost use Rattle.rr_flat.specs.Sound.{IsDriver, IsBlock, IsHead, names_at};
+ghost use Rattle.rr_flat.specs.Sound.{IsDriver, IsBlock, IsHead, IsInitial, names_at};
 ghost use Rattle.rr_flat.specs.View.{plain_flat};
 ghost use Rattle.rr_flat.specs.Plain.{no_design};
 
@@ -40,6 +40,14 @@ pub struct Block<'a> {
     pub token: u32,
 }
 
+/// An `initial` of an instance (section 9.9.1). The token is that of the word.
+#[derive(Clone, Copy)]
+pub struct Initial<'a> {
+    pub body: &'a Stmt<'a>,
+    pub scope: u32,
+    pub token: u32,
+}
+
 /// A step of a cycle: a driver, a bit of a driver that only wires, counted from the lowest bit of its
 /// target, or a combinational block.
 #[derive(Clone, Copy, Debug, PartialEq, Eq)]
@@ -49,12 +57,13 @@ pub enum Step {
     Block(u32),
 }
 
-/// A driver or a block of the walk, by its number in its list.
+/// A driver, a block or an `initial` item of the walk, by its number in its list.
 #[derive(Clone, Copy, Debug, PartialEq, Eq)]
 pub enum Part {
     Driver(u32),
     Clocked(u32),
     Combinational(u32),
+    Initial(u32),
 }
 
 /// The clock, by the number of its signal, and its edge, and the steps in an order in which each bit
@@ -67,19 +76,22 @@ pub struct Order {
 }
 
 /// The flat design of a source (IEEE 1364-2005 section 12): all signals, numbered in the order of the
-/// walk, and for each instance, in the order of the walk, its scope, its module's number (`owners`),
-/// its drivers and its blocks. `top` is the token of the top module's name, and `walk` has each driver
-/// and block once, in the order in which the walk met them. `inputs` and `outputs` are the ports of the top by their signals'
+/// walk, with the value that each begins with (`starts`), and for each instance, in the order of the
+/// walk, its scope, its module's number (`owners`), its drivers, its blocks and its `initial` items.
+/// `top` is the token of the top module's name, and `walk` has each driver, block and `initial` item
+/// once, in the order in which the walk met them. `inputs` and `outputs` are the ports of the top by their signals'
 /// numbers, in the order of its port brackets; `reached` has the modules of the instances, each once,
 /// in source order. Each number names an entry, and each expression has a shape in its scope.
 #[derive(Drop)]
 pub struct Flat<'a> {
     pub top: u32,
     pub signals: Vec<Signal<'a>>,
+    pub starts: Vec<u128>,
     pub scopes: Vec<Scope<'a>>,
     pub drivers: Vec<Driver<'a>>,
     pub clocked: Vec<Block<'a>>,
     pub combinational: Vec<Block<'a>>,
+    pub initials: Vec<Initial<'a>>,
     pub walk: Vec<Part>,
     pub inputs: Vec<u32>,
     pub outputs: Vec<u32>,
@@ -103,10 +115,12 @@ impl<'a> Model for Flat<'a> {
     ghost view = { λ f. record {
       top = f.top;
       signals = f.signals.items;
+      starts = f.starts.items;
       scopes = f.scopes.items;
       drivers = f.drivers.items;
       clocked = f.clocked.items;
       combinational = f.combinational.items;
+      initials = f.initials.items;
       walk = f.walk.items;
       inputs = f.inputs.items;
       outputs = f.outputs.items;
@@ -114,7 +128,7 @@ impl<'a> Model for Flat<'a> {
       reached = f.reached.items;
     } };
 
-    ghost invariant = { λ f. IsFlat f.signals.items f.scopes.items f.drivers.items f.clocked.items f.combinational.items f.walk.items f.inputs.items f.outputs.items f.owners.items };
+    ghost invariant = { λ f. IsFlat f.signals.items f.scopes.items f.drivers.items f.clocked.items f.combinational.items f.walk.items f.inputs.items f.outputs.items f.owners.items f.starts.items f.initials.items };
 }
 
 impl<'a> Flat<'a> {
@@ -125,10 +139,12 @@ impl<'a> Flat<'a> {
         Flat {
             top,
             signals: Vec::new(alloc),
+            starts: Vec::new(alloc),
             scopes: Vec::new(alloc),
             drivers: Vec::new(alloc),
             clocked: Vec::new(alloc),
             combinational: Vec::new(alloc),
+            initials: Vec::new(alloc),
             walk: Vec::new(alloc),
             inputs: Vec::new(alloc),
             outputs: Vec::new(alloc),
@@ -173,7 +189,29 @@ impl<'a> Flat<'a> {
         Ok(())
     }
 
-    /// One more instance of that module, with its signals and its names.
+    /// One more `initial` item.
+    pub fn begin(&mut self, initial: Initial<'a>) -> Result<(), AllocError>
+        requires { IsInitial self.old.scopes initial }
+        ensures { OnOk result (self.new ≡ record self.old { initials = self.old.initials ++ initial.entry ∷ []; walk = self.old.walk ++ part.Initial (length self.old.initials) ∷ [] }) }
+    {
+        let number = number_of(self.initials.len())?;
+        self.walk.reserve(1)?;
+        self.initials.push(initial)?;
+        self.walk.push_reserved(Part::Initial(number));
+        Ok(())
+    }
+
+    /// Another starting value of a signal.
+    pub fn start(&mut self, id: u32, value: u128)
+        requires there { id < length self.old.signals }
+        requires fits { value < 2 ^ (signal_at (plain_flat self.old).signals id).width }
+        ensures { self.new ≡ record self.old { starts = slice_set self.old.starts id value } }
+    {
+        self.starts[id as usize] = value;
+    }
+
+    /// One more instance of that module, with its signals, which begin with the starting values of
+    /// their declarations, and its names.
     pub fn open(
         &mut self,
         owner: u32,
@@ -182,11 +220,13 @@ impl<'a> Flat<'a> {
     ) -> Result<(), AllocError>
         requires head { (bits : ℕ) × IsHead (length self.old.scopes) (length self.old.signals) bits signals.now scope }
         requires few { length self.old.scopes < 256 }
-        ensures { OnOk result (self.new ≡ record self.old { signals = self.old.signals ++ signals.now; scopes = self.old.scopes ++ scope.entry ∷ []; owners = self.old.owners ++ owner ∷ [] }) }
+        ensures { OnOk result (self.new ≡ record self.old { signals = self.old.signals ++ signals.now; starts = self.old.starts ++ map (λ s. s.start) signals.now; scopes = self.old.scopes ++ scope.entry ∷ []; owners = self.old.owners ++ owner ∷ [] }) }
     {
         self.scopes.reserve(1)?;
         self.owners.reserve(1)?;
+        self.starts.reserve(signals.len())?;
         self.signals.extend_from_slice(signals)?;
+        add_starts(&mut self.starts, signals);
         self.owners.push_reserved(owner);
         self.scopes.push_reserved(scope);
         Ok(())
@@ -221,6 +261,16 @@ pub fn number_of(count: usize) -> Result<u32, AllocError>
         return Err(AllocError);
     }
     Ok(count as u32)
+}
+
+/// The starting values of declarations go last; there is room for them.
+fn add_starts(starts: &mut Vec<u128>, signals: &[Signal])
+    requires room { vec_len starts.old + length signals.now ≤ vec_capacity starts.old }
+    ensures { starts.new.items ≡ starts.old.items ++ map (λ s. s.start) signals.now }
+{
+    for signal in signals.iter() {
+        starts.push_reserved(signal.start);
+    }
 }
 
 /// The name of an instance goes last, if it is new; where memory runs out nothing has changed.

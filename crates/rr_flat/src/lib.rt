@@ -11,7 +11,7 @@ mod laws;
 mod reading;
 mod signal;
 
-pub use design::{Block, Driver, Flat, Order, Part, Side, Step, number_of};
+pub use design::{Block, Driver, Flat, Initial, Order, Part, Side, Step, number_of};
 pub use fault::{FlatFault, Limit};
 pub use first::{earlier, note, note_if, sooner_of};
 pub use laws::order_laws;

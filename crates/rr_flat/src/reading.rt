@@ -2,24 +2,24 @@
 ghost use Rattle.std.specs.Prelude.{◌≡◌, ◌<◌, ◌≤◌, [], length, All, IfOk, IfSome, IfNone};
 ghost use Rattle.rr_syntax.specs.View.{plain};
 ghost use Rattle.rr_flat.specs.Inputs.{is_clock as is_clock_of, row_inputs as inputs_but};
-ghost use Rattle.rr_flat.specs.Parts.{block_of as block_of_part, driver_of as driver_of_part};
+ghost use Rattle.rr_flat.specs.Parts.{block_of as block_of_part, driver_of as driver_of_part, initial_of as initial_of_part};
 ghost use Rattle.rr_flat.specs.Signals.{no_signal, signal_at as signal_of_number};
-ghost use Rattle.rr_flat.specs.Sound.{IsBlock, IsDriver, IsScope, IsSignal, IsWalk};
+ghost use Rattle.rr_flat.specs.Sound.{AreStarts, IsBlock, IsDriver, IsInitial, IsScope, IsSignal, IsWalk};
 ghost use Rattle.rr_flat.specs.Targets.{is_constant as is_constant_in};
-ghost use Rattle.rr_flat.specs.View.{plain_block, plain_driver, plain_flat, plain_signal};
-ghost use Rattle.rr_flat.specs.Writers.{block_at, driver_at as driver_of_number, no_block, no_driver, scope_at as scope_of_number};
+ghost use Rattle.rr_flat.specs.View.{plain_block, plain_driver, plain_flat, plain_initial, plain_signal};
+ghost use Rattle.rr_flat.specs.Writers.{block_at, driver_at as driver_of_number, initial_at as initial_of_number, no_block, no_driver, no_initial, scope_at as scope_of_number};
 
-use crate::design::{Block, Driver, Flat, Part};
+use crate::design::{Block, Driver, Flat, Initial, Part};
 use crate::signal::Signal;
 use rr_expr::{Scope, constant};
 use rr_syntax::Expr;
 use std::alloc::{AllocError, Global};
 
 impl<'a> Flat<'a> {
-    /// The drivers and blocks in the order of the walk.
+    /// The drivers, blocks and `initial` items in the order of the walk.
     pub fn parts(&self) -> &[Part]
         ensures value { result.now ≡ self.now.walk }
-        ensures sound { IsWalk (length self.now.drivers) (length self.now.clocked) (length self.now.combinational) result.now }
+        ensures sound { IsWalk (length self.now.drivers) (length self.now.clocked) (length self.now.combinational) (length self.now.initials) result.now }
     {
         self.walk.as_slice()
     }
@@ -50,6 +50,14 @@ impl<'a> Flat<'a> {
         ensures absent { IfNone result (signal_of_number (plain_flat self.now).signals id ≡ no_signal) }
     {
         self.signals.get(id as usize)
+    }
+
+    /// The starting values, one for each signal.
+    pub fn start_list(&self) -> &[u128]
+        ensures value { result.now ≡ self.now.starts }
+        ensures sound { AreStarts self.now.signals result.now }
+    {
+        self.starts.as_slice()
     }
 
     /// The name of a signal, empty where there is none.
@@ -166,6 +174,25 @@ impl<'a> Flat<'a> {
         self.combinational[number as usize]
     }
 
+    /// The `initial` items.
+    pub fn initial_list(&self) -> &[Initial<'a>]
+        ensures value { result.now ≡ self.now.initials }
+        ensures sound { All (IsInitial self.now.scopes) result.now }
+    {
+        self.initials.as_slice()
+    }
+
+    /// The `initial` item with this number, where there is one.
+    pub fn initial(&self, number: u32) -> Option<Initial<'a>>
+        ensures some { IfSome result (λ x. plain_initial x ≡ initial_of_number (plain_flat self.now).initials number) }
+        ensures sound { IfSome result (λ x. IsInitial self.now.scopes x) }
+        ensures there { IfSome result (λ x. number < length self.now.initials) }
+        ensures none { IfNone result (length self.now.initials ≤ number) }
+        ensures absent { IfNone result (initial_of_number (plain_flat self.now).initials number ≡ no_initial) }
+    {
+        self.initials.get(number as usize).copied()
+    }
+
     /// The inputs of the top by the numbers of their signals, in port order.
     pub fn input_list(&self) -> &[u32]
         ensures value { result.now ≡ self.now.inputs }
@@ -182,7 +209,7 @@ impl<'a> Flat<'a> {
         all_but(alloc, clock, self.input_list())
     }
 
-    /// The driver of a part of the walk; a block is none.
+    /// The driver of a part of the walk; any other part has none.
     pub fn driver_of(&self, part: Part) -> Option<Driver<'a>>
         ensures some { IfSome result (λ d. plain_driver d ≡ driver_of_part (plain_flat self.now) part) }
         ensures sound { IfSome result (λ d. IsDriver self.now.signals self.now.scopes d) }
@@ -190,20 +217,32 @@ impl<'a> Flat<'a> {
     {
         match part {
             Part::Driver(number) => self.driver(number),
-            Part::Clocked(_) | Part::Combinational(_) => None,
+            Part::Clocked(_) | Part::Combinational(_) | Part::Initial(_) => None,
         }
     }
 
-    /// The block of a part of the walk; a driver is none.
+    /// The block of a part of the walk; any other part has none.
     pub fn block_of(&self, part: Part) -> Option<Block<'a>>
         ensures some { IfSome result (λ b. plain_block b ≡ block_of_part (plain_flat self.now) part) }
         ensures sound { IfSome result (λ b. IsBlock self.now.scopes b) }
         ensures none { IfNone result (block_of_part (plain_flat self.now) part ≡ no_block) }
     {
         match part {
-            Part::Driver(_) => None,
+            Part::Driver(_) | Part::Initial(_) => None,
             Part::Clocked(number) => self.clocked_block(number),
             Part::Combinational(number) => self.combinational_block(number),
+        }
+    }
+
+    /// The `initial` item of a part of the walk; any other part has none.
+    pub fn initial_of(&self, part: Part) -> Option<Initial<'a>>
+        ensures some { IfSome result (λ x. plain_initial x ≡ initial_of_part (plain_flat self.now) part) }
+        ensures sound { IfSome result (λ x. IsInitial self.now.scopes x) }
+        ensures none { IfNone result (initial_of_part (plain_flat self.now) part ≡ no_initial) }
+    {
+        match part {
+            Part::Driver(_) | Part::Clocked(_) | Part::Combinational(_) => None,
+            Part::Initial(number) => self.initial(number),
         }
     }
 }

@@ -3,7 +3,7 @@ use Rattle.std.proofs.Common.{◌≡◌, ◌∙◌, sym, ap, ap₂, ℕ, zero, s
 use Rattle.std.specs.List.{slice_get}
 use Rattle.std.specs.Option.{option_map, option_to_list}
 use Rattle.std.proofs.lemmas.List.{map-append, length-map, map-set}
-use Rattle.rr_syntax.specs.Tree.{Tree, Identifier, Range, PortDeclaration, ParamAssignment, ParameterDeclaration, NetIdentifier, ModuleItem, Ports, Nets, Variables, Integers, Parameters, Assigns, Always, Instances, ModuleDeclaration, bare, bare_identifier, bare_range, bare_port, bare_assignment, bare_parameter, bare_net, bare_item, bare_header, bare_module}
+use Rattle.rr_syntax.specs.Tree.{Tree, Identifier, Range, PortDeclaration, ParamAssignment, ParameterDeclaration, DeclaredName, ModuleItem, Ports, Nets, Variables, Integers, Parameters, Assigns, Always, Initial, Instances, ModuleDeclaration, bare, bare_value, bare_identifier, bare_range, bare_port, bare_assignment, bare_parameter, bare_declarator, bare_item, bare_header, bare_module}
 use Rattle.rr_expr.specs.Faults.{fault, first}
 use Rattle.rr_expr.specs.Scopes.{Names, lookup, range_width}
 use Rattle.rr_expr.specs.Values.{form, own, nowhere}
@@ -17,12 +17,13 @@ use Rattle.rr_head.specs.Values.{constant, is_beyond, bound_or_zero, bound_fault
 use Rattle.rr_flat.specs.Signals.{with_name}
 use Rattle.rr_head.specs.Parameters.{given_or, override_of, parameter, width_faults, add_parameter, add_parameters, add_item_parameters, parameters}
 use Rattle.rr_flat.specs.Signals.{Text, Signal}
-use Rattle.rr_head.specs.Declarations.{Declared, Declarations, know_identifier, know_net, know_ports, know_item, known, know_port_item, plain_names, add_plain_name, brackets, is_port, with_signal, counted, declare_new, declared_at, is_same_range, redeclared, declare_again, again_place, repeated_place, declare_at, declare, declare_identifier, declare_net, port_declaration, inner_declaration, integer_declaration, declare_ports, declare_nets, declare_variables, declare_item, declarations}
-use Rattle.rr_head.specs.Heads.{Head, named_signal, with_port, with_ports, with_inner, signals_in_order, with_signals, numbered, declared, head}
+use Rattle.rr_head.specs.Declarations.{Declared, Declarations, know_identifier, know_declarator, know_ports, know_item, known, know_port_item, plain_names, add_plain_name, brackets, starting, start_faults, start_or, is_port, with_signal, counted, declare_new, declared_at, is_same_range, redeclared, start_again, declare_again, again_place, repeated_place, declare_at, declare, port_declaration, inner_declaration, integer_declaration, integer_name, declare_integer, declare_ports, declare_nets, declare_variables, declare_item, declarations}
+use Rattle.rr_head.specs.Heads.{Head, named_signal, with_port, with_identifier, with_declarator, with_ports, with_inner, signals_in_order, with_signals, numbered, declared, head}
 use Rattle.rr_flat_bare.specs.Bare.{bare_signal}
 use Rattle.rr_flat_bare.proofs.Folds.{fold_mapped}
 use Rattle.rr_flat_bare.proofs.Results.{Barely, BothNil, nil_append, nil_if, nil_in, settle_bare, answer_bare, among_bare, then_bare, each_bare}
 use Rattle.rr_flat_bare.proofs.Shapes.{form-bare, value-bare, fault_both}
+use Rattle.rr_flat_bare.proofs.Starts.{start_nil, start_or-bare}
 
 -- constants and ranges
 
@@ -93,6 +94,7 @@ item_parameters_bare given (Integers list) names = refl
 item_parameters_bare given (Parameters p) names = parameters_each given p names
 item_parameters_bare given (Assigns pairs) names = refl
 item_parameters_bare given (Always events body token) names = refl
+item_parameters_bare given (Initial body token) names = refl
 item_parameters_bare given (Instances m token over list) names = refl
 
 parameters_bare : (given : Names) (m : ModuleDeclaration) → Barely (λ (n : Names). n) (parameters given m) (parameters given (bare_module m))
@@ -109,23 +111,24 @@ know_identifier-bare : (names : Names) (i : Identifier) → know_identifier name
 unfolding bare_identifier
 know_identifier-bare names i = refl
 
-know_net-bare : (names : Names) (n : NetIdentifier) → know_net names (bare_net n) ≡ know_net names n
-unfolding bare_net
-know_net-bare names n = refl
+know_declarator-bare : (names : Names) (n : DeclaredName) → know_declarator names (bare_declarator n) ≡ know_declarator names n
+unfolding bare_declarator
+know_declarator-bare names n = refl
 
 know_ports-bare : (names : Names) (p : PortDeclaration) → know_ports names (bare_port p) ≡ know_ports names p
 unfolding know_ports bare_port
-know_ports-bare names p = fold_mapped bare_identifier know_identifier know_identifier-bare names p.names
+know_ports-bare names p = fold_mapped bare_declarator know_declarator know_declarator-bare names p.names
 
 know_item-bare : (names : Names) (i : ModuleItem) → know_item names (bare_item i) ≡ know_item names i
 unfolding know_item bare_item
 know_item-bare names (Ports p) = know_ports-bare names p
-know_item-bare names (Nets signed range list) = fold_mapped bare_net know_net know_net-bare names list
-know_item-bare names (Variables signed range list) = fold_mapped bare_identifier know_identifier know_identifier-bare names list
+know_item-bare names (Nets signed range list) = fold_mapped bare_declarator know_declarator know_declarator-bare names list
+know_item-bare names (Variables signed range list) = fold_mapped bare_declarator know_declarator know_declarator-bare names list
 know_item-bare names (Integers list) = fold_mapped bare_identifier know_identifier know_identifier-bare names list
 know_item-bare names (Parameters p) = refl
 know_item-bare names (Assigns pairs) = refl
 know_item-bare names (Always events body token) = refl
+know_item-bare names (Initial body token) = refl
 know_item-bare names (Instances m token over list) = refl
 
 known-bare : (m : ModuleDeclaration) (names : Names) → known (bare_module m) names ≡ known m names
@@ -143,6 +146,7 @@ know_port_item-bare names (Integers list) = refl
 know_port_item-bare names (Parameters p) = refl
 know_port_item-bare names (Assigns pairs) = refl
 know_port_item-bare names (Always events body token) = refl
+know_port_item-bare names (Initial body token) = refl
 know_port_item-bare names (Instances m token over list) = refl
 
 pub plain_names-bare : (header : Option (List Identifier)) → plain_names (bare_header header) ≡ map bare_identifier (plain_names header)
@@ -177,42 +181,64 @@ bare_declared x = record x { signal = bare_signal x.signal }
 abbrev pub bare_declarations : Declarations → Declarations
 bare_declarations d = record d { list = map bare_declared d.list }
 
-with_signal-bare : (k : _) (at : ℕ) (name : Text) (d : Declarations) → with_signal k 0 name (bare_declarations d) ≡ bare_declarations (with_signal k at name d)
-with_signal-bare k at name d =
-    ap₂ (λ (n : ℕ) (list : List Declared). record d { names = with_name d.names name (entity.Signal n None false); list = list; bits = (with_signal k at name d).bits })
+starting-bare : (k : _) (n : DeclaredName) → starting k (bare_declarator n) ≡ bare_value (starting k n)
+unfolding bare_declarator bare_value
+starting-bare k n = by_kind k.variable
+  where
+    by_kind : (b : Bool) → (if b then bare_value n.value else None) ≡ bare_value (if b then n.value else None)
+    by_kind true = refl
+    by_kind false = refl
+
+starting_nil : (all : Names) (k : _) (n : DeclaredName) → BothNil (start_faults all (starting k n)) (start_faults all (starting k (bare_declarator n)))
+starting_nil all k n = rw (starting-bare k n) (start_nil all (starting k n))
+
+started_as : (all : Names) (k : _) (n : DeclaredName) (w start : ℕ) → start_or all w start (starting k (bare_declarator n)) ≡ start_or all w start (starting k n)
+started_as all k n w start = ap (λ v. start_or all w start v) (starting-bare k n) ∙ start_or-bare all w start (starting k n)
+
+with_signal-bare : (k : _) (n : DeclaredName) (start : ℕ) (d : Declarations) → with_signal k (bare_declarator n) start (bare_declarations d) ≡ bare_declarations (with_signal k n start d)
+unfolding bare_declarator
+with_signal-bare k n start d =
+    ap₂ (λ (m : ℕ) (list : List Declared). record d { names = with_name d.names n.text (entity.Signal m None false); list = list; bits = (with_signal k n start d).bits })
     (length-map d.list bare_declared) (sym (map-append bare_declared d.list _))
 
-declare_new_bare : (bracketed : Names) (k : _) (at : ℕ) (name : Text) (d : Declarations) → Barely bare_declarations (declare_new bracketed k at name d) (declare_new bracketed k 0 name (bare_declarations d))
-unfolding declare_new
-declare_new_bare bracketed k at name d =
-    then_bare bare_declarations bare_declarations
-    (first_fault_or (fault_if (is_some (lookup name d.names)) (NameTwice at) ++ (fault_if (is_port k.port && is_none (lookup name bracketed)) (UnknownName at) ++ width_faults at k.range)) d)
-    (first_fault_or (fault_if (is_some (lookup name d.names)) (NameTwice 0) ++ (fault_if (is_port k.port && is_none (lookup name bracketed)) (UnknownName 0) ++ width_faults 0 k.range)) (bare_declarations d))
-    (counted k at name) (counted k 0 name)
-    (settle_bare bare_declarations (fault_if (is_some (lookup name d.names)) (NameTwice at) ++ (fault_if (is_port k.port && is_none (lookup name bracketed)) (UnknownName at) ++ width_faults at k.range))
-    (fault_if (is_some (lookup name d.names)) (NameTwice 0) ++ (fault_if (is_port k.port && is_none (lookup name bracketed)) (UnknownName 0) ++ width_faults 0 k.range)) d (bare_declarations d)
-    (nil_append (fault_if (is_some (lookup name d.names)) (NameTwice at)) _ (fault_if (is_some (lookup name d.names)) (NameTwice 0)) _ (nil_if (is_some (lookup name d.names)) (NameTwice at) (NameTwice 0))
-    (nil_append (fault_if (is_port k.port && is_none (lookup name bracketed)) (UnknownName at)) _ (fault_if (is_port k.port && is_none (lookup name bracketed)) (UnknownName 0)) _
-    (nil_if (is_port k.port && is_none (lookup name bracketed)) (UnknownName at) (UnknownName 0)) (nil_if _ _ _))) refl)
-    (λ e. settle_bare bare_declarations (fault_if (nat_lt 65536 (e.bits + range_width k.range)) (TooMany FlatBits (e.bits + range_width k.range)))
-    (fault_if (nat_lt 65536 (e.bits + range_width k.range)) (TooMany FlatBits (e.bits + range_width k.range))) (with_signal k at name e) (with_signal k 0 name (bare_declarations e))
-    (nil_if (nat_lt 65536 (e.bits + range_width k.range)) (TooMany FlatBits (e.bits + range_width k.range)) (TooMany FlatBits (e.bits + range_width k.range))) (with_signal-bare k at name e))
+declare_new_bare : (bracketed all : Names) (k : _) (n : DeclaredName) (d : Declarations) → Barely bare_declarations (declare_new bracketed all k n d) (declare_new bracketed all k (bare_declarator n) (bare_declarations d))
+unfolding declare_new bare_declarator
+declare_new_bare bracketed all k n d =
+    let twice : Bool = is_some (lookup n.text d.names) in
+    let stray : Bool = is_port k.port && is_none (lookup n.text bracketed) in
+    let faults : List FlatFault = fault_if twice (NameTwice n.token) ++ (fault_if stray (UnknownName n.token) ++ (width_faults n.token k.range ++ start_faults all (starting k n))) in
+    let others : List FlatFault = fault_if twice (NameTwice 0) ++ (fault_if stray (UnknownName 0) ++ (width_faults 0 k.range ++ start_faults all (starting k (bare_declarator n)))) in
+    let start : ℕ = start_or all (range_width k.range) 0 (starting k n) in
+    let other : ℕ = start_or all (range_width k.range) 0 (starting k (bare_declarator n)) in
+    then_bare bare_declarations bare_declarations (first_fault_or faults d) (first_fault_or others (bare_declarations d)) (counted k n start) (counted k (bare_declarator n) other)
+    (settle_bare bare_declarations faults others d (bare_declarations d)
+    (nil_append (fault_if twice (NameTwice n.token)) _ (fault_if twice (NameTwice 0)) _ (nil_if twice (NameTwice n.token) (NameTwice 0))
+    (nil_append (fault_if stray (UnknownName n.token)) _ (fault_if stray (UnknownName 0)) _ (nil_if stray (UnknownName n.token) (UnknownName 0))
+    (nil_append (width_faults n.token k.range) _ (width_faults 0 k.range) _ (nil_if _ _ _) (starting_nil all k n)))) refl)
+    (λ e.
+    let full : List FlatFault = fault_if (nat_lt 65536 (e.bits + range_width k.range)) (TooMany FlatBits (e.bits + range_width k.range)) in
+    settle_bare bare_declarations full full (with_signal k n start e) (with_signal k (bare_declarator n) other (bare_declarations e)) (nil_if (nat_lt 65536 (e.bits + range_width k.range)) _ _)
+    (ap (λ (m : ℕ). with_signal k (bare_declarator n) m (bare_declarations e)) (started_as all k n (range_width k.range) 0) ∙ with_signal-bare k n start e))
 
 declared_at-bare : (list : List Declared) (place : ℕ) → declared_at (map bare_declared list) place ≡ bare_declared (declared_at list place)
 declared_at-bare [] place = refl
 declared_at-bare (x ∷ xs) zero = refl
 declared_at-bare (x ∷ xs) (suc n) = declared_at-bare xs n
 
-declare_again_bare : (k : _) (at place : ℕ) (d : Declarations) → Barely bare_declarations (declare_again k at place d) (declare_again k 0 place (bare_declarations d))
-unfolding declare_again
-declare_again_bare k at place d =
-    settle_bare bare_declarations (fault_if (not (is_same_range (declared_at d.list place).signal.range k.range)) (BadRange at))
-    (fault_if (not (is_same_range (declared_at (map bare_declared d.list) place).signal.range k.range)) (BadRange 0))
-    (record d { list = set d.list place (redeclared k (declared_at d.list place)) })
-    (record d { list = set (map bare_declared d.list) place (redeclared k (declared_at (map bare_declared d.list) place)) })
-    (rw (declared_at-bare d.list place) (nil_if (not (is_same_range (declared_at d.list place).signal.range k.range)) (BadRange at) (BadRange 0)))
-    (ap (λ (x : Declared). record d { list = set (map bare_declared d.list) place (redeclared k x) }) (declared_at-bare d.list place)
-    ∙ ap (λ (list : List Declared). record d { list = list }) (sym (map-set bare_declared d.list place (redeclared k (declared_at d.list place)))))
+declare_again_bare : (all : Names) (k : _) (n : DeclaredName) (place : ℕ) (d : Declarations) → Barely bare_declarations (declare_again all k n place d) (declare_again all k (bare_declarator n) place (bare_declarations d))
+unfolding declare_again bare_declarator
+declare_again_bare all k n place d =
+    let x : Declared = declared_at d.list place in
+    let made : Declared → Option Tree → Declared = λ y v. redeclared k (start_again all v y) y in
+    let differs : Bool = not (is_same_range x.signal.range k.range) in
+    settle_bare bare_declarations (fault_if differs (BadRange n.token) ++ start_faults all (starting k n))
+    (fault_if (not (is_same_range (declared_at (map bare_declared d.list) place).signal.range k.range)) (BadRange 0) ++ start_faults all (starting k (bare_declarator n)))
+    (record d { list = set d.list place (made x (starting k n)) })
+    (record d { list = set (map bare_declared d.list) place (made (declared_at (map bare_declared d.list) place) (starting k (bare_declarator n))) })
+    (rw (declared_at-bare d.list place) (nil_append (fault_if differs (BadRange n.token)) _ (fault_if differs (BadRange 0)) _ (nil_if differs (BadRange n.token) (BadRange 0)) (starting_nil all k n)))
+    (ap (λ (y : Declared). record d { list = set (map bare_declared d.list) place (made y (starting k (bare_declarator n))) }) (declared_at-bare d.list place)
+    ∙ ap (λ (m : ℕ). record d { list = set (map bare_declared d.list) place (redeclared k m (bare_declared x)) }) (started_as all k n x.signal.width x.signal.start)
+    ∙ ap (λ (list : List Declared). record d { list = list }) (sym (map-set bare_declared d.list place (made x (starting k n)))))
 
 again_place-bare : (o : Option Entity) (list : List Declared) → again_place o (map bare_declared list) ≡ again_place o list
 again_place-bare None list = refl
@@ -220,45 +246,39 @@ again_place-bare (Some (entity.Constant bits signed)) list = refl
 again_place-bare (Some (entity.Signal id range signed)) list = rw (declared_at-bare list id) refl
 again_place-bare (Some entity.Instance) list = refl
 
-declare_at_bare : (bracketed : Names) (k : _) (at : ℕ) (name : Text) (d : Declarations) (o : Option ℕ) → Barely bare_declarations (declare_at bracketed k at name d o) (declare_at bracketed k 0 name (bare_declarations d) o)
-declare_at_bare bracketed k at name d None = declare_new_bare bracketed k at name d
-declare_at_bare bracketed k at name d (Some place) = declare_again_bare k at place d
+declare_at_bare : (bracketed all : Names) (k : _) (n : DeclaredName) (d : Declarations) (o : Option ℕ) → Barely bare_declarations (declare_at bracketed all k n d o) (declare_at bracketed all k (bare_declarator n) (bare_declarations d) o)
+declare_at_bare bracketed all k n d None = declare_new_bare bracketed all k n d
+declare_at_bare bracketed all k n d (Some place) = declare_again_bare all k n place d
 
-declare_bare : (bracketed : Names) (k : _) (at : ℕ) (name : Text) (d : Declarations) → Barely bare_declarations (declare bracketed k at name d) (declare bracketed k 0 name (bare_declarations d))
-unfolding declare
-declare_bare bracketed k at name d = rw (again_place-bare (lookup name d.names) d.list) (declare_at_bare bracketed k at name d (repeated_place k.repeats (again_place (lookup name d.names) d.list)))
+declare_bare : (bracketed all : Names) (k : _) (n : DeclaredName) (d : Declarations) → Barely bare_declarations (declare bracketed all k n d) (declare bracketed all k (bare_declarator n) (bare_declarations d))
+unfolding declare bare_declarator
+declare_bare bracketed all k n d = rw (again_place-bare (lookup n.text d.names) d.list) (declare_at_bare bracketed all k n d (repeated_place k.repeats (again_place (lookup n.text d.names) d.list)))
 
-identifiers_bare : (bracketed : Names) (k : _) (list : List Identifier) (d : Declarations) → Barely bare_declarations (each (declare_identifier bracketed k) list d) (each (declare_identifier bracketed k) (map bare_identifier list) (bare_declarations d))
-unfolding bare_identifier
-identifiers_bare bracketed k list d = each_bare bare_identifier bare_declarations (declare_identifier bracketed k) (declare_identifier bracketed k) (λ i e. declare_bare bracketed k i.token i.text e) list d
+integer_bare : (bracketed all : Names) (i : Identifier) (d : Declarations) → Barely bare_declarations (declare_integer bracketed all i d) (declare_integer bracketed all (bare_identifier i) (bare_declarations d))
+unfolding bare_identifier bare_declarator bare_value
+integer_bare bracketed all i d = declare_bare bracketed all integer_declaration (integer_name i) d
 
-nets_bare : (bracketed : Names) (k : _) (list : List NetIdentifier) (d : Declarations) → Barely bare_declarations (each (declare_net bracketed k) list d) (each (declare_net bracketed k) (map bare_net list) (bare_declarations d))
-unfolding bare_net
-nets_bare bracketed k list d = each_bare bare_net bare_declarations (declare_net bracketed k) (declare_net bracketed k) (λ n e. declare_bare bracketed k n.token n.text e) list d
+names_bare : (bracketed all : Names) (k : Option (ℕ × ℕ) → _) (range : Option Range) (list : List DeclaredName) (d : Declarations)
+    → Barely bare_declarations (and_then (range_in all range) (λ r. each (declare bracketed all (k r)) list d)) (and_then (range_in all (bare_range range)) (λ r. each (declare bracketed all (k r)) (map bare_declarator list) (bare_declarations d)))
+names_bare bracketed all k range list d =
+    then_bare (λ (r : Option (ℕ × ℕ)). r) bare_declarations (range_in all range) (range_in all (bare_range range))
+    (λ r. each (declare bracketed all (k r)) list d) (λ r. each (declare bracketed all (k r)) (map bare_declarator list) (bare_declarations d))
+    (range_bare all range) (λ r. each_bare bare_declarator bare_declarations (declare bracketed all (k r)) (declare bracketed all (k r)) (declare_bare bracketed all (k r)) list d)
 
 ports_bare : (bracketed all : Names) (p : PortDeclaration) (d : Declarations) → Barely bare_declarations (declare_ports bracketed all p d) (declare_ports bracketed all (bare_port p) (bare_declarations d))
 unfolding declare_ports bare_port
-ports_bare bracketed all p d =
-    then_bare (λ (r : Option (ℕ × ℕ)). r) bare_declarations (range_in all p.range) (range_in all (bare_range p.range))
-    (λ range. each (declare_identifier bracketed (port_declaration p range)) p.names d)
-    (λ range. each (declare_identifier bracketed (port_declaration (bare_port p) range)) (map bare_identifier p.names) (bare_declarations d))
-    (range_bare all p.range) (λ range. identifiers_bare bracketed (port_declaration p range) p.names d)
+ports_bare bracketed all p d = names_bare bracketed all (port_declaration p) p.range p.names d
 
 item_bare : (bracketed all : Names) (i : ModuleItem) (d : Declarations) → Barely bare_declarations (declare_item bracketed all i d) (declare_item bracketed all (bare_item i) (bare_declarations d))
 unfolding declare_item bare_item declare_nets declare_variables
 item_bare bracketed all (Ports p) d = ports_bare bracketed all p d
-item_bare bracketed all (Nets signed range list) d =
-    then_bare (λ (r : Option (ℕ × ℕ)). r) bare_declarations (range_in all range) (range_in all (bare_range range))
-    (λ r. each (declare_net bracketed (inner_declaration false signed r)) list d) (λ r. each (declare_net bracketed (inner_declaration false signed r)) (map bare_net list) (bare_declarations d))
-    (range_bare all range) (λ r. nets_bare bracketed (inner_declaration false signed r) list d)
-item_bare bracketed all (Variables signed range list) d =
-    then_bare (λ (r : Option (ℕ × ℕ)). r) bare_declarations (range_in all range) (range_in all (bare_range range))
-    (λ r. each (declare_identifier bracketed (inner_declaration true signed r)) list d) (λ r. each (declare_identifier bracketed (inner_declaration true signed r)) (map bare_identifier list) (bare_declarations d))
-    (range_bare all range) (λ r. identifiers_bare bracketed (inner_declaration true signed r) list d)
-item_bare bracketed all (Integers list) d = identifiers_bare bracketed integer_declaration list d
+item_bare bracketed all (Nets signed range list) d = names_bare bracketed all (inner_declaration false signed) range list d
+item_bare bracketed all (Variables signed range list) d = names_bare bracketed all (inner_declaration true signed) range list d
+item_bare bracketed all (Integers list) d = each_bare bare_identifier bare_declarations (declare_integer bracketed all) (declare_integer bracketed all) (integer_bare bracketed all) list d
 item_bare bracketed all (Parameters p) d = refl
 item_bare bracketed all (Assigns pairs) d = refl
 item_bare bracketed all (Always events body token) d = refl
+item_bare bracketed all (Initial body token) d = refl
 item_bare bracketed all (Instances m token over list) d = refl
 
 declarations_bare : (bracketed all : Names) (m : ModuleDeclaration) (d : Declarations) → Barely bare_declarations (declarations bracketed all m d) (declarations bracketed all (bare_module m) (bare_declarations d))
@@ -288,14 +308,21 @@ gathered : {X : Type 0} (h : X → X) (step other : List Signal → X → List S
 gathered h step other one s [] = refl
 gathered h step other one s (x ∷ xs) = ap (λ (z : List Signal). fold other z (map h xs)) (one s x) ∙ gathered h step other one (step s x) xs
 
-with_port-bare : (d : Declarations) (s : List Signal) (i : Identifier) → with_port (bare_declarations d) (map bare_signal s) (bare_identifier i) ≡ map bare_signal (with_port d s i)
-unfolding with_port bare_identifier
-with_port-bare d s i =
-    ap (λ (z : List Signal). map bare_signal s ++ z) (named-bare d.list (lookup i.text d.names)) ∙ sym (map-append bare_signal s (option_to_list (named_signal d.list (lookup i.text d.names))))
+with_port-bare : (d : Declarations) (s : List Signal) (name : Text) → with_port (bare_declarations d) (map bare_signal s) name ≡ map bare_signal (with_port d s name)
+unfolding with_port
+with_port-bare d s name = ap (λ (z : List Signal). map bare_signal s ++ z) (named-bare d.list (lookup name d.names)) ∙ sym (map-append bare_signal s (option_to_list (named_signal d.list (lookup name d.names))))
+
+with_identifier-bare : (d : Declarations) (s : List Signal) (i : Identifier) → with_identifier (bare_declarations d) (map bare_signal s) (bare_identifier i) ≡ map bare_signal (with_identifier d s i)
+unfolding bare_identifier
+with_identifier-bare d s i = with_port-bare d s i.text
+
+with_declarator-bare : (d : Declarations) (s : List Signal) (n : DeclaredName) → with_declarator (bare_declarations d) (map bare_signal s) (bare_declarator n) ≡ map bare_signal (with_declarator d s n)
+unfolding bare_declarator
+with_declarator-bare d s n = with_port-bare d s n.text
 
 with_ports-bare : (d : Declarations) (s : List Signal) (p : PortDeclaration) → with_ports (bare_declarations d) (map bare_signal s) (bare_port p) ≡ map bare_signal (with_ports d s p)
 unfolding with_ports bare_port
-with_ports-bare d s p = gathered bare_identifier (with_port d) (with_port (bare_declarations d)) (with_port-bare d) s p.names
+with_ports-bare d s p = gathered bare_declarator (with_declarator d) (with_declarator (bare_declarations d)) (with_declarator-bare d) s p.names
 
 with_inner-bare : (s : List Signal) (x : Declared) → with_inner (map bare_signal s) (bare_declared x) ≡ map bare_signal (with_inner s x)
 unfolding with_inner
@@ -309,11 +336,11 @@ signals-bare : (m : ModuleDeclaration) (d : Declarations) → signals_in_order (
 unfolding signals_in_order bare_module
 signals-bare m d =
     ap (λ (z : List Signal). fold with_inner (fold (with_ports (bare_declarations d)) z (map bare_port m.groups)) (map bare_declared d.list))
-    (ap (λ (names : List Identifier). fold (with_port (bare_declarations d)) [] names) (plain_names-bare m.header)
-    ∙ gathered bare_identifier (with_port d) (with_port (bare_declarations d)) (with_port-bare d) [] (plain_names m.header))
+    (ap (λ (names : List Identifier). fold (with_identifier (bare_declarations d)) [] names) (plain_names-bare m.header)
+    ∙ gathered bare_identifier (with_identifier d) (with_identifier (bare_declarations d)) (with_identifier-bare d) [] (plain_names m.header))
     ∙ (ap (λ (z : List Signal). fold with_inner z (map bare_declared d.list))
-    (gathered bare_port (with_ports d) (with_ports (bare_declarations d)) (with_ports-bare d) (fold (with_port d) [] (plain_names m.header)) m.groups)
-    ∙ gathered bare_declared with_inner with_inner with_inner-bare (fold (with_ports d) (fold (with_port d) [] (plain_names m.header)) m.groups) d.list)
+    (gathered bare_port (with_ports d) (with_ports (bare_declarations d)) (with_ports-bare d) (fold (with_identifier d) [] (plain_names m.header)) m.groups)
+    ∙ gathered bare_declared with_inner with_inner with_inner-bare (fold (with_ports d) (fold (with_identifier d) [] (plain_names m.header)) m.groups) d.list)
 
 with_signals-bare : (k : ℕ) (ss : List Signal) (names : Names) → with_signals k (map bare_signal ss) names ≡ with_signals k ss names
 unfolding with_signals

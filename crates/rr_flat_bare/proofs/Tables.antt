@@ -1,13 +1,13 @@
 -- Tables of names without token numbers.
 use Rattle.std.proofs.Common.{◌≡◌, ◌∙◌, ap, ℕ, zero, suc, ◌+◌, Bool, if◌then◌else◌, List, [], ◌∷◌, map, Option, Some, None, refl, fold, is_some, nat_eq}
 use Rattle.std.specs.List.{list_any}
-use Rattle.rr_syntax.specs.Tree.{Identifier, PortDeclaration, ParamAssignment, ParameterDeclaration, ModuleItem, Ports, Nets, Variables, Integers, Parameters, Assigns, Always, Instances, ModuleDeclaration, bare_identifier, bare_port, bare_assignment, bare_parameter, bare_item, bare_header, bare_module}
+use Rattle.rr_syntax.specs.Tree.{Identifier, DeclaredName, PortDeclaration, ParamAssignment, ParameterDeclaration, ModuleItem, Ports, Nets, Variables, Integers, Parameters, Assigns, Always, Initial, Instances, ModuleDeclaration, bare_identifier, bare_declarator, bare_port, bare_assignment, bare_parameter, bare_item, bare_header, bare_module}
 use Rattle.rr_expr.specs.Scopes.{Names, lookup}
 use Rattle.rr_head.specs.Declarations.{plain_names}
 use Rattle.rr_flat.specs.Faults.{fault_if, each}
 use Rattle.rr_flat.specs.Signals.{Text, Signal, signal_at}
 use Rattle.rr_flat.specs.declared.fault.FlatFault.TheVariants.{NameTwice}
-use Rattle.rr_walk.specs.Tables.{add_module, instantiated_by_item, instantiated_by, last_free, add_parameter_name, add_parameter_names, add_item_parameter_names, parameter_table, add_open_name, add_open_names, add_item_open_names, open_names, add_port_name, add_port_names, port_names}
+use Rattle.rr_walk.specs.Tables.{add_module, instantiated_by_item, instantiated_by, last_free, add_parameter_name, add_parameter_names, add_item_parameter_names, parameter_table, add_open_name, add_open_names, add_item_open_names, open_names, add_port_name, add_declarator_name, add_port_names, port_names}
 use Rattle.rr_walk.specs.Walk.{module_at, top_place, top_ports, is_top_port, reached_from}
 use Rattle.rr_flat_bare.specs.Bare.{bare_signal}
 use Rattle.rr_flat_bare.proofs.Folds.{fold_mapped}
@@ -40,6 +40,7 @@ instantiated_by_item-bare names (Integers list) = refl
 instantiated_by_item-bare names (Parameters p) = refl
 instantiated_by_item-bare names (Assigns pairs) = refl
 instantiated_by_item-bare names (Always events body token) = refl
+instantiated_by_item-bare names (Initial body token) = refl
 instantiated_by_item-bare names (Instances m token over list) = refl
 
 instantiated_by-bare : (names : Names) (m : ModuleDeclaration) → instantiated_by names (bare_module m) ≡ instantiated_by names m
@@ -90,6 +91,7 @@ add_item_parameter_names-bare table (Integers list) = refl
 add_item_parameter_names-bare table (Parameters p) = add_parameter_names-bare table p
 add_item_parameter_names-bare table (Assigns pairs) = refl
 add_item_parameter_names-bare table (Always events body token) = refl
+add_item_parameter_names-bare table (Initial body token) = refl
 add_item_parameter_names-bare table (Instances m token over list) = refl
 
 pub parameter_table-bare : (m : ModuleDeclaration) → parameter_table (bare_module m) ≡ parameter_table m
@@ -115,6 +117,7 @@ add_item_open_names-bare names (Integers list) = refl
 add_item_open_names-bare names (Parameters p) = add_open_names-bare names p
 add_item_open_names-bare names (Assigns pairs) = refl
 add_item_open_names-bare names (Always events body token) = refl
+add_item_open_names-bare names (Initial body token) = refl
 add_item_open_names-bare names (Instances m token over list) = refl
 
 pub open_names-bare : (m : ModuleDeclaration) → open_names (bare_module m) ≡ open_names m
@@ -127,9 +130,13 @@ add_port_name-bare : (names : List Text) (i : Identifier) → add_port_name name
 unfolding bare_identifier
 add_port_name-bare names i = refl
 
+add_declarator_name-bare : (names : List Text) (n : DeclaredName) → add_declarator_name names (bare_declarator n) ≡ add_declarator_name names n
+unfolding bare_declarator
+add_declarator_name-bare names n = refl
+
 add_port_names-bare : (names : List Text) (p : PortDeclaration) → add_port_names names (bare_port p) ≡ add_port_names names p
 unfolding add_port_names bare_port
-add_port_names-bare names p = fold_mapped bare_identifier add_port_name add_port_name-bare names p.names
+add_port_names-bare names p = fold_mapped bare_declarator add_declarator_name add_declarator_name-bare names p.names
 
 pub port_names-bare : (m : ModuleDeclaration) → port_names (bare_module m) ≡ port_names m
 unfolding port_names bare_module

@@ -2,7 +2,7 @@
 use Rattle.std.proofs.Common.{◌≡◌, ◌∙◌, sym, ap, ap₂, subst, ℕ, zero, suc, Bool, true, false, not, nat_eq, nat_lt, List, [], ◌∷◌, ◌++◌, length, map, Option, Some, None, Result, Ok, Err, refl, fold, is_some, is_none}
 use Rattle.std.specs.List.{list_any}
 use Rattle.std.proofs.lemmas.List.{map-append, length-map}
-use Rattle.rr_syntax.specs.Tree.{Tree, Trees, End, More, Statement, Statements, Arm, Arms, Null, Block, If, IfElse, Case, Assign, Done, Then, CaseItem, NoArms, MoreArms, NetIdentifier, NetAssignment, EdgeEvent, EventControl, Star, Edges, Levels, NamedConnection, Connections, Positions, Names as Named, ModuleInstance, ModuleItem, Ports, Nets, Variables, Integers, Parameters, Assigns, Always, Instances, ModuleDeclaration, SourceText, bare, bare_parts, bare_statement, bare_statements, bare_arm, bare_arms, bare_value, bare_net, bare_pair, bare_edge, bare_events, bare_connection, bare_connections, bare_overrides, bare_instance, bare_item, bare_module, bare_source}
+use Rattle.rr_syntax.specs.Tree.{Tree, Trees, End, More, Statement, Statements, Arm, Arms, Null, Block, If, IfElse, Case, Assign, Done, Then, CaseItem, NoArms, MoreArms, DeclaredName, NetAssignment, EdgeEvent, EventControl, Star, Edges, Levels, NamedConnection, Connections, Positions, Names as Named, ModuleInstance, ModuleItem, Ports, Nets, Variables, Integers, Parameters, Assigns, Always, Initial, Instances, ModuleDeclaration, SourceText, bare, bare_parts, bare_statement, bare_statements, bare_arm, bare_arms, bare_value, bare_declarator, bare_pair, bare_edge, bare_events, bare_connection, bare_connections, bare_overrides, bare_instance, bare_item, bare_module, bare_source}
 use Rattle.rr_expr.specs.Faults.{fault, first}
 use Rattle.rr_expr.specs.Scopes.{Names, lookup, meant}
 use Rattle.rr_expr.specs.Values.{form}
@@ -14,6 +14,7 @@ use Rattle.rr_flat.specs.declared.fault.Limit.TheVariants.{Instances as Instance
 use Rattle.rr_flat.specs.declared.signal.Port.{Port}
 use Rattle.rr_flat.specs.declared.signal.Port.TheVariants.{Inner, Input, Output}
 use Rattle.rr_flat.specs.Faults.{fault_if, faults_in, first_fault_or, and_then, each}
+use Rattle.rr_starts.specs.Starts.{constant_faults, initial_faults, all_initial_faults, started}
 use Rattle.rr_head.specs.Heads.{Head, head}
 use Rattle.rr_flat.specs.Signals.{Text, Signal, signal_at}
 use Rattle.rr_head.specs.Values.{constant}
@@ -21,11 +22,12 @@ use Rattle.rr_flat.specs.declared.design.Part.TheVariants as part
 use Rattle.rr_flat.specs.Plain.{Side, Written, Whole, Driver, Flat}
 use Rattle.rr_flat.specs.Plain as plain_design
 use Rattle.rr_walk.specs.Tables.{at_place, place_of, add_module, parameter_table, open_names, port_names, name_set}
-use Rattle.rr_walk.specs.Walk.{Walked, Enter, scope_at, module_at, is_useless, edge_faults, edges_faults, event_faults, with_driver, assign, net_driver, net_value, net_with, net, combined, clocked, with_block, always, noted, Checked, with_value, parameter_faults, twice_faults, with_override, check_override, Placed, place_override, check_position, nothing_checked, overrides, value_faults, Connected, check_connection, Joining, place_port, check_port, connections, join_port, join_at, join, join_value, join_named, join_positions, joined, checked, with_instance, instance_of, item, opened, begin, enter_by, enter, nothing, finished, top_place, enter_top, flat_of, top_ports, reached_from}
+use Rattle.rr_walk.specs.Walk.{Walked, Enter, scope_at, module_at, is_useless, edge_faults, edges_faults, event_faults, with_driver, assign, net_driver, net_value, net_with, net, combined, clocked, with_block, always, with_initial, initial, noted, Checked, with_value, parameter_faults, twice_faults, with_override, check_override, Placed, place_override, check_position, nothing_checked, overrides, value_faults, Connected, check_connection, Joining, place_port, check_port, connections, join_port, join_at, join, join_value, join_named, join_positions, joined, checked, with_instance, instance_of, item, opened, begin, enter_by, enter, nothing, finished, top_place, enter_top, flat_of, top_ports, reached_from}
 use Rattle.rr_flat.specs.Shapes.{shape, shape_faults, list_faults, statement_faults, statements_faults, arms_faults, arm_faults}
-use Rattle.rr_flat_bare.specs.Bare.{bare_signal, bare_side, bare_driver, bare_block, bare_flat}
+use Rattle.rr_flat_bare.specs.Bare.{bare_signal, bare_side, bare_driver, bare_block, bare_initial, bare_flat}
 use Rattle.rr_flat_bare.proofs.Results.{Barely, Both, BothNil, nil_append, nil_if, nil_in, nil_answer, both_noted, or_bare, settle_bare, then_bare, each_bare, fold_both, fold_trees_both}
 use Rattle.rr_flat_bare.proofs.Shapes.{first-bare, fault_both}
+use Rattle.rr_flat_bare.proofs.Starts.{constant_nil, started-bare}
 use Rattle.rr_flat_bare.proofs.Heads.{constant_bare, bare_head, head_bare}
 use Rattle.rr_flat_bare.proofs.Tables.{table_bare, module_at-bare, top_place-bare, reached-bare, top_ports-bare, signal_at-bare, parameter_table-bare, open_names-bare, port_names-bare}
 
@@ -65,6 +67,22 @@ mutual
   arms_nil : (names : Names) (arms : Arms) → BothNil (arms_faults names arms) (arms_faults names (bare_arms arms))
   arms_nil names NoArms = tt
   arms_nil names (MoreArms a rest) = nil_append (arm_faults names a) (arms_faults names rest) (arm_faults names (bare_arm a)) (arms_faults names (bare_arms rest)) (arm_nil names a) (arms_nil names rest)
+
+mutual
+  unfolding initial_faults bare_statement
+
+  initial_nil : (names : Names) (t : Statement) → BothNil (initial_faults names t) (initial_faults names (bare_statement t))
+  initial_nil names Null = tt
+  initial_nil names (Block label ts) = initials_nil names ts
+  initial_nil names (If c t) = tt
+  initial_nil names (IfElse c t u) = tt
+  initial_nil names (Case kind on arms) = tt
+  initial_nil names (Assign t now e) = nil_append (shape_faults names t) (constant_faults names e) (shape_faults names (bare t)) (constant_faults names (bare e)) (shape_nil names t) (constant_nil names e)
+
+  initials_nil : (names : Names) (ts : Statements) → BothNil (all_initial_faults names ts) (all_initial_faults names (bare_statements ts))
+  initials_nil names Done = tt
+  initials_nil names (Then t ts) =
+      nil_append (initial_faults names t) (all_initial_faults names ts) (initial_faults names (bare_statement t)) (all_initial_faults names (bare_statements ts)) (initial_nil names t) (initials_nil names ts)
 
 edges_nil : (names : Names) (list : List EdgeEvent) → BothNil (edges_faults names list) (edges_faults names (map bare_edge list))
 unfolding edges_faults bare_edge
@@ -134,8 +152,8 @@ unfolding bare_value
 net_with_bare i at name None w = refl
 net_with_bare i at name (Some t) w = net_value_bare i at name t w
 
-net_bare : (i : ℕ) (n : NetIdentifier) (w : Walked) → Barely bare_walked (net i n w) (net i (bare_net n) (bare_walked w))
-unfolding net bare_net
+net_bare : (i : ℕ) (n : DeclaredName) (w : Walked) → Barely bare_walked (net i n w) (net i (bare_declarator n) (bare_walked w))
+unfolding net bare_declarator
 net_bare i n w = net_with_bare i n.token n.text n.value w
 
 always_bare : (i : ℕ) (events : EventControl) (t : Statement) (at : ℕ) (w : Walked) → Barely bare_walked (always i events t at w) (always i (bare_events events) (bare_statement t) 0 (bare_walked w))
@@ -146,6 +164,19 @@ always_bare i events t at w =
     (nil_append (event_faults (scope_at w i) events) (statement_faults (scope_at w i) t) (event_faults (scope_at w i) (bare_events events)) (statement_faults (scope_at w i) (bare_statement t))
     (events_nil (scope_at w i) events) (statement_nil (scope_at w i) t))
     (block-bare i events t at w)
+
+initial-bare : (i : ℕ) (t : Statement) (at : ℕ) (w : Walked) → with_initial i (bare_statement t) 0 (bare_walked w) ≡ bare_walked (with_initial i t at w)
+unfolding bare_flat
+initial-bare i t at w =
+    ap (λ (starts : List ℕ). record w { flat = record (with_initial i (bare_statement t) 0 (bare_walked w)).flat { starts = starts } }) (started-bare (scope_at w i) t w.flat.starts)
+    ∙ ap₂ (λ (n : ℕ) (xs : List plain_design.Initial). record w { flat = record (bare_flat w.flat) { starts = started (scope_at w i) t w.flat.starts; initials = xs; walk = w.flat.walk ++ part.Initial n ∷ [] } })
+    (length-map w.flat.initials bare_initial) (sym (map-append bare_initial w.flat.initials (record { body = t; scope = i; token = at } ∷ [])))
+
+initial_bare : (i : ℕ) (t : Statement) (at : ℕ) (w : Walked) → Barely bare_walked (initial i t at w) (initial i (bare_statement t) 0 (bare_walked w))
+unfolding initial bare_flat
+initial_bare i t at w =
+    settle_bare bare_walked (initial_faults (scope_at w i) t) (initial_faults (scope_at w i) (bare_statement t)) (with_initial i t at w) (with_initial i (bare_statement t) 0 (bare_walked w))
+    (initial_nil (scope_at w i) t) (initial-bare i t at w)
 
 -- overrides
 
@@ -334,6 +365,10 @@ joined-bare i k m (Named list) w = named-bare i k list w
 
 -- instances
 
+starts-bare : (ss : List Signal) → map (λ (s : Signal). s.start) (map bare_signal ss) ≡ map (λ s. s.start) ss
+starts-bare [] = refl
+starts-bare (s ∷ ss) = ap (λ (ns : List ℕ). s.start ∷ ns) (starts-bare ss)
+
 abbrev pub EnterBare : Enter → Enter → Type 0
 EnterBare sub other = (k : ℕ) (given : Names) (w : Walked) → Barely bare_walked (sub k given w) (other k given (bare_walked w))
 
@@ -357,12 +392,13 @@ module _ (source : List ModuleDeclaration) where
       → Barely bare_walked (item source table above i sub x w) (item (map bare_module source) table above i other (bare_item x) (bare_walked w))
   unfolding item bare_item
   item_bare table above i sub other h (Ports p) w = refl
-  item_bare table above i sub other h (Nets signed range list) w = each_bare bare_net bare_walked (net i) (net i) (net_bare i) list w
+  item_bare table above i sub other h (Nets signed range list) w = each_bare bare_declarator bare_walked (net i) (net i) (net_bare i) list w
   item_bare table above i sub other h (Variables signed range list) w = refl
   item_bare table above i sub other h (Integers list) w = refl
   item_bare table above i sub other h (Parameters p) w = refl
   item_bare table above i sub other h (Assigns pairs) w = each_bare bare_pair bare_walked (assign i) (assign i) (assign_bare i) pairs w
   item_bare table above i sub other h (Always events t at) w = always_bare i events t at w
+  item_bare table above i sub other h (Initial t at) w = initial_bare i t at w
   item_bare table above i sub other h (Instances m at over list) w =
       each_bare bare_instance bare_walked (instance_of source above i sub at over (place_of (lookup m table))) (instance_of (map bare_module source) above i other 0 (bare_overrides over) (place_of (lookup m table)))
       (instance_bare above i sub other h at over (place_of (lookup m table))) list w
@@ -370,7 +406,8 @@ module _ (source : List ModuleDeclaration) where
   opened-bare : (k : ℕ) (h : Head) (w : Walked) → opened k (bare_head h) (bare_walked w) ≡ bare_walked (opened k h w)
   unfolding bare_flat
   opened-bare k h w =
-      ap (λ (ss : List Signal). record { flat = record (bare_flat w.flat) { signals = ss; scopes = w.flat.scopes ++ h.scope ∷ []; owners = w.flat.owners ++ k ∷ [] }; bits = h.bits }) (sym (map-append bare_signal w.flat.signals h.signals))
+      ap₂ (λ (ss : List Signal) (ns : List ℕ). record { flat = record (bare_flat w.flat) { signals = ss; starts = w.flat.starts ++ ns; scopes = w.flat.scopes ++ h.scope ∷ []; owners = w.flat.owners ++ k ∷ [] }; bits = h.bits })
+      (sym (map-append bare_signal w.flat.signals h.signals)) (starts-bare h.signals)
 
   begin_bare : EnterBare (begin source) (begin (map bare_module source))
   unfolding begin bare_flat

@@ -2,7 +2,7 @@
 use Rattle.std.specs.Prelude.{◌≡◌, map, Option, Ok}
 use Rattle.rr_syntax.specs.Tree.{SourceText, bare, bare_statement, bare_edge}
 use Rattle.rr_flat.specs.Signals.{Text, Signal}
-use Rattle.rr_flat.specs.Plain.{Side, Written, Whole, Driver, Block, Flat}
+use Rattle.rr_flat.specs.Plain.{Side, Written, Whole, Driver, Block, Initial, Flat}
 use Rattle.rr_walk.specs.Walk.{flat_of}
 
 abbrev pub bare_signal : Signal → Signal
@@ -18,6 +18,9 @@ bare_driver d = record { target = bare_side d.target; value = bare_side d.value;
 abbrev pub bare_block : Block → Block
 bare_block b = record { body = bare_statement b.body; edges = map bare_edge b.edges; scope = b.scope; token = 0 }
 
+abbrev pub bare_initial : Initial → Initial
+bare_initial i = record { body = bare_statement i.body; scope = i.scope; token = 0 }
+
 -- the same design with every token number 0
 unfoldable pub bare_flat : Flat → Flat
 bare_flat flat = record flat {
@@ -26,6 +29,7 @@ bare_flat flat = record flat {
   drivers = map bare_driver flat.drivers;
   clocked = map bare_block flat.clocked;
   combinational = map bare_block flat.combinational;
+  initials = map bare_initial flat.initials;
 }
 
 -- two designs are equal without token numbers

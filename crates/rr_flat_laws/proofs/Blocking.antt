@@ -4,7 +4,7 @@ use Rattle.std.specs.List.{All, AllByRecursion, filter, flat_map}
 use Rattle.std.proofs.lemmas.Bool.{cases_lt, cases_eq}
 use Rattle.std.proofs.lemmas.List.{append-nil, append_assoc, length-set}
 use Rattle.std.proofs.lemmas.List.Elements.{All-from_recursion}
-use Rattle.rr_syntax.specs.Tree.{Tree, Trees, End, More, Statement, EventControl, Star, Edges, Levels, NetIdentifier, NetAssignment, NamedConnection, Connections, Positions, ModuleInstance, ModuleItem, Ports, Nets, Variables, Integers, Parameters, Assigns, Always, Instances, ModuleDeclaration, SourceText}
+use Rattle.rr_syntax.specs.Tree.{Tree, Trees, End, More, Statement, EventControl, Star, Edges, Levels, DeclaredName, NetAssignment, NamedConnection, Connections, Positions, ModuleInstance, ModuleItem, Ports, Nets, Variables, Integers, Parameters, Assigns, Always, Initial, Instances, ModuleDeclaration, SourceText}
 use Rattle.rr_syntax.specs.Tree.{Names as Named}
 use Rattle.rr_expr.specs.Faults.{first}
 use Rattle.rr_expr.specs.Scopes.{Names, lookup}
@@ -17,14 +17,15 @@ use Rattle.rr_flat.specs.Plain.{Written, Block, Flat}
 use Rattle.rr_flat.specs.Shapes.{shape_faults, statement_faults}
 use Rattle.rr_flat.specs.Signals.{Text, signal_at, with_name}
 use Rattle.rr_walk.specs.Tables.{place_of, port_names}
-use Rattle.rr_walk.specs.Walk.{Walked, Enter, scope_at, module_at, with_driver, with_block, assign, net_driver, net_value, net_with, net, event_faults, always, with_instance, join_port, join_at, join, join_value, join_named, join_positions, joined, instance_of, item, opened, enter_by, enter, nothing, finished, top_place, enter_top, flat_of}
+use Rattle.rr_starts.specs.Starts.{initial_faults}
+use Rattle.rr_walk.specs.Walk.{Walked, Enter, scope_at, module_at, with_driver, with_block, assign, net_driver, net_value, net_with, net, event_faults, always, with_initial, initial, with_instance, join_port, join_at, join, join_value, join_named, join_positions, joined, instance_of, item, opened, enter_by, enter, nothing, finished, top_place, enter_top, flat_of}
 use Rattle.rr_walk.proofs.HeadOf.{ok_is, not_ok, first_ok, all_append, all_weaker}
 use Rattle.rr_flat_laws.specs.Blocks.{at_edges, at_changes, clocked_by, combinational_by, is_block_of, AreBlocks}
 use Rattle.rr_flat_laws.specs.Names.{module_of}
 use Rattle.rr_flat_laws.proofs.Answers.{settled}
 use Rattle.rr_flat_laws.proofs.Driving as driving
 use Rattle.rr_flat_laws.proofs.Driving.{same_numbers, other_numbers, grows_back}
-use Rattle.rr_flat_laws.proofs.Growing.{Same, each_same, assign_same, net_same, always_same, joined_same, began, inside, entered, unknown, Grows, EnterGrows, grows_twice, enter_grows, end_grows}
+use Rattle.rr_flat_laws.proofs.Growing.{Same, each_same, assign_same, net_same, always_same, initial_same, joined_same, began, inside, entered, unknown, Grows, EnterGrows, grows_twice, enter_grows, end_grows}
 use Rattle.rr_flat_laws.proofs.Naming as naming
 use Rattle.rr_flat_laws.proofs.Naming.{Fine, FineWalk, walking, after_top, fine_nothing}
 use Rattle.rr_flat_laws.proofs.Opening.{opened_head}
@@ -60,6 +61,10 @@ assign_still i p w v e =
     still_to w (with_driver (Written p.target i) (Written p.value i) (first p.target) w) v (record { clocked = refl; combinational = refl })
     (settled (shape_faults (scope_at w i) p.target ++ shape_faults (scope_at w i) p.value) (with_driver (Written p.target i) (Written p.value i) (first p.target) w) v e).1
 
+initial_still : (i : ℕ) (s : Statement) (at : ℕ) (w v : Walked) → initial i s at w ≡ Ok v → Still w v
+unfolding initial
+initial_still i s at w v e = still_to w (with_initial i s at w) v (record { clocked = refl; combinational = refl }) (settled (initial_faults (scope_at w i) s) (with_initial i s at w) v e).1
+
 net_driver_still : (i at : ℕ) (t : Tree) (o : Option ℕ) (w : Walked) → Still w (net_driver i at t o w)
 net_driver_still i at t None w = still_here w
 net_driver_still i at t (Some id) w = record { clocked = refl; combinational = refl }
@@ -71,7 +76,7 @@ net_with_still i at name (Some t) w v e =
     still_to w (net_driver i at t (place_of (lookup name (scope_at w i))) w) v (net_driver_still i at t (place_of (lookup name (scope_at w i))) w)
     (settled (shape_faults (scope_at w i) t) (net_driver i at t (place_of (lookup name (scope_at w i))) w) v e).1
 
-net_still : (i : ℕ) (n : NetIdentifier) (w v : Walked) → net i n w ≡ Ok v → Still w v
+net_still : (i : ℕ) (n : DeclaredName) (w v : Walked) → net i n w ≡ Ok v → Still w v
 unfolding net
 net_still i n w v e = net_with_still i n.token n.text n.value w v e
 
@@ -301,6 +306,7 @@ module _ (source : SourceText) (F : Flat) (whole : Fine source.modules F.signals
   made_item above i k sub fs gs s (Parameters p) w t h g e = nothing_made i w t (ok_is w t e)
   made_item above i k sub fs gs s (Assigns pairs) w t h g e = same_made i w t (each_still (assign i) (assign_still i) pairs w t e) (each_same (assign i) (assign_same i) pairs w t e)
   made_item above i k sub fs gs s (Always events body at) w t h g e = made_always i k events body at w t h g e
+  made_item above i k sub fs gs s (Initial body at) w t h g e = same_made i w t (initial_still i body at w t e) (initial_same i body at w t e)
   made_item above i k sub fs gs s (Instances m at over list) w t h g e =
       subst (λ bs. Made i w t bs []) (flat_none list)
       (subst (λ bs. Made i w t (flat_map (λ (x : ModuleInstance). none_of Block) list) bs) (flat_none list)

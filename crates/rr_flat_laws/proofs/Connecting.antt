@@ -3,7 +3,7 @@ use Rattle.std.proofs.Common.{◌≡◌, ◌∙◌, sym, ap, ◌⊎◌, inl, inr
 use Rattle.std.specs.List.{Contains, flat_map}
 use Rattle.std.proofs.lemmas.Bool.{both_ways}
 use Rattle.std.proofs.lemmas.List.{append-nil, append_assoc}
-use Rattle.rr_syntax.specs.Tree.{Tree, Trees, End, More, Identifier, PortDeclaration, NamedConnection, Connections, Positions, ModuleDeclaration}
+use Rattle.rr_syntax.specs.Tree.{Tree, Trees, End, More, Identifier, DeclaredName, PortDeclaration, NamedConnection, Connections, Positions, ModuleDeclaration}
 use Rattle.rr_syntax.specs.Tree.{Names as Named}
 use Rattle.rr_expr.specs.Faults.{first}
 use Rattle.rr_expr.specs.Scopes.{Names, lookup}
@@ -14,10 +14,10 @@ use Rattle.rr_flat.specs.Faults.{fault_if}
 use Rattle.rr_flat.specs.Shapes.{shape_faults}
 use Rattle.rr_flat.specs.Signals.{Text}
 use Rattle.rr_head.specs.Declarations.{plain_names}
-use Rattle.rr_walk.specs.Tables.{add_port_name, add_port_names, port_names, add_text, name_set}
+use Rattle.rr_walk.specs.Tables.{add_port_name, add_declarator_name, add_port_names, port_names, add_text, name_set}
 use Rattle.rr_walk.specs.Walk.{noted, twice_faults, value_faults, fold_trees, Joining, place_port, check_port, Connected, check_connection, connections}
-use Rattle.rr_walk.proofs.Clears.{none_before, none_here}
-use Rattle.rr_flat_laws.specs.Declared.{texts_of, ports_by, ports_of}
+use Rattle.rr_head.proofs.Firsts.{none_before, none_here}
+use Rattle.rr_flat_laws.specs.Declared.{texts_of, names_of, ports_by, ports_of}
 use Rattle.rr_flat_laws.specs.Drivers.{connected_in_order, HavePorts, Fits, connected_value, connected_name, connected}
 use Rattle.rr_flat_laws.proofs.Answers.{not_if}
 use Rattle.rr_flat_laws.proofs.Opening.{plain_is}
@@ -30,11 +30,15 @@ fold_names : (list : List Identifier) (acc : List Text) → fold add_port_name a
 fold_names [] acc = sym (append-nil acc)
 fold_names (i ∷ is) acc = fold_names is (acc ++ i.text ∷ []) ∙ append_assoc acc (i.text ∷ []) (texts_of is)
 
+fold_declarators : (list : List DeclaredName) (acc : List Text) → fold add_declarator_name acc list ≡ acc ++ names_of list
+fold_declarators [] acc = sym (append-nil acc)
+fold_declarators (n ∷ ns) acc = fold_declarators ns (acc ++ n.text ∷ []) ∙ append_assoc acc (n.text ∷ []) (names_of ns)
+
 fold_ports : (groups : List PortDeclaration) (acc : List Text) → fold add_port_names acc groups ≡ acc ++ flat_map ports_by groups
 unfolding add_port_names
 fold_ports [] acc = sym (append-nil acc)
 fold_ports (p ∷ ps) acc =
-    fold_ports ps (fold add_port_name acc p.names) ∙ (ap (λ (z : List Text). z ++ flat_map ports_by ps) (fold_names p.names acc) ∙ append_assoc acc (ports_by p) (flat_map ports_by ps))
+    fold_ports ps (fold add_declarator_name acc p.names) ∙ (ap (λ (z : List Text). z ++ flat_map ports_by ps) (fold_declarators p.names acc) ∙ append_assoc acc (ports_by p) (flat_map ports_by ps))
 
 pub ports_are : (m : ModuleDeclaration) → port_names m ≡ ports_of m
 unfolding port_names

@@ -8,7 +8,7 @@ use Rattle.std.proofs.lemmas.List.Concat.{flat_map_single}
 use Rattle.std.proofs.lemmas.List.Elements.{Contains-append_cases}
 use Rattle.rr_syntax.specs.declared.tree.Dir.{Dir}
 use Rattle.rr_syntax.specs.declared.tree.Dir.TheVariants as dir
-use Rattle.rr_syntax.specs.Tree.{Identifier, NetIdentifier, PortDeclaration, ModuleItem, Ports, Nets, Variables, Integers, Parameters, Assigns, Always, Instances}
+use Rattle.rr_syntax.specs.Tree.{Identifier, DeclaredName, PortDeclaration, ModuleItem, Ports, Nets, Variables, Integers, Parameters, Assigns, Always, Initial, Instances}
 use Rattle.rr_expr.specs.Scopes.{Names, lookup, range_width}
 use Rattle.rr_expr.specs.declared.types.Entity.{Entity}
 use Rattle.rr_expr.specs.declared.types.Entity.TheVariants as entity
@@ -18,11 +18,11 @@ use Rattle.rr_flat.specs.declared.fault.Limit.TheVariants.{FlatBits}
 use Rattle.rr_flat.specs.declared.signal.Port.{Port}
 use Rattle.rr_flat.specs.Faults.{fault_if, first_fault_or, each}
 use Rattle.rr_flat.specs.Signals.{Text, with_name}
-use Rattle.rr_head.specs.Declarations.{Declared, Declarations, is_port, signal_of, with_signal, counted, declare_new, no_declared, declared_at, is_same_range, redeclared, declare_again, again_place, repeated_place, declare_at, declare, declare_identifier, declare_net, port_of, port_declaration, inner_declaration, integer_declaration, declare_ports, declare_nets, declare_variables, declare_item}
+use Rattle.rr_head.specs.Declarations.{Declared, Declarations, is_port, signal_of, with_signal, counted, declare_new, no_declared, declared_at, is_same_range, redeclared, declare_again, again_place, repeated_place, declare_at, declare, declare_integer, integer_name, starting, start_faults, start_or, start_again, port_of, port_declaration, inner_declaration, integer_declaration, declare_ports, declare_nets, declare_variables, declare_item}
 use Rattle.rr_head.specs.Parameters.{width_faults}
 use Rattle.rr_head.specs.Values.{range_in}
 use Rattle.rr_walk.proofs.HeadOf.{ok_is, first_ok}
-use Rattle.rr_flat_laws.specs.Declared.{texts_of, ports_by, declared_by}
+use Rattle.rr_flat_laws.specs.Declared.{texts_of, names_of, ports_by, declared_by}
 use Rattle.rr_flat_laws.proofs.Answers.{nil_left, nil_right, not_if, settled}
 use Rattle.rr_flat_laws.proofs.Texts.{some_is, none_some, nowhere, there_cases, here, later, Distinct, distinct_append, with_stays, with_new, with_cases, is_none_of, there_of, flat_none, none_of}
 
@@ -115,6 +115,7 @@ item_ports (Integers list) = []
 item_ports (Parameters p) = []
 item_ports (Assigns pairs) = []
 item_ports (Always events body token) = []
+item_ports (Initial body token) = []
 item_ports (Instances m token overrides list) = []
 
 -- with their ways
@@ -132,6 +133,7 @@ item_ways (Integers list) = []
 item_ways (Parameters p) = []
 item_ways (Assigns pairs) = []
 item_ways (Always events body token) = []
+item_ways (Initial body token) = []
 item_ways (Instances m token overrides list) = []
 
 -- over the names of the parameters; P is what is true of each name that is declared
@@ -182,26 +184,26 @@ module _ (bracketed params : Names) (P : Text → Type 0) where
   -- One declaration
 
   -- the last one, if it is new
-  lists_more : (k : _) (at : ℕ) (name : Text) (d : Declarations) → Lists d → P name → lookup name d.names ≡ None → (is_port (signal_of d.instance k at name).port ≡ true → is_some (lookup name bracketed) ≡ true) → Lists (with_signal k at name d)
-  lists_more k at name d l p new b =
+  lists_more : (k : _) (own : DeclaredName) (start : ℕ) (d : Declarations) → Lists d → P own.text → lookup own.text d.names ≡ None → (is_port (signal_of d.instance k own start).port ≡ true → is_some (lookup own.text bracketed) ≡ true) → Lists (with_signal k own start d)
+  lists_more k own start d l p new b =
       let e : Entity = entity.Signal (length d.list) None false in
-      let x : Declared = record { signal = signal_of d.instance k at name; again = is_port k.port && not k.variable } in
+      let x : Declared = record { signal = signal_of d.instance k own start; again = is_port k.port && not k.variable } in
       record {
-        kept = λ n y h. with_stays d.names name n y e (l.kept n y h);
-        placed = one_more (λ i y. lookup y.signal.name (with_name d.names name e) ≡ Some (entity.Signal i None false)) d.list x
-            (λ i m. with_stays d.names name (declared_at d.list i).signal.name (entity.Signal i None false) e (l.placed i m)) (with_new d.names name e new);
-        named = λ n id range signed h. named_by n id range signed (with_cases d.names n name (entity.Signal id range signed) e h);
+        kept = λ n y h. with_stays d.names own.text n y e (l.kept n y h);
+        placed = one_more (λ i y. lookup y.signal.name (with_name d.names own.text e) ≡ Some (entity.Signal i None false)) d.list x
+            (λ i m. with_stays d.names own.text (declared_at d.list i).signal.name (entity.Signal i None false) e (l.placed i m)) (with_new d.names own.text e new);
+        named = λ n id range signed h. named_by n id range signed (with_cases d.names n own.text (entity.Signal id range signed) e h);
         true_of = one_more (λ i y. P y.signal.name) d.list x l.true_of p;
         ported = one_more (λ i y. is_port y.signal.port ≡ true → is_some (lookup y.signal.name bracketed) ≡ true) d.list x l.ported b;
       }
     where
       x : Declared
-      x = record { signal = signal_of d.instance k at name; again = is_port k.port && not k.variable }
+      x = record { signal = signal_of d.instance k own start; again = is_port k.port && not k.variable }
 
       same_id : (id place : ℕ) (range : Option (ℕ × ℕ)) (signed : Bool) → entity.Signal id range signed ≡ entity.Signal place None false → id ≡ place
       same_id id place range signed e = cc
 
-      named_by : (n : Text) (id : ℕ) (range : Option (ℕ × ℕ)) (signed : Bool) → (lookup n d.names ≡ Some (entity.Signal id range signed)) ⊎ ((n ≡ name) × (entity.Signal id range signed ≡ entity.Signal (length d.list) None false)) →
+      named_by : (n : Text) (id : ℕ) (range : Option (ℕ × ℕ)) (signed : Bool) → (lookup n d.names ≡ Some (entity.Signal id range signed)) ⊎ ((n ≡ own.text) × (entity.Signal id range signed ≡ entity.Signal (length d.list) None false)) →
           (id < length (d.list ++ x ∷ [])) × ((declared_at (d.list ++ x ∷ []) id).signal.name ≡ n)
       named_by n id range signed (inl a) =
           let q = l.named n id range signed a in
@@ -210,11 +212,11 @@ module _ (bracketed params : Names) (P : Text → Type 0) where
           let s : id ≡ length d.list = same_id id (length d.list) range signed c.1 in
           (omega (arith, s, length-append d.list (x ∷ [])), ap (λ (y : Declared). y.signal.name) (last_there d.list x id s) ∙ sym c.0)
 
-  longer_more : (k : _) (at : ℕ) (name : Text) (d : Declarations) → Longer d (with_signal k at name d)
-  longer_more k at name d = record {
-    found = λ n y h. with_stays d.names name n y (entity.Signal (length d.list) None false) h;
-    long = omega (arith, length-append d.list (record { signal = signal_of d.instance k at name; again = is_port k.port && not k.variable } ∷ []));
-    port = λ p m. ap (λ (y : Declared). y.signal.port) (get_or_append_left d.list (record { signal = signal_of d.instance k at name; again = is_port k.port && not k.variable } ∷ []) no_declared p m);
+  longer_more : (k : _) (own : DeclaredName) (start : ℕ) (d : Declarations) → Longer d (with_signal k own start d)
+  longer_more k own start d = record {
+    found = λ n y h. with_stays d.names own.text n y (entity.Signal (length d.list) None false) h;
+    long = omega (arith, length-append d.list (record { signal = signal_of d.instance k own start; again = is_port k.port && not k.variable } ∷ []));
+    port = λ p m. ap (λ (y : Declared). y.signal.port) (get_or_append_left d.list (record { signal = signal_of d.instance k own start; again = is_port k.port && not k.variable } ∷ []) no_declared p m);
   }
 
   -- what a step says of its name
@@ -230,27 +232,27 @@ module _ (bracketed params : Names) (P : Text → Type 0) where
   port_checked true c h e = h
   port_checked false c h e = absurd (both_ways false refl e)
 
-  one_new : (k : _) (at : ℕ) (name : Text) (d t : Declarations) → Lists d → P name → declare_new bracketed k at name d ≡ Ok t → One k.repeats k.port name d t
+  one_new : (seen : Names) (k : _) (own : DeclaredName) (d t : Declarations) → Lists d → P own.text → declare_new bracketed seen k own d ≡ Ok t → One k.repeats k.port own.text d t
   unfolding declare_new
-  one_new k at name d t l p e =
-      let fs : List FlatFault = fault_if (is_some (lookup name d.names)) (NameTwice at) in
-      let gs : List FlatFault = fault_if (is_port k.port && is_none (lookup name bracketed)) (UnknownName at) in
-      let r = first_ok (first_fault_or (fs ++ (gs ++ width_faults at k.range)) d) (counted k at name) t e in
-      let s = settled (fs ++ (gs ++ width_faults at k.range)) d r.0 r.1.0 in
-      let c : counted k at name d ≡ Ok t = subst (λ (z : Declarations). counted k at name z ≡ Ok t) (sym s.1) r.1.1 in
-      let u = settled (fault_if (nat_lt 65536 (d.bits + range_width k.range)) (TooMany FlatBits (d.bits + range_width k.range))) (with_signal k at name d) t c in
-      let new : lookup name d.names ≡ None = is_none_of (lookup name d.names) (not_if (is_some (lookup name d.names)) (NameTwice at) (nil_left fs (gs ++ width_faults at k.range) s.0)) in
-      let b : is_port k.port ≡ true → is_some (lookup name bracketed) ≡ true =
-      λ h. there_of (lookup name bracketed) (port_checked (is_port k.port) (is_none (lookup name bracketed)) (not_if (is_port k.port && is_none (lookup name bracketed)) (UnknownName at) (nil_left gs (width_faults at k.range) (nil_right fs (gs ++ width_faults at k.range) s.0))) h) in
-      subst (One k.repeats k.port name d) u.1 (made new b)
+  one_new seen k own d t l p e =
+      let fs : List FlatFault = fault_if (is_some (lookup own.text d.names)) (NameTwice own.token) in
+      let gs : List FlatFault = fault_if (is_port k.port && is_none (lookup own.text bracketed)) (UnknownName own.token) in
+      let r = first_ok (first_fault_or (fs ++ (gs ++ (width_faults own.token k.range ++ start_faults seen (starting k own)))) d) (counted k own (start_or seen (range_width k.range) 0 (starting k own))) t e in
+      let s = settled (fs ++ (gs ++ (width_faults own.token k.range ++ start_faults seen (starting k own)))) d r.0 r.1.0 in
+      let c : counted k own (start_or seen (range_width k.range) 0 (starting k own)) d ≡ Ok t = subst (λ (z : Declarations). counted k own (start_or seen (range_width k.range) 0 (starting k own)) z ≡ Ok t) (sym s.1) r.1.1 in
+      let u = settled (fault_if (nat_lt 65536 (d.bits + range_width k.range)) (TooMany FlatBits (d.bits + range_width k.range))) (with_signal k own (start_or seen (range_width k.range) 0 (starting k own)) d) t c in
+      let new : lookup own.text d.names ≡ None = is_none_of (lookup own.text d.names) (not_if (is_some (lookup own.text d.names)) (NameTwice own.token) (nil_left fs (gs ++ (width_faults own.token k.range ++ start_faults seen (starting k own))) s.0)) in
+      let b : is_port k.port ≡ true → is_some (lookup own.text bracketed) ≡ true =
+      λ h. there_of (lookup own.text bracketed) (port_checked (is_port k.port) (is_none (lookup own.text bracketed)) (not_if (is_port k.port && is_none (lookup own.text bracketed)) (UnknownName own.token) (nil_left gs ((width_faults own.token k.range ++ start_faults seen (starting k own))) (nil_right fs (gs ++ (width_faults own.token k.range ++ start_faults seen (starting k own))) s.0))) h) in
+      subst (One k.repeats k.port own.text d) u.1 (made new b)
     where
-      made : lookup name d.names ≡ None → (is_port k.port ≡ true → is_some (lookup name bracketed) ≡ true) → One k.repeats k.port name d (with_signal k at name d)
+      made : lookup own.text d.names ≡ None → (is_port k.port ≡ true → is_some (lookup own.text bracketed) ≡ true) → One k.repeats k.port own.text d (with_signal k own (start_or seen (range_width k.range) 0 (starting k own)) d)
       made new b =
-          let x : Declared = record { signal = signal_of d.instance k at name; again = is_port k.port && not k.variable } in
-          let f : lookup name (with_name d.names name (entity.Signal (length d.list) None false)) ≡ Some (entity.Signal (length d.list) None false) = with_new d.names name (entity.Signal (length d.list) None false) new in
+          let x : Declared = record { signal = signal_of d.instance k own (start_or seen (range_width k.range) 0 (starting k own)); again = is_port k.port && not k.variable } in
+          let f : lookup own.text (with_name d.names own.text (entity.Signal (length d.list) None false)) ≡ Some (entity.Signal (length d.list) None false) = with_new d.names own.text (entity.Signal (length d.list) None false) new in
           record {
-            lists = lists_more k at name d l p new b;
-            longer = longer_more k at name d;
+            lists = lists_more k own (start_or seen (range_width k.range) 0 (starting k own)) d l p new b;
+            longer = longer_more k own (start_or seen (range_width k.range) 0 (starting k own)) d;
             has = record { place = length d.list; found = f };
             port = λ r h. record {
               place = length d.list;
@@ -267,15 +269,15 @@ module _ (bracketed params : Names) (P : Text → Type 0) where
             new = λ r. new;
           }
 
-  one_again : (k : _) (at place : ℕ) (name : Text) (d t : Declarations) → Lists d → declare_again k at place d ≡ Ok t → k.repeats ≡ true → lookup name d.names ≡ Some (entity.Signal place None false) → One k.repeats k.port name d t
+  one_again : (seen : Names) (k : _) (own : DeclaredName) (place : ℕ) (d t : Declarations) → Lists d → declare_again seen k own place d ≡ Ok t → k.repeats ≡ true → lookup own.text d.names ≡ Some (entity.Signal place None false) → One k.repeats k.port own.text d t
   unfolding declare_again
-  one_again k at place name d t l e r f =
-      subst (One k.repeats k.port name d) (settled (fault_if (not (is_same_range (declared_at d.list place).signal.range k.range)) (BadRange at)) (record d { list = slice_set d.list place (redeclared k (declared_at d.list place)) }) t e).1 made
+  one_again seen k own place d t l e r f =
+      subst (One k.repeats k.port own.text d) (settled (fault_if (not (is_same_range (declared_at d.list place).signal.range k.range)) (BadRange own.token) ++ start_faults seen (starting k own)) (record d { list = slice_set d.list place (redeclared k (start_again seen (starting k own) (declared_at d.list place)) (declared_at d.list place)) }) t e).1 made
     where
       x : Declared
-      x = redeclared k (declared_at d.list place)
+      x = redeclared k (start_again seen (starting k own) (declared_at d.list place)) (declared_at d.list place)
 
-      made : One k.repeats k.port name d (record d { list = slice_set d.list place (redeclared k (declared_at d.list place)) })
+      made : One k.repeats k.port own.text d (record d { list = slice_set d.list place (redeclared k (start_again seen (starting k own) (declared_at d.list place)) (declared_at d.list place)) })
       made = record {
         lists = record {
           kept = l.kept;
@@ -318,48 +320,48 @@ module _ (bracketed params : Names) (P : Text → Type 0) where
       let q = l.named name place range signed h in
       subst (λ (n : Text). lookup n d.names ≡ Some (entity.Signal place None false)) q.1 (l.placed place q.0)
 
-  one_at : (k : _) (at : ℕ) (name : Text) (d t : Declarations) → Lists d → P name → (o : Option ℕ) → declare_at bracketed k at name d o ≡ Ok t → repeated_place k.repeats (again_place (lookup name d.names) d.list) ≡ o → One k.repeats k.port name d t
-  one_at k at name d t l p None e q = one_new k at name d t l p e
-  one_at k at name d t l p (Some place) e q =
-      let f = from_place k.repeats (lookup name d.names) d.list place q in
-      one_again k at place name d t l e f.0 (plain_found d name place f.1.0 f.1.1.0 l f.1.1.1)
+  one_at : (seen : Names) (k : _) (own : DeclaredName) (d t : Declarations) → Lists d → P own.text → (o : Option ℕ) → declare_at bracketed seen k own d o ≡ Ok t → repeated_place k.repeats (again_place (lookup own.text d.names) d.list) ≡ o → One k.repeats k.port own.text d t
+  one_at seen k own d t l p None e q = one_new seen k own d t l p e
+  one_at seen k own d t l p (Some place) e q =
+      let f = from_place k.repeats (lookup own.text d.names) d.list place q in
+      one_again seen k own place d t l e f.0 (plain_found d own.text place f.1.0 f.1.1.0 l f.1.1.1)
 
-  one : (k : _) (at : ℕ) (name : Text) (d t : Declarations) → Lists d → P name → declare bracketed k at name d ≡ Ok t → One k.repeats k.port name d t
+  one : (seen : Names) (k : _) (own : DeclaredName) (d t : Declarations) → Lists d → P own.text → declare bracketed seen k own d ≡ Ok t → One k.repeats k.port own.text d t
   unfolding declare
-  one k at name d t l p e = one_at k at name d t l p (repeated_place k.repeats (again_place (lookup name d.names) d.list)) e refl
+  one seen k own d t l p e = one_at seen k own d t l p (repeated_place k.repeats (again_place (lookup own.text d.names) d.list)) e refl
 
   -- a net or a variable, and a port
-  done_inner : (k : _) (at : ℕ) (name : Text) (d t : Declarations) → Lists d → P name → declare bracketed k at name d ≡ Ok t → Done (name ∷ []) [] [] d t
-  done_inner k at name d t l p e =
-      let o = one k at name d t l p e in
+  done_inner : (seen : Names) (k : _) (own : DeclaredName) (d t : Declarations) → Lists d → P own.text → declare bracketed seen k own d ≡ Ok t → Done (own.text ∷ []) [] [] d t
+  done_inner seen k own d t l p e =
+      let o = one seen k own d t l p e in
       record {
         lists = o.lists;
         longer = o.longer;
-        has = λ n c. by n (there_cases name [] n c) o.has;
+        has = λ n c. by n (there_cases own.text [] n c) o.has;
         port = λ n c. absurd (nowhere n c);
         way = λ n w c. absurd (nowhere (n, w) c);
         new = λ n c. absurd (nowhere n c);
         apart = tt;
       }
     where
-      by : (n : Text) → (name ≡ n) ⊎ Contains [] n → Has t name → Has t n
+      by : (n : Text) → (own.text ≡ n) ⊎ Contains [] n → Has t own.text → Has t n
       by n (inl q) h = subst (Has t) q h
       by n (inr c) h = absurd (nowhere n c)
 
-  done_port : (k : _) (at : ℕ) (name : Text) (d t : Declarations) → Lists d → P name → declare bracketed k at name d ≡ Ok t → k.repeats ≡ false → is_port k.port ≡ true → Done (name ∷ []) (name ∷ []) ((name, k.port) ∷ []) d t
-  done_port k at name d t l p e r i =
-      let o = one k at name d t l p e in
+  done_port : (seen : Names) (k : _) (own : DeclaredName) (d t : Declarations) → Lists d → P own.text → declare bracketed seen k own d ≡ Ok t → k.repeats ≡ false → is_port k.port ≡ true → Done (own.text ∷ []) (own.text ∷ []) ((own.text, k.port) ∷ []) d t
+  done_port seen k own d t l p e r i =
+      let o = one seen k own d t l p e in
       record {
         lists = o.lists;
         longer = o.longer;
-        has = λ n c. by (Has t) n (there_cases name [] n c) o.has;
-        port = λ n c. by (HasPort t) n (there_cases name [] n c) (o.port r i);
-        way = λ n w c. elim (there_cases (name, k.port) [] (n, w) c) [ inl q ↦ subst (λ (z : Text × Port). HasWay t z.0 z.1) q (o.way r) | inr z ↦ absurd (nowhere (n, w) z) ];
-        new = λ n c. by (λ m. lookup m d.names ≡ None) n (there_cases name [] n c) (o.new r);
-        apart = (λ c. nowhere name c, tt);
+        has = λ n c. by (Has t) n (there_cases own.text [] n c) o.has;
+        port = λ n c. by (HasPort t) n (there_cases own.text [] n c) (o.port r i);
+        way = λ n w c. elim (there_cases (own.text, k.port) [] (n, w) c) [ inl q ↦ subst (λ (z : Text × Port). HasWay t z.0 z.1) q (o.way r) | inr z ↦ absurd (nowhere (n, w) z) ];
+        new = λ n c. by (λ m. lookup m d.names ≡ None) n (there_cases own.text [] n c) (o.new r);
+        apart = (λ c. nowhere own.text c, tt);
       }
     where
-      by : (Q : Text → Type 0) (n : Text) → (name ≡ n) ⊎ Contains [] n → Q name → Q n
+      by : (Q : Text → Type 0) (n : Text) → (own.text ≡ n) ⊎ Contains [] n → Q own.text → Q n
       by Q n (inl q) h = subst Q q h
       by Q n (inr c) h = absurd (nowhere n c)
 
@@ -399,32 +401,33 @@ module _ (bracketed params : Names) (P : Text → Type 0) where
   port_is dir.OutputWire = refl
   port_is dir.OutputReg = refl
 
-  ways_are : (way : Port) (list : List Identifier) → map (λ (i : Identifier). with_way way i.text) list ≡ map (with_way way) (texts_of list)
+  ways_are : (way : Port) (list : List DeclaredName) → map (λ (i : DeclaredName). with_way way i.text) list ≡ map (with_way way) (names_of list)
   ways_are way [] = refl
   ways_are way (i ∷ is) = ap (λ (z : List (Text × Port)). (i.text, way) ∷ z) (ways_are way is)
 
   pub done_ports : (seen : Names) (p : PortDeclaration) (d t : Declarations) → Lists d → ((n : Text) → Contains (ports_by p) n → P n) → declare_ports bracketed seen p d ≡ Ok t → Done (ports_by p) (ports_by p) (ways_by p) d t
   unfolding declare_ports
   done_ports seen p d t l h e =
-      let r = first_ok (range_in seen p.range) (λ range. each (declare_identifier bracketed (port_declaration p range)) p.names d) t e in
+      let r = first_ok (range_in seen p.range) (λ range. each (declare bracketed seen (port_declaration p range)) p.names d) t e in
       let k = port_declaration p r.0 in
-      let o = each_done (λ i. i.text ∷ []) (λ i. i.text ∷ []) (λ i. with_way (port_of p.dir) i.text ∷ []) (declare_identifier bracketed k) (λ i s u m q g. done_port k i.token i.text s u m (q i.text (here i.text [])) g refl (port_is p.dir)) p.names d t l
-      (each_of (λ (i : Identifier). i.text) p.names h) r.1.1 in
-      subst (λ ws. Done (ports_by p) (ports_by p) ws d t) (flat_map_single (λ (i : Identifier). with_way (port_of p.dir) i.text) p.names ∙ ways_are (port_of p.dir) p.names)
-      (subst (λ ns. Done ns ns (flat_map (λ (i : Identifier). with_way (port_of p.dir) i.text ∷ []) p.names) d t) (flat_map_single (λ (i : Identifier). i.text) p.names) o)
+      let o = each_done (λ i. i.text ∷ []) (λ i. i.text ∷ []) (λ i. with_way (port_of p.dir) i.text ∷ []) (declare bracketed seen k) (λ i s u m q g. done_port seen k i s u m (q i.text (here i.text [])) g refl (port_is p.dir)) p.names d t l
+      (each_of (λ (i : DeclaredName). i.text) p.names h) r.1.1 in
+      subst (λ ws. Done (ports_by p) (ports_by p) ws d t) (flat_map_single (λ (i : DeclaredName). with_way (port_of p.dir) i.text) p.names ∙ ways_are (port_of p.dir) p.names)
+      (subst (λ ns. Done ns ns (flat_map (λ (i : DeclaredName). with_way (port_of p.dir) i.text ∷ []) p.names) d t) (flat_map_single (λ (i : DeclaredName). i.text) p.names) o)
 
   pub done_item : (seen : Names) (x : ModuleItem) (d t : Declarations) → Lists d → ((n : Text) → Contains (declared_by x) n → P n) → declare_item bracketed seen x d ≡ Ok t → Done (declared_by x) (item_ports x) (item_ways x) d t
   unfolding declare_item declare_nets declare_variables
   done_item seen (Ports p) d t l h e = done_ports seen p d t l h e
   done_item seen (Nets signed range list) d t l h e =
-      let r = first_ok (range_in seen range) (λ q. each (declare_net bracketed (inner_declaration false signed q)) list d) t e in
-      done_inners (λ (n : NetIdentifier). n.text) (declare_net bracketed (inner_declaration false signed r.0)) (λ n s u m q g. done_inner (inner_declaration false signed r.0) n.token n.text s u m q g) list d t l h r.1.1
+      let r = first_ok (range_in seen range) (λ q. each (declare bracketed seen (inner_declaration false signed q)) list d) t e in
+      done_inners (λ (n : DeclaredName). n.text) (declare bracketed seen (inner_declaration false signed r.0)) (λ n s u m q g. done_inner seen (inner_declaration false signed r.0) n s u m q g) list d t l h r.1.1
   done_item seen (Variables signed range list) d t l h e =
-      let r = first_ok (range_in seen range) (λ q. each (declare_identifier bracketed (inner_declaration true signed q)) list d) t e in
-      done_inners (λ (n : Identifier). n.text) (declare_identifier bracketed (inner_declaration true signed r.0)) (λ n s u m q g. done_inner (inner_declaration true signed r.0) n.token n.text s u m q g) list d t l h r.1.1
+      let r = first_ok (range_in seen range) (λ q. each (declare bracketed seen (inner_declaration true signed q)) list d) t e in
+      done_inners (λ (n : DeclaredName). n.text) (declare bracketed seen (inner_declaration true signed r.0)) (λ n s u m q g. done_inner seen (inner_declaration true signed r.0) n s u m q g) list d t l h r.1.1
   done_item seen (Integers list) d t l h e =
-      done_inners (λ (n : Identifier). n.text) (declare_identifier bracketed integer_declaration) (λ n s u m q g. done_inner integer_declaration n.token n.text s u m q g) list d t l h e
+      done_inners (λ (n : Identifier). n.text) (declare_integer bracketed seen) (λ n s u m q g. done_inner seen integer_declaration (integer_name n) s u m q g) list d t l h e
   done_item seen (Parameters p) d t l h e = subst (Done [] [] [] d) (ok_is d t e) (done_none d l)
   done_item seen (Assigns pairs) d t l h e = subst (Done [] [] [] d) (ok_is d t e) (done_none d l)
   done_item seen (Always events body token) d t l h e = subst (Done [] [] [] d) (ok_is d t e) (done_none d l)
+  done_item seen (Initial body token) d t l h e = subst (Done [] [] [] d) (ok_is d t e) (done_none d l)
   done_item seen (Instances m token overrides list) d t l h e = subst (Done [] [] [] d) (ok_is d t e) (done_none d l)

@@ -6,7 +6,7 @@ use Rattle.std.proofs.lemmas.Bool.{cases_lt, cases_eq, eq-eqb, ne_eqb, and_left,
 use Rattle.std.proofs.lemmas.List.{get_or_append_left, append-nil, append_assoc, map-append, length-set}
 use Rattle.std.proofs.lemmas.List.Concat.{flat_map_single, flat_map-append}
 use Rattle.std.proofs.lemmas.List.Elements.{Contains-append_left, Contains-append_right}
-use Rattle.rr_syntax.specs.Tree.{Tree, Trees, End, More, NetIdentifier, NetAssignment, NamedConnection, Connections, Positions, ModuleInstance, ModuleItem, Ports, Nets, Variables, Integers, Parameters, Assigns, Always, Instances, ModuleDeclaration, SourceText}
+use Rattle.rr_syntax.specs.Tree.{Tree, Trees, End, More, DeclaredName, NetAssignment, NamedConnection, Connections, Positions, ModuleInstance, ModuleItem, Ports, Nets, Variables, Integers, Parameters, Assigns, Always, Initial, Instances, ModuleDeclaration, SourceText}
 use Rattle.rr_syntax.specs.Tree.{Names as Named}
 use Rattle.rr_expr.specs.Faults.{first}
 use Rattle.rr_expr.specs.Scopes.{Names, lookup}
@@ -31,7 +31,7 @@ use Rattle.rr_flat_laws.specs.Hierarchy.{IsDue}
 use Rattle.rr_flat_laws.specs.Names.{module_of}
 use Rattle.rr_flat_laws.proofs.Answers.{settled}
 use Rattle.rr_flat_laws.proofs.Connecting.{Connects, connects, ports_are}
-use Rattle.rr_flat_laws.proofs.Growing.{Same, assign_same, net_same, always_same, unknown, always_drivers, join_same, join_value_same, joined_same, began, inside, entered, Grows, grows_here, grows_twice, same_grows, EnterGrows, instance_grows, item_grows, enter_grows}
+use Rattle.rr_flat_laws.proofs.Growing.{Same, assign_same, net_same, always_same, initial_same, unknown, always_drivers, initial_drivers, join_same, join_value_same, joined_same, began, inside, entered, Grows, grows_here, grows_twice, same_grows, EnterGrows, instance_grows, item_grows, enter_grows}
 use Rattle.rr_flat_laws.proofs.Naming as naming
 use Rattle.rr_flat_laws.proofs.Naming.{Fine, FineWalk, Is, named_found}
 use Rattle.rr_flat_laws.proofs.Opening.{opened_head}
@@ -285,7 +285,7 @@ module _ (source : SourceText) (F : Flat) (whole : Fine source.modules F.signals
       let a = at_end i k w h (grows_back w t F (assign_same i p w t e) g) in
       made_one i w t (driver_of_pair i p) h.there a.0 (within_pair i p) (ap (λ (u : Walked). u.flat.drivers) (sym s.1)) (ap (λ (u : Walked). length u.flat.scopes) (sym s.1))
 
-  made_net : (i k : ℕ) (n : NetIdentifier) (w t : Walked) → Declares (module_at ms k) n.text → Here i k w → Grows t.flat F → net i n w ≡ Ok t → Made i w t (driver_of_net F i n) []
+  made_net : (i k : ℕ) (n : DeclaredName) (w t : Walked) → Declares (module_at ms k) n.text → Here i k w → Grows t.flat F → net i n w ≡ Ok t → Made i w t (driver_of_net F i n) []
   unfolding net net_value
   made_net i k n w t c h g e = by n.value e
     where
@@ -581,9 +581,9 @@ module _ (source : SourceText) (F : Flat) (whole : Fine source.modules F.signals
   made_item above i k sub fs gs s (Ports p) w t c h g e = nothing_made i w t (ok_is w t e)
   made_item above i k sub fs gs s (Nets signed range list) w t c h g e =
       subst (λ kids. Made i w t (flat_map (driver_of_net F i) list) kids) (flat_none list)
-      (made_each (λ (n : NetIdentifier). Declares (module_at ms k) n.text) (driver_of_net F i) (λ (n : NetIdentifier). none_of Child) i k (net i) (λ n a b p q. let z = net_same i n a b q in (here_same i k a b z p, same_grows a b z))
+      (made_each (λ (n : DeclaredName). Declares (module_at ms k) n.text) (driver_of_net F i) (λ (n : DeclaredName). none_of Child) i k (net i) (λ n a b p q. let z = net_same i n a b q in (here_same i k a b z p, same_grows a b z))
       (λ n a b d p u q. made_net i k n a b d p u q) list w t
-      (all_in (λ (n : NetIdentifier). Declares (module_at ms k) n.text) list (λ n q. inr (Nets signed range list, (c, in_map (λ (z : NetIdentifier). z.text) list n q)))) h g e)
+      (all_in (λ (n : DeclaredName). Declares (module_at ms k) n.text) list (λ n q. inr (Nets signed range list, (c, in_map (λ (z : DeclaredName). z.text) list n q)))) h g e)
   made_item above i k sub fs gs s (Variables signed range list) w t c h g e = nothing_made i w t (ok_is w t e)
   made_item above i k sub fs gs s (Integers list) w t c h g e = nothing_made i w t (ok_is w t e)
   made_item above i k sub fs gs s (Parameters p) w t c h g e = nothing_made i w t (ok_is w t e)
@@ -594,6 +594,8 @@ module _ (source : SourceText) (F : Flat) (whole : Fine source.modules F.signals
       (λ n a b d p u q. made_assign i k n a b p u q) pairs w t (all_in (λ (p : NetAssignment). Unit {0}) pairs (λ p q. tt)) h g e))
   made_item above i k sub fs gs s (Always events body at) w t c h g e =
       made_none i w t (always_drivers i events body at w t e) (ap (λ (ns : List Names). length ns) (sym (always_same i events body at w t e).scopes))
+  made_item above i k sub fs gs s (Initial body at) w t c h g e =
+      made_none i w t (initial_drivers i body at w t e) (ap (λ (ns : List Names). length ns) (sym (initial_same i body at w t e).scopes))
   made_item above i k sub fs gs s (Instances m at over list) w t c h g e =
       subst (λ ds. Made i w t ds (map (child_of i m) list)) (flat_none list)
       (subst (λ kids. Made i w t (flat_map (λ (x : ModuleInstance). none_of Driver) list) kids) (flat_map_single (child_of i m) list)

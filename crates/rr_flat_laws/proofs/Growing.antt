@@ -1,7 +1,7 @@
 -- A walk that goes on: steps that add drivers and blocks alone, and steps that add instances.
 use Rattle.std.proofs.Common.{◌≡◌, ◌∙◌, sym, ap, ℕ, zero, suc, List, [], ◌∷◌, ◌++◌, length, Option, Some, None, Result, Ok, refl, subst, fold, not, nat_lt}
 use Rattle.std.proofs.lemmas.List.{append-nil, append_assoc}
-use Rattle.rr_syntax.specs.Tree.{Tree, Trees, End, More, Statement, EventControl, Star, Edges, Levels, NetIdentifier, NetAssignment, NamedConnection, Connections, Positions, Names as Named, ModuleInstance, ModuleItem, Ports, Nets, Variables, Integers, Parameters, Assigns, Always, Instances, ModuleDeclaration}
+use Rattle.rr_syntax.specs.Tree.{Tree, Trees, End, More, Statement, EventControl, Star, Edges, Levels, DeclaredName, NetAssignment, NamedConnection, Connections, Positions, Names as Named, ModuleInstance, ModuleItem, Ports, Nets, Variables, Integers, Parameters, Assigns, Always, Initial, Instances, ModuleDeclaration}
 use Rattle.rr_expr.specs.Faults.{first}
 use Rattle.rr_expr.specs.Scopes.{Names, lookup}
 use Rattle.rr_flat.specs.declared.fault.FlatFault.{FlatFault}
@@ -13,9 +13,10 @@ use Rattle.rr_flat.specs.Faults.{and_then, each, first_fault_or, fault_if}
 use Rattle.rr_flat.specs.Plain.{Side, Written, Whole, Flat}
 use Rattle.rr_flat.specs.Shapes.{shape_faults, statement_faults}
 use Rattle.rr_flat.specs.Signals.{Text, signal_at}
+use Rattle.rr_starts.specs.Starts.{initial_faults}
 use Rattle.rr_head.specs.Heads.{Head, head}
 use Rattle.rr_walk.specs.Tables.{place_of, port_names}
-use Rattle.rr_walk.specs.Walk.{Walked, Enter, scope_at, module_at, with_driver, with_block, assign, net_driver, net_value, net_with, net, event_faults, always, checked, with_instance, join_port, join_at, join, join_value, join_named, join_positions, joined, instance_of, item, opened, begin, enter_by, enter, finished}
+use Rattle.rr_walk.specs.Walk.{Walked, Enter, scope_at, module_at, with_driver, with_block, assign, net_driver, net_value, net_with, net, event_faults, always, with_initial, initial, checked, with_instance, join_port, join_at, join, join_value, join_named, join_positions, joined, instance_of, item, opened, begin, enter_by, enter, finished}
 use Rattle.rr_walk.proofs.HeadOf.{ok_is, not_ok, first_ok, each_keeps}
 use Rattle.rr_flat_laws.proofs.Answers.{settled}
 
@@ -66,7 +67,7 @@ net_with_same i at name None w v e = same_to w w v (same_here w) (ok_is w v e)
 net_with_same i at name (Some t) w v e =
     same_to w _ v (net_driver_same i at t (place_of (lookup name (scope_at w i))) w) (settled (shape_faults (scope_at w i) t) (net_driver i at t (place_of (lookup name (scope_at w i))) w) v e).1
 
-pub net_same : (i : ℕ) (n : NetIdentifier) (w v : Walked) → net i n w ≡ Ok v → Same w v
+pub net_same : (i : ℕ) (n : DeclaredName) (w v : Walked) → net i n w ≡ Ok v → Same w v
 unfolding net
 net_same i n w v e = net_with_same i n.token n.text n.value w v e
 
@@ -74,6 +75,12 @@ pub always_same : (i : ℕ) (events : EventControl) (s : Statement) (at : ℕ) (
 unfolding always
 always_same i events s at w v e =
     same_to w _ v (block_same i events s at w) (settled (event_faults (scope_at w i) events ++ statement_faults (scope_at w i) s) (with_block i events s at w) v e).1
+
+-- an `initial` item sets starting values
+pub initial_same : (i : ℕ) (s : Statement) (at : ℕ) (w v : Walked) → initial i s at w ≡ Ok v → Same w v
+unfolding initial
+initial_same i s at w v e =
+    same_to w _ v (record { signals = refl; scopes = refl; owners = refl }) (settled (initial_faults (scope_at w i) s) (with_initial i s at w) v e).1
 
 port_same : (p : Port) (i id : ℕ) (t : Tree) (w : Walked) → Same w (join_port p i id t w)
 port_same Inner i id t w = same_here w
@@ -164,6 +171,11 @@ unfolding always
 always_drivers i events s at w v e =
     sym (block_drivers i events s at w) ∙ ap (λ (u : Walked). u.flat.drivers) (settled (event_faults (scope_at w i) events ++ statement_faults (scope_at w i) s) (with_block i events s at w) v e).1
 
+-- neither is an `initial` item
+pub initial_drivers : (i : ℕ) (s : Statement) (at : ℕ) (w v : Walked) → initial i s at w ≡ Ok v → w.flat.drivers ≡ v.flat.drivers
+unfolding initial
+initial_drivers i s at w v e = ap (λ (u : Walked). u.flat.drivers) (settled (initial_faults (scope_at w i) s) (with_initial i s at w) v e).1
+
 -- Signals and instances that were added
 
 abbrev pub Begins : {X : Type 0} → List X → List X → Type 0
@@ -223,6 +235,7 @@ item_grows source table above i sub h (Integers list) w v e = subst (λ (u : Wal
 item_grows source table above i sub h (Parameters p) w v e = subst (λ (u : Walked). Grows w.flat u.flat) (ok_is w v e) (grows_here w.flat)
 item_grows source table above i sub h (Assigns pairs) w v e = same_grows w v (each_same (assign i) (assign_same i) pairs w v e)
 item_grows source table above i sub h (Always events s at) w v e = same_grows w v (always_same i events s at w v e)
+item_grows source table above i sub h (Initial s at) w v e = same_grows w v (initial_same i s at w v e)
 item_grows source table above i sub h (Instances m at over list) w v e =
     each_grows (instance_of source above i sub at over (place_of (lookup m table))) (λ x a b q. instance_grows source above i sub at over (place_of (lookup m table)) h x a b q) list w v e
 

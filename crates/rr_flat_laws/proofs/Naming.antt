@@ -4,7 +4,7 @@ use Rattle.std.specs.Prelude.{slice_set}
 use Rattle.std.specs.List.{Contains}
 use Rattle.std.proofs.lemmas.Bool.{cases_lt, cases_eq}
 use Rattle.std.proofs.lemmas.List.{get_or_append_left, get_or-append_right, length-set, get_or-set_same, get_or-set_other}
-use Rattle.rr_syntax.specs.Tree.{PortDeclaration, Connections, ModuleInstance, ModuleItem, Ports, Nets, Variables, Integers, Parameters, Assigns, Always, Instances, ModuleDeclaration, SourceText}
+use Rattle.rr_syntax.specs.Tree.{PortDeclaration, Connections, ModuleInstance, ModuleItem, Ports, Nets, Variables, Integers, Parameters, Assigns, Always, Initial, Instances, ModuleDeclaration, SourceText}
 use Rattle.rr_expr.specs.Scopes.{Names, lookup}
 use Rattle.rr_expr.specs.declared.types.Entity.{Entity}
 use Rattle.rr_expr.specs.declared.types.Entity.TheVariants as entity
@@ -21,7 +21,7 @@ use Rattle.rr_walk.specs.Walk.{Walked, Enter, scope_at, module_at, net, assign, 
 use Rattle.rr_walk.proofs.HeadOf.{ok_is, not_ok, first_ok, each_keeps}
 use Rattle.rr_flat_laws.specs.Declared.{ports_by, HasDeclaration, way_of, Declares, ports_of}
 use Rattle.rr_flat_laws.specs.Names.{IsSignalOf, NamesAre}
-use Rattle.rr_flat_laws.proofs.Growing.{Same, each_same, assign_same, net_same, always_same, joined_same, began, inside, entered}
+use Rattle.rr_flat_laws.proofs.Growing.{Same, each_same, assign_same, net_same, always_same, initial_same, joined_same, began, inside, entered}
 use Rattle.rr_flat_laws.proofs.Opening.{Opened, opened_head}
 use Rattle.rr_flat_laws.proofs.Texts.{Distinct, with_stays}
 
@@ -203,6 +203,7 @@ module _ (ms : List ModuleDeclaration) where
   after_item table above i sub s (Parameters p) w t f e = subst FineWalk (ok_is w t e) f
   after_item table above i sub s (Assigns pairs) w t f e = fine_same w t (each_same (assign i) (assign_same i) pairs w t e) f
   after_item table above i sub s (Always events body at) w t f e = fine_same w t (always_same i events body at w t e) f
+  after_item table above i sub s (Initial body at) w t f e = fine_same w t (initial_same i body at w t e) f
   after_item table above i sub s (Instances m at over list) w t f e =
       each_keeps FineWalk (instance_of ms above i sub at over (place_of (lookup m table))) (λ x a b h q. after_instance above i sub at over (place_of (lookup m table)) s x a b h q) list w t f e
 

@@ -9,7 +9,7 @@ use Rattle.std.proofs.lemmas.List.Elements.{Contains-append_left, Contains-appen
 use Rattle.std.proofs.lemmas.Option.{slice_get-get_or}
 use Rattle.rr_syntax.specs.declared.tree.Dir.{Dir}
 use Rattle.rr_syntax.specs.declared.tree.Dir.TheVariants as dir
-use Rattle.rr_syntax.specs.Tree.{Identifier, PortDeclaration, ModuleItem, Ports, Nets, Variables, Integers, Parameters, Assigns, Always, Instances, ModuleDeclaration}
+use Rattle.rr_syntax.specs.Tree.{Identifier, DeclaredName, PortDeclaration, ModuleItem, Ports, Nets, Variables, Integers, Parameters, Assigns, Always, Initial, Instances, ModuleDeclaration}
 use Rattle.rr_expr.specs.Scopes.{Names, lookup}
 use Rattle.rr_expr.specs.declared.types.Entity.{Entity}
 use Rattle.rr_expr.specs.declared.types.Entity.TheVariants as entity
@@ -20,11 +20,11 @@ use Rattle.rr_flat.specs.declared.signal.Port.{Port}
 use Rattle.rr_flat.specs.Faults.{fault_if, first_fault_or, and_then, each}
 use Rattle.rr_flat.specs.Signals.{Text, Signal, signal_at, no_signal, with_name}
 use Rattle.rr_flat.proofs.Lists.{all_index}
-use Rattle.rr_head.specs.Declarations.{Declared, Declarations, is_port, port_of, know, know_identifier, know_ports, know_port_item, known, plain_names, add_plain_name, brackets, no_declared, declared_at, declare_ports, declare_item, declarations}
-use Rattle.rr_head.specs.Heads.{Head, named_signal, with_port, with_ports, with_inner, signals_in_order, with_signals, numbered, declared, head}
+use Rattle.rr_head.specs.Declarations.{Declared, Declarations, is_port, port_of, know, know_declarator, know_ports, know_port_item, known, plain_names, add_plain_name, brackets, no_declared, declared_at, declare_ports, declare_item, declarations}
+use Rattle.rr_head.specs.Heads.{Head, named_signal, with_port, with_identifier, with_declarator, with_ports, with_inner, signals_in_order, with_signals, numbered, declared, head}
 use Rattle.rr_head.specs.Parameters.{parameters}
 use Rattle.rr_walk.proofs.HeadOf.{ok_is, first_ok, NoSignal, Entries, constants, head_of, all_append}
-use Rattle.rr_flat_laws.specs.Declared.{texts_of, ports_by, HasDeclaration, way_of, declared_by, Declares, plain_ports, ports_of}
+use Rattle.rr_flat_laws.specs.Declared.{texts_of, names_of, ports_by, HasDeclaration, way_of, declared_by, Declares, plain_ports, ports_of}
 use Rattle.rr_flat_laws.proofs.Answers.{nil_left, nil_right, not_if, settled}
 use Rattle.rr_flat_laws.proofs.Declaring.{Has, HasPort, HasWay, Lists, done_twice, each_done, item_ports, with_way, ways_by, item_ways, done_ports, done_item}
 use Rattle.rr_flat_laws.proofs.Texts.{some_is, none_some, nowhere, there_cases, here, later, all_in, in_map, in_flat, Distinct, distinct_append, distinct_left, distinct_apart, distinct_places, with_stays, with_new, with_cases, none_before, is_none_of, there_of, found_entry, some_with, known_from, nothing_known}
@@ -81,17 +81,17 @@ plain_known directed (i ∷ is) names t e =
 
 -- what the port brackets and the items make known
 
-from_identifier : (names : Names) (i : Identifier) (n : Text) → is_some (lookup n (know_identifier names i)) ≡ true → (is_some (lookup n names) ≡ true) ⊎ Contains (i.text ∷ []) n
-from_identifier names i n h = elim (some_with names n i.text (entity.Signal 0 None false) h) [
+from_declarator : (names : Names) (x : DeclaredName) (n : Text) → is_some (lookup n (know_declarator names x)) ≡ true → (is_some (lookup n names) ≡ true) ⊎ Contains (x.text ∷ []) n
+from_declarator names x n h = elim (some_with names n x.text (entity.Signal 0 None false) h) [
   | inl a ↦ inl a
-  | inr q ↦ inr (subst (λ m. Contains (i.text ∷ []) m) (sym q) (here i.text []))
+  | inr q ↦ inr (subst (λ m. Contains (x.text ∷ []) m) (sym q) (here x.text []))
 ]
 
 from_ports : (names : Names) (p : PortDeclaration) (n : Text) → is_some (lookup n (know_ports names p)) ≡ true → (is_some (lookup n names) ≡ true) ⊎ Contains (ports_by p) n
 unfolding know_ports
-from_ports names p n h = elim (known_from (λ (i : Identifier). i.text ∷ []) know_identifier from_identifier p.names names n h) [
+from_ports names p n h = elim (known_from (λ (x : DeclaredName). x.text ∷ []) know_declarator from_declarator p.names names n h) [
   | inl a ↦ inl a
-  | inr k ↦ inr (subst (λ ns. Contains ns n) (flat_map_single (λ (i : Identifier). i.text) p.names) k)
+  | inr k ↦ inr (subst (λ ns. Contains ns n) (flat_map_single (λ (x : DeclaredName). x.text) p.names) k)
 ]
 
 from_item : (names : Names) (x : ModuleItem) (n : Text) → is_some (lookup n (know_port_item names x)) ≡ true → (is_some (lookup n names) ≡ true) ⊎ Contains (item_ports x) n
@@ -103,6 +103,7 @@ from_item names (Integers list) n h = inl h
 from_item names (Parameters p) n h = inl h
 from_item names (Assigns pairs) n h = inl h
 from_item names (Always events body token) n h = inl h
+from_item names (Initial body token) n h = inl h
 from_item names (Instances m token overrides list) n h = inl h
 
 -- The declarations of a module
@@ -194,17 +195,22 @@ one_port d n = option_to_list (named_signal d.list (lookup n d.names))
 abbrev one_inner : Declared → List Signal
 one_inner x = if is_port x.signal.port then [] else x.signal ∷ []
 
-fold_port : (d : Declarations) (list : List Identifier) (acc : List Signal) → fold (with_port d) acc list ≡ acc ++ flat_map (one_port d) (texts_of list)
+fold_identifiers : (d : Declarations) (list : List Identifier) (acc : List Signal) → fold (with_identifier d) acc list ≡ acc ++ flat_map (one_port d) (texts_of list)
 unfolding with_port
-fold_port d [] acc = sym (append-nil acc)
-fold_port d (i ∷ is) acc = fold_port d is (acc ++ one_port d i.text) ∙ append_assoc acc (one_port d i.text) (flat_map (one_port d) (texts_of is))
+fold_identifiers d [] acc = sym (append-nil acc)
+fold_identifiers d (i ∷ is) acc = fold_identifiers d is (acc ++ one_port d i.text) ∙ append_assoc acc (one_port d i.text) (flat_map (one_port d) (texts_of is))
+
+fold_declarators : (d : Declarations) (list : List DeclaredName) (acc : List Signal) → fold (with_declarator d) acc list ≡ acc ++ flat_map (one_port d) (names_of list)
+unfolding with_port
+fold_declarators d [] acc = sym (append-nil acc)
+fold_declarators d (n ∷ ns) acc = fold_declarators d ns (acc ++ one_port d n.text) ∙ append_assoc acc (one_port d n.text) (flat_map (one_port d) (names_of ns))
 
 fold_groups : (d : Declarations) (groups : List PortDeclaration) (acc : List Signal) → fold (with_ports d) acc groups ≡ acc ++ flat_map (one_port d) (flat_map ports_by groups)
 unfolding with_ports
 fold_groups d [] acc = sym (append-nil acc)
 fold_groups d (p ∷ ps) acc =
-    fold_groups d ps (fold (with_port d) acc p.names)
-    ∙ (ap (λ (z : List Signal). z ++ flat_map (one_port d) (flat_map ports_by ps)) (fold_port d p.names acc)
+    fold_groups d ps (fold (with_declarator d) acc p.names)
+    ∙ (ap (λ (z : List Signal). z ++ flat_map (one_port d) (flat_map ports_by ps)) (fold_declarators d p.names acc)
     ∙ (append_assoc acc (flat_map (one_port d) (ports_by p)) (flat_map (one_port d) (flat_map ports_by ps))
     ∙ ap (λ (z : List Signal). acc ++ z) (sym (flat_map-append (one_port d) (ports_by p) (flat_map ports_by ps)))))
 
@@ -222,10 +228,10 @@ fold_inner (x ∷ xs) acc =
 signals_are : (m : ModuleDeclaration) (d : Declarations) → signals_in_order m d ≡ flat_map (one_port d) (ports_of m) ++ flat_map one_inner d.list
 unfolding signals_in_order
 signals_are m d =
-    fold_inner d.list (fold (with_ports d) (fold (with_port d) [] (plain_names m.header)) m.groups)
+    fold_inner d.list (fold (with_ports d) (fold (with_identifier d) [] (plain_names m.header)) m.groups)
     ∙ ap (λ (z : List Signal). z ++ flat_map one_inner d.list)
-    (fold_groups d m.groups (fold (with_port d) [] (plain_names m.header))
-    ∙ (ap (λ (z : List Signal). z ++ flat_map (one_port d) (flat_map ports_by m.groups)) (fold_port d (plain_names m.header) [] ∙ ap (λ ns. flat_map (one_port d) ns) (plain_is m.header))
+    (fold_groups d m.groups (fold (with_identifier d) [] (plain_names m.header))
+    ∙ (ap (λ (z : List Signal). z ++ flat_map (one_port d) (flat_map ports_by m.groups)) (fold_identifiers d (plain_names m.header) [] ∙ ap (λ ns. flat_map (one_port d) ns) (plain_is m.header))
     ∙ sym (flat_map-append (one_port d) (plain_ports m.header) (flat_map ports_by m.groups))))
 
 abbrev name_of : Signal → Text

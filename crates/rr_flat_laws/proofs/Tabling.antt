@@ -3,7 +3,7 @@ use Rattle.std.proofs.Common.{◌≡◌, ◌∙◌, sym, ap, inl, inr, ℕ, ◌+
 use Rattle.std.specs.List.{Contains}
 use Rattle.std.proofs.lemmas.Bool.{both_ways}
 use Rattle.std.proofs.lemmas.List.{get_or_append_left, get_or-append_right, append-nil, append_assoc}
-use Rattle.rr_syntax.specs.Tree.{ModuleInstance, ModuleItem, Ports, Nets, Variables, Integers, Parameters, Assigns, Always, Instances, ModuleDeclaration, SourceText}
+use Rattle.rr_syntax.specs.Tree.{ModuleInstance, ModuleItem, Ports, Nets, Variables, Integers, Parameters, Assigns, Always, Initial, Instances, ModuleDeclaration, SourceText}
 use Rattle.rr_expr.specs.Scopes.{Names, lookup}
 use Rattle.rr_expr.specs.declared.types.Entity.{Entity}
 use Rattle.rr_expr.specs.declared.types.Entity.TheVariants as entity
@@ -125,6 +125,7 @@ item_keeps n names (Integers list) h = h
 item_keeps n names (Parameters p) h = h
 item_keeps n names (Assigns pairs) h = h
 item_keeps n names (Always events body token) h = h
+item_keeps n names (Initial body token) h = h
 item_keeps n names (Instances m token overrides list) h = still_some names m n (entity.Signal 0 None false) h
 
 module_keeps : (n : Text) (names : Names) (m : ModuleDeclaration) → is_some (lookup n names) ≡ true → is_some (lookup n (instantiated_by names m)) ≡ true
@@ -145,6 +146,7 @@ item_has (Integers list) c names h = absurd (nowhere c h)
 item_has (Parameters p) c names h = absurd (nowhere c h)
 item_has (Assigns pairs) c names h = absurd (nowhere c h)
 item_has (Always events body token) c names h = absurd (nowhere c h)
+item_has (Initial body token) c names h = absurd (nowhere c h)
 item_has (Instances m token overrides list) c names h =
     subst (λ (z : Text). is_some (lookup z (with_name names m (entity.Signal 0 None false))) ≡ true) (sym (child_name m list c h)) (added_found names m (entity.Signal 0 None false))
 

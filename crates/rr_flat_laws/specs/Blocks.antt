@@ -1,7 +1,7 @@
 -- The blocks of an instance (IEEE 1364-2005 sections 9.7 and 9.9.2).
 use Rattle.std.specs.Prelude.{◌≡◌, ℕ, ◌<◌, Bool, List, [], ◌∷◌, length, nat_eq, All}
 use Rattle.std.specs.List.{filter, flat_map}
-use Rattle.rr_syntax.specs.Tree.{Statement, EventControl, Star, Edges, Levels, ModuleItem, Ports, Nets, Variables, Integers, Parameters, Assigns, Always, Instances, SourceText}
+use Rattle.rr_syntax.specs.Tree.{Statement, EventControl, Star, Edges, Levels, ModuleItem, Ports, Nets, Variables, Integers, Parameters, Assigns, Always, Initial, Instances, SourceText}
 use Rattle.rr_flat.specs.Plain.{Block, Flat}
 use Rattle.rr_flat_laws.specs.Names.{module_of}
 
@@ -26,6 +26,7 @@ clocked_by i (Integers list) = []
 clocked_by i (Parameters p) = []
 clocked_by i (Assigns pairs) = []
 clocked_by i (Always events body token) = at_edges i events body token
+clocked_by i (Initial body token) = []
 clocked_by i (Instances m token overrides list) = []
 
 abbrev pub combinational_by : ℕ → ModuleItem → List Block
@@ -36,6 +37,7 @@ combinational_by i (Integers list) = []
 combinational_by i (Parameters p) = []
 combinational_by i (Assigns pairs) = []
 combinational_by i (Always events body token) = at_changes i events body token
+combinational_by i (Initial body token) = []
 combinational_by i (Instances m token overrides list) = []
 
 abbrev pub is_block_of : ℕ → Block → Bool

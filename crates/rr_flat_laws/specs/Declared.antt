@@ -3,7 +3,7 @@ use Rattle.std.specs.Prelude.{◌⊎◌, List, [], ◌++◌, map, Option, Some, 
 use Rattle.std.specs.List.{Contains, flat_map}
 use Rattle.rr_syntax.specs.declared.tree.Dir.{Dir}
 use Rattle.rr_syntax.specs.declared.tree.Dir.TheVariants as dir
-use Rattle.rr_syntax.specs.Tree.{Identifier, PortDeclaration, ModuleItem, Ports, Nets, Variables, Integers, Parameters, Assigns, Always, Instances, ModuleDeclaration}
+use Rattle.rr_syntax.specs.Tree.{Identifier, DeclaredName, PortDeclaration, ModuleItem, Ports, Nets, Variables, Integers, Parameters, Assigns, Always, Initial, Instances, ModuleDeclaration}
 use Rattle.rr_flat.specs.declared.signal.Port.{Port}
 use Rattle.rr_flat.specs.declared.signal.Port.TheVariants.{Input, Output}
 use Rattle.rr_flat.specs.Signals.{Text}
@@ -11,18 +11,22 @@ use Rattle.rr_flat.specs.Signals.{Text}
 abbrev pub texts_of : List Identifier → List Text
 texts_of list = map (λ i. i.text) list
 
+abbrev pub names_of : List DeclaredName → List Text
+names_of list = map (λ n. n.text) list
+
 abbrev pub ports_by : PortDeclaration → List Text
-ports_by p = texts_of p.names
+ports_by p = names_of p.names
 
 -- the nets and variables that an item declares (IEEE 1364-2005 sections 3.2, 3.9 and 12.3.3)
 abbrev pub declared_by : ModuleItem → List Text
 declared_by (Ports p) = ports_by p
-declared_by (Nets signed range list) = map (λ n. n.text) list
-declared_by (Variables signed range list) = texts_of list
+declared_by (Nets signed range list) = names_of list
+declared_by (Variables signed range list) = names_of list
 declared_by (Integers list) = texts_of list
 declared_by (Parameters p) = []
 declared_by (Assigns pairs) = []
 declared_by (Always events body token) = []
+declared_by (Initial body token) = []
 declared_by (Instances m token overrides list) = []
 
 -- a port declaration of a module, in its port brackets or among its items (section 12.3.3)

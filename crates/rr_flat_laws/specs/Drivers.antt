@@ -2,7 +2,7 @@
 use Rattle.std.specs.Prelude.{ℕ, Bool, false, not, ◌&&◌, List, [], ◌∷◌, map, Option, Some, None, nat_eq, if◌then◌else◌}
 use Rattle.std.specs.List.{flat_map}
 use Rattle.std.specs.Str.{bytes_eq}
-use Rattle.rr_syntax.specs.Tree.{Tree, Trees, End, More, NetIdentifier, NetAssignment, NamedConnection, Connections, Positions, ModuleInstance, ModuleItem, Ports, Nets, Variables, Integers, Parameters, Assigns, Always, Instances, ModuleDeclaration}
+use Rattle.rr_syntax.specs.Tree.{Tree, Trees, End, More, DeclaredName, NetAssignment, NamedConnection, Connections, Positions, ModuleInstance, ModuleItem, Ports, Nets, Variables, Integers, Parameters, Assigns, Always, Initial, Instances, ModuleDeclaration}
 use Rattle.rr_syntax.specs.Tree.{Names as Named}
 use Rattle.rr_expr.specs.Faults.{first}
 use Rattle.rr_expr.specs.Scopes.{lookup}
@@ -36,11 +36,11 @@ abbrev pub driver_of_pair : ℕ → NetAssignment → Driver
 driver_of_pair i p = record { target = Written p.target i; value = Written p.value i; token = first p.target }
 
 -- a net that is declared with a value in instance i (section 6.1.1)
-abbrev pub driver_of_value : Flat → ℕ → NetIdentifier → Option Tree → List Driver
+abbrev pub driver_of_value : Flat → ℕ → DeclaredName → Option Tree → List Driver
 driver_of_value flat i n None = []
 driver_of_value flat i n (Some t) = record { target = Whole (signal_number flat i n.text); value = Written t i; token = n.token } ∷ []
 
-abbrev pub driver_of_net : Flat → ℕ → NetIdentifier → List Driver
+abbrev pub driver_of_net : Flat → ℕ → DeclaredName → List Driver
 driver_of_net flat i n = driver_of_value flat i n n.value
 
 -- the continuous assignments of an item of instance i, in the order of the text
@@ -52,6 +52,7 @@ assigned_by flat i (Integers list) = []
 assigned_by flat i (Parameters p) = []
 assigned_by flat i (Assigns pairs) = map (driver_of_pair i) pairs
 assigned_by flat i (Always events body token) = []
+assigned_by flat i (Initial body token) = []
 assigned_by flat i (Instances m token overrides list) = []
 
 -- a driver within instance i: from a text there to a text there, or to a net of it
@@ -81,6 +82,7 @@ children_by i (Integers list) = []
 children_by i (Parameters p) = []
 children_by i (Assigns pairs) = []
 children_by i (Always events body token) = []
+children_by i (Initial body token) = []
 children_by i (Instances m token overrides list) = map (λ x. record { parent = i; module_name = m; text = x }) list
 
 abbrev pub is_child_of : ℕ → Child → Bool

@@ -2,7 +2,7 @@
 use Rattle.std.specs.Prelude.{ℕ, ◌+◌, Bool, true, false, not, List, [], ◌∷◌, ◌++◌, length, fold, Option, Some, None, Result, Ok, is_some, is_none, nat_lt, nat_eq, ◌&&◌, ◌||◌, if◌then◌else◌, slice_index_or, slice_set}
 use Rattle.rr_syntax.specs.declared.tree.Dir.{Dir}
 use Rattle.rr_syntax.specs.declared.tree.Dir.TheVariants as dir
-use Rattle.rr_syntax.specs.Tree.{Identifier, NetIdentifier, PortDeclaration, Range, ModuleItem, Ports, Nets, Variables, Integers, Parameters, Assigns, Always, Instances, ModuleDeclaration}
+use Rattle.rr_syntax.specs.Tree.{Tree, Identifier, DeclaredName, PortDeclaration, Range, ModuleItem, Ports, Nets, Variables, Integers, Parameters, Assigns, Always, Initial, Instances, ModuleDeclaration}
 use Rattle.rr_expr.specs.Scopes.{Names, lookup, range_width}
 use Rattle.rr_expr.specs.declared.types.Entity.{Entity}
 use Rattle.rr_expr.specs.declared.types.Entity.TheVariants as entity
@@ -13,6 +13,7 @@ use Rattle.rr_flat.specs.declared.fault.Limit.TheVariants.{FlatBits}
 use Rattle.rr_flat.specs.declared.fault.FlatFault.{FlatFault}
 use Rattle.rr_flat.specs.declared.fault.FlatFault.TheVariants.{NameTwice, UnknownName, BadRange, TooMany}
 use Rattle.rr_flat.specs.Faults.{fault_if, first_fault_or, and_then, each}
+use Rattle.rr_starts.specs.Starts.{start_of, constant_faults}
 use Rattle.rr_head.specs.Values.{range_in}
 use Rattle.rr_flat.specs.Signals.{with_name}
 use Rattle.rr_head.specs.Parameters.{width_faults}
@@ -27,20 +28,21 @@ know names name = with_name names name (entity.Signal 0 None false)
 abbrev pub know_identifier : Names → Identifier → Names
 know_identifier names i = know names i.text
 
-abbrev pub know_net : Names → NetIdentifier → Names
-know_net names n = know names n.text
+abbrev pub know_declarator : Names → DeclaredName → Names
+know_declarator names n = know names n.text
 
 unfoldable pub know_ports : Names → PortDeclaration → Names
-know_ports names p = fold know_identifier names p.names
+know_ports names p = fold know_declarator names p.names
 
 unfoldable pub know_item : Names → ModuleItem → Names
 know_item names (Ports p) = know_ports names p
-know_item names (Nets signed range list) = fold know_net names list
-know_item names (Variables signed range list) = fold know_identifier names list
+know_item names (Nets signed range list) = fold know_declarator names list
+know_item names (Variables signed range list) = fold know_declarator names list
 know_item names (Integers list) = fold know_identifier names list
 know_item names (Parameters p) = names
 know_item names (Assigns pairs) = names
 know_item names (Always events body token) = names
+know_item names (Initial body token) = names
 know_item names (Instances m token overrides list) = names
 
 -- what a range may name: the parameters, and each net and variable wherever it stands
@@ -57,6 +59,7 @@ know_port_item names (Integers list) = names
 know_port_item names (Parameters p) = names
 know_port_item names (Assigns pairs) = names
 know_port_item names (Always events body token) = names
+know_port_item names (Initial body token) = names
 know_port_item names (Instances m token overrides list) = names
 
 abbrev pub plain_names : Option (List Identifier) → List Identifier
@@ -71,6 +74,22 @@ add_plain_name directed i names =
 -- the names in the port brackets of a module
 unfoldable pub brackets : ModuleDeclaration → Result Names FlatFault
 brackets m = and_then (each (add_plain_name (fold know_port_item [] m.items)) (plain_names m.header) []) (λ names. Ok (fold know_ports names m.groups))
+
+-- Starting values
+
+-- the expression of the value that a variable begins with (section 6.2.1); that of a net drives it (section 6.1.1)
+abbrev pub starting : Declaration → DeclaredName → Option Tree
+starting k n = if k.variable then n.value else None
+
+-- it is constant
+abbrev pub start_faults : Names → Option Tree → List FlatFault
+start_faults known None = []
+start_faults known (Some t) = constant_faults known t
+
+-- the value that a variable of w bits begins with, where it began with another
+abbrev pub start_or : Names → ℕ → ℕ → Option Tree → ℕ
+start_or known w start None = start
+start_or known w start (Some t) = start_of known w t
 
 -- Signals
 
@@ -92,26 +111,36 @@ is_port Inner = false
 is_port Input = true
 is_port Output = true
 
-abbrev pub signal_of : ℕ → Declaration → ℕ → Text → Signal
-signal_of i k at name = record { instance = i; name = name; variable = k.variable; port = k.port; range = k.range; signed = k.signed; width = range_width k.range; token = at }
+abbrev pub signal_of : ℕ → Declaration → DeclaredName → ℕ → Signal
+signal_of i k n start = record {
+  instance = i;
+  name = n.text;
+  variable = k.variable;
+  port = k.port;
+  range = k.range;
+  signed = k.signed;
+  width = range_width k.range;
+  token = n.token;
+  start = start;
+}
 
-abbrev pub with_signal : Declaration → ℕ → Text → Declarations → Declarations
-with_signal k at name d = record d {
-  names = with_name d.names name (entity.Signal (length d.list) None false);
-  list = d.list ++ (record { signal = signal_of d.instance k at name; again = is_port k.port && not k.variable }) ∷ [];
+abbrev pub with_signal : Declaration → DeclaredName → ℕ → Declarations → Declarations
+with_signal k n start d = record d {
+  names = with_name d.names n.text (entity.Signal (length d.list) None false);
+  list = d.list ++ (record { signal = signal_of d.instance k n start; again = is_port k.port && not k.variable }) ∷ [];
   bits = d.bits + range_width k.range;
 }
 
 -- the declaration that lifts the bits of the design above 65,536
-abbrev pub counted : Declaration → ℕ → Text → Declarations → Result Declarations FlatFault
-counted k at name d =
-    first_fault_or (fault_if (nat_lt 65536 (d.bits + range_width k.range)) (TooMany FlatBits (d.bits + range_width k.range))) (with_signal k at name d)
+abbrev pub counted : Declaration → DeclaredName → ℕ → Declarations → Result Declarations FlatFault
+counted k n start d =
+    first_fault_or (fault_if (nat_lt 65536 (d.bits + range_width k.range)) (TooMany FlatBits (d.bits + range_width k.range))) (with_signal k n start d)
 
 -- one more signal; a port must stand in the brackets
-unfoldable pub declare_new : Names → Declaration → ℕ → Text → Declarations → Result Declarations FlatFault
-declare_new brackets k at name d =
-    and_then (first_fault_or (fault_if (is_some (lookup name d.names)) (NameTwice at) ++ (fault_if (is_port k.port && is_none (lookup name brackets)) (UnknownName at) ++ width_faults at k.range)) d)
-    (counted k at name)
+unfoldable pub declare_new : Names → Names → Declaration → DeclaredName → Declarations → Result Declarations FlatFault
+declare_new brackets known k n d =
+    and_then (first_fault_or (fault_if (is_some (lookup n.text d.names)) (NameTwice n.token) ++ (fault_if (is_port k.port && is_none (lookup n.text brackets)) (UnknownName n.token) ++ (width_faults n.token k.range ++ start_faults known (starting k n)))) d)
+    (counted k n (start_or known (range_width k.range) 0 (starting k n)))
 
 abbrev pub no_declared : Declared
 no_declared = record { signal = no_signal; again = false }
@@ -125,14 +154,18 @@ is_same_range None (Some s) = false
 is_same_range (Some r) None = false
 is_same_range (Some r) (Some s) = nat_eq r.0 s.0 && nat_eq r.1 s.1
 
-abbrev pub redeclared : Declaration → Declared → Declared
-redeclared k x = record { signal = record x.signal { variable = k.variable; signed = k.signed || x.signal.signed }; again = false }
+abbrev pub redeclared : Declaration → ℕ → Declared → Declared
+redeclared k start x = record { signal = record x.signal { variable = k.variable; signed = k.signed || x.signal.signed; start = start }; again = false }
+
+-- what a port begins with that is declared once more
+abbrev pub start_again : Names → Option Tree → Declared → ℕ
+start_again known value x = start_or known x.signal.width x.signal.start value
 
 -- a port once more, with the same range
-unfoldable pub declare_again : Declaration → ℕ → ℕ → Declarations → Result Declarations FlatFault
-declare_again k at place d =
-    first_fault_or (fault_if (not (is_same_range (declared_at d.list place).signal.range k.range)) (BadRange at))
-    (record d { list = slice_set d.list place (redeclared k (declared_at d.list place)) })
+unfoldable pub declare_again : Names → Declaration → DeclaredName → ℕ → Declarations → Result Declarations FlatFault
+declare_again known k n place d =
+    first_fault_or (fault_if (not (is_same_range (declared_at d.list place).signal.range k.range)) (BadRange n.token) ++ start_faults known (starting k n))
+    (record d { list = slice_set d.list place (redeclared k (start_again known (starting k n) (declared_at d.list place)) (declared_at d.list place)) })
 
 -- the place of a port that may be declared once more
 abbrev pub again_place : Option Entity → List Declared → Option ℕ
@@ -144,18 +177,12 @@ again_place (Some entity.Instance) list = None
 abbrev pub repeated_place : Bool → Option ℕ → Option ℕ
 repeated_place repeats place = if repeats then place else None
 
-abbrev pub declare_at : Names → Declaration → ℕ → Text → Declarations → Option ℕ → Result Declarations FlatFault
-declare_at brackets k at name d None = declare_new brackets k at name d
-declare_at brackets k at name d (Some place) = declare_again k at place d
+abbrev pub declare_at : Names → Names → Declaration → DeclaredName → Declarations → Option ℕ → Result Declarations FlatFault
+declare_at brackets known k n d None = declare_new brackets known k n d
+declare_at brackets known k n d (Some place) = declare_again known k n place d
 
-unfoldable pub declare : Names → Declaration → ℕ → Text → Declarations → Result Declarations FlatFault
-declare brackets k at name d = declare_at brackets k at name d (repeated_place k.repeats (again_place (lookup name d.names) d.list))
-
-abbrev pub declare_identifier : Names → Declaration → Identifier → Declarations → Result Declarations FlatFault
-declare_identifier brackets k i d = declare brackets k i.token i.text d
-
-abbrev pub declare_net : Names → Declaration → NetIdentifier → Declarations → Result Declarations FlatFault
-declare_net brackets k n d = declare brackets k n.token n.text d
+unfoldable pub declare : Names → Names → Declaration → DeclaredName → Declarations → Result Declarations FlatFault
+declare brackets known k n d = declare_at brackets known k n d (repeated_place k.repeats (again_place (lookup n.text d.names) d.list))
 
 -- Declarations and what they say of their names
 
@@ -182,24 +209,32 @@ inner_declaration variable signed range = record { port = Inner; variable = vari
 abbrev pub integer_declaration : Declaration
 integer_declaration = record { port = Inner; variable = true; repeats = false; signed = true; range = Some (31, 0) }
 
+-- an `integer` has no starting value here
+abbrev pub integer_name : Identifier → DeclaredName
+integer_name i = record { token = i.token; text = i.text; value = None }
+
+abbrev pub declare_integer : Names → Names → Identifier → Declarations → Result Declarations FlatFault
+declare_integer brackets known i d = declare brackets known integer_declaration (integer_name i) d
+
 -- the range first, then each name
 unfoldable pub declare_ports : Names → Names → PortDeclaration → Declarations → Result Declarations FlatFault
-declare_ports brackets known p d = and_then (range_in known p.range) (λ range. each (declare_identifier brackets (port_declaration p range)) p.names d)
+declare_ports brackets known p d = and_then (range_in known p.range) (λ range. each (declare brackets known (port_declaration p range)) p.names d)
 
-unfoldable pub declare_nets : Names → Names → Bool → Option Range → List NetIdentifier → Declarations → Result Declarations FlatFault
-declare_nets brackets known signed range list d = and_then (range_in known range) (λ r. each (declare_net brackets (inner_declaration false signed r)) list d)
+unfoldable pub declare_nets : Names → Names → Bool → Option Range → List DeclaredName → Declarations → Result Declarations FlatFault
+declare_nets brackets known signed range list d = and_then (range_in known range) (λ r. each (declare brackets known (inner_declaration false signed r)) list d)
 
-unfoldable pub declare_variables : Names → Names → Bool → Option Range → List Identifier → Declarations → Result Declarations FlatFault
-declare_variables brackets known signed range list d = and_then (range_in known range) (λ r. each (declare_identifier brackets (inner_declaration true signed r)) list d)
+unfoldable pub declare_variables : Names → Names → Bool → Option Range → List DeclaredName → Declarations → Result Declarations FlatFault
+declare_variables brackets known signed range list d = and_then (range_in known range) (λ r. each (declare brackets known (inner_declaration true signed r)) list d)
 
 unfoldable pub declare_item : Names → Names → ModuleItem → Declarations → Result Declarations FlatFault
 declare_item brackets known (Ports p) d = declare_ports brackets known p d
 declare_item brackets known (Nets signed range list) d = declare_nets brackets known signed range list d
 declare_item brackets known (Variables signed range list) d = declare_variables brackets known signed range list d
-declare_item brackets known (Integers list) d = each (declare_identifier brackets integer_declaration) list d
+declare_item brackets known (Integers list) d = each (declare_integer brackets known) list d
 declare_item brackets known (Parameters p) d = Ok d
 declare_item brackets known (Assigns pairs) d = Ok d
 declare_item brackets known (Always events body token) d = Ok d
+declare_item brackets known (Initial body token) d = Ok d
 declare_item brackets known (Instances m token overrides list) d = Ok d
 
 -- the declarations in the port brackets, then those among the items

@@ -1,6 +1,6 @@
 -- The head of an instance: its parameters and its signals (IEEE 1364-2005 section 12).
 use Rattle.std.specs.Prelude.{ℕ, ◌+◌, List, [], ◌∷◌, ◌++◌, length, fold, Option, Some, None, Result, nat_lt, if◌then◌else◌, option_map, slice_get, option_to_list}
-use Rattle.rr_syntax.specs.Tree.{Identifier, PortDeclaration, ModuleDeclaration}
+use Rattle.rr_syntax.specs.Tree.{Identifier, DeclaredName, PortDeclaration, ModuleDeclaration}
 use Rattle.rr_expr.specs.Scopes.{Names, lookup}
 use Rattle.rr_expr.specs.declared.types.Entity.{Entity}
 use Rattle.rr_expr.specs.declared.types.Entity.TheVariants as entity
@@ -11,7 +11,7 @@ use Rattle.rr_flat.specs.Faults.{fault_if, first_fault_or, and_then}
 use Rattle.rr_flat.specs.Signals.{with_name}
 use Rattle.rr_head.specs.Parameters.{parameters}
 use Rattle.rr_head.specs.Declarations.{Declared, Declarations, is_port, known, brackets, declarations, plain_names}
-use Rattle.rr_flat.specs.Signals.{Signal}
+use Rattle.rr_flat.specs.Signals.{Text, Signal}
 
 -- the number of the instance, the number of its first signal, the bits of the design with its signals, its signals, and
 -- its names
@@ -30,18 +30,24 @@ named_signal list (Some (entity.Signal id range signed)) = option_map (λ x. x.s
 named_signal list (Some entity.Instance) = None
 
 -- the ports in the order of the brackets
-unfoldable pub with_port : Declarations → List Signal → Identifier → List Signal
-with_port d signals i = signals ++ option_to_list (named_signal d.list (lookup i.text d.names))
+unfoldable pub with_port : Declarations → List Signal → Text → List Signal
+with_port d signals name = signals ++ option_to_list (named_signal d.list (lookup name d.names))
+
+abbrev pub with_identifier : Declarations → List Signal → Identifier → List Signal
+with_identifier d signals i = with_port d signals i.text
+
+abbrev pub with_declarator : Declarations → List Signal → DeclaredName → List Signal
+with_declarator d signals n = with_port d signals n.text
 
 unfoldable pub with_ports : Declarations → List Signal → PortDeclaration → List Signal
-with_ports d signals p = fold (with_port d) signals p.names
+with_ports d signals p = fold (with_declarator d) signals p.names
 
 -- then the other signals in the order of their declarations
 unfoldable pub with_inner : List Signal → Declared → List Signal
 with_inner signals x = if is_port x.signal.port then signals else signals ++ x.signal ∷ []
 
 unfoldable pub signals_in_order : ModuleDeclaration → Declarations → List Signal
-signals_in_order m d = fold with_inner (fold (with_ports d) (fold (with_port d) [] (plain_names m.header)) m.groups) d.list
+signals_in_order m d = fold with_inner (fold (with_ports d) (fold (with_identifier d) [] (plain_names m.header)) m.groups) d.list
 
 -- each signal by its number, where the next has number k
 unfoldable pub with_signals : ℕ → List Signal → Names → Names

@@ -1,7 +1,7 @@
 -- Parameters of a module (IEEE 1364-2005 sections 4.10 and 12.2).
 use Rattle.std.specs.Prelude.{ℕ, Bool, true, List, [], ◌++◌, Option, Some, None, Result, Ok, is_some, nat_lt, ◌||◌, if◌then◌else◌}
 use Rattle.rr_bits.specs.Words.{extend}
-use Rattle.rr_syntax.specs.Tree.{ParamAssignment, ParameterDeclaration, ModuleItem, Ports, Nets, Variables, Integers, Parameters, Assigns, Always, Instances, ModuleDeclaration}
+use Rattle.rr_syntax.specs.Tree.{ParamAssignment, ParameterDeclaration, ModuleItem, Ports, Nets, Variables, Integers, Parameters, Assigns, Always, Initial, Instances, ModuleDeclaration}
 use Rattle.rr_expr.specs.Scopes.{Names, lookup, range_width}
 use Rattle.rr_expr.specs.declared.types.Entity.{Entity}
 use Rattle.rr_expr.specs.declared.types.Entity.TheVariants.{Constant, Signal, Instance}
@@ -53,6 +53,7 @@ add_item_parameters given (Integers list) names = Ok names
 add_item_parameters given (Parameters p) names = add_parameters given p names
 add_item_parameters given (Assigns pairs) names = Ok names
 add_item_parameters given (Always events body token) names = Ok names
+add_item_parameters given (Initial body token) names = Ok names
 add_item_parameters given (Instances m token overrides list) names = Ok names
 
 -- the parameters of a module in order, those before its ports and those among its items

@@ -1,9 +1,9 @@
 //! The declarations of a module (IEEE 1364-2005 sections 3.2, 3.3, 3.9 and 12.3).
-ghost use Rattle.std.specs.Prelude.{◌≡◌, ◌≤◌, ◌<◌, ℕ, [], MatchResult, OnOk, All, option_map, slice_get, IfSome, map, Ok, Some, None, length, ◌||◌, if◌then◌else◌};
+ghost use Rattle.std.specs.Prelude.{◌≡◌, ◌≤◌, ◌<◌, ◌^◌, ℕ, [], MatchResult, OnOk, All, option_map, slice_get, IfSome, map, Ok, Some, None, length, ◌||◌, if◌then◌else◌};
 ghost use Rattle.rr_expr.specs.Scopes.{lookup, range_width as width_of_range};
-ghost use Rattle.rr_syntax.specs.View.{plain_port, plain_identifier, plain_net, plain_range, plain_item};
+ghost use Rattle.rr_syntax.specs.View.{plain_port, plain_identifier, plain_declarator, plain_range, plain_item};
 ghost use Rattle.rr_flat.specs.Faults.{Refuses, each};
-ghost use Rattle.rr_head.specs.Declarations.{port_of as port_in, is_reg as is_reg_in, is_port as is_port_in, inner_declaration as inner_declared, is_same_range as is_same, counted, declare_new as declare_new_in, declare_again as declare_again_in, again_place as again_place_in, repeated_place, declared_at, declare as declare_in, declare_identifier as declare_identifier_in, declare_net as declare_net_in, declare_ports as declare_ports_in, declare_nets as declare_nets_in, declare_variables as declare_variables_in, declare_item as declare_item_in};
+ghost use Rattle.rr_head.specs.Declarations.{port_of as port_in, is_reg as is_reg_in, is_port as is_port_in, inner_declaration as inner_declared, is_same_range as is_same, counted, declare_new as declare_new_in, declare_again as declare_again_in, again_place as again_place_in, repeated_place, declared_at, declare as declare_in, declare_integer as declare_integer_in, declare_ports as declare_ports_in, declare_nets as declare_nets_in, declare_variables as declare_variables_in, declare_item as declare_item_in};
 ghost use Rattle.rr_head.specs.Heads.{named_signal};
 ghost use Rattle.rr_flat.specs.View.{plain_signal};
 ghost use Rattle.rr_head.specs.View.{plain_declarations, plain_list};
@@ -11,11 +11,12 @@ ghost use Rattle.rr_head.specs.Sound.{IsRange, ArePlaces, IsDeclared};
 ghost use Rattle.rr_flat.specs.Sound.{IsOwn};
 
 use crate::FLAT_BITS;
-use crate::parameters::{put, sized};
-use crate::values::range_of;
+use crate::parameters::put;
+use crate::starts::{start_or, starting};
+use crate::values::{range_of, range_width};
 use rr_expr::{Entity, Scope};
 use rr_flat::{FlatFault, Limit, Port, Signal, note_if};
-use rr_syntax::{Bounds, Dir, Group, Item, Named, NetName};
+use rr_syntax::{Bounds, Declarator, Dir, Group, Item, Named};
 use std::alloc::Global;
 use std::marker::Model;
 
@@ -171,20 +172,22 @@ impl<'a> Declarations<'a> {
         }
     }
 
-    /// One more signal, of a width that is that of its range.
+    /// One more signal, of a width that is that of its range, with that starting value.
+    #[tactic(auto, unfolding(rr_syntax::specs::View::plain_declarator))]
     fn append(
         &mut self,
         one: &Declaration,
-        token: u32,
-        name: &'a str,
+        name: &Declarator<'a>,
         width: u32,
+        start: u128,
     ) -> Result<(), FlatFault>
         requires width { width ≡ width_of_range one.now.range }
         requires low { 1 ≤ width }
         requires high { width ≤ 128 }
+        requires start { start < 2 ^ width }
         ensures value { MatchResult result
-            (λ _. counted one.now token name.now (plain_declarations self.old) ≡ Ok (plain_declarations self.new))
-            (Refuses (counted one.now token name.now (plain_declarations self.old))) }
+            (λ _. counted one.now (plain_declarator name.now) start (plain_declarations self.old) ≡ Ok (plain_declarations self.new))
+            (Refuses (counted one.now (plain_declarator name.now) start (plain_declarations self.old))) }
         ensures same { OnOk result (self.new.instance ≡ self.old.instance) }
     {
         let bits = self.bits + width as u64;
@@ -198,16 +201,17 @@ impl<'a> Declarations<'a> {
             range: None,
             signed: false,
         };
-        put(&mut self.names, name, entity)?;
+        put(&mut self.names, name.name, entity)?;
         let signal = Signal {
             instance: self.instance,
-            name,
+            name: name.name,
             variable: one.variable,
             port: one.port,
             range: one.range,
             signed: one.signed,
             width,
-            token,
+            token: name.token,
+            start,
         };
         self.list.push_reserved(Declared {
             signal,
@@ -218,44 +222,51 @@ impl<'a> Declarations<'a> {
     }
 
     /// One more signal; a port must stand in the brackets.
-    #[tactic(auto, unfolding(crate::specs::Declarations::declare_new))]
+    #[tactic(auto, using(crate::proofs::Firsts::narrow), unfolding(crate::specs::Declarations::declare_new, rr_syntax::specs::View::plain_declarator))]
     fn declare_new(
         &mut self,
         brackets: &Scope,
+        known: &Scope,
         one: &Declaration,
-        token: u32,
-        name: &'a str,
+        name: &Declarator<'a>,
     ) -> Result<(), FlatFault>
         requires { IsRange one.now.range }
         ensures value { MatchResult result
-            (λ _. declare_new_in brackets.now one.now token name.now (plain_declarations self.old) ≡ Ok (plain_declarations self.new))
-            (Refuses (declare_new_in brackets.now one.now token name.now (plain_declarations self.old))) }
+            (λ _. declare_new_in brackets.now known.now one.now (plain_declarator name.now) (plain_declarations self.old) ≡ Ok (plain_declarations self.new))
+            (Refuses (declare_new_in brackets.now known.now one.now (plain_declarator name.now) (plain_declarations self.old))) }
         ensures same { OnOk result (self.new.instance ≡ self.old.instance) }
     {
-        let found = note_if(
-            None,
-            self.names.find(name).is_some(),
-            FlatFault::NameTwice(token),
-        );
-        let stray = is_port(one.port) && brackets.find(name).is_none();
-        let found = note_if(found, stray, FlatFault::UnknownName(token));
-        let width = sized(found, token, one.range)?;
-        self.append(one, token, name, width)
+        let twice = self.names.find(name.name).is_some();
+        let stray = is_port(one.port) && brackets.find(name.name).is_none();
+        let width = range_width(one.range);
+        let found = note_if(None, twice, FlatFault::NameTwice(name.token));
+        let found = note_if(found, stray, FlatFault::UnknownName(name.token));
+        let found = note_if(found, width > 128, FlatFault::TooWide(name.token, width));
+        let start = start_or(found, 0, starting(one, name), known, width)?;
+        self.append(one, name, width, start)
     }
 
     /// A port once more, with the same range.
-    #[tactic(auto, unfolding(crate::specs::Declarations::declare_again))]
-    fn declare_again(&mut self, one: &Declaration, token: u32, place: u32) -> Result<(), FlatFault>
+    #[tactic(auto, unfolding(crate::specs::Declarations::declare_again, rr_syntax::specs::View::plain_declarator))]
+    fn declare_again(
+        &mut self,
+        known: &Scope,
+        one: &Declaration,
+        name: &Declarator<'a>,
+        place: u32,
+    ) -> Result<(), FlatFault>
         requires { place < length self.old.list }
         ensures value { MatchResult result
-            (λ _. declare_again_in one.now token place (plain_declarations self.old) ≡ Ok (plain_declarations self.new))
-            (Refuses (declare_again_in one.now token place (plain_declarations self.old))) }
+            (λ _. declare_again_in known.now one.now (plain_declarator name.now) place (plain_declarations self.old) ≡ Ok (plain_declarations self.new))
+            (Refuses (declare_again_in known.now one.now (plain_declarator name.now) place (plain_declarations self.old))) }
         ensures same { OnOk result (self.new.instance ≡ self.old.instance) }
     {
         let mut signal = self.list[place as usize].signal;
-        if !is_same_range(signal.range, one.range) {
-            return Err(FlatFault::BadRange(token));
-        }
+        let differs = !is_same_range(signal.range, one.range);
+        let found = note_if(None, differs, FlatFault::BadRange(name.token));
+        let value = starting(one, name);
+        let start = start_or(found, signal.start, value, known, signal.width)?;
+        signal.start = start;
         signal.variable = one.variable;
         signal.signed = is_signed(one.signed, signal.signed);
         self.list[place as usize] = Declared {
@@ -289,58 +300,78 @@ impl<'a> Declarations<'a> {
     }
 
     /// A name of a declaration.
-    #[tactic(auto, unfolding(crate::specs::Declarations::declare))]
+    #[tactic(auto, unfolding(crate::specs::Declarations::declare, rr_syntax::specs::View::plain_declarator))]
     fn declare(
         &mut self,
         brackets: &Scope,
+        known: &Scope,
         one: &Declaration,
-        token: u32,
-        name: &'a str,
+        name: &Declarator<'a>,
     ) -> Result<(), FlatFault>
         requires { IsRange one.now.range }
         ensures value { MatchResult result
-            (λ _. declare_in brackets.now one.now token name.now (plain_declarations self.old) ≡ Ok (plain_declarations self.new))
-            (Refuses (declare_in brackets.now one.now token name.now (plain_declarations self.old))) }
+            (λ _. declare_in brackets.now known.now one.now (plain_declarator name.now) (plain_declarations self.old) ≡ Ok (plain_declarations self.new))
+            (Refuses (declare_in brackets.now known.now one.now (plain_declarator name.now) (plain_declarations self.old))) }
         ensures same { OnOk result (self.new.instance ≡ self.old.instance) }
     {
-        match self.repeated(one.repeats, name) {
-            None => self.declare_new(brackets, one, token, name),
-            Some(place) => self.declare_again(one, token, place),
+        match self.repeated(one.repeats, name.name) {
+            None => self.declare_new(brackets, known, one, name),
+            Some(place) => self.declare_again(known, one, name, place),
         }
     }
 
-    fn declare_identifiers(
+    fn declare_names(
         &mut self,
         brackets: &Scope,
+        known: &Scope,
         one: &Declaration,
-        names: &[Named<'a>],
+        names: &[Declarator<'a>],
     ) -> Result<(), FlatFault>
         requires { IsRange one.now.range }
         ensures value { MatchResult result
-            (λ _. each (declare_identifier_in brackets.now one.now) (map plain_identifier names.now) (plain_declarations self.old) ≡ Ok (plain_declarations self.new))
-            (Refuses (each (declare_identifier_in brackets.now one.now) (map plain_identifier names.now) (plain_declarations self.old))) }
+            (λ _. each (declare_in brackets.now known.now one.now) (map plain_declarator names.now) (plain_declarations self.old) ≡ Ok (plain_declarations self.new))
+            (Refuses (each (declare_in brackets.now known.now one.now) (map plain_declarator names.now) (plain_declarations self.old))) }
         ensures same { OnOk result (self.new.instance ≡ self.old.instance) }
     {
-        for named in names.iter() {
-            self.declare(brackets, one, named.token, named.name)?;
+        for name in names.iter() {
+            self.declare(brackets, known, one, name)?;
         }
         Ok(())
     }
 
-    fn declare_net_names(
+    #[tactic(auto, unfolding(rr_syntax::specs::View::plain_identifier, rr_syntax::specs::View::plain_declarator, rr_syntax::specs::View::plain_value))]
+    fn declare_integer(
         &mut self,
         brackets: &Scope,
-        one: &Declaration,
-        nets: &[NetName<'a>],
+        known: &Scope,
+        named: &Named<'a>,
     ) -> Result<(), FlatFault>
-        requires { IsRange one.now.range }
         ensures value { MatchResult result
-            (λ _. each (declare_net_in brackets.now one.now) (map plain_net nets.now) (plain_declarations self.old) ≡ Ok (plain_declarations self.new))
-            (Refuses (each (declare_net_in brackets.now one.now) (map plain_net nets.now) (plain_declarations self.old))) }
+            (λ _. declare_integer_in brackets.now known.now (plain_identifier named.now) (plain_declarations self.old) ≡ Ok (plain_declarations self.new))
+            (Refuses (declare_integer_in brackets.now known.now (plain_identifier named.now) (plain_declarations self.old))) }
         ensures same { OnOk result (self.new.instance ≡ self.old.instance) }
     {
-        for net in nets.iter() {
-            self.declare(brackets, one, net.token, net.name)?;
+        let name = Declarator {
+            token: named.token,
+            name: named.name,
+            value: None,
+        };
+        self.declare(brackets, known, &INTEGER, &name)
+    }
+
+    fn declare_integers(
+        &mut self,
+        brackets: &Scope,
+        known: &Scope,
+        names: &[Named<'a>],
+    ) -> Result<(), FlatFault>
+        ensures value { MatchResult result
+            (λ _. each (declare_integer_in brackets.now known.now) (map plain_identifier names.now) (plain_declarations self.old) ≡ Ok (plain_declarations self.new))
+            (Refuses (each (declare_integer_in brackets.now known.now) (map plain_identifier names.now) (plain_declarations self.old))) }
+        ensures same { OnOk result (self.new.instance ≡ self.old.instance) }
+    {
+        for named in names.iter() {
+            self.declare_integer(brackets, known, named)?;
         }
         Ok(())
     }
@@ -365,7 +396,7 @@ impl<'a> Declarations<'a> {
             signed: group.signed,
             range: range_of(&group.range, known)?,
         };
-        self.declare_identifiers(brackets, &one, group.names)
+        self.declare_names(brackets, known, &one, group.names)
     }
 
     /// Nets that are declared together.
@@ -376,15 +407,15 @@ impl<'a> Declarations<'a> {
         known: &Scope,
         signed: bool,
         range: &Option<Bounds>,
-        nets: &[NetName<'a>],
+        nets: &[Declarator<'a>],
     ) -> Result<(), FlatFault>
         ensures value { MatchResult result
-            (λ _. declare_nets_in brackets.now known.now signed (plain_range range.now) (map plain_net nets.now) (plain_declarations self.old) ≡ Ok (plain_declarations self.new))
-            (Refuses (declare_nets_in brackets.now known.now signed (plain_range range.now) (map plain_net nets.now) (plain_declarations self.old))) }
+            (λ _. declare_nets_in brackets.now known.now signed (plain_range range.now) (map plain_declarator nets.now) (plain_declarations self.old) ≡ Ok (plain_declarations self.new))
+            (Refuses (declare_nets_in brackets.now known.now signed (plain_range range.now) (map plain_declarator nets.now) (plain_declarations self.old))) }
         ensures same { OnOk result (self.new.instance ≡ self.old.instance) }
     {
         let one = inner_declaration(false, signed, range_of(range, known)?);
-        self.declare_net_names(brackets, &one, nets)
+        self.declare_names(brackets, known, &one, nets)
     }
 
     /// Variables that are declared together.
@@ -395,15 +426,15 @@ impl<'a> Declarations<'a> {
         known: &Scope,
         signed: bool,
         range: &Option<Bounds>,
-        names: &[Named<'a>],
+        names: &[Declarator<'a>],
     ) -> Result<(), FlatFault>
         ensures value { MatchResult result
-            (λ _. declare_variables_in brackets.now known.now signed (plain_range range.now) (map plain_identifier names.now) (plain_declarations self.old) ≡ Ok (plain_declarations self.new))
-            (Refuses (declare_variables_in brackets.now known.now signed (plain_range range.now) (map plain_identifier names.now) (plain_declarations self.old))) }
+            (λ _. declare_variables_in brackets.now known.now signed (plain_range range.now) (map plain_declarator names.now) (plain_declarations self.old) ≡ Ok (plain_declarations self.new))
+            (Refuses (declare_variables_in brackets.now known.now signed (plain_range range.now) (map plain_declarator names.now) (plain_declarations self.old))) }
         ensures same { OnOk result (self.new.instance ≡ self.old.instance) }
     {
         let one = inner_declaration(true, signed, range_of(range, known)?);
-        self.declare_identifiers(brackets, &one, names)
+        self.declare_names(brackets, known, &one, names)
     }
 
     /// The names that an item declares.
@@ -431,10 +462,11 @@ impl<'a> Declarations<'a> {
                 range,
                 names,
             } => self.declare_variables(brackets, known, *signed, range, names),
-            Item::Integers { names } => self.declare_identifiers(brackets, &INTEGER, names),
+            Item::Integers { names } => self.declare_integers(brackets, known, names),
             Item::Parameters(_)
             | Item::Assigns { .. }
             | Item::Always { .. }
+            | Item::Initial { .. }
             | Item::Instances { .. } => Ok(()),
         }
     }

@@ -1,9 +1,9 @@
 //! The head of an instance: its parameters and its signals (IEEE 1364-2005 section 12).
 ghost use Rattle.std.specs.Prelude.{◌≡◌, ◌≤◌, ◌+◌, ℕ, MatchResult, OnOk, IfOk, Ok, map, fold, length, All};
-ghost use Rattle.rr_syntax.specs.View.{plain_identifier, plain_port, plain_module};
+ghost use Rattle.rr_syntax.specs.View.{plain_identifier, plain_declarator, plain_port, plain_module};
 ghost use Rattle.rr_flat.specs.Faults.{Refuses, and_then};
 ghost use Rattle.rr_head.specs.Parameters.{parameters as parameters_of};
-ghost use Rattle.rr_head.specs.Heads.{with_port as port_next, with_ports as ports_next, with_inner as inner_next, signals_in_order, declared as declared_of, with_signals as signals_named, numbered as numbered_in, head as head_of};
+ghost use Rattle.rr_head.specs.Heads.{with_port as port_next, with_identifier as identifier_next, with_declarator as declarator_next, with_ports as ports_next, with_inner as inner_next, signals_in_order, declared as declared_of, with_signals as signals_named, numbered as numbered_in, head as head_of};
 ghost use Rattle.rr_flat.specs.View.{plain_signal};
 ghost use Rattle.rr_head.specs.View.{plain_declared, plain_list, plain_declarations, plain_head};
 ghost use Rattle.rr_flat.specs.Sound.{IsOwn, AreNamed};
@@ -16,7 +16,7 @@ use crate::known::know_module;
 use crate::parameters::{parameters, put};
 use rr_expr::{Entity, Scope};
 use rr_flat::{FlatFault, Limit, Signal};
-use rr_syntax::{Group, Module, Named};
+use rr_syntax::{Declarator, Group, Module, Named};
 use std::alloc::{AllocError, Global};
 use std::marker::Model;
 
@@ -43,17 +43,17 @@ impl<'a> Model for Head<'a> {
     ghost invariant = { λ h. IsHead h.instance h.base h.bits h.signals.items h.scope };
 }
 
-/// The port that a name in the brackets is goes next.
-#[tactic(auto, unfolding(crate::specs::Heads::with_port, rr_syntax::specs::View::plain_identifier))]
+/// The port of that name goes next.
+#[tactic(auto, unfolding(crate::specs::Heads::with_port))]
 fn add_port<'a>(
     signals: &mut Vec<Signal<'a>>,
     declared: &Declarations<'a>,
-    named: &Named,
+    name: &str,
 ) -> Result<(), AllocError>
-    ensures value { OnOk result (map plain_signal signals.new.items ≡ port_next (plain_declarations declared.now) (map plain_signal signals.old.items) (plain_identifier named.now)) }
+    ensures value { OnOk result (map plain_signal signals.new.items ≡ port_next (plain_declarations declared.now) (map plain_signal signals.old.items) name.now) }
     ensures sound { OnOk result (All (IsOwn declared.now.instance) signals.old.items → All (IsOwn declared.now.instance) signals.new.items) }
 {
-    match declared.named(named.name) {
+    match declared.named(name) {
         Some(signal) => {
             signals.push(signal)?;
             Ok(())
@@ -62,16 +62,30 @@ fn add_port<'a>(
     }
 }
 
-fn add_ports<'a>(
+fn add_identifiers<'a>(
     signals: &mut Vec<Signal<'a>>,
     declared: &Declarations<'a>,
     names: &[Named],
 ) -> Result<(), AllocError>
-    ensures value { OnOk result (map plain_signal signals.new.items ≡ fold (port_next (plain_declarations declared.now)) (map plain_signal signals.old.items) (map plain_identifier names.now)) }
+    ensures value { OnOk result (map plain_signal signals.new.items ≡ fold (identifier_next (plain_declarations declared.now)) (map plain_signal signals.old.items) (map plain_identifier names.now)) }
     ensures sound { OnOk result (All (IsOwn declared.now.instance) signals.old.items → All (IsOwn declared.now.instance) signals.new.items) }
 {
     for named in names.iter() {
-        add_port(signals, declared, named)?;
+        add_port(signals, declared, named.name)?;
+    }
+    Ok(())
+}
+
+fn add_declarators<'a>(
+    signals: &mut Vec<Signal<'a>>,
+    declared: &Declarations<'a>,
+    names: &[Declarator],
+) -> Result<(), AllocError>
+    ensures value { OnOk result (map plain_signal signals.new.items ≡ fold (declarator_next (plain_declarations declared.now)) (map plain_signal signals.old.items) (map plain_declarator names.now)) }
+    ensures sound { OnOk result (All (IsOwn declared.now.instance) signals.old.items → All (IsOwn declared.now.instance) signals.new.items) }
+{
+    for declarator in names.iter() {
+        add_port(signals, declared, declarator.name)?;
     }
     Ok(())
 }
@@ -85,7 +99,7 @@ fn add_group<'a>(
     ensures value { OnOk result (map plain_signal signals.new.items ≡ ports_next (plain_declarations declared.now) (map plain_signal signals.old.items) (plain_port group.now)) }
     ensures sound { OnOk result (All (IsOwn declared.now.instance) signals.old.items → All (IsOwn declared.now.instance) signals.new.items) }
 {
-    add_ports(signals, declared, group.names)
+    add_declarators(signals, declared, group.names)
 }
 
 fn add_groups<'a>(
@@ -136,7 +150,7 @@ fn in_order<'a>(
     ensures sound { IfOk result (λ v. All (IsOwn declared.now.instance) v.items) }
 {
     let mut signals = Vec::new(alloc);
-    add_ports(&mut signals, declared, plain_names(own))?;
+    add_identifiers(&mut signals, declared, plain_names(own))?;
     add_groups(&mut signals, declared, own.groups)?;
     add_inners(&mut signals, declared.list.as_slice())?;
     Ok(signals)

@@ -1,11 +1,11 @@
 //! The names that are declared anywhere in a module (IEEE 1364-2005 section 12.7).
 ghost use Rattle.std.specs.Prelude.{◌≡◌, OnOk, map, fold};
-ghost use Rattle.rr_syntax.specs.View.{plain_identifier, plain_net, plain_port, plain_item, plain_module};
-ghost use Rattle.rr_head.specs.Declarations.{know as know_in, know_identifier, know_net, know_ports as know_ports_in, know_item as know_item_in, know_port_item as know_port_item_in, known};
+ghost use Rattle.rr_syntax.specs.View.{plain_identifier, plain_declarator, plain_port, plain_item, plain_module};
+ghost use Rattle.rr_head.specs.Declarations.{know as know_in, know_identifier, know_declarator, know_ports as know_ports_in, know_item as know_item_in, know_port_item as know_port_item_in, known};
 
 use crate::parameters::put;
 use rr_expr::{Entity, Scope};
-use rr_syntax::{Group, Item, Module, Named, NetName};
+use rr_syntax::{Declarator, Group, Item, Module, Named};
 use std::alloc::AllocError;
 
 /// A net or a variable, wherever it stands.
@@ -29,11 +29,11 @@ fn know_identifiers<'a>(names: &mut Scope<'a>, list: &[Named<'a>]) -> Result<(),
     Ok(())
 }
 
-fn know_nets<'a>(names: &mut Scope<'a>, list: &[NetName<'a>]) -> Result<(), AllocError>
-    ensures { OnOk result (names.new ≡ fold know_net names.old (map plain_net list.now)) }
+fn know_declarators<'a>(names: &mut Scope<'a>, list: &[Declarator<'a>]) -> Result<(), AllocError>
+    ensures { OnOk result (names.new ≡ fold know_declarator names.old (map plain_declarator list.now)) }
 {
-    for net in list.iter() {
-        know(names, net.name)?;
+    for declarator in list.iter() {
+        know(names, declarator.name)?;
     }
     Ok(())
 }
@@ -42,7 +42,7 @@ fn know_nets<'a>(names: &mut Scope<'a>, list: &[NetName<'a>]) -> Result<(), Allo
 fn know_ports<'a>(names: &mut Scope<'a>, group: &Group<'a>) -> Result<(), AllocError>
     ensures { OnOk result (names.new ≡ know_ports_in names.old (plain_port group.now)) }
 {
-    know_identifiers(names, group.names)
+    know_declarators(names, group.names)
 }
 
 #[tactic(auto, unfolding(crate::specs::Declarations::know_item, rr_syntax::specs::View::plain_item))]
@@ -51,12 +51,15 @@ fn know_item<'a>(names: &mut Scope<'a>, item: &Item<'a>) -> Result<(), AllocErro
 {
     match item {
         Item::Ports(group) => know_ports(names, group),
-        Item::Nets { names: list, .. } => know_nets(names, list),
-        Item::Variables { names: list, .. } | Item::Integers { names: list } => {
-            know_identifiers(names, list)
+        Item::Nets { names: list, .. } | Item::Variables { names: list, .. } => {
+            know_declarators(names, list)
         }
-        Item::Parameters(_) | Item::Assigns { .. } | Item::Always { .. } | Item::Instances { .. } =>
-            Ok(()),
+        Item::Integers { names: list } => know_identifiers(names, list),
+        Item::Parameters(_)
+        | Item::Assigns { .. }
+        | Item::Always { .. }
+        | Item::Initial { .. }
+        | Item::Instances { .. } => Ok(()),
     }
 }
 
@@ -72,6 +75,7 @@ fn know_port_item<'a>(names: &mut Scope<'a>, item: &Item<'a>) -> Result<(), Allo
         | Item::Parameters(_)
         | Item::Assigns { .. }
         | Item::Always { .. }
+        | Item::Initial { .. }
         | Item::Instances { .. } => Ok(()),
     }
 }

@@ -8,6 +8,7 @@ mod declare;
 mod head;
 mod known;
 mod parameters;
+mod starts;
 mod values;
 
 /// The greatest number of flat bits: the widths of all signals together.

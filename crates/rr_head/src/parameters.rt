@@ -29,11 +29,7 @@ pub(crate) fn put<'a>(
 
 /// The width of a range, or the first of a fault that was found, if any, and that it has more than
 /// 128 bits.
-pub(crate) fn sized(
-    found: Option<FlatFault>,
-    token: u32,
-    range: Option<(u32, u32)>,
-) -> Result<u32, FlatFault>
+fn sized(found: Option<FlatFault>, token: u32, range: Option<(u32, u32)>) -> Result<u32, FlatFault>
     requires { IsRange range }
     ensures none { OnOk result (fold sooner found (width_faults token range) ≡ None) }
     ensures width { IfOk result (λ w. w ≡ width_of_range range) }
@@ -200,6 +196,7 @@ fn add_item_parameters<'a>(
         | Item::Integers { .. }
         | Item::Assigns { .. }
         | Item::Always { .. }
+        | Item::Initial { .. }
         | Item::Instances { .. } => Ok(()),
     }
 }

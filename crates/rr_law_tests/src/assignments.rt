@@ -128,6 +128,39 @@ const TARGETS_OF_BLOCKS: [Case; 2] = [
     ),
 ];
 
+const TARGETS_OF_INITIAL_ITEMS: [Case; 6] = [
+    (
+        Law::Target,
+        "module m(input a, output reg y); integer i; initial begin y = 1'b1; i = 2; end always @* y = a; endmodule",
+        Told::Kept,
+    ),
+    (
+        Law::Target,
+        "module m(output y); initial y = 1'b1; endmodule",
+        Told::Broken(28),
+    ),
+    (
+        Law::Target,
+        "module m(input a, output reg y); initial begin y = 1'b1; a = 1'b1; end endmodule",
+        Told::Broken(57),
+    ),
+    (
+        Law::Target,
+        "module m(output reg y); parameter P = 1; initial P = 0; endmodule",
+        Told::Broken(49),
+    ),
+    (
+        Law::Target,
+        "module m(input a, output reg y); initial a = 1'b1; always @* a = y; endmodule",
+        Told::Broken(41),
+    ),
+    (
+        Law::Target,
+        "module c(output reg y, output z); initial z = 1'b0; endmodule module m(output y, output z); c one(y, z); endmodule",
+        Told::Broken(42),
+    ),
+];
+
 const TARGETS_OF_CONNECTIONS: [Case; 3] = [
     (
         Law::Target,
@@ -282,6 +315,7 @@ fn assignments_by_each_law(rt: HostRuntime) -> Result<(), Fail> {
             &WHOLE_TARGETS,
             &PARTS_OF_TARGETS,
             &TARGETS_OF_BLOCKS,
+            &TARGETS_OF_INITIAL_ITEMS,
             &TARGETS_OF_CONNECTIONS,
             &LABELS,
             &LABELS_OF_WILD_CASES,

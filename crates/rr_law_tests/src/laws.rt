@@ -428,6 +428,34 @@ const TWO_LAWS_AFTER_THE_CLOCK: [Case; 4] = [
     ),
 ];
 
+const LAWS_OF_INITIAL_ITEMS: [Case; 5] = [
+    (
+        "module m(output y);initial y=1'b1;assign y=1'b0;assign y=1'b1;endmodule",
+        &None,
+        Told::Broken(24, 27),
+    ),
+    (
+        "module m(input clk,input d,output reg y,output reg z);always @(posedge clk) y <= d;always @(negedge clk) z <= d;initial d = 1'b1;endmodule",
+        &None,
+        Told::Broken(24, 120),
+    ),
+    (
+        "module m(input a,output reg y,output z);assign y = a;initial z = 1'b1;endmodule",
+        &None,
+        Told::Broken(24, 47),
+    ),
+    (
+        "module m(input clk,input d,output reg y = 1'b1);reg t;initial begin t = 1'b1;y = 1'b0;end initial y = 1'b1;always @(posedge clk) begin y = t;t = d;end endmodule",
+        &None,
+        Told::Kept,
+    ),
+    (
+        "module m(input a,output reg y = 1'b1,output reg z);initial z = 1'b1;always @* y = a;endmodule",
+        &None,
+        Told::Kept,
+    ),
+];
+
 const ONE_LAW_UP_TO_THE_CLOCK: [Case; 4] = [
     (
         "module m(input clk,output reg y);always @(posedge clk) y <= clk;endmodule",
@@ -541,6 +569,7 @@ fn the_first_law_that_is_broken(rt: HostRuntime) -> Result<(), Fail> {
         &[
             &TWO_LAWS_UP_TO_THE_CLOCK,
             &TWO_LAWS_AFTER_THE_CLOCK,
+            &LAWS_OF_INITIAL_ITEMS,
             &ONE_LAW_UP_TO_THE_CLOCK,
             &ONE_LAW_AFTER_THE_CLOCK,
             &DESIGNS_THAT_KEEP_ALL_LAWS,

@@ -1,5 +1,5 @@
--- Where a law holds, no part of a walk breaks it, whatever stands in that walk: a number with no driver and no block is
--- that of an empty one.
+-- Where a law holds, no part of a walk breaks it, whatever stands in that walk: a number with no driver, no block and no
+-- `initial` item is that of an empty one.
 use Rattle.std.proofs.Common.{◌≡◌, ◌∙◌, ap, subst, refl, ℕ, zero, suc, ◌+◌, ◌<◌, ◌⊎◌, inl, inr, List, [], ◌∷◌, ◌++◌, length, map, Bool, true, false, cond, append-nil, arith}
 use Rattle.std.specs.Prelude.{flat_map, All}
 use Rattle.std.specs.List.{range_with_len}
@@ -10,13 +10,13 @@ use Rattle.rr_flat.specs.declared.design.Part as design
 use Rattle.rr_flat.specs.declared.design.Part.TheVariants as part
 use Rattle.rr_flat.specs.Clocks.{Leads, itself, through}
 use Rattle.rr_flat.specs.Lawful.{NoClockIn, SideWithout, DriverWithout, ClockUnread, RightKinds, RightLabels, RightTargets}
-use Rattle.rr_flat.specs.Plain.{Side, Written, Whole, Driver, Block, Flat}
+use Rattle.rr_flat.specs.Plain.{Side, Written, Whole, Driver, Block, Initial, Flat}
 use Rattle.rr_flat.specs.Reads.{names_of, names_in, assigned_by}
-use Rattle.rr_flat.specs.Sound.{IsPart, drivers_of, clocked_of, combinational_of}
-use Rattle.rr_flat.specs.Writers.{driver_at, no_driver, block_at, no_block}
-use Rattle.rr_flat.specs.Parts.{driver_of, block_of}
+use Rattle.rr_flat.specs.Sound.{IsPart, drivers_of, clocked_of, combinational_of, initials_of}
+use Rattle.rr_flat.specs.Writers.{driver_at, no_driver, block_at, no_block, no_initial}
+use Rattle.rr_flat.specs.Parts.{driver_of, block_of, initial_of}
 use Rattle.rr_parts.proofs.Covering.{HasWalk, Member, NoneAt, none_at, member_empty, clocked_member, combinational_member}
-use Rattle.rr_assign.specs.Aims.{bad_of_driver, bad_of_block, bad_of_part, bad_targets}
+use Rattle.rr_assign.specs.Aims.{bad_of_driver, bad_of_block, bad_of_initial, bad_of_part, bad_targets}
 use Rattle.rr_assign.specs.Kinds.{Aim, aim_of, aims_of_part, aims, wrong_kinds}
 use Rattle.rr_assign.specs.Labels.{wild_in, wild_of_part, all_wild}
 use Rattle.rr_assign.proofs.AimLaw.{no_bad_targets}
@@ -25,28 +25,35 @@ use Rattle.rr_assign.proofs.LabelLaw.{no_wild_labels}
 use Rattle.rr_clock.specs.Clock.{TellsLeads, hands_on, side_uses, uses_of_driver, uses_of_block, uses_of_part, all_uses}
 use Rattle.rr_clock.proofs.UseLaw.{no_uses}
 
--- a walk that meets each driver and block once
+-- a walk that meets each driver, block and `initial` item once
 
-whole_walk : ℕ → ℕ → ℕ → List design.Part
-whole_walk n m l = map part.Driver (range_with_len 0 n) ++ (map part.Clocked (range_with_len 0 m) ++ (map part.Combinational (range_with_len 0 l) ++ []))
+whole_walk : ℕ → ℕ → ℕ → ℕ → List design.Part
+whole_walk n m l i =
+    map part.Driver (range_with_len 0 n) ++ (map part.Clocked (range_with_len 0 m) ++ (map part.Combinational (range_with_len 0 l) ++ (map part.Initial (range_with_len 0 i) ++ [])))
 
 drivers_first : (ks : List ℕ) (ps : List design.Part) → (drivers_of (map part.Driver ks ++ ps) ≡ ks ++ drivers_of ps) × (clocked_of (map part.Driver ks ++ ps) ≡ clocked_of ps)
-    × (combinational_of (map part.Driver ks ++ ps) ≡ combinational_of ps)
-unfolding drivers_of clocked_of combinational_of
-drivers_first [] ps = (refl, refl, refl)
-drivers_first (k ∷ ks) ps = let h = drivers_first ks ps in (ap (λ z. k ∷ z) h.0, h.1, h.2)
+    × (combinational_of (map part.Driver ks ++ ps) ≡ combinational_of ps) × (initials_of (map part.Driver ks ++ ps) ≡ initials_of ps)
+unfolding drivers_of clocked_of combinational_of initials_of
+drivers_first [] ps = (refl, refl, refl, refl)
+drivers_first (k ∷ ks) ps = let h = drivers_first ks ps in (ap (λ z. k ∷ z) h.0, h.1, h.2, h.3)
 
 clocked_first : (ks : List ℕ) (ps : List design.Part) → (drivers_of (map part.Clocked ks ++ ps) ≡ drivers_of ps) × (clocked_of (map part.Clocked ks ++ ps) ≡ ks ++ clocked_of ps)
-    × (combinational_of (map part.Clocked ks ++ ps) ≡ combinational_of ps)
-unfolding drivers_of clocked_of combinational_of
-clocked_first [] ps = (refl, refl, refl)
-clocked_first (k ∷ ks) ps = let h = clocked_first ks ps in (h.0, ap (λ z. k ∷ z) h.1, h.2)
+    × (combinational_of (map part.Clocked ks ++ ps) ≡ combinational_of ps) × (initials_of (map part.Clocked ks ++ ps) ≡ initials_of ps)
+unfolding drivers_of clocked_of combinational_of initials_of
+clocked_first [] ps = (refl, refl, refl, refl)
+clocked_first (k ∷ ks) ps = let h = clocked_first ks ps in (h.0, ap (λ z. k ∷ z) h.1, h.2, h.3)
 
 combinational_first : (ks : List ℕ) (ps : List design.Part) → (drivers_of (map part.Combinational ks ++ ps) ≡ drivers_of ps) × (clocked_of (map part.Combinational ks ++ ps) ≡ clocked_of ps)
-    × (combinational_of (map part.Combinational ks ++ ps) ≡ ks ++ combinational_of ps)
-unfolding drivers_of clocked_of combinational_of
-combinational_first [] ps = (refl, refl, refl)
-combinational_first (k ∷ ks) ps = let h = combinational_first ks ps in (h.0, h.1, ap (λ z. k ∷ z) h.2)
+    × (combinational_of (map part.Combinational ks ++ ps) ≡ ks ++ combinational_of ps) × (initials_of (map part.Combinational ks ++ ps) ≡ initials_of ps)
+unfolding drivers_of clocked_of combinational_of initials_of
+combinational_first [] ps = (refl, refl, refl, refl)
+combinational_first (k ∷ ks) ps = let h = combinational_first ks ps in (h.0, h.1, ap (λ z. k ∷ z) h.2, h.3)
+
+initials_first : (ks : List ℕ) (ps : List design.Part) → (drivers_of (map part.Initial ks ++ ps) ≡ drivers_of ps) × (clocked_of (map part.Initial ks ++ ps) ≡ clocked_of ps)
+    × (combinational_of (map part.Initial ks ++ ps) ≡ combinational_of ps) × (initials_of (map part.Initial ks ++ ps) ≡ ks ++ initials_of ps)
+unfolding drivers_of clocked_of combinational_of initials_of
+initials_first [] ps = (refl, refl, refl, refl)
+initials_first (k ∷ ks) ps = let h = initials_first ks ps in (h.0, h.1, h.2, ap (λ z. k ∷ z) h.3)
 
 in_range : (a n k : ℕ) → Member k (range_with_len a n) → k < a + n
 in_range a zero k m = absurd m
@@ -63,21 +70,26 @@ numbered P f n h p m =
     let k = map_member f (range_with_len 0 n) p m in
     subst P k.1.1 (h k.0 (let l = in_range 0 n k.0 k.1.0 in omega (arith, l)))
 
-parts_in : (n m l : ℕ) (p : design.Part) → Member p (whole_walk n m l) → IsPart n m l p
+parts_in : (n m l i : ℕ) (p : design.Part) → Member p (whole_walk n m l i) → IsPart n m l i p
 unfolding whole_walk
-parts_in n m l p h = first (member_cases (map part.Driver (range_with_len 0 n)) (map part.Clocked (range_with_len 0 m) ++ (map part.Combinational (range_with_len 0 l) ++ [])) p h)
+parts_in n m l i p h =
+    first (member_cases (map part.Driver (range_with_len 0 n)) (map part.Clocked (range_with_len 0 m) ++ (map part.Combinational (range_with_len 0 l) ++ (map part.Initial (range_with_len 0 i) ++ []))) p h)
   where
-    third : Member p (map part.Combinational (range_with_len 0 l)) ⊎ Member p [] → IsPart n m l p
-    third (inl k) = numbered (IsPart n m l) part.Combinational l (λ i b. b) p k
-    third (inr k) = absurd k
+    fourth : Member p (map part.Initial (range_with_len 0 i)) ⊎ Member p [] → IsPart n m l i p
+    fourth (inl k) = numbered (IsPart n m l i) part.Initial i (λ j b. b) p k
+    fourth (inr k) = absurd k
 
-    second : Member p (map part.Clocked (range_with_len 0 m)) ⊎ Member p (map part.Combinational (range_with_len 0 l) ++ []) → IsPart n m l p
-    second (inl k) = numbered (IsPart n m l) part.Clocked m (λ i b. b) p k
-    second (inr k) = third (member_cases (map part.Combinational (range_with_len 0 l)) [] p k)
+    third : Member p (map part.Combinational (range_with_len 0 l)) ⊎ Member p (map part.Initial (range_with_len 0 i) ++ []) → IsPart n m l i p
+    third (inl k) = numbered (IsPart n m l i) part.Combinational l (λ j b. b) p k
+    third (inr k) = fourth (member_cases (map part.Initial (range_with_len 0 i)) [] p k)
 
-    first : Member p (map part.Driver (range_with_len 0 n)) ⊎ Member p (map part.Clocked (range_with_len 0 m) ++ (map part.Combinational (range_with_len 0 l) ++ [])) → IsPart n m l p
-    first (inl k) = numbered (IsPart n m l) part.Driver n (λ i b. b) p k
-    first (inr k) = second (member_cases (map part.Clocked (range_with_len 0 m)) (map part.Combinational (range_with_len 0 l) ++ []) p k)
+    second : Member p (map part.Clocked (range_with_len 0 m)) ⊎ Member p (map part.Combinational (range_with_len 0 l) ++ (map part.Initial (range_with_len 0 i) ++ [])) → IsPart n m l i p
+    second (inl k) = numbered (IsPart n m l i) part.Clocked m (λ j b. b) p k
+    second (inr k) = third (member_cases (map part.Combinational (range_with_len 0 l)) (map part.Initial (range_with_len 0 i) ++ []) p k)
+
+    first : Member p (map part.Driver (range_with_len 0 n)) ⊎ Member p (map part.Clocked (range_with_len 0 m) ++ (map part.Combinational (range_with_len 0 l) ++ (map part.Initial (range_with_len 0 i) ++ []))) → IsPart n m l i p
+    first (inl k) = numbered (IsPart n m l i) part.Driver n (λ j b. b) p k
+    first (inr k) = second (member_cases (map part.Clocked (range_with_len 0 m)) (map part.Combinational (range_with_len 0 l) ++ (map part.Initial (range_with_len 0 i) ++ [])) p k)
 
 -- a design with another walk, and with that one
 
@@ -85,47 +97,54 @@ abbrev with_walk : Flat → List design.Part → Flat
 with_walk flat walk = record flat { walk = walk }
 
 abbrev walked_through : Flat → Flat
-walked_through flat = with_walk flat (whole_walk (length flat.drivers) (length flat.clocked) (length flat.combinational))
+walked_through flat = with_walk flat (whole_walk (length flat.drivers) (length flat.clocked) (length flat.combinational) (length flat.initials))
 
 has_walk : (flat : Flat) → HasWalk (walked_through flat)
-unfolding whole_walk drivers_of clocked_of combinational_of
+unfolding whole_walk drivers_of clocked_of combinational_of initials_of
 has_walk flat =
     let ds = range_with_len 0 (length flat.drivers) in
     let cs = range_with_len 0 (length flat.clocked) in
     let bs = range_with_len 0 (length flat.combinational) in
-    let last = combinational_first bs [] in
-    let next = clocked_first cs (map part.Combinational bs ++ []) in
-    let top = drivers_first ds (map part.Clocked cs ++ (map part.Combinational bs ++ [])) in
+    let is = range_with_len 0 (length flat.initials) in
+    let last = initials_first is [] in
+    let third = combinational_first bs (map part.Initial is ++ []) in
+    let next = clocked_first cs (map part.Combinational bs ++ (map part.Initial is ++ [])) in
+    let top = drivers_first ds (map part.Clocked cs ++ (map part.Combinational bs ++ (map part.Initial is ++ []))) in
     record {
-      parts_in = all_of (IsPart (length flat.drivers) (length flat.clocked) (length flat.combinational)) (whole_walk (length flat.drivers) (length flat.clocked) (length flat.combinational))
-          (parts_in (length flat.drivers) (length flat.clocked) (length flat.combinational));
-      all_drivers = top.0 ∙ (ap (λ z. ds ++ z) (next.0 ∙ last.0) ∙ append-nil ds);
-      all_clocked = top.1 ∙ (next.1 ∙ (ap (λ z. cs ++ z) last.1 ∙ append-nil cs));
-      all_combinational = top.2 ∙ (next.2 ∙ (last.2 ∙ append-nil bs));
+      parts_in = all_of (IsPart (length flat.drivers) (length flat.clocked) (length flat.combinational) (length flat.initials)) (whole_walk (length flat.drivers) (length flat.clocked) (length flat.combinational) (length flat.initials))
+          (parts_in (length flat.drivers) (length flat.clocked) (length flat.combinational) (length flat.initials));
+      all_drivers = top.0 ∙ (ap (λ z. ds ++ z) (next.0 ∙ (third.0 ∙ last.0)) ∙ append-nil ds);
+      all_clocked = top.1 ∙ (next.1 ∙ (ap (λ z. cs ++ z) (third.1 ∙ last.1) ∙ append-nil cs));
+      all_combinational = top.2 ∙ (next.2 ∙ (third.2 ∙ (ap (λ z. bs ++ z) last.2 ∙ append-nil bs)));
+      all_initials = top.3 ∙ (next.3 ∙ (third.3 ∙ (last.3 ∙ append-nil is)));
     }
 
--- what no driver and no block breaks, and no empty one, no part of a walk does
+-- what no driver, no block and no `initial` item breaks, and no empty one, no part of a walk does
 
-nowhere : (flat : Flat) (g : Driver → Block → List ℕ) → g no_driver no_block ≡ [] → NoneAt flat (λ p. g (driver_of flat p) (block_of flat p)) → flat_map (λ p. g (driver_of flat p) (block_of flat p)) flat.walk ≡ []
-nowhere flat g nothing n = member_empty (λ p. g (driver_of flat p) (block_of flat p)) flat.walk (λ p m. at p)
+nowhere : (flat : Flat) (g : Driver → Block → Initial → List ℕ) → g no_driver no_block no_initial ≡ [] → NoneAt flat (λ p. g (driver_of flat p) (block_of flat p) (initial_of flat p)) → flat_map (λ p. g (driver_of flat p) (block_of flat p) (initial_of flat p)) flat.walk ≡ []
+nowhere flat g nothing n = member_empty (λ p. g (driver_of flat p) (block_of flat p) (initial_of flat p)) flat.walk (λ p m. at p)
   where
-    at : (p : design.Part) → g (driver_of flat p) (block_of flat p) ≡ []
+    at : (p : design.Part) → g (driver_of flat p) (block_of flat p) (initial_of flat p) ≡ []
     at (part.Driver k) = elim (cases_lt k (length flat.drivers)) [
       | inl l ↦ n.drivers k l
-      | inr l ↦ ap (λ d. g d no_block) (get_or_past flat.drivers k no_driver l) ∙ nothing
+      | inr l ↦ ap (λ d. g d no_block no_initial) (get_or_past flat.drivers k no_driver l) ∙ nothing
     ]
     at (part.Clocked k) = elim (cases_lt k (length flat.clocked)) [
       | inl l ↦ n.clocked k l
-      | inr l ↦ ap (λ b. g no_driver b) (get_or_past flat.clocked k no_block l) ∙ nothing
+      | inr l ↦ ap (λ b. g no_driver b no_initial) (get_or_past flat.clocked k no_block l) ∙ nothing
     ]
     at (part.Combinational k) = elim (cases_lt k (length flat.combinational)) [
       | inl l ↦ n.combinational k l
-      | inr l ↦ ap (λ b. g no_driver b) (get_or_past flat.combinational k no_block l) ∙ nothing
+      | inr l ↦ ap (λ b. g no_driver b no_initial) (get_or_past flat.combinational k no_block l) ∙ nothing
+    ]
+    at (part.Initial k) = elim (cases_lt k (length flat.initials)) [
+      | inl l ↦ n.initials k l
+      | inr l ↦ ap (λ x. g no_driver no_block x) (get_or_past flat.initials k no_initial l) ∙ nothing
     ]
 
 -- targets and labels
 
-no_bad : (flat : Flat) → bad_of_driver flat no_driver ++ bad_of_block flat no_block ≡ []
+no_bad : (flat : Flat) → bad_of_driver flat no_driver ++ (bad_of_block flat no_block ++ bad_of_initial flat no_initial) ≡ []
 unfolding assigned_by
 no_bad flat = refl
 
@@ -133,8 +152,8 @@ pub none_bad : (flat : Flat) → RightTargets flat → bad_targets flat ≡ []
 none_bad flat r =
     let w = walked_through flat in
     let h = has_walk flat in
-    let n = none_at w (bad_of_part w) h (no_bad_targets w h (record { drivers = r.drivers; clocked = r.clocked; combinational = r.combinational })) in
-    nowhere flat (λ d b. bad_of_driver flat d ++ bad_of_block flat b) (no_bad flat) (record { drivers = n.drivers; clocked = n.clocked; combinational = n.combinational })
+    let n = none_at w (bad_of_part w) h (no_bad_targets w h (record { drivers = r.drivers; clocked = r.clocked; combinational = r.combinational; initials = r.initials })) in
+    nowhere flat (λ d b x. bad_of_driver flat d ++ (bad_of_block flat b ++ bad_of_initial flat x)) (no_bad flat) (record { drivers = n.drivers; clocked = n.clocked; combinational = n.combinational; initials = n.initials })
 
 no_wild : wild_in no_block.body ≡ []
 unfolding wild_in
@@ -145,7 +164,7 @@ none_wild flat r =
     let w = walked_through flat in
     let h = has_walk flat in
     let n = none_at w (wild_of_part w) h (no_wild_labels w h (record { clocked = r.clocked; combinational = r.combinational })) in
-    nowhere flat (λ d b. wild_in b.body) no_wild (record { drivers = n.drivers; clocked = n.clocked; combinational = n.combinational })
+    nowhere flat (λ d b x. wild_in b.body) no_wild (record { drivers = n.drivers; clocked = n.clocked; combinational = n.combinational; initials = n.initials })
 
 -- uses of the clock
 
@@ -191,7 +210,7 @@ none_used flat clock set t u =
     let h = has_walk flat in
     let tells : TellsLeads w clock set = record { sound = λ x e. leads_with flat w.walk clock (t.sound x e); all = λ x l. t.all x (leads_without flat w.walk clock l) } in
     let n = none_at w (uses_of_part w set) h (no_uses w clock set tells h (unread_with flat w.walk clock u)) in
-    nowhere flat (λ d b. uses_of_driver flat set d ++ uses_of_block flat set b) (no_use flat set) (record { drivers = n.drivers; clocked = n.clocked; combinational = n.combinational })
+    nowhere flat (λ d b x. uses_of_driver flat set d ++ uses_of_block flat set b) (no_use flat set) (record { drivers = n.drivers; clocked = n.clocked; combinational = n.combinational; initials = n.initials })
 
 -- kinds of assignment
 
@@ -218,6 +237,7 @@ aim_walked flat a m = go x.0 x.1.1
       | inl l ↦ member_flat (aims_of_part (walked_through flat)) (walked_through flat).walk (part.Combinational k) a (combinational_member (walked_through flat) (has_walk flat) k l) n
       | inr l ↦ absurd (no_aim flat true (block_at flat.combinational k) a (get_or_past flat.combinational k no_block l) n)
     ]
+    go (part.Initial k) n = absurd (no_aim flat false no_block a refl n)
 
 pub none_wrong : (flat : Flat) → RightKinds flat → wrong_kinds flat ≡ []
 none_wrong flat r = all_fine [] (aims flat) (record { alone = λ a m. fine.alone a (aim_walked flat a m); pairs = λ a b m n. fine.pairs a b (aim_walked flat a m) (aim_walked flat b n) })

@@ -264,7 +264,7 @@ drivers_sound d (x ∷ xs) h k l =
     let P : plain_design.Driver → Type 0 = λ y. IsThere (plain_flat d) y.target × IsThere (plain_flat d) y.value in
     subst P (sym e) (there_side d (get_or (x ∷ xs) k x).target i.target, there_side d (get_or (x ∷ xs) k x).value i.value)
 
-pub sound_of : (d : Design) → IsFlat d.signals d.scopes d.drivers d.clocked d.combinational d.walk d.inputs d.outputs d.owners → IsClosed (plain_flat d)
+pub sound_of : (d : Design) → IsFlat d.signals d.scopes d.drivers d.clocked d.combinational d.walk d.inputs d.outputs d.owners d.starts d.initials → IsClosed (plain_flat d)
 sound_of d f = record {
   scopes = λ i. elim (cases_lt i (length d.scopes)) [
     | inl l ↦ All-get_or (IsScope d.signals) d.scopes i [] l f.scopes_in

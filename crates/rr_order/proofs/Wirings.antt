@@ -17,7 +17,7 @@ use Rattle.rr_flat.specs.Writers.{is_wiring, are_wiring, taken, all_taken, nothi
 use Rattle.rr_target.specs.declared.piece.Piece.{Piece}
 use Rattle.rr_target.specs.Pieces.{bits_of, bits_in, bit_in, all_bits}
 use Rattle.rr_target.proofs.Growing.{rest_is}
-use Rattle.rr_target.proofs.Nodes.{none_parts}
+use Rattle.rr_flat.proofs.Relaxing.{none_parts}
 use Rattle.rr_target.proofs.Runs.{run_of, instance_run}
 use denote.Ref.{Bor}
 

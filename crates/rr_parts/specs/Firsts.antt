@@ -7,6 +7,6 @@ unfoldable pub earliest : List ℕ → Option ℕ
 earliest [] = None
 earliest (x ∷ xs) = Some x
 
--- the faults of a law, by those of each driver and block
+-- the faults of a law, by those of each driver, block and `initial` item
 abbrev pub walked : (Part → List ℕ) → Flat → List ℕ
 walked faults flat = flat_map faults flat.walk

@@ -6,15 +6,15 @@ use Rattle.std.specs.Str.{bytes_eq}
 use Rattle.std.proofs.lemmas.Bool.{cases_eq, cases_lt, both_ways, and_parts, eqb-true}
 use Rattle.std.proofs.lemmas.List.{length-set, get_or-set_same, get_or-set_other, get_or_append_left, get_or-append_right}
 use Rattle.std.proofs.lemmas.Slice.Eq.{bytes_eq-Decides}
-use Rattle.rr_syntax.specs.Tree.{Identifier, NetIdentifier, PortDeclaration, Range, ModuleItem, Ports, Nets, Variables, Integers, Parameters, Assigns, Always, Instances, ModuleDeclaration}
+use Rattle.rr_syntax.specs.Tree.{Identifier, DeclaredName, PortDeclaration, Range, ModuleItem, Ports, Nets, Variables, Integers, Parameters, Assigns, Always, Initial, Instances, ModuleDeclaration}
 use Rattle.rr_expr.specs.Scopes.{Names, lookup, range_width}
 use Rattle.rr_expr.specs.declared.types.Entity.{Entity}
 use Rattle.rr_expr.specs.declared.types.Entity.TheVariants as entity
 use Rattle.rr_flat.specs.declared.fault.FlatFault.{FlatFault}
 use Rattle.rr_flat.specs.declared.fault.FlatFault.TheVariants.{NameTwice, UnknownName, BadRange, TooWide}
 use Rattle.rr_flat.specs.declared.signal.Port.{Port}
-use Rattle.rr_head.specs.Declarations.{Declared, Declarations, is_port, signal_of, with_signal, counted, declare_new, no_declared, declared_at, is_same_range, redeclared, declare_again, again_place, repeated_place, declare_at, declare, declare_identifier, declare_net, port_declaration, inner_declaration, integer_declaration, declare_ports, declare_nets, declare_variables, declare_item, declarations}
-use Rattle.rr_flat.specs.Faults.{fault_if, first_fault_or, each}
+use Rattle.rr_head.specs.Declarations.{Declared, Declarations, is_port, signal_of, with_signal, counted, declare_new, no_declared, declared_at, is_same_range, redeclared, declare_again, again_place, repeated_place, declare_at, declare, declare_integer, integer_name, starting, start_faults, start_or, start_again, port_declaration, inner_declaration, integer_declaration, declare_ports, declare_nets, declare_variables, declare_item, declarations}
+use Rattle.rr_flat.specs.Faults.{fault_if, first_fault_or, and_then, each}
 use Rattle.rr_flat.specs.Signals.{with_name, Text}
 use Rattle.rr_head.specs.Parameters.{width_faults}
 use Rattle.rr_head.specs.Values.{range_in}
@@ -141,17 +141,18 @@ module _ (P Q : Text → Option (ℕ × ℕ) → Type 0) (seen : Names) (weaker 
   by_later o list h = all_weaken (λ (y : Identifier). IsBy P seen o y.text) list (λ y p. (p.0, (p.1.0, weaker y.text p.0 p.1.1))) h
 
   pub item_later : (x : ModuleItem) → ItemBy P seen x → ItemBy Q seen x
-  item_later (Ports p) h = by_later p.range p.names h
+  item_later (Ports p) h = by_later p.range (map net_name p.names) h
   item_later (Nets signed range list) h = by_later range (map net_name list) h
-  item_later (Variables signed range list) h = by_later range list h
+  item_later (Variables signed range list) h = by_later range (map net_name list) h
   item_later (Integers list) h = tt
   item_later (Parameters p) h = tt
   item_later (Assigns pairs) h = tt
   item_later (Always events body token) h = tt
+  item_later (Initial body token) h = tt
   item_later (Instances m token overrides list) h = tt
 
   pub all_later : (m : ModuleDeclaration) → AllBy P seen m → AllBy Q seen m
-  all_later m h = record { groups = all_weaken (λ p. AreBy P seen p.range p.names) m.groups (λ p g. by_later p.range p.names g) h.groups; items = all_weaken (ItemBy P seen) m.items item_later h.items }
+  all_later m h = record { groups = all_weaken (λ p. AreBy P seen p.range (map net_name p.names)) m.groups (λ p g. by_later p.range (map net_name p.names) g) h.groups; items = all_weaken (ItemBy P seen) m.items item_later h.items }
 
 module _ (bracketed params : Names) where
   -- names and places tell each other, parameters stay, a port stands in the brackets, and no range is too wide
@@ -286,34 +287,37 @@ module _ (bracketed params : Names) where
   abbrev Gives : Declarations → Declarations → Type 0 → Type 0
   Gives d t C = IsRight t × Later d t × C
 
-  new_step : (k : _) (at : ℕ) (name : Text) (d t : Declarations) → IsRight d → declare_new bracketed k at name d ≡ Ok t → Gives d t (Has t name k.range)
+  new_step : (seen : Names) (k : _) (own : DeclaredName) (d t : Declarations) → IsRight d → declare_new bracketed seen k own d ≡ Ok t → Gives d t (Has t own.text k.range)
   unfolding declare_new
-  new_step k at name d t g q =
-      let taken = is_some (lookup name d.names) in
-      let missing = is_port k.port && is_none (lookup name bracketed) in
-      let r = first_ok (first_fault_or (fault_if taken (NameTwice at) ++ (fault_if missing (UnknownName at) ++ width_faults at k.range)) d) (counted k at name) t q in
-      let s = settled (fault_if taken (NameTwice at) ++ (fault_if missing (UnknownName at) ++ width_faults at k.range)) d r.0 r.1.0 in
-      let last : with_signal k at name r.0 ≡ t = settled_is _ (with_signal k at name r.0) t r.1.1 in
-      let is : with_signal k at name d ≡ t = ap (with_signal k at name) s.1 ∙ last in
-      let n = no_fault taken (NameTwice at) (fault_if missing (UnknownName at) ++ width_faults at k.range) s.0 in
-      let o = no_fault missing (UnknownName at) (width_faults at k.range) n.1 in
-      let fits = only_fault (nat_lt 128 (range_width k.range)) (TooWide at (range_width k.range)) o.1 in
-      let x : Declared = record { signal = signal_of d.instance k at name; again = is_port k.port && not k.variable } in
-      subst (λ t. Gives d t (Has t name k.range)) is
-      (right_new x d.names d.list g n.0 o.0 fits, λ y r h. has_left d.list (x ∷ []) y r h, has_new x d.names d.list g n.0 o.0 fits)
+  new_step seen k own d t g q =
+      let taken = is_some (lookup own.text d.names) in
+      let missing = is_port k.port && is_none (lookup own.text bracketed) in
+      let start = start_or seen (range_width k.range) 0 (starting k own) in
+      let wrong = width_faults own.token k.range ++ start_faults seen (starting k own) in
+      let r = first_ok (first_fault_or (fault_if taken (NameTwice own.token) ++ (fault_if missing (UnknownName own.token) ++ wrong)) d) (counted k own start) t q in
+      let s = settled (fault_if taken (NameTwice own.token) ++ (fault_if missing (UnknownName own.token) ++ wrong)) d r.0 r.1.0 in
+      let last : with_signal k own start r.0 ≡ t = settled_is _ (with_signal k own start r.0) t r.1.1 in
+      let is : with_signal k own start d ≡ t = ap (with_signal k own start) s.1 ∙ last in
+      let n = no_fault taken (NameTwice own.token) (fault_if missing (UnknownName own.token) ++ wrong) s.0 in
+      let o = no_fault missing (UnknownName own.token) wrong n.1 in
+      let w = no_fault (nat_lt 128 (range_width k.range)) (TooWide own.token (range_width k.range)) (start_faults seen (starting k own)) o.1 in
+      let x : Declared = record { signal = signal_of d.instance k own start; again = is_port k.port && not k.variable } in
+      subst (λ t. Gives d t (Has t own.text k.range)) is
+      (right_new x d.names d.list g n.0 o.0 w.0, λ y r h. has_left d.list (x ∷ []) y r h, has_new x d.names d.list g n.0 o.0 w.0)
 
-  again_step : (k : _) (at place : ℕ) (name : Text) (d t : Declarations) (r : Option (ℕ × ℕ)) (s : Bool) → IsRight d → lookup name d.names ≡ Some (entity.Signal place r s) → declare_again k at place d ≡ Ok t → Gives d t (Has t name k.range)
+  again_step : (seen : Names) (k : _) (own : DeclaredName) (place : ℕ) (d t : Declarations) (r : Option (ℕ × ℕ)) (s : Bool) → IsRight d → lookup own.text d.names ≡ Some (entity.Signal place r s) → declare_again seen k own place d ≡ Ok t → Gives d t (Has t own.text k.range)
   unfolding declare_again
-  again_step k at place name d t r s g h q =
-      let y : Declared = redeclared k (declared_at d.list place) in
+  again_step seen k own place d t r s g h q =
+      let y : Declared = redeclared k (start_again seen (starting k own) (declared_at d.list place)) (declared_at d.list place) in
       let differs = not (is_same_range (range_at d.list place) k.range) in
-      let u = settled (fault_if differs (BadRange at)) (record d { list = slice_set d.list place y }) t q in
-      let same : is_same_range (range_at d.list place) k.range ≡ true = not_false _ (only_fault differs (BadRange at) u.0) in
-      let b = g.back name place r s h in
-      subst (λ t. Gives d t (Has t name k.range)) u.1 (
+      let u = settled (fault_if differs (BadRange own.token) ++ start_faults seen (starting k own)) (record d { list = slice_set d.list place y }) t q in
+      let f = no_fault differs (BadRange own.token) (start_faults seen (starting k own)) u.0 in
+      let same : is_same_range (range_at d.list place) k.range ≡ true = not_false _ f.0 in
+      let b = g.back own.text place r s h in
+      subst (λ t. Gives d t (Has t own.text k.range)) u.1 (
         right_again y place d.names d.list g refl refl refl,
         λ z r f. has_again y place d.names d.list g refl refl refl z r f,
-        has_again y place d.names d.list g refl refl refl name k.range (place, (b.0, (b.1, same_range (range_at d.list place) k.range same))),
+        has_again y place d.names d.list g refl refl refl own.text k.range (place, (b.0, (b.1, same_range (range_at d.list place) k.range same))),
       )
 
   placed : (o : Option Entity) (list : List Declared) (place : ℕ) → again_place o list ≡ Some place → (r : Option (ℕ × ℕ)) × ((s : Bool) × (o ≡ Some (entity.Signal place r s)))
@@ -330,15 +334,15 @@ module _ (bracketed params : Names) where
   repeated true o place h = h
   repeated false o place h = absurd (none_some place h)
 
-  declare_step : (k : _) (at : ℕ) (name : Text) (d t : Declarations) → IsRight d → declare bracketed k at name d ≡ Ok t → Gives d t (Has t name k.range)
+  declare_step : (seen : Names) (k : _) (own : DeclaredName) (d t : Declarations) → IsRight d → declare bracketed seen k own d ≡ Ok t → Gives d t (Has t own.text k.range)
   unfolding declare
-  declare_step k at name d t g q = by (repeated_place k.repeats (again_place (lookup name d.names) d.list)) refl q
+  declare_step seen k own d t g q = by (repeated_place k.repeats (again_place (lookup own.text d.names) d.list)) refl q
     where
-      by : (o : Option ℕ) → repeated_place k.repeats (again_place (lookup name d.names) d.list) ≡ o → declare_at bracketed k at name d o ≡ Ok t → Gives d t (Has t name k.range)
-      by None e q = new_step k at name d t g q
+      by : (o : Option ℕ) → repeated_place k.repeats (again_place (lookup own.text d.names) d.list) ≡ o → declare_at bracketed seen k own d o ≡ Ok t → Gives d t (Has t own.text k.range)
+      by None e q = new_step seen k own d t g q
       by (Some place) e q =
-          let p = placed (lookup name d.names) d.list place (repeated k.repeats (again_place (lookup name d.names) d.list) place e) in
-          again_step k at place name d t p.0 p.1.0 g p.1.1 q
+          let p = placed (lookup own.text d.names) d.list place (repeated k.repeats (again_place (lookup own.text d.names) d.list) place e) in
+          again_step seen k own place d t p.0 p.1.0 g p.1.1 q
 
   -- one step for each of a list, where what each gives stays
   each_step : {X : Type 0} (step : X → Declarations → Result Declarations FlatFault) (C : X → Declarations → Type 0) → ((x : X) (d t : Declarations) → Later d t → C x d → C x t) →
@@ -353,36 +357,37 @@ module _ (bracketed params : Names) where
 
   -- declarations
 
-  identifiers_step : (k : _) (list : List Identifier) (d t : Declarations) → IsRight d → each (declare_identifier bracketed k) list d ≡ Ok t → Gives d t (AllByRecursion (λ (y : Identifier). Has t y.text k.range) list)
-  identifiers_step k list d t g q =
-      each_step (declare_identifier bracketed k) (λ (y : Identifier) t. Has t y.text k.range) (λ y d t l h. l y.text k.range h) (λ y d t g q. declare_step k y.token y.text d t g q) list d t g q
+  declarators_step : (seen : Names) (k : _) (list : List DeclaredName) (d t : Declarations) → IsRight d → each (declare bracketed seen k) list d ≡ Ok t → Gives d t (AllByRecursion (λ (y : DeclaredName). Has t y.text k.range) list)
+  declarators_step seen k list d t g q =
+      each_step (declare bracketed seen k) (λ (y : DeclaredName) t. Has t y.text k.range) (λ y d t l h. l y.text k.range h) (λ y d t g q. declare_step seen k y d t g q) list d t g q
 
-  nets_step : (k : _) (list : List NetIdentifier) (d t : Declarations) → IsRight d → each (declare_net bracketed k) list d ≡ Ok t → Gives d t (AllByRecursion (λ (y : NetIdentifier). Has t y.text k.range) list)
-  nets_step k list d t g q =
-      each_step (declare_net bracketed k) (λ (y : NetIdentifier) t. Has t y.text k.range) (λ y d t l h. l y.text k.range h) (λ y d t g q. declare_step k y.token y.text d t g q) list d t g q
+  integers_step : (seen : Names) (list : List Identifier) (d t : Declarations) → IsRight d → each (declare_integer bracketed seen) list d ≡ Ok t → Gives d t (Unit {0})
+  integers_step seen list d t g q =
+      let s = each_step (declare_integer bracketed seen) (λ (y : Identifier) t. Has t y.text integer_declaration.range) (λ y d t l h. l y.text integer_declaration.range h) (λ y d t g q. declare_step seen integer_declaration (integer_name y) d t g q) list d t g q in
+      (s.0, s.1, tt)
 
-  ports_step : (seen : Names) (p : PortDeclaration) (d t : Declarations) → IsRight d → declare_ports bracketed seen p d ≡ Ok t → Gives d t (AreBy (Has t) seen p.range p.names)
+  -- with a range
+  ranged_step : (seen : Names) (k : Option (ℕ × ℕ) → _) (o : Option Range) (list : List DeclaredName) (d t : Declarations) → IsRight d
+      → and_then (range_in seen o) (λ r. each (declare bracketed seen (k r)) list d) ≡ Ok t → ((r : Option (ℕ × ℕ)) → (k r).range ≡ r) → Gives d t (AreBy (Has t) seen o (map net_name list))
+  ranged_step seen k o list d t g q same =
+      let r = first_ok (range_in seen o) (λ r. each (declare bracketed seen (k r)) list d) t q in
+      let s = declarators_step seen (k r.0) list d t g r.1.1 in
+      (s.0, s.1, all_map (λ (y : Identifier). IsBy (Has t) seen o y.text) net_name list (all_weaken (λ (y : DeclaredName). Has t y.text (k r.0).range) list (λ y h. (r.0, (r.1.0, subst (Has t y.text) (same r.0) h))) s.2))
+
+  ports_step : (seen : Names) (p : PortDeclaration) (d t : Declarations) → IsRight d → declare_ports bracketed seen p d ≡ Ok t → Gives d t (AreBy (Has t) seen p.range (map net_name p.names))
   unfolding declare_ports
-  ports_step seen p d t g q =
-      let r = first_ok (range_in seen p.range) (λ range. each (declare_identifier bracketed (port_declaration p range)) p.names d) t q in
-      let s = identifiers_step (port_declaration p r.0) p.names d t g r.1.1 in
-      (s.0, s.1, all_weaken (λ (y : Identifier). Has t y.text r.0) p.names (λ y h. (r.0, (r.1.0, h))) s.2)
+  ports_step seen p d t g q = ranged_step seen (port_declaration p) p.range p.names d t g q (λ r. refl)
 
   item_step : (seen : Names) (x : ModuleItem) (d t : Declarations) → IsRight d → declare_item bracketed seen x d ≡ Ok t → Gives d t (ItemBy (Has t) seen x)
   unfolding declare_item declare_nets declare_variables
   item_step seen (Ports p) d t g q = ports_step seen p d t g q
-  item_step seen (Nets signed range list) d t g q =
-      let r = first_ok (range_in seen range) (λ r. each (declare_net bracketed (inner_declaration false signed r)) list d) t q in
-      let s = nets_step (inner_declaration false signed r.0) list d t g r.1.1 in
-      (s.0, s.1, all_map (λ (y : Identifier). IsBy (Has t) seen range y.text) net_name list (all_weaken (λ (y : NetIdentifier). Has t y.text r.0) list (λ y h. (r.0, (r.1.0, h))) s.2))
-  item_step seen (Variables signed range list) d t g q =
-      let r = first_ok (range_in seen range) (λ r. each (declare_identifier bracketed (inner_declaration true signed r)) list d) t q in
-      let s = identifiers_step (inner_declaration true signed r.0) list d t g r.1.1 in
-      (s.0, s.1, all_weaken (λ (y : Identifier). Has t y.text r.0) list (λ y h. (r.0, (r.1.0, h))) s.2)
-  item_step seen (Integers list) d t g q = let s = identifiers_step integer_declaration list d t g q in (s.0, s.1, tt)
+  item_step seen (Nets signed range list) d t g q = ranged_step seen (inner_declaration false signed) range list d t g q (λ r. refl)
+  item_step seen (Variables signed range list) d t g q = ranged_step seen (inner_declaration true signed) range list d t g q (λ r. refl)
+  item_step seen (Integers list) d t g q = integers_step seen list d t g q
   item_step seen (Parameters p) d t g q = subst (λ t. Gives d t (Unit {0})) (ok_is d t q) (g, λ y r h. h, tt)
   item_step seen (Assigns pairs) d t g q = subst (λ t. Gives d t (Unit {0})) (ok_is d t q) (g, λ y r h. h, tt)
   item_step seen (Always events body token) d t g q = subst (λ t. Gives d t (Unit {0})) (ok_is d t q) (g, λ y r h. h, tt)
+  item_step seen (Initial body token) d t g q = subst (λ t. Gives d t (Unit {0})) (ok_is d t q) (g, λ y r h. h, tt)
   item_step seen (Instances m token overrides list) d t g q = subst (λ t. Gives d t (Unit {0})) (ok_is d t q) (g, λ y r h. h, tt)
 
   -- all declarations of a module
@@ -390,6 +395,6 @@ module _ (bracketed params : Names) where
   unfolding declarations
   all_declared seen m d t g q =
       let r = first_ok (each (declare_ports bracketed seen) m.groups d) (each (declare_item bracketed seen) m.items) t q in
-      let a = each_step (declare_ports bracketed seen) (λ p t. AreBy (Has t) seen p.range p.names) (λ p d t l h. by_later (Has d) (Has t) seen l p.range p.names h) (ports_step seen) m.groups d r.0 g r.1.0 in
+      let a = each_step (declare_ports bracketed seen) (λ p t. AreBy (Has t) seen p.range (map net_name p.names)) (λ p d t l h. by_later (Has d) (Has t) seen l p.range (map net_name p.names) h) (ports_step seen) m.groups d r.0 g r.1.0 in
       let b = each_step (declare_item bracketed seen) (λ x t. ItemBy (Has t) seen x) (λ x d t l h. item_later (Has d) (Has t) seen l x h) (item_step seen) m.items r.0 t a.0 r.1.1 in
-      (b.0, record { groups = all_weaken (λ p. AreBy (Has r.0) seen p.range p.names) m.groups (λ p h. by_later (Has r.0) (Has t) seen b.1 p.range p.names h) a.2; items = b.2 })
+      (b.0, record { groups = all_weaken (λ p. AreBy (Has r.0) seen p.range (map net_name p.names)) m.groups (λ p h. by_later (Has r.0) (Has t) seen b.1 p.range (map net_name p.names) h) a.2; items = b.2 })

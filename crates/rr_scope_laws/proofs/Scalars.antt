@@ -3,16 +3,16 @@ use Rattle.std.proofs.Common.{◌≡◌, ◌⊎◌, inl, inr, ℕ, zero, suc, �
 use Rattle.std.specs.Prelude.{slice_get, option_to_list, option_map, nat_lt}
 use Rattle.std.specs.List.{AllByRecursion}
 use Rattle.std.proofs.lemmas.Bool.{both_ways}
-use Rattle.rr_syntax.specs.Tree.{Identifier, PortDeclaration, ModuleDeclaration}
+use Rattle.rr_syntax.specs.Tree.{Identifier, DeclaredName, PortDeclaration, ModuleDeclaration}
 use Rattle.rr_expr.specs.Scopes.{Names, lookup, meant, or_instance, range_width}
 use Rattle.rr_expr.specs.declared.types.Entity.{Entity}
 use Rattle.rr_expr.specs.declared.types.Entity.TheVariants as entity
 use Rattle.rr_flat.specs.declared.fault.FlatFault.{FlatFault}
 use Rattle.rr_flat.specs.declared.fault.FlatFault.TheVariants.{TooMany}
 use Rattle.rr_flat.specs.declared.fault.Limit.TheVariants.{FlatBits}
-use Rattle.rr_head.specs.Declarations.{Declared, Declarations, is_port, declared_at, known, know, know_identifier, know_ports, know_port_item, plain_names, add_plain_name, brackets, declarations}
+use Rattle.rr_head.specs.Declarations.{Declared, Declarations, is_port, declared_at, known, know, know_declarator, know_ports, know_port_item, plain_names, add_plain_name, brackets, declarations}
 use Rattle.rr_flat.specs.Faults.{fault_if, first_of, and_then, each}
-use Rattle.rr_head.specs.Heads.{Head, head, declared, named_signal, with_port, with_ports, with_inner, signals_in_order, with_signals, numbered}
+use Rattle.rr_head.specs.Heads.{Head, head, declared, named_signal, with_port, with_identifier, with_declarator, with_ports, with_inner, signals_in_order, with_signals, numbered}
 use Rattle.rr_flat.specs.Signals.{with_name, Text, Signal, signal_at, no_signal}
 use Rattle.rr_head.specs.Parameters.{parameters}
 use Rattle.rr_flat.specs.Plain.{Flat}
@@ -65,8 +65,11 @@ self_in R same (x ∷ xs) = (inl (same x), all_weaken (λ y. Somewhere (R y) xs)
 abbrev IsNamed : Text → Identifier → Type 0
 IsNamed name i = i.text ≡ name
 
+abbrev IsDeclaredAs : Text → DeclaredName → Type 0
+IsDeclaredAs name n = n.text ≡ name
+
 abbrev IsPortNamed : Text → PortDeclaration → Type 0
-IsPortNamed name p = Somewhere (IsNamed name) p.names
+IsPortNamed name p = Somewhere (IsDeclaredAs name) p.names
 
 -- a name stands among the plain names or in a group
 abbrev InBrackets : ModuleDeclaration → Text → Type 0
@@ -86,11 +89,11 @@ module _ (m : ModuleDeclaration) where
   each_over B P step k [] s t b p h = subst P (ok_is s t h) p
   each_over B P step k (x ∷ xs) s t b p h = let r = first_ok (step x s) (each step xs) t h in each_over B P step k xs r.0 t b.1 (k x s r.0 b.0 p r.1.0) r.1.1
 
-  names_known : (p : PortDeclaration) (s : Names) → AllByRecursion (λ (i : Identifier). InBrackets m i.text) p.names → Each P s → Each P (know_ports s p)
+  names_known : (p : PortDeclaration) (s : Names) → AllByRecursion (λ (n : DeclaredName). InBrackets m n.text) p.names → Each P s → Each P (know_ports s p)
   unfolding know_ports
-  names_known p s h q = fold_over (λ (i : Identifier). InBrackets m i.text) (Each P) know_identifier (λ i s h q. each_with P s i.text (entity.Signal 0 None false) q h) p.names s h q
+  names_known p s h q = fold_over (λ (n : DeclaredName). InBrackets m n.text) (Each P) know_declarator (λ n s h q. each_with P s n.text (entity.Signal 0 None false) q h) p.names s h q
 
-  in_group : (p : PortDeclaration) (gs : List PortDeclaration) (name : Text) → Somewhere (λ g. g ≡ p) gs → Somewhere (IsNamed name) p.names → Somewhere (IsPortNamed name) gs
+  in_group : (p : PortDeclaration) (gs : List PortDeclaration) (name : Text) → Somewhere (λ g. g ≡ p) gs → Somewhere (IsDeclaredAs name) p.names → Somewhere (IsPortNamed name) gs
   unfolding Somewhere
   in_group p [] name h n = absurd h
   in_group p (g ∷ gs) name (inl e) n = inl (subst (IsPortNamed name) (sym e) n)
@@ -105,7 +108,7 @@ module _ (m : ModuleDeclaration) where
       (self_in (λ (i j : Identifier). j.text ≡ i.text) (λ i. refl) (plain_names m.header)) tt r.1.0 in
       subst (Each P) (ok_is (fold know_ports r.0 m.groups) bracketed r.1.1)
       (fold_over (λ p. Somewhere (λ g. g ≡ p) m.groups) (Each P) know_ports
-      (λ p s h q. names_known p s (all_weaken (λ (i : Identifier). Somewhere (λ j. j.text ≡ i.text) p.names) p.names (λ i n. inr (in_group p m.groups i.text h n)) (self_in (λ (i j : Identifier). j.text ≡ i.text) (λ i. refl) p.names)) q)
+      (λ p s h q. names_known p s (all_weaken (λ (i : DeclaredName). Somewhere (λ j. j.text ≡ i.text) p.names) p.names (λ i n. inr (in_group p m.groups i.text h n)) (self_in (λ (i j : DeclaredName). j.text ≡ i.text) (λ i. refl) p.names)) q)
       m.groups r.0 (self_in (λ (p g : PortDeclaration). g ≡ p) (λ p. refl) m.groups) a)
 
   bracket_found : (bracketed : Names) (name : Text) → brackets m ≡ Ok bracketed → is_none (lookup name bracketed) ≡ false → InBrackets m name
@@ -130,9 +133,9 @@ module _ (d : Declarations) where
         by (Some x) q = (all_got (λ (x : Declared). Q x.signal) d.list id x all q, tt)
     found_one (Some entity.Instance) = tt
 
-    with_one : (n : Identifier) (s : List Signal) → AllByRecursion Q s → AllByRecursion Q (with_port d s n)
+    with_one : (name : Text) (s : List Signal) → AllByRecursion Q s → AllByRecursion Q (with_port d s name)
     unfolding with_port
-    with_one n s q = all_append Q s (option_to_list (named_signal d.list (lookup n.text d.names))) q (found_one (lookup n.text d.names))
+    with_one name s q = all_append Q s (option_to_list (named_signal d.list (lookup name d.names))) q (found_one (lookup name d.names))
 
     inner_one : (x : Declared) (s : List Signal) → Q x.signal → AllByRecursion Q s → AllByRecursion Q (with_inner s x)
     unfolding with_inner
@@ -145,9 +148,9 @@ module _ (d : Declarations) where
     all_in_order : (m : ModuleDeclaration) → AllByRecursion Q (signals_in_order m d)
     unfolding signals_in_order with_ports
     all_in_order m =
-        fold_over (λ (x : Declared). Q x.signal) (AllByRecursion Q) with_inner (λ x s q p. inner_one x s q p) d.list (fold (with_ports d) (fold (with_port d) [] (plain_names m.header)) m.groups) all
-        (fold_keeps (AllByRecursion Q) (with_ports d) (λ p s q. fold_keeps (AllByRecursion Q) (with_port d) (λ n s q. with_one n s q) p.names s q) m.groups (fold (with_port d) [] (plain_names m.header))
-        (fold_keeps (AllByRecursion Q) (with_port d) (λ n s q. with_one n s q) (plain_names m.header) [] tt))
+        fold_over (λ (x : Declared). Q x.signal) (AllByRecursion Q) with_inner (λ x s q p. inner_one x s q p) d.list (fold (with_ports d) (fold (with_identifier d) [] (plain_names m.header)) m.groups) all
+        (fold_keeps (AllByRecursion Q) (with_ports d) (λ p s q. fold_keeps (AllByRecursion Q) (with_declarator d) (λ n s q. with_one n.text s q) p.names s q) m.groups (fold (with_identifier d) [] (plain_names m.header))
+        (fold_keeps (AllByRecursion Q) (with_identifier d) (λ n s q. with_one n.text s q) (plain_names m.header) [] tt))
 
   -- a declared signal is among them
   module _ (p : ℕ) (there : p < length d.list) (is : lookup (name_at d.list p) d.names ≡ Some (entity.Signal p None false)) where
@@ -162,24 +165,24 @@ module _ (d : Declarations) where
     got (x ∷ xs) zero l = refl
     got (x ∷ xs) (suc p) l = got xs p (omega (arith, l))
 
-    port_stays : (n : Identifier) (s : List Signal) → Here s → Here (with_port d s n)
+    port_stays : (name : Text) (s : List Signal) → Here s → Here (with_port d s name)
     unfolding with_port
-    port_stays n s h = some_left (λ (x : Signal). x.name ≡ itself) s (option_to_list (named_signal d.list (lookup n.text d.names))) h
+    port_stays name s h = some_left (λ (x : Signal). x.name ≡ itself) s (option_to_list (named_signal d.list (lookup name d.names))) h
 
-    port_hits : (n : Identifier) (s : List Signal) → n.text ≡ itself → Here (with_port d s n)
+    port_hits : (name : Text) (s : List Signal) → name ≡ itself → Here (with_port d s name)
     unfolding with_port Somewhere
-    port_hits n s e =
-        let l : named_signal d.list (lookup n.text d.names) ≡ Some (declared_at d.list p).signal =
+    port_hits name s e =
+        let l : named_signal d.list (lookup name d.names) ≡ Some (declared_at d.list p).signal =
         ap (λ x. named_signal d.list (lookup x d.names)) e ∙ ap (named_signal d.list) is ∙ ap (option_map (λ (x : Declared). x.signal)) (got d.list p there) in
-        some_right (λ (x : Signal). x.name ≡ itself) s (option_to_list (named_signal d.list (lookup n.text d.names))) (subst (λ o. Here (option_to_list o)) (sym l) (inl refl))
+        some_right (λ (x : Signal). x.name ≡ itself) s (option_to_list (named_signal d.list (lookup name d.names))) (subst (λ o. Here (option_to_list o)) (sym l) (inl refl))
 
     ports_stay : (q : PortDeclaration) (s : List Signal) → Here s → Here (with_ports d s q)
     unfolding with_ports
-    ports_stay q s h = fold_keeps Here (with_port d) port_stays q.names s h
+    ports_stay q s h = fold_keeps Here (with_declarator d) (λ n s h. port_stays n.text s h) q.names s h
 
     ports_hit : (q : PortDeclaration) (s : List Signal) → IsPortNamed itself q → Here (with_ports d s q)
     unfolding with_ports
-    ports_hit q s h = fold_hits (IsNamed itself) Here (with_port d) port_stays port_hits q.names s h
+    ports_hit q s h = fold_hits (IsDeclaredAs itself) Here (with_declarator d) (λ n s h. port_stays n.text s h) (λ n s e. port_hits n.text s e) q.names s h
 
     inner_stays : (x : Declared) (s : List Signal) → Here s → Here (with_inner s x)
     unfolding with_inner
@@ -205,13 +208,13 @@ module _ (d : Declarations) where
     in_order m b = by (is_port (port_at d.list p)) refl
       where
         groups : List Signal
-        groups = fold (with_ports d) (fold (with_port d) [] (plain_names m.header)) m.groups
+        groups = fold (with_ports d) (fold (with_identifier d) [] (plain_names m.header)) m.groups
 
         ported : InBrackets m itself → Here (fold with_inner groups d.list)
         ported (inl h) =
             fold_keeps Here with_inner inner_stays d.list groups
-            (fold_keeps Here (with_ports d) ports_stay m.groups (fold (with_port d) [] (plain_names m.header)) (fold_hits (IsNamed itself) Here (with_port d) port_stays port_hits (plain_names m.header) [] h))
-        ported (inr h) = fold_keeps Here with_inner inner_stays d.list groups (fold_hits (IsPortNamed itself) Here (with_ports d) ports_stay ports_hit m.groups (fold (with_port d) [] (plain_names m.header)) h)
+            (fold_keeps Here (with_ports d) ports_stay m.groups (fold (with_identifier d) [] (plain_names m.header)) (fold_hits (IsNamed itself) Here (with_identifier d) (λ i s h. port_stays i.text s h) (λ i s e. port_hits i.text s e) (plain_names m.header) [] h))
+        ported (inr h) = fold_keeps Here with_inner inner_stays d.list groups (fold_hits (IsPortNamed itself) Here (with_ports d) ports_stay ports_hit m.groups (fold (with_identifier d) [] (plain_names m.header)) h)
 
         by : (c : Bool) → is_port (port_at d.list p) ≡ c → Here (fold with_inner groups d.list)
         by true h = ported (b h)

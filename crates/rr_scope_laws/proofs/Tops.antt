@@ -3,7 +3,7 @@ use Rattle.std.proofs.Common.{◌≡◌, ◌⊎◌, inl, inr, ℕ, zero, suc, �
 use Rattle.std.specs.Prelude.{slice_index_or}
 use Rattle.std.proofs.lemmas.Bool.{cases_lt, cases_eq}
 use Rattle.std.proofs.lemmas.List.{length-set, get_or_append_left, get_or-append_right, get_or-set_same, get_or-set_other}
-use Rattle.rr_syntax.specs.Tree.{Connections, ModuleInstance, ModuleItem, Ports, Nets, Variables, Integers, Parameters, Assigns, Always, Instances, ModuleDeclaration, SourceText}
+use Rattle.rr_syntax.specs.Tree.{Connections, ModuleInstance, ModuleItem, Ports, Nets, Variables, Integers, Parameters, Assigns, Always, Initial, Instances, ModuleDeclaration, SourceText}
 use Rattle.rr_expr.specs.Scopes.{Names, lookup, meant}
 use Rattle.rr_expr.specs.declared.types.Entity.TheVariants as entity
 use Rattle.rr_flat.specs.Faults.{and_then, each}
@@ -14,7 +14,7 @@ use Rattle.rr_walk.specs.Tables.{place_of, add_module}
 use Rattle.rr_walk.specs.Walk.{Walked, Enter, scope_at, module_at, assign, net, with_instance, joined, instance_of, item, opened, enter_by, enter, nothing, finished, top_place, enter_top, flat_of}
 use Rattle.rr_flat.proofs.Alike.{Alike, alike_named}
 use Rattle.rr_walk.proofs.HeadOf.{ok_is, not_ok, first_ok, each_keeps}
-use Rattle.rr_flat_laws.proofs.Growing.{Same, each_same, assign_same, net_same, always_same, joined_same, began, inside, entered}
+use Rattle.rr_flat_laws.proofs.Growing.{Same, each_same, assign_same, net_same, always_same, initial_same, joined_same, began, inside, entered}
 
 module _ (ms : List ModuleDeclaration) where
   -- the head of instance i, which is one of module k, has its names, and its signals from a base on
@@ -90,6 +90,7 @@ module _ (ms : List ModuleDeclaration) where
   after_item table above i sub s (Parameters p) w t g e = subst Fine (ok_is w t e) g
   after_item table above i sub s (Assigns pairs) w t g e = fine_same w t (each_same (assign i) (assign_same i) pairs w t e) g
   after_item table above i sub s (Always events body at) w t g e = fine_same w t (always_same i events body at w t e) g
+  after_item table above i sub s (Initial body at) w t g e = fine_same w t (initial_same i body at w t e) g
   after_item table above i sub s (Instances m at over list) w t g e =
       each_keeps Fine (instance_of ms above i sub at over (place_of (lookup m table))) (λ x a b h q. after_instance above i sub s at over (place_of (lookup m table)) x a b h q) list w t g e
 

@@ -21,7 +21,8 @@ use Rattle.rr_target.specs.declared.piece.Piece.{Piece}
 use Rattle.rr_target.specs.Lists.{Grown}
 use Rattle.rr_target.specs.Pieces.{bits_of, covers, part_bits}
 use Rattle.rr_target.proofs.Growing.{grown_push, grown_none, grown_both, grown_same, rest_is}
-use Rattle.rr_target.proofs.Nodes.{bits-Name, bits-Bit, bits-Part, bits-Indexed, none_parts}
+use Rattle.rr_target.proofs.Nodes.{bits-Name, bits-Bit, bits-Part, bits-Indexed}
+use Rattle.rr_flat.proofs.Relaxing.{none_parts}
 use Rattle.rr_target.proofs.Runs.{covers_in, has_there, there_has, whole_has, of_is, bit_of}
 use denote.Ref.{Bor}
 

@@ -19,6 +19,7 @@ use Rattle.rr_expr.specs.Values.{form, widths, value, nowhere}
 use Rattle.rr_expr.specs.Faults.{fits, fit, fault, faults, or_else, fault_if, width_fault, name_fault, base_fault, count_fault, constant_count, constant_span, first, first_part, is_width}
 use Rattle.rr_expr.proofs.Sound.{fits_without_fault, width_positive}
 use Rattle.rr_flat.specs.Targets.{target_bits, bits_there}
+use Rattle.rr_flat.proofs.Relaxing.{none_parts, both_none, relax}
 use Rattle.rr_target.specs.Pieces.{part_bits}
 use denote.Ref.{Bor}
 
@@ -168,10 +169,6 @@ shaped_positive s t h = width_positive s t (fits_without_fault s false t h)
 
 -- the parts of an expression without a fault
 
-pub none_parts : (f g : Option ExprFault) → or_else f g ≡ None → (f ≡ None) × (g ≡ None)
-none_parts None g h = (refl, h)
-none_parts (Some f) g h = cc
-
 name_small : (s : Names) (name : List ℕ) (rest : Bool) → (is_width (entity_shape (meant s name)).width && rest) ≡ true → (entity_shape (meant s name)).width ≤ 128
 name_small s name rest h = small (entity_shape (meant s name)).width (and_parts (is_width (entity_shape (meant s name)).width) rest h).0
 
@@ -305,73 +302,6 @@ bits-Cast s env signed t = refl
 pub bits-Paren : (s : Names) (env : Bit → Bool) (t : Bor Expr) → part_bits s env (plain (expr.Paren t)) ≡ []
 unfolding plain
 bits-Paren s env t = refl
-
--- an expression without a signal has no fault where signals may stand
-
-both_none : (f g : Option ExprFault) → f ≡ None → g ≡ None → or_else f g ≡ None
-both_none f g h k = rw (h, k) refl
-
-name_relaxed : (token : ℕ) (e : Entity) → name_fault true token e ≡ None → name_fault false token e ≡ None
-name_relaxed token (Constant bits signed) h = h
-name_relaxed token (Signal id range signed) h = cc
-name_relaxed token Instance h = cc
-
-base_relaxed : (token : ℕ) (e : Entity) → base_fault true token e ≡ None → base_fault false token e ≡ None
-base_relaxed token e h =
-    let p = none_parts (name_fault true token e) (fault_if (is_scalar e) (BadRange token)) h in
-    both_none (name_fault false token e) (fault_if (is_scalar e) (BadRange token)) (name_relaxed token e p.0) p.1
-
-by_bool : (s : Names) (t : Tree) → (fault s t true ≡ None → fault s t false ≡ None) → (k : Bool) → fault s t true ≡ None → fault s t k ≡ None
-by_bool s t f true h = h
-by_bool s t f false h = f h
-
-mutual
-  unfolding fault
-
-  relax : (s : Names) (t : Tree) → fault s t true ≡ None → fault s t false ≡ None
-  relax s (Name token name) h = name_relaxed token (meant s name) h
-  relax s (Literal token n) h = h
-  relax s (BitSelect token name i) h =
-      let p = none_parts (base_fault true token (meant s name)) (fault s i true) h in
-      both_none (base_fault false token (meant s name)) (fault s i false) (base_relaxed token (meant s name) p.0) (relax s i p.1)
-  relax s (Part token name l r) h =
-      let p = none_parts (base_fault true token (meant s name)) _ h in
-      both_none (base_fault false token (meant s name)) _ (base_relaxed token (meant s name) p.0) p.1
-  relax s (Indexed token name f n up) h =
-      let c = count_fault (fault s n true) token (constant_count s n) in
-      let p = none_parts (base_fault true token (meant s name)) (or_else c (or_else (fault s f true) (fault s n true))) h in
-      let q = none_parts c (or_else (fault s f true) (fault s n true)) p.1 in
-      let u = none_parts (fault s f true) (fault s n true) q.1 in
-      both_none (base_fault false token (meant s name)) (or_else c (or_else (fault s f false) (fault s n true))) (base_relaxed token (meant s name) p.0)
-      (both_none c (or_else (fault s f false) (fault s n true)) q.0 (both_none (fault s f false) (fault s n true) (relax s f u.0) u.1))
-  relax s (Unary op t) h = relax s t h
-  relax s (Binary op l r) h =
-      let p = none_parts (fault s l true) _ h in
-      let q = none_parts (fault s r true) _ p.1 in
-      both_none _ _ (by_bool s l (relax s l) _ p.0) (both_none _ _ (by_bool s r (relax s r) _ q.0) q.1)
-  relax s (Cond a b c) h =
-      let p = none_parts (fault s a true) (or_else (fault s b true) (fault s c true)) h in
-      let q = none_parts (fault s b true) (fault s c true) p.1 in
-      both_none (fault s a false) (or_else (fault s b false) (fault s c false)) (relax s a p.0) (both_none (fault s b false) (fault s c false) (relax s b q.0) (relax s c q.1))
-  relax s (Concat ts) h =
-      let w = width_fault (first_part ts - 1) (widths s ts) in
-      let p = none_parts (faults s ts true) w h in
-      both_none (faults s ts false) w (relax_all s ts p.0) p.1
-  relax s (Repeat n ts) h =
-      let w = width_fault (first n - 1) (constant_count s n * widths s ts) in
-      let none = fault_if (constant_count s n == 0) (BadRange (first n)) in
-      let p = none_parts (fault s n true) (or_else none (or_else (faults s ts true) w)) h in
-      let q = none_parts none (or_else (faults s ts true) w) p.1 in
-      let u = none_parts (faults s ts true) w q.1 in
-      both_none (fault s n true) (or_else none (or_else (faults s ts false) w)) p.0 (both_none none (or_else (faults s ts false) w) q.0 (both_none (faults s ts false) w (relax_all s ts u.0) u.1))
-  relax s (Cast signed t) h = relax s t h
-  relax s (Paren t) h = relax s t h
-
-  relax_all : (s : Names) (ts : Trees) → faults s ts true ≡ None → faults s ts false ≡ None
-  relax_all s End h = refl
-  relax_all s (More t ts) h =
-      let p = none_parts (fault s t true) (faults s ts true) h in
-      both_none (fault s t false) (faults s ts false) (relax s t p.0) (relax_all s ts p.1)
 
 strict_parts : (s : Names) (l r : Tree) (k : Bool) (x : Option ExprFault) → or_else (fault s l k) (or_else (fault s r k) x) ≡ None → (fault s l false ≡ None) × (fault s r false ≡ None)
 strict_parts s l r false x h =

@@ -17,7 +17,8 @@ use Rattle.rr_target.specs.declared.writes.Write.{Write}
 use Rattle.rr_target.specs.Lists.{may, must}
 use Rattle.rr_target.specs.Pieces.{part_bits}
 use Rattle.rr_target.proofs.Growing.{rest_is}
-use Rattle.rr_target.proofs.Nodes.{none_parts, shaped-Concat}
+use Rattle.rr_flat.proofs.Relaxing.{none_parts}
+use Rattle.rr_target.proofs.Nodes.{shaped-Concat}
 use denote.Ref.{Bor}
 
 or_assoc : (a b c : Bool) → ((a || b) || c) ≡ (a || (b || c))

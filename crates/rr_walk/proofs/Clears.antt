@@ -1,45 +1,25 @@
 -- Where no fault was found, none is there.
-use Rattle.std.proofs.Common.{◌≡◌, ◌∙◌, sym, Bool, true, false, List, [], ◌∷◌, Option, Some, None, refl, fold, subst, is_none, not}
+use Rattle.std.proofs.Common.{◌≡◌, ◌∙◌, sym, IsTrue, List, [], ◌∷◌, Option, Some, None, fold, subst, is_none, not}
 use Rattle.std.specs.List.{AllByRecursion}
 use Rattle.rr_syntax.specs.Expressions.{WellFormed, WellFormedMore, FitLiterals, FitLiteralsParts}
-use Rattle.rr_syntax.specs.Statements.{WellFormedStatement, FitLiteralsStatement}
+use Rattle.rr_syntax.specs.Statements.{WellFormedStatement, FitLiteralsStatement, is_initial}
 use Rattle.rr_syntax.specs.Items.{WellFormedValue, FitLiteralsValue, WellFormedConnection, FitLiteralsConnection, WellFormedConnections, FitLiteralsConnections}
 use Rattle.rr_syntax.specs.Tree.{Tree, Trees, End, More, Statement, NamedConnection, Connections, Positions, ModuleDeclaration}
 use Rattle.rr_syntax.specs.Tree.{Names as Named}
 use Rattle.rr_expr.specs.Scopes.{Names, lookup}
 use Rattle.rr_expr.specs.Faults.{first}
-use Rattle.rr_flat.specs.Faults.{sooner, before, fault_if}
+use Rattle.rr_flat.specs.Faults.{sooner, fault_if}
 use Rattle.rr_flat.specs.Signals.{Text}
 use Rattle.rr_flat.specs.declared.fault.FlatFault.{FlatFault}
 use Rattle.rr_flat.specs.declared.fault.FlatFault.TheVariants.{PortMismatch}
 use Rattle.rr_flat.specs.Sound.{IsExpression, IsStatement, AreExpressions, IsValue, IsConnection, AreConnected}
 use Rattle.rr_flat.proofs.Shaping.{clear}
+use Rattle.rr_starts.specs.Starts.{initial_faults}
+use Rattle.rr_starts.proofs.Shaped.{initial_shaped}
+use Rattle.rr_head.proofs.Firsts.{none_before, none_here}
 use Rattle.rr_walk.specs.Tables.{port_names, name_set}
 use Rattle.rr_flat.specs.Shapes.{shape_faults, statement_faults}
 use Rattle.rr_walk.specs.Walk.{value_faults, noted, twice_faults, fold_trees, Joining, place_port, check_port, Connected, check_connection, connections}
-
--- a fault that was found stays found
-stays : (g : FlatFault) (fs : List FlatFault) → fold sooner (Some g) fs ≡ None → ⊥
-unfolding sooner
-stays g [] e = cc
-stays g (f ∷ fs) e = go (before f g) refl (stays f fs) (stays g fs)
-  where
-    go : (b : Bool) → before f g ≡ b → (fold sooner (Some f) fs ≡ None → ⊥) → (fold sooner (Some g) fs ≡ None → ⊥) → ⊥
-    go true h recf recg = recf (rw h at e)
-    go false h recf recg = recg (rw h at e)
-
-pub none_before : (found : Option FlatFault) (fs : List FlatFault) → fold sooner found fs ≡ None → found ≡ None
-none_before None fs e = refl
-none_before (Some g) fs e = absurd (stays g fs e)
-
-none_first : (fs : List FlatFault) → fold sooner None fs ≡ None → fs ≡ []
-unfolding sooner
-none_first [] e = refl
-none_first (f ∷ fs) e = absurd (stays f fs e)
-
-pub none_here : (found : Option FlatFault) (fs : List FlatFault) → fold sooner found fs ≡ None → fs ≡ []
-none_here None fs e = none_first fs e
-none_here (Some g) fs e = absurd (stays g fs e)
 
 -- an expression without faults has a shape
 
@@ -101,7 +81,7 @@ connections_clear m names found (Named cs) w f e = named_clear (name_set (port_n
 -- what was noted of an expression, of two, and of a statement
 
 pub one_clear : (names at : Names) (t : Tree) (found : Option FlatFault) → names ≡ at → WellFormed t → FitLiterals t → found ≡ fold sooner None (shape_faults names t) → found ≡ None → IsExpression at t
-one_clear names at t found n w f a e = subst (λ s. IsExpression s t) n (expression_clear names t w f (none_first (shape_faults names t) (sym a ∙ e)))
+one_clear names at t found n w f a e = subst (λ s. IsExpression s t) n (expression_clear names t w f (none_here None (shape_faults names t) (sym a ∙ e)))
 
 pub two_clear : (names at : Names) (t v : Tree) (found next : Option FlatFault) → names ≡ at → WellFormed t → FitLiterals t → WellFormed v → FitLiterals v
     → found ≡ fold sooner None (shape_faults names t) → next ≡ fold sooner found (shape_faults names v) → next ≡ None → IsExpression at t × IsExpression at v
@@ -111,3 +91,11 @@ two_clear names at t v found next n wt ft wv fv a b e =
 
 pub statement_clear : (names at : Names) (s : Statement) (found next : Option FlatFault) → names ≡ at → WellFormedStatement s → FitLiteralsStatement s → next ≡ fold sooner found (statement_faults names s) → next ≡ None → IsStatement at s
 statement_clear names at s found next n w f b e = subst (λ z. IsStatement z s) n (record { formed = w; fit = f; shaped = none_here found (statement_faults names s) (sym b ∙ e) })
+
+-- the same of an `initial` item
+pub initial_none : (names at : Names) (s : Statement) (found : Option FlatFault) → names ≡ at → found ≡ fold sooner None (initial_faults names s) → found ≡ None → initial_faults at s ≡ []
+initial_none names at s found n a e = subst (λ m. initial_faults m s ≡ []) n (none_here None (initial_faults names s) (sym a ∙ e))
+
+pub initial_clear : (names at : Names) (s : Statement) (found : Option FlatFault) → names ≡ at → IsTrue (is_initial s) → WellFormedStatement s → FitLiteralsStatement s → found ≡ fold sooner None (initial_faults names s) → found ≡ None
+    → IsStatement at s
+initial_clear names at s found n i w f a e = record { formed = w; fit = f; shaped = initial_shaped at s i (initial_none names at s found n a e) }

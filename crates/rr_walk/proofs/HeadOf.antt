@@ -3,18 +3,18 @@ use Rattle.std.proofs.Common.{◌≡◌, ℕ, zero, suc, ◌+◌, ◌<◌, ◌�
 use Rattle.std.specs.Prelude.{slice_get, slice_set, option_to_list, option_map, is_some, is_none, nat_lt}
 use Rattle.std.specs.List.{AllByRecursion}
 use Rattle.rr_flat.proofs.Lists.{all_index}
-use Rattle.rr_syntax.specs.Tree.{Identifier, PortDeclaration, ParamAssignment, ParameterDeclaration, ModuleItem, Ports, Nets, Variables, Integers, Parameters, Assigns, Always, Instances, ModuleDeclaration}
+use Rattle.rr_syntax.specs.Tree.{DeclaredName, Range, PortDeclaration, ParamAssignment, ParameterDeclaration, ModuleItem, Ports, Nets, Variables, Integers, Parameters, Assigns, Always, Initial, Instances, ModuleDeclaration}
 use Rattle.rr_bits.specs.Words.{extend}
 use Rattle.rr_expr.specs.Scopes.{Names, lookup, range_width}
 use Rattle.rr_expr.specs.declared.types.Entity.{Entity}
 use Rattle.rr_expr.specs.declared.types.Entity.TheVariants as entity
 use Rattle.rr_flat.specs.declared.fault.FlatFault.{FlatFault}
-use Rattle.rr_head.specs.Declarations.{Declared, Declarations, with_signal, counted, declare_new, declared_at, redeclared, declare_again, again_place, repeated_place, declare, declare_at, declare_identifier, declare_net, declare_ports, declare_nets, declare_variables, declare_item, declarations, known, brackets, plain_names, signal_of, no_declared, is_port, is_same_range, port_declaration, inner_declaration, integer_declaration}
+use Rattle.rr_head.specs.Declarations.{Declared, Declarations, starting, start_faults, start_or, start_again, with_signal, counted, declare_new, declared_at, redeclared, declare_again, again_place, repeated_place, declare, declare_at, declare_integer, integer_name, declare_ports, declare_nets, declare_variables, declare_item, declarations, known, brackets, plain_names, signal_of, no_declared, is_port, is_same_range, port_declaration, inner_declaration, integer_declaration}
 use Rattle.rr_flat.specs.declared.fault.FlatFault.TheVariants.{NameTwice, UnknownName, BadRange, TooMany}
 use Rattle.rr_flat.specs.declared.fault.Limit.TheVariants.{FlatBits}
 use Rattle.rr_flat.specs.Faults.{among, fault_if, fault_or, first_of, first_fault_or, and_then, each}
 use Rattle.rr_head.specs.Values.{constant, range_in}
-use Rattle.rr_head.specs.Heads.{Head, named_signal, with_port, with_ports, with_inner, signals_in_order, with_signals, numbered, declared, head}
+use Rattle.rr_head.specs.Heads.{Head, named_signal, with_port, with_identifier, with_declarator, with_ports, with_inner, signals_in_order, with_signals, numbered, declared, head}
 use Rattle.rr_flat.specs.Signals.{with_name}
 use Rattle.rr_head.specs.Parameters.{parameter, typed, add_parameter, add_parameters, add_item_parameters, parameters, given_or, override_of, width_faults}
 use Rattle.rr_flat.specs.Signals.{Text, Signal}
@@ -129,6 +129,7 @@ added_item given (Integers list) names out h e = subst (Entries NoSignal) (ok_is
 added_item given (Parameters p) names out h e = added_all given p names out h e
 added_item given (Assigns pairs) names out h e = subst (Entries NoSignal) (ok_is names out e) h
 added_item given (Always events body token) names out h e = subst (Entries NoSignal) (ok_is names out e) h
+added_item given (Initial body token) names out h e = subst (Entries NoSignal) (ok_is names out e) h
 added_item given (Instances m token overrides list) names out h e = subst (Entries NoSignal) (ok_is names out e) h
 
 pub constants : (given : Names) (m : ModuleDeclaration) (out : Names) → parameters given m ≡ Ok out → Entries NoSignal out
@@ -146,50 +147,53 @@ Mine i x = x.signal.instance ≡ i
 abbrev Own : ℕ → Declarations → Type 0
 Own i d = (d.instance ≡ i) × AllByRecursion (Mine i) d.list
 
-own_new : (i : ℕ) (k : _) (at : ℕ) (name : Text) (d : Declarations) → Own i d → Own i (with_signal k at name d)
-own_new i k at name d h = (h.0, all_append (Mine i) d.list (record { signal = signal_of d.instance k at name; again = is_port k.port && not k.variable } ∷ []) h.1 (h.0, tt))
+own_new : (i : ℕ) (k : _) (n : DeclaredName) (start : ℕ) (d : Declarations) → Own i d → Own i (with_signal k n start d)
+own_new i k n start d h = (h.0, all_append (Mine i) d.list (record { signal = signal_of d.instance k n start; again = is_port k.port && not k.variable } ∷ []) h.1 (h.0, tt))
 
-own_declared : (i : ℕ) (bracketed : Names) (k : _) (at : ℕ) (name : Text) (d t : Declarations) → Own i d → declare_new bracketed k at name d ≡ Ok t → Own i t
+own_declared : (i : ℕ) (bracketed seen : Names) (k : _) (n : DeclaredName) (d t : Declarations) → Own i d → declare_new bracketed seen k n d ≡ Ok t → Own i t
 unfolding declare_new
-own_declared i bracketed k at name d t h e =
-    let r = first_ok (first_fault_or (fault_if (is_some (lookup name d.names)) (NameTwice at) ++ (fault_if (is_port k.port && is_none (lookup name bracketed)) (UnknownName at) ++ width_faults at k.range)) d) (counted k at name) t e in
-    let same : d ≡ r.0 = settled_is (first_of (fault_if (is_some (lookup name d.names)) (NameTwice at) ++ (fault_if (is_port k.port && is_none (lookup name bracketed)) (UnknownName at) ++ width_faults at k.range))) d r.0 r.1.0 in
-    let last : with_signal k at name r.0 ≡ t = settled_is (first_of (fault_if (nat_lt 65536 (r.0.bits + range_width k.range)) (TooMany FlatBits (r.0.bits + range_width k.range)))) (with_signal k at name r.0) t r.1.1 in
-    subst (Own i) last (own_new i k at name r.0 (subst (Own i) same h))
+own_declared i bracketed seen k n d t h e =
+    let start = start_or seen (range_width k.range) 0 (starting k n) in
+    let faults = fault_if (is_some (lookup n.text d.names)) (NameTwice n.token) ++ (fault_if (is_port k.port && is_none (lookup n.text bracketed)) (UnknownName n.token) ++ (width_faults n.token k.range ++ start_faults seen (starting k n))) in
+    let r = first_ok (first_fault_or faults d) (counted k n start) t e in
+    let same : d ≡ r.0 = settled_is (first_of faults) d r.0 r.1.0 in
+    let last : with_signal k n start r.0 ≡ t = settled_is (first_of (fault_if (nat_lt 65536 (r.0.bits + range_width k.range)) (TooMany FlatBits (r.0.bits + range_width k.range)))) (with_signal k n start r.0) t r.1.1 in
+    subst (Own i) last (own_new i k n start r.0 (subst (Own i) same h))
 
-own_again : (i : ℕ) (k : _) (at place : ℕ) (d t : Declarations) → Own i d → declare_again k at place d ≡ Ok t → Own i t
+own_again : (i : ℕ) (seen : Names) (k : _) (n : DeclaredName) (place : ℕ) (d t : Declarations) → Own i d → declare_again seen k n place d ≡ Ok t → Own i t
 unfolding declare_again
-own_again i k at place d t h e =
-    subst (Own i) (settled_is (first_of (fault_if (not (is_same_range (declared_at d.list place).signal.range k.range)) (BadRange at))) (record d { list = slice_set d.list place (redeclared k (declared_at d.list place)) }) t e)
-    (h.0, all_set (Mine i) d.list place (redeclared k (declared_at d.list place)) h.1 (λ l. all_index (Mine i) d.list place no_declared h.1 l))
+own_again i seen k n place d t h e =
+    let x = redeclared k (start_again seen (starting k n) (declared_at d.list place)) (declared_at d.list place) in
+    let faults = fault_if (not (is_same_range (declared_at d.list place).signal.range k.range)) (BadRange n.token) ++ start_faults seen (starting k n) in
+    subst (Own i) (settled_is (first_of faults) (record d { list = slice_set d.list place x }) t e) (h.0, all_set (Mine i) d.list place x h.1 (λ l. all_index (Mine i) d.list place no_declared h.1 l))
 
-own_at : (i : ℕ) (bracketed : Names) (k : _) (at : ℕ) (name : Text) (d t : Declarations) (o : Option ℕ) → Own i d → declare_at bracketed k at name d o ≡ Ok t → Own i t
-own_at i bracketed k at name d t None h e = own_declared i bracketed k at name d t h e
-own_at i bracketed k at name d t (Some place) h e = own_again i k at place d t h e
+own_at : (i : ℕ) (bracketed seen : Names) (k : _) (n : DeclaredName) (d t : Declarations) (o : Option ℕ) → Own i d → declare_at bracketed seen k n d o ≡ Ok t → Own i t
+own_at i bracketed seen k n d t None h e = own_declared i bracketed seen k n d t h e
+own_at i bracketed seen k n d t (Some place) h e = own_again i seen k n place d t h e
 
-own_declare : (i : ℕ) (bracketed : Names) (k : _) (at : ℕ) (name : Text) (d t : Declarations) → Own i d → declare bracketed k at name d ≡ Ok t → Own i t
+own_declare : (i : ℕ) (bracketed seen : Names) (k : _) (n : DeclaredName) (d t : Declarations) → Own i d → declare bracketed seen k n d ≡ Ok t → Own i t
 unfolding declare
-own_declare i bracketed k at name d t h e = own_at i bracketed k at name d t (repeated_place k.repeats (again_place (lookup name d.names) d.list)) h e
+own_declare i bracketed seen k n d t h e = own_at i bracketed seen k n d t (repeated_place k.repeats (again_place (lookup n.text d.names) d.list)) h e
+
+own_names : (i : ℕ) (bracketed seen : Names) (k : Option (ℕ × ℕ) → _) (range : Option Range) (list : List DeclaredName) (d t : Declarations) → Own i d → and_then (range_in seen range) (λ r. each (declare bracketed seen (k r)) list d) ≡ Ok t → Own i t
+own_names i bracketed seen k range list d t h e =
+    let r = first_ok (range_in seen range) (λ r. each (declare bracketed seen (k r)) list d) t e in
+    each_keeps (Own i) (declare bracketed seen (k r.0)) (λ n s u q p. own_declare i bracketed seen (k r.0) n s u q p) list d t h r.1.1
 
 own_ports : (i : ℕ) (bracketed seen : Names) (p : PortDeclaration) (d t : Declarations) → Own i d → declare_ports bracketed seen p d ≡ Ok t → Own i t
 unfolding declare_ports
-own_ports i bracketed seen p d t h e =
-    let r = first_ok (range_in seen p.range) (λ range. each (declare_identifier bracketed (port_declaration p range)) p.names d) t e in
-    each_keeps (Own i) (declare_identifier bracketed (port_declaration p r.0)) (λ n s u q k. own_declare i bracketed (port_declaration p r.0) n.token n.text s u q k) p.names d t h r.1.1
+own_ports i bracketed seen p d t h e = own_names i bracketed seen (port_declaration p) p.range p.names d t h e
 
 own_item : (i : ℕ) (bracketed seen : Names) (x : ModuleItem) (d t : Declarations) → Own i d → declare_item bracketed seen x d ≡ Ok t → Own i t
 unfolding declare_item declare_nets declare_variables
 own_item i bracketed seen (Ports p) d t h e = own_ports i bracketed seen p d t h e
-own_item i bracketed seen (Nets signed range list) d t h e =
-    let r = first_ok (range_in seen range) (λ q. each (declare_net bracketed (inner_declaration false signed q)) list d) t e in
-    each_keeps (Own i) (declare_net bracketed (inner_declaration false signed r.0)) (λ n s u q k. own_declare i bracketed (inner_declaration false signed r.0) n.token n.text s u q k) list d t h r.1.1
-own_item i bracketed seen (Variables signed range list) d t h e =
-    let r = first_ok (range_in seen range) (λ q. each (declare_identifier bracketed (inner_declaration true signed q)) list d) t e in
-    each_keeps (Own i) (declare_identifier bracketed (inner_declaration true signed r.0)) (λ n s u q k. own_declare i bracketed (inner_declaration true signed r.0) n.token n.text s u q k) list d t h r.1.1
-own_item i bracketed seen (Integers list) d t h e = each_keeps (Own i) (declare_identifier bracketed integer_declaration) (λ n s u q k. own_declare i bracketed integer_declaration n.token n.text s u q k) list d t h e
+own_item i bracketed seen (Nets signed range list) d t h e = own_names i bracketed seen (inner_declaration false signed) range list d t h e
+own_item i bracketed seen (Variables signed range list) d t h e = own_names i bracketed seen (inner_declaration true signed) range list d t h e
+own_item i bracketed seen (Integers list) d t h e = each_keeps (Own i) (declare_integer bracketed seen) (λ n s u q p. own_declare i bracketed seen integer_declaration (integer_name n) s u q p) list d t h e
 own_item i bracketed seen (Parameters p) d t h e = subst (Own i) (ok_is d t e) h
 own_item i bracketed seen (Assigns pairs) d t h e = subst (Own i) (ok_is d t e) h
 own_item i bracketed seen (Always events body token) d t h e = subst (Own i) (ok_is d t e) h
+own_item i bracketed seen (Initial body token) d t h e = subst (Own i) (ok_is d t e) h
 own_item i bracketed seen (Instances m token overrides list) d t h e = subst (Own i) (ok_is d t e) h
 
 own_all : (i bits : ℕ) (m : ModuleDeclaration) (names : Names) (t : Declarations) → declared i bits m names ≡ Ok t → Own i t
@@ -216,9 +220,9 @@ found_one i list (Some (entity.Signal id range signed)) h = by (slice_get list i
     by (Some x) q = (all_got (Mine i) list id x h q, tt)
 found_one i list (Some entity.Instance) h = tt
 
-with_one : (i : ℕ) (d : Declarations) → Own i d → (n : Identifier) (s : List Signal) → AllByRecursion (Of i) s → AllByRecursion (Of i) (with_port d s n)
+with_one : (i : ℕ) (d : Declarations) → Own i d → (n : Text) (s : List Signal) → AllByRecursion (Of i) s → AllByRecursion (Of i) (with_port d s n)
 unfolding with_port
-with_one i d h n s q = all_append (Of i) s (option_to_list (named_signal d.list (lookup n.text d.names))) q (found_one i d.list (lookup n.text d.names) h.1)
+with_one i d h n s q = all_append (Of i) s (option_to_list (named_signal d.list (lookup n d.names))) q (found_one i d.list (lookup n d.names) h.1)
 
 inner_one : (i : ℕ) (x : Declared) (s : List Signal) → Mine i x → AllByRecursion (Of i) s → AllByRecursion (Of i) (with_inner s x)
 unfolding with_inner
@@ -231,9 +235,9 @@ inner_one i x s m q = by (is_port x.signal.port)
 in_order : (i : ℕ) (m : ModuleDeclaration) (d : Declarations) → Own i d → AllByRecursion (Of i) (signals_in_order m d)
 unfolding signals_in_order with_ports
 in_order i m d h =
-    fold_over (Mine i) (AllByRecursion (Of i)) with_inner (λ x s q p. inner_one i x s q p) d.list (fold (with_ports d) (fold (with_port d) [] (plain_names m.header)) m.groups) h.1
-    (fold_keeps (AllByRecursion (Of i)) (with_ports d) (λ p s q. fold_keeps (AllByRecursion (Of i)) (with_port d) (λ n s q. with_one i d h n s q) p.names s q) m.groups (fold (with_port d) [] (plain_names m.header))
-    (fold_keeps (AllByRecursion (Of i)) (with_port d) (λ n s q. with_one i d h n s q) (plain_names m.header) [] tt))
+    fold_over (Mine i) (AllByRecursion (Of i)) with_inner (λ x s q p. inner_one i x s q p) d.list (fold (with_ports d) (fold (with_identifier d) [] (plain_names m.header)) m.groups) h.1
+    (fold_keeps (AllByRecursion (Of i)) (with_ports d) (λ p s q. fold_keeps (AllByRecursion (Of i)) (with_declarator d) (λ n s q. with_one i d h n.text s q) p.names s q) m.groups (fold (with_identifier d) [] (plain_names m.header))
+    (fold_keeps (AllByRecursion (Of i)) (with_identifier d) (λ n s q. with_one i d h n.text s q) (plain_names m.header) [] tt))
 
 -- a signal with a number from a base up to a bound
 abbrev pub Between : ℕ → ℕ → Entity → Type 0

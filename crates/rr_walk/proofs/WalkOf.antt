@@ -5,7 +5,7 @@ use Rattle.std.specs.List.{AllByRecursion}
 use Rattle.std.specs.Str.{bytes_eq}
 use Rattle.std.proofs.lemmas.Bool.{cases_lt, and_parts, both_ways, eqb-true}
 use Rattle.std.proofs.lemmas.List.{get_or_append_left, get_or-append_right}
-use Rattle.rr_syntax.specs.Tree.{Tree, Trees, End, More, Statement, NetIdentifier, NetAssignment, EventControl, Star, Edges, Levels, Connections, Positions, ModuleInstance, ModuleItem, Ports, Nets, Variables, Integers, Parameters, Assigns, Always, Instances, ModuleDeclaration, SourceText}
+use Rattle.rr_syntax.specs.Tree.{Tree, Trees, End, More, Statement, DeclaredName, NetAssignment, EventControl, Star, Edges, Levels, Connections, Positions, ModuleInstance, ModuleItem, Ports, Nets, Variables, Integers, Parameters, Assigns, Always, Initial, Instances, ModuleDeclaration, SourceText}
 use Rattle.rr_syntax.specs.Tree.{Names as Named}
 use Rattle.rr_expr.specs.Scopes.{Names, lookup}
 use Rattle.rr_expr.specs.Faults.{first}
@@ -21,7 +21,7 @@ use Rattle.rr_flat.specs.Signals.{with_name}
 use Rattle.rr_flat.specs.Signals.{Text, Signal, signal_at, no_signal}
 use Rattle.rr_flat.specs.Plain.{Side, Written, Whole, Driver, Flat}
 use Rattle.rr_walk.specs.Tables.{place_of, add_module, port_names}
-use Rattle.rr_walk.specs.Walk.{Walked, scope_at, with_driver, assign, net_driver, net_value, net_with, net, with_block, always, join_port, join_at, join, join_value, join_named, join_positions, joined, Enter, module_at, checked, with_instance, instance_of, item, opened, begin, enter_by, enter, nothing, is_way, is_top_port, top_ports, finished, top_place, enter_top, flat_of}
+use Rattle.rr_walk.specs.Walk.{Walked, scope_at, with_driver, assign, net_driver, net_value, net_with, net, with_block, always, with_initial, initial, join_port, join_at, join, join_value, join_named, join_positions, joined, Enter, module_at, checked, with_instance, instance_of, item, opened, begin, enter_by, enter, nothing, is_way, is_top_port, top_ports, finished, top_place, enter_top, flat_of}
 use Rattle.rr_flat.proofs.Lists.{all_index}
 use Rattle.rr_flat.specs.Elaborated.{DrivesOwn, IsTopInput, IsSound}
 use Rattle.rr_walk.proofs.HeadOf.{ok_is, not_ok, settled_is, first_ok, each_keeps, fold_keeps, all_append, all_weaker, Entries, entries_with, Between, HeadOf, head_of}
@@ -87,7 +87,7 @@ after_net_with i at name (Some x) w t g e =
     subst (Good i) (settled_is _ (net_driver i at x (place_of (lookup name (scope_at w i))) w) t e)
     (after_net_driver i at x (place_of (lookup name (scope_at w i))) w (λ id q. placed w.flat.signals i (scope_at w i) name id (g.0.scopes i g.1) q) g)
 
-after_net : (i : ℕ) (n : NetIdentifier) (w t : Walked) → Good i w → net i n w ≡ Ok t → Good i t
+after_net : (i : ℕ) (n : DeclaredName) (w t : Walked) → Good i w → net i n w ≡ Ok t → Good i t
 unfolding net
 after_net i n w t g e = after_net_with i n.token n.text n.value w t g e
 
@@ -99,6 +99,10 @@ after_block i (Levels list commas) s at w g = (record { scopes = g.0.scopes; dri
 after_always : (i : ℕ) (events : EventControl) (s : Statement) (at : ℕ) (w t : Walked) → Good i w → always i events s at w ≡ Ok t → Good i t
 unfolding always
 after_always i events s at w t g e = subst (Good i) (settled_is _ (with_block i events s at w) t e) (after_block i events s at w g)
+
+after_initial : (i : ℕ) (s : Statement) (at : ℕ) (w t : Walked) → Good i w → initial i s at w ≡ Ok t → Good i t
+unfolding initial
+after_initial i s at w t g e = subst (Good i) (settled_is _ (with_initial i s at w) t e) (record { scopes = g.0.scopes; drivers = g.0.drivers }, g.1)
 
 -- connections: instance k is one below the top
 abbrev Joined : ℕ → ℕ → Walked → Type 0
@@ -184,6 +188,7 @@ after_item source table above i sub s (Integers list) w t g e = subst (Good i) (
 after_item source table above i sub s (Parameters p) w t g e = subst (Good i) (ok_is w t e) g
 after_item source table above i sub s (Assigns pairs) w t g e = each_keeps (Good i) (assign i) (λ p a b h q. after_assign i p a b h q) pairs w t g e
 after_item source table above i sub s (Always events body at) w t g e = after_always i events body at w t g e
+after_item source table above i sub s (Initial body at) w t g e = after_initial i body at w t g e
 after_item source table above i sub s (Instances m at over list) w t g e =
     each_keeps (Good i) (instance_of source above i sub at over (place_of (lookup m table))) (λ x a b h q. after_instance source above i sub at over (place_of (lookup m table)) s x a b h q) list w t g e
 

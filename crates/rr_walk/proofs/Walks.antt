@@ -1,13 +1,15 @@
 -- The walk, one step at a time.
-use Rattle.std.proofs.Common.{◌≡◌, ℕ, zero, suc, ◌-◌, ◌≤◌, Bool, true, not, nat_lt, List, [], ◌∷◌, ◌++◌, length, Option, Some, None, Ok, Err, refl, arith, inl, inr}
+use Rattle.std.proofs.Common.{◌≡◌, ap, ℕ, zero, suc, ◌-◌, ◌≤◌, Bool, true, not, nat_lt, List, [], ◌∷◌, ◌++◌, length, map, Option, Some, None, Ok, Err, refl, arith, inl, inr}
 use Rattle.std.proofs.lemmas.Bool.Decides.{nat_tests}
 use Rattle.std.proofs.lemmas.List.{map-append}
 use Rattle.std.specs.List.{AllByRecursion}
-use Rattle.rr_syntax.specs.Tree.{Statement, Identifier, EventControl, NetIdentifier, NetAssignment, ParameterDeclaration, PortDeclaration, Range, Connections, ModuleInstance, Ports, Nets, Variables, Integers, Parameters, Assigns, Always, Instances, ModuleDeclaration}
+use Rattle.rr_syntax.specs.Tree.{Statement, Identifier, EventControl, DeclaredName, NetAssignment, ParameterDeclaration, PortDeclaration, Range, Connections, ModuleInstance, Ports, Nets, Variables, Integers, Parameters, Assigns, Always, Initial, Instances, ModuleDeclaration}
 use Rattle.rr_syntax.specs.Items.{WellFormedItem, WellFormedModule, FitLiteralsItem, FitLiteralsModule}
 use Rattle.rr_expr.specs.Scopes.{Names, lookup}
 use Rattle.rr_flat.specs.Faults.{sooner, Refuses, each}
+use Rattle.rr_flat.specs.Signals as plain
 use Rattle.rr_flat.specs.Signals.{Text}
+use Rattle.rr_flat.specs.declared.signal.Signal.{Signal}
 use Rattle.rr_head.specs.View.{Opening, plain_head}
 use Rattle.rr_flat.specs.View.{plain_signal}
 use Rattle.rr_flat.specs.declared.fault.Limit.TheVariants.{Instances as InstanceCount, Depth}
@@ -15,7 +17,7 @@ use Rattle.rr_flat.specs.declared.fault.FlatFault.{FlatFault}
 use Rattle.rr_flat.specs.declared.fault.FlatFault.TheVariants.{UnknownModule, TooMany}
 use Rattle.rr_walk.specs.Tables.{place_of}
 use Rattle.rr_flat.specs.View.{Design, plain_flat}
-use Rattle.rr_walk.specs.Walk.{Walked, Enter, scope_at, module_at, assign, net, always, checked, with_instance, joined, instance_of, item, begin, enter, enter_by, opened, nothing}
+use Rattle.rr_walk.specs.Walk.{Walked, Enter, scope_at, module_at, assign, net, always, initial, checked, with_instance, joined, instance_of, item, begin, enter, enter_by, opened, nothing}
 
 -- the count of instances
 
@@ -26,10 +28,15 @@ pub begin_full : (source : List ModuleDeclaration) (k : ℕ) (given : Names) (w 
 unfolding begin sooner
 begin_full source k given w le = rw (no_room (length w.flat.scopes) le) refl
 
-pub opened_is : (d : Design) (h : Opening) (old bits owner : ℕ) → bits ≡ h.bits
-    → record { flat = plain_flat (record d { signals = d.signals ++ h.signals; scopes = d.scopes ++ h.scope ∷ []; owners = d.owners ++ owner ∷ [] }); bits = bits }
+-- the starting values of declarations
+starts_plain : (ss : List Signal) → map (λ (s : plain.Signal). s.start) (map plain_signal ss) ≡ map (λ s. s.start) ss
+starts_plain [] = refl
+starts_plain (s ∷ ss) = ap (λ (ns : List ℕ). s.start ∷ ns) (starts_plain ss)
+
+pub opened_is : (d : Design) (h : Opening) (old owner : ℕ)
+    → record { flat = plain_flat (record d { signals = d.signals ++ h.signals; starts = d.starts ++ map (λ s. s.start) h.signals; scopes = d.scopes ++ h.scope ∷ []; owners = d.owners ++ owner ∷ [] }); bits = h.bits }
     ≡ opened owner (plain_head h) (record { flat = plain_flat d; bits = old })
-opened_is d h old bits owner e = rw (e, map-append plain_signal d.signals h.signals) refl
+opened_is d h old owner = rw (map-append plain_signal d.signals h.signals, starts_plain h.signals) refl
 
 pub start_is : (d : Design) (top at : ℕ) → plain_flat d ≡ (nothing top).flat → top ≡ at → record { flat = plain_flat d; bits = 0 } ≡ nothing at
 start_is d top at e t = rw (e, t) refl
@@ -65,11 +72,11 @@ pub item_ports : (source : List ModuleDeclaration) (table : Names) (above : List
 unfolding item
 item_ports source table above i sub p w = refl
 
-pub item_nets : (source : List ModuleDeclaration) (table : Names) (above : List ℕ) (i : ℕ) (sub : Enter) (signed : Bool) (range : Option Range) (list : List NetIdentifier) (w : Walked) → item source table above i sub (Nets signed range list) w ≡ each (net i) list w
+pub item_nets : (source : List ModuleDeclaration) (table : Names) (above : List ℕ) (i : ℕ) (sub : Enter) (signed : Bool) (range : Option Range) (list : List DeclaredName) (w : Walked) → item source table above i sub (Nets signed range list) w ≡ each (net i) list w
 unfolding item
 item_nets source table above i sub signed range list w = refl
 
-pub item_variables : (source : List ModuleDeclaration) (table : Names) (above : List ℕ) (i : ℕ) (sub : Enter) (signed : Bool) (range : Option Range) (list : List Identifier) (w : Walked) → item source table above i sub (Variables signed range list) w ≡ Ok w
+pub item_variables : (source : List ModuleDeclaration) (table : Names) (above : List ℕ) (i : ℕ) (sub : Enter) (signed : Bool) (range : Option Range) (list : List DeclaredName) (w : Walked) → item source table above i sub (Variables signed range list) w ≡ Ok w
 unfolding item
 item_variables source table above i sub signed range list w = refl
 
@@ -89,12 +96,16 @@ pub item_always : (source : List ModuleDeclaration) (table : Names) (above : Lis
 unfolding item
 item_always source table above i sub events s at w = refl
 
+pub item_initial : (source : List ModuleDeclaration) (table : Names) (above : List ℕ) (i : ℕ) (sub : Enter) (s : Statement) (at : ℕ) (w : Walked) → item source table above i sub (Initial s at) w ≡ initial i s at w
+unfolding item
+item_initial source table above i sub s at w = refl
+
 pub item_instances : (source : List ModuleDeclaration) (table : Names) (above : List ℕ) (i : ℕ) (sub : Enter) (m : Text) (at : ℕ) (over : Option Connections) (list : List ModuleInstance) (w : Walked)
     → item source table above i sub (Instances m at over list) w ≡ each (instance_of source above i sub at over (place_of (lookup m table))) list w
 unfolding item
 item_instances source table above i sub m at over list w = refl
 
-pub ruleset items = (item_ports, item_nets, item_variables, item_integers, item_parameters, item_assigns, item_always, item_instances)
+pub ruleset items = (item_ports, item_nets, item_variables, item_integers, item_parameters, item_assigns, item_always, item_initial, item_instances)
 
 -- instances
 

@@ -1,6 +1,6 @@
 -- The modules of a source, and the parameters and ports of a module, by name (IEEE 1364-2005 sections 12.1 to 12.3).
 use Rattle.std.specs.Prelude.{ℕ, ◌+◌, Bool, false, List, [], ◌∷◌, ◌++◌, length, fold, Option, Some, None, Result, is_some, if◌then◌else◌}
-use Rattle.rr_syntax.specs.Tree.{Identifier, ParamAssignment, ParameterDeclaration, PortDeclaration, ModuleItem, Ports, Nets, Variables, Integers, Parameters, Assigns, Always, Instances, ModuleDeclaration}
+use Rattle.rr_syntax.specs.Tree.{Identifier, DeclaredName, ParamAssignment, ParameterDeclaration, PortDeclaration, ModuleItem, Ports, Nets, Variables, Integers, Parameters, Assigns, Always, Initial, Instances, ModuleDeclaration}
 use Rattle.rr_expr.specs.Scopes.{Names, lookup}
 use Rattle.rr_expr.specs.declared.types.Entity.{Entity}
 use Rattle.rr_expr.specs.declared.types.Entity.TheVariants as entity
@@ -34,6 +34,7 @@ instantiated_by_item names (Integers list) = names
 instantiated_by_item names (Parameters p) = names
 instantiated_by_item names (Assigns pairs) = names
 instantiated_by_item names (Always events body token) = names
+instantiated_by_item names (Initial body token) = names
 instantiated_by_item names (Instances m token overrides list) = at_place names m 0
 
 unfoldable pub instantiated_by : Names → ModuleDeclaration → Names
@@ -59,6 +60,7 @@ add_item_parameter_names table (Integers list) = table
 add_item_parameter_names table (Parameters p) = add_parameter_names table p
 add_item_parameter_names table (Assigns pairs) = table
 add_item_parameter_names table (Always events body token) = table
+add_item_parameter_names table (Initial body token) = table
 add_item_parameter_names table (Instances m token overrides list) = table
 
 unfoldable pub parameter_table : ModuleDeclaration → Names
@@ -79,6 +81,7 @@ add_item_open_names names (Integers list) = names
 add_item_open_names names (Parameters p) = add_open_names names p
 add_item_open_names names (Assigns pairs) = names
 add_item_open_names names (Always events body token) = names
+add_item_open_names names (Initial body token) = names
 add_item_open_names names (Instances m token overrides list) = names
 
 unfoldable pub open_names : ModuleDeclaration → List Text
@@ -88,8 +91,11 @@ open_names m = fold add_item_open_names (fold add_open_names [] m.params) m.item
 abbrev pub add_port_name : List Text → Identifier → List Text
 add_port_name names i = names ++ i.text ∷ []
 
+abbrev pub add_declarator_name : List Text → DeclaredName → List Text
+add_declarator_name names n = names ++ n.text ∷ []
+
 unfoldable pub add_port_names : List Text → PortDeclaration → List Text
-add_port_names names p = fold add_port_name names p.names
+add_port_names names p = fold add_declarator_name names p.names
 
 unfoldable pub port_names : ModuleDeclaration → List Text
 port_names m = fold add_port_names (fold add_port_name [] (plain_names m.header)) m.groups

@@ -1,7 +1,7 @@
 -- The flat design of a source, or its first fault (IEEE 1364-2005 section 12).
-use Rattle.std.specs.Prelude.{ℕ, zero, suc, ◌+◌, Bool, true, false, not, List, [], ◌∷◌, ◌++◌, length, fold, Option, Some, None, Result, Ok, Err, is_some, is_none, nat_eq, nat_lt, ◌&&◌, if◌then◌else◌, slice_index_or, slice_set}
+use Rattle.std.specs.Prelude.{ℕ, zero, suc, ◌+◌, Bool, true, false, not, List, [], ◌∷◌, ◌++◌, length, map, fold, Option, Some, None, Result, Ok, Err, is_some, is_none, nat_eq, nat_lt, ◌&&◌, if◌then◌else◌, slice_index_or, slice_set}
 use Rattle.std.specs.List.{list_any}
-use Rattle.rr_syntax.specs.Tree.{Tree, Trees, End, More, Statement, NetIdentifier, NetAssignment, EdgeEvent, EventControl, Star, Edges, Levels, NamedConnection, Connections, Positions, ModuleInstance, ModuleItem, Ports, Nets, Variables, Integers, Parameters, Assigns, Always, Instances, ModuleDeclaration, SourceText}
+use Rattle.rr_syntax.specs.Tree.{Tree, Trees, End, More, Statement, DeclaredName, NetAssignment, EdgeEvent, EventControl, Star, Edges, Levels, NamedConnection, Connections, Positions, ModuleInstance, ModuleItem, Ports, Nets, Variables, Integers, Parameters, Assigns, Always, Initial, Instances, ModuleDeclaration, SourceText}
 use Rattle.rr_syntax.specs.Tree.{Names as Named}
 use Rattle.rr_expr.specs.Scopes.{Names, lookup, meant}
 use Rattle.rr_expr.specs.Faults.{first}
@@ -13,6 +13,7 @@ use Rattle.rr_flat.specs.declared.fault.Limit.TheVariants.{Instances as Instance
 use Rattle.rr_flat.specs.declared.fault.FlatFault.{FlatFault}
 use Rattle.rr_flat.specs.declared.fault.FlatFault.TheVariants.{NoTop, UnknownModule, SelfInstance, NameTwice, UnknownName, PortMismatch, TooMany}
 use Rattle.rr_flat.specs.Faults.{sooner, faults_in, fault_if, fault_or, first_fault_or, and_then, each}
+use Rattle.rr_starts.specs.Starts.{initial_faults, started}
 use Rattle.rr_head.specs.Values.{constant}
 use Rattle.rr_flat.specs.Signals.{with_name}
 use Rattle.rr_flat.specs.Shapes.{shape_faults, list_faults, statement_faults}
@@ -80,7 +81,7 @@ net_with i at name None w = Ok w
 net_with i at name (Some t) w = net_value i at name t w
 
 -- a net declaration with a value
-unfoldable pub net : ℕ → NetIdentifier → Walked → Result Walked FlatFault
+unfoldable pub net : ℕ → DeclaredName → Walked → Result Walked FlatFault
 net i n w = net_with i n.token n.text n.value w
 
 -- a block that runs where a value changes (section 9.9.2), or at an edge
@@ -107,6 +108,19 @@ with_block i (Levels list commas) s at w = combined (record { body = s; edges = 
 
 unfoldable pub always : ℕ → EventControl → Statement → ℕ → Walked → Result Walked FlatFault
 always i events s at w = first_fault_or (event_faults (scope_at w i) events ++ statement_faults (scope_at w i) s) (with_block i events s at w)
+
+-- an `initial` item, which sets starting values (section 9.9.1)
+abbrev pub with_initial : ℕ → Statement → ℕ → Walked → Walked
+with_initial i s at w = record w {
+  flat = record w.flat {
+    starts = started (scope_at w i) s w.flat.starts;
+    initials = w.flat.initials ++ (record { body = s; scope = i; token = at }) ∷ [];
+    walk = w.flat.walk ++ part.Initial (length w.flat.initials) ∷ [];
+  };
+}
+
+unfoldable pub initial : ℕ → Statement → ℕ → Walked → Result Walked FlatFault
+initial i s at w = first_fault_or (initial_faults (scope_at w i) s) (with_initial i s at w)
 
 -- Overrides
 
@@ -279,11 +293,17 @@ item source table above i sub (Integers list) w = Ok w
 item source table above i sub (Parameters p) w = Ok w
 item source table above i sub (Assigns pairs) w = each (assign i) pairs w
 item source table above i sub (Always events s at) w = always i events s at w
+item source table above i sub (Initial s at) w = initial i s at w
 item source table above i sub (Instances m at over list) w = each (instance_of source above i sub at over (place_of (lookup m table))) list w
 
 abbrev pub opened : ℕ → Head → Walked → Walked
 opened k h w = record {
-  flat = record w.flat { signals = w.flat.signals ++ h.signals; scopes = w.flat.scopes ++ h.scope ∷ []; owners = w.flat.owners ++ k ∷ [] };
+  flat = record w.flat {
+    signals = w.flat.signals ++ h.signals;
+    starts = w.flat.starts ++ map (λ s. s.start) h.signals;
+    scopes = w.flat.scopes ++ h.scope ∷ [];
+    owners = w.flat.owners ++ k ∷ [];
+  };
   bits = h.bits;
 }
 

@@ -1,21 +1,23 @@
 //! Continuous assignments (IEEE 1364-2005 section 6.1) and procedures (section 9.9) of an instance.
-ghost use Rattle.std.specs.Prelude.{◌≡◌, ◌<◌, MatchResult, OnOk, IfSome, Ok, [], map, length};
+ghost use Rattle.std.specs.Prelude.{◌≡◌, ◌<◌, IsTrue, MatchResult, OnOk, IfSome, Ok, [], map, length};
 ghost use Rattle.std.specs.List.{AllByRecursion};
 ghost use Rattle.rr_syntax.specs.Expressions.{WellFormed, FitLiterals};
-ghost use Rattle.rr_syntax.specs.Statements.{WellFormedStatement, FitLiteralsStatement};
-ghost use Rattle.rr_syntax.specs.Items.{WellFormedPair, FitLiteralsPair, WellFormedNet, FitLiteralsNet};
-ghost use Rattle.rr_syntax.specs.View.{plain, plain_pair, plain_net, plain_edge, plain_events, plain_statement};
+ghost use Rattle.rr_syntax.specs.Statements.{WellFormedStatement, FitLiteralsStatement, is_initial};
+ghost use Rattle.rr_syntax.specs.Items.{WellFormedPair, FitLiteralsPair, WellFormedDeclarator, FitLiteralsDeclarator};
+ghost use Rattle.rr_syntax.specs.View.{plain, plain_pair, plain_declarator, plain_edge, plain_events, plain_statement};
 ghost use Rattle.rr_flat.specs.Faults.{Refuses, each};
 ghost use Rattle.rr_walk.specs.Kept.{plain_walked, IsSame};
 ghost use Rattle.rr_flat.specs.Sound.{IsScope, IsExpression, IsSide, IsStatement, names_at};
 ghost use Rattle.rr_flat.specs.View.{plain_side};
-ghost use Rattle.rr_walk.specs.Walk.{with_driver, assign as assign_in, net as net_in, net_driver, net_value as net_value_in, combined, clocked, with_block, always as always_in};
+ghost use Rattle.rr_starts.specs.Starts.{initial_faults};
+ghost use Rattle.rr_walk.specs.Walk.{with_driver, assign as assign_in, net as net_in, net_driver, net_value as net_value_in, combined, clocked, with_block, always as always_in, with_initial, initial as initial_in};
 
 use crate::notes::{note_events, note_shape, note_statement};
 use crate::tables::place_of;
 use rr_expr::{Scope, first_token};
-use rr_flat::{Block, Driver, Flat, FlatFault, Side};
-use rr_syntax::{Event, Events, Expr, NetName, Pair, Stmt};
+use rr_flat::{Block, Driver, Flat, FlatFault, Initial, Side};
+use rr_starts::{note_initial, set_starts};
+use rr_syntax::{Declarator, Event, Events, Expr, Pair, Stmt};
 use std::alloc::AllocError;
 
 /// A design in its walk, and its flat bits.
@@ -153,14 +155,14 @@ fn net_value<'a>(
 }
 
 /// The declaration of a net.
-#[tactic(auto, unfolding(crate::specs::Walk::net, rr_syntax::specs::View::plain_net, rr_syntax::specs::View::plain_value, rr_syntax::specs::Items::WellFormedNet, rr_syntax::specs::Items::FitLiteralsNet, rr_syntax::specs::Items::WellFormedValue, rr_syntax::specs::Items::FitLiteralsValue))]
-fn net<'a>(walked: &mut Walked<'a>, number: u32, one: &NetName<'a>) -> Result<(), FlatFault>
+#[tactic(auto, unfolding(crate::specs::Walk::net, rr_syntax::specs::View::plain_declarator, rr_syntax::specs::View::plain_value, rr_syntax::specs::Items::WellFormedDeclarator, rr_syntax::specs::Items::FitLiteralsDeclarator, rr_syntax::specs::Items::WellFormedValue, rr_syntax::specs::Items::FitLiteralsValue))]
+fn net<'a>(walked: &mut Walked<'a>, number: u32, one: &Declarator<'a>) -> Result<(), FlatFault>
     requires there { number < length walked.old.flat.scopes }
-    requires formed { WellFormedNet (plain_net one.now) }
-    requires fit { FitLiteralsNet (plain_net one.now) }
+    requires formed { WellFormedDeclarator (plain_declarator one.now) }
+    requires fit { FitLiteralsDeclarator (plain_declarator one.now) }
     ensures value { MatchResult result
-        (λ _. net_in number (plain_net one.now) (plain_walked walked.old) ≡ Ok (plain_walked walked.new))
-        (Refuses (net_in number (plain_net one.now) (plain_walked walked.old))) }
+        (λ _. net_in number (plain_declarator one.now) (plain_walked walked.old) ≡ Ok (plain_walked walked.new))
+        (Refuses (net_in number (plain_declarator one.now) (plain_walked walked.old))) }
     ensures same { OnOk result (IsSame walked.old walked.new) }
 {
     match one.value {
@@ -172,14 +174,14 @@ fn net<'a>(walked: &mut Walked<'a>, number: u32, one: &NetName<'a>) -> Result<()
 pub(crate) fn nets<'a>(
     walked: &mut Walked<'a>,
     number: u32,
-    list: &[NetName<'a>],
+    list: &[Declarator<'a>],
 ) -> Result<(), FlatFault>
     requires there { number < length walked.old.flat.scopes }
-    requires formed { AllByRecursion WellFormedNet (map plain_net list.now) }
-    requires fit { AllByRecursion FitLiteralsNet (map plain_net list.now) }
+    requires formed { AllByRecursion WellFormedDeclarator (map plain_declarator list.now) }
+    requires fit { AllByRecursion FitLiteralsDeclarator (map plain_declarator list.now) }
     ensures value { MatchResult result
-        (λ _. each (net_in number) (map plain_net list.now) (plain_walked walked.old) ≡ Ok (plain_walked walked.new))
-        (Refuses (each (net_in number) (map plain_net list.now) (plain_walked walked.old))) }
+        (λ _. each (net_in number) (map plain_declarator list.now) (plain_walked walked.old) ≡ Ok (plain_walked walked.new))
+        (Refuses (each (net_in number) (map plain_declarator list.now) (plain_walked walked.old))) }
     ensures same { OnOk result (IsSame walked.old walked.new) }
 {
     for one in list.iter() {
@@ -271,5 +273,52 @@ pub(crate) fn always<'a>(
         return Err(fault);
     }
     add_block(walked, number, events, body, token)?;
+    Ok(())
+}
+
+/// One more `initial`, with the starting values that it sets.
+fn add_initial<'a>(
+    walked: &mut Walked<'a>,
+    number: u32,
+    body: &'a Stmt<'a>,
+    token: u32,
+) -> Result<(), AllocError>
+    requires there { number < length walked.old.flat.scopes }
+    requires body { IsStatement (names_at walked.old.flat.scopes number) (plain_statement body.now) }
+    requires none { initial_faults (names_at walked.old.flat.scopes number) (plain_statement body.now) ≡ [] }
+    ensures value { OnOk result (plain_walked walked.new ≡ with_initial number (plain_statement body.now) token (plain_walked walked.old)) }
+    ensures same { OnOk result (IsSame walked.old walked.new) }
+{
+    walked.flat.begin(Initial {
+        body,
+        scope: number,
+        token,
+    })?;
+    set_starts(&mut walked.flat, number, body);
+    Ok(())
+}
+
+/// An `initial`.
+#[tactic(auto, unfolding(crate::specs::Walk::initial))]
+pub(crate) fn initial<'a>(
+    walked: &mut Walked<'a>,
+    number: u32,
+    body: &'a Stmt<'a>,
+    token: u32,
+) -> Result<(), FlatFault>
+    requires there { number < length walked.old.flat.scopes }
+    requires initial { IsTrue (is_initial (plain_statement body.now)) }
+    requires formed { WellFormedStatement (plain_statement body.now) }
+    requires fit { FitLiteralsStatement (plain_statement body.now) }
+    ensures value { MatchResult result
+        (λ _. initial_in number (plain_statement body.now) token (plain_walked walked.old) ≡ Ok (plain_walked walked.new))
+        (Refuses (initial_in number (plain_statement body.now) token (plain_walked walked.old))) }
+    ensures same { OnOk result (IsSame walked.old walked.new) }
+{
+    let names = names_of(walked, number);
+    if let Some(fault) = note_initial(None, body, names) {
+        return Err(fault);
+    }
+    add_initial(walked, number, body, token)?;
     Ok(())
 }

@@ -1,16 +1,16 @@
 //! Modules, parameters and ports by name.
 ghost use Rattle.std.specs.Prelude.{◌≡◌, ◌+◌, ◌<◌, ◌^◌, MatchResult, OnOk, IfOk, IfSome, Ok, Some, None, [], ◌∷◌, ◌++◌, is_some, if◌then◌else◌, map, fold, length};
-ghost use Rattle.rr_syntax.specs.View.{plain_assignment, plain_identifier, plain_parameter, plain_port, plain_item, plain_module, plain_header, texts};
+ghost use Rattle.rr_syntax.specs.View.{plain_assignment, plain_identifier, plain_declarator, plain_parameter, plain_port, plain_item, plain_module, plain_header, texts};
 ghost use Rattle.rr_expr.specs.Scopes.{lookup};
 ghost use Rattle.rr_flat.specs.Faults.{Refuses, each};
 ghost use Rattle.rr_flat.specs.Signals.{with_name};
 ghost use Rattle.rr_head.specs.Declarations.{plain_names as names_of};
 ghost use Rattle.rr_head.specs.Sound.{ArePlaces};
-ghost use Rattle.rr_walk.specs.Tables.{at_place, place_of as place_of_entity, add_module as add_module_to, instantiated_by_item, instantiated_by, last_free as last_free_of, add_parameter_name, add_parameter_names as add_parameter_names_to, add_item_parameter_names, parameter_table as parameter_table_of, add_open_name, add_open_names as add_open_names_to, add_item_open_names, open_names as open_names_of, add_port_name, add_port_names as add_port_names_to, port_names as port_names_of, add_text, name_set as name_set_of};
+ghost use Rattle.rr_walk.specs.Tables.{at_place, place_of as place_of_entity, add_module as add_module_to, instantiated_by_item, instantiated_by, last_free as last_free_of, add_parameter_name, add_parameter_names as add_parameter_names_to, add_item_parameter_names, parameter_table as parameter_table_of, add_open_name, add_open_names as add_open_names_to, add_item_open_names, open_names as open_names_of, add_port_name, add_declarator_name, add_port_names as add_port_names_to, port_names as port_names_of, add_text, name_set as name_set_of};
 
 use rr_expr::{Entity, Scope};
 use rr_flat::FlatFault;
-use rr_syntax::{Group, Item, Module, Named, Params, Setting};
+use rr_syntax::{Declarator, Group, Item, Module, Named, Params, Setting};
 use std::alloc::{AllocError, Global};
 
 /// Adds a name after the others, if it is new.
@@ -100,7 +100,8 @@ fn add_instantiated_of_item<'a>(names: &mut Scope<'a>, item: &Item<'a>) -> Resul
         | Item::Integers { .. }
         | Item::Parameters(_)
         | Item::Assigns { .. }
-        | Item::Always { .. } => Ok(()),
+        | Item::Always { .. }
+        | Item::Initial { .. } => Ok(()),
     }
 }
 
@@ -200,6 +201,7 @@ fn add_names_of_item<'a>(table: &mut Scope<'a>, item: &Item<'a>) -> Result<(), A
         | Item::Integers { .. }
         | Item::Assigns { .. }
         | Item::Always { .. }
+        | Item::Initial { .. }
         | Item::Instances { .. } => Ok(()),
     }
 }
@@ -272,6 +274,7 @@ fn add_open_of_item<'a>(names: &mut Vec<&'a str>, item: &Item<'a>) -> Result<(),
         | Item::Integers { .. }
         | Item::Assigns { .. }
         | Item::Always { .. }
+        | Item::Initial { .. }
         | Item::Instances { .. } => Ok(()),
     }
 }
@@ -325,11 +328,20 @@ fn add_identifiers<'a>(names: &mut Vec<&'a str>, list: &[Named<'a>]) -> Result<(
     Ok(())
 }
 
+fn add_declarators<'a>(names: &mut Vec<&'a str>, list: &[Declarator<'a>]) -> Result<(), AllocError>
+    ensures { OnOk result (texts names.new.items ≡ fold add_declarator_name (texts names.old.items) (map plain_declarator list.now)) }
+{
+    for declarator in list.iter() {
+        push_name(names, declarator.name)?;
+    }
+    Ok(())
+}
+
 #[tactic(auto, unfolding(crate::specs::Tables::add_port_names, rr_syntax::specs::View::plain_port))]
 fn add_group<'a>(names: &mut Vec<&'a str>, group: &Group<'a>) -> Result<(), AllocError>
     ensures { OnOk result (texts names.new.items ≡ add_port_names_to (texts names.old.items) (plain_port group.now)) }
 {
-    add_identifiers(names, group.names)
+    add_declarators(names, group.names)
 }
 
 fn add_groups<'a>(names: &mut Vec<&'a str>, groups: &[Group<'a>]) -> Result<(), AllocError>

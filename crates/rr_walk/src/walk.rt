@@ -10,7 +10,7 @@ ghost use Rattle.rr_flat.specs.Sound.{AreConnected, names_at};
 ghost use Rattle.rr_walk.specs.Walk.{no_module, opened, begin as begin_in, with_instance, instance_of, item as item_in, enter as enter_in};
 
 use crate::instances::{checked, joined};
-use crate::items::{Walked, always, assigns, names_of, nets};
+use crate::items::{Walked, always, assigns, initial, names_of, nets};
 use crate::tables::place_of;
 use rr_expr::Scope;
 use rr_flat::{FlatFault, Limit};
@@ -189,6 +189,7 @@ fn item<'a>(
             body,
             token,
         } => always(walked, number, events, *body, *token),
+        Item::Initial { body, token } => initial(walked, number, *body, *token),
         Item::Instances {
             module,
             token,

@@ -6,8 +6,8 @@ use Rattle.std.proofs.lemmas.List.{length-map}
 use Rattle.rr_flat.specs.declared.design.Part as design
 use Rattle.rr_flat.specs.declared.design.Part.TheVariants as part
 use Rattle.rr_flat.specs.Plain.{Flat}
-use Rattle.rr_flat.specs.Sound.{IsWalk, drivers_of, clocked_of, combinational_of}
-use Rattle.rr_flat.specs.View.{Design, plain_flat, plain_driver, plain_block}
+use Rattle.rr_flat.specs.Sound.{IsWalk, drivers_of, clocked_of, combinational_of, initials_of}
+use Rattle.rr_flat.specs.View.{Design, plain_flat, plain_driver, plain_block, plain_initial}
 
 -- the numbers that a test finds in a list of parts
 abbrev consed : Option ℕ → List ℕ → List ℕ
@@ -22,16 +22,25 @@ abbrev as_driver : design.Part → Option ℕ
 as_driver (part.Driver k) = Some k
 as_driver (part.Clocked k) = None
 as_driver (part.Combinational k) = None
+as_driver (part.Initial k) = None
 
 abbrev as_clocked : design.Part → Option ℕ
 as_clocked (part.Driver k) = None
 as_clocked (part.Clocked k) = Some k
 as_clocked (part.Combinational k) = None
+as_clocked (part.Initial k) = None
 
 abbrev as_combinational : design.Part → Option ℕ
 as_combinational (part.Driver k) = None
 as_combinational (part.Clocked k) = None
 as_combinational (part.Combinational k) = Some k
+as_combinational (part.Initial k) = None
+
+abbrev as_initial : design.Part → Option ℕ
+as_initial (part.Driver k) = None
+as_initial (part.Clocked k) = None
+as_initial (part.Combinational k) = None
+as_initial (part.Initial k) = Some k
 
 driver_numbers : (ps : List design.Part) → numbers as_driver ps ≡ drivers_of ps
 unfolding numbers drivers_of
@@ -39,6 +48,7 @@ driver_numbers [] = refl
 driver_numbers (part.Driver k ∷ ps) = ap (λ z. k ∷ z) (driver_numbers ps)
 driver_numbers (part.Clocked k ∷ ps) = driver_numbers ps
 driver_numbers (part.Combinational k ∷ ps) = driver_numbers ps
+driver_numbers (part.Initial k ∷ ps) = driver_numbers ps
 
 clocked_numbers : (ps : List design.Part) → numbers as_clocked ps ≡ clocked_of ps
 unfolding numbers clocked_of
@@ -46,6 +56,7 @@ clocked_numbers [] = refl
 clocked_numbers (part.Driver k ∷ ps) = clocked_numbers ps
 clocked_numbers (part.Clocked k ∷ ps) = ap (λ z. k ∷ z) (clocked_numbers ps)
 clocked_numbers (part.Combinational k ∷ ps) = clocked_numbers ps
+clocked_numbers (part.Initial k ∷ ps) = clocked_numbers ps
 
 combinational_numbers : (ps : List design.Part) → numbers as_combinational ps ≡ combinational_of ps
 unfolding numbers combinational_of
@@ -53,6 +64,15 @@ combinational_numbers [] = refl
 combinational_numbers (part.Driver k ∷ ps) = combinational_numbers ps
 combinational_numbers (part.Clocked k ∷ ps) = combinational_numbers ps
 combinational_numbers (part.Combinational k ∷ ps) = ap (λ z. k ∷ z) (combinational_numbers ps)
+combinational_numbers (part.Initial k ∷ ps) = combinational_numbers ps
+
+initial_numbers : (ps : List design.Part) → numbers as_initial ps ≡ initials_of ps
+unfolding numbers initials_of
+initial_numbers [] = refl
+initial_numbers (part.Driver k ∷ ps) = initial_numbers ps
+initial_numbers (part.Clocked k ∷ ps) = initial_numbers ps
+initial_numbers (part.Combinational k ∷ ps) = initial_numbers ps
+initial_numbers (part.Initial k ∷ ps) = ap (λ z. k ∷ z) (initial_numbers ps)
 
 -- a counting list
 counts : (a n k : ℕ) (ks : List ℕ) → k ∷ ks ≡ range_with_len a n → (k ≡ a) × ((m : ℕ) × ((n ≡ suc m) × (ks ≡ range_with_len (a + 1) m)))
@@ -123,7 +143,7 @@ somewhere sel (p ∷ ps) a n k d e l m = go (sel p) refl (λ b m'. somewhere sel
         ]
 
 abbrev pub HasWalk : Flat → Type 0
-HasWalk flat = IsWalk (length flat.drivers) (length flat.clocked) (length flat.combinational) flat.walk
+HasWalk flat = IsWalk (length flat.drivers) (length flat.clocked) (length flat.combinational) (length flat.initials) flat.walk
 
 sel_once : (flat : Flat) (sel : design.Part → Option ℕ) (n i j k : ℕ) (d : design.Part) → numbers sel flat.walk ≡ range_with_len 0 n → i < length flat.walk → j < length flat.walk
     → sel (get_or flat.walk i d) ≡ Some k → sel (get_or flat.walk j d) ≡ Some k → i ≡ j
@@ -140,21 +160,25 @@ part_once flat w i j d l m e = go (get_or flat.walk i d) refl
     go (part.Driver k) q = sel_once flat as_driver (length flat.drivers) i j k d (driver_numbers flat.walk ∙ w.all_drivers) l m (ap as_driver q) (ap as_driver (sym e ∙ q))
     go (part.Clocked k) q = sel_once flat as_clocked (length flat.clocked) i j k d (clocked_numbers flat.walk ∙ w.all_clocked) l m (ap as_clocked q) (ap as_clocked (sym e ∙ q))
     go (part.Combinational k) q = sel_once flat as_combinational (length flat.combinational) i j k d (combinational_numbers flat.walk ∙ w.all_combinational) l m (ap as_combinational q) (ap as_combinational (sym e ∙ q))
+    go (part.Initial k) q = sel_once flat as_initial (length flat.initials) i j k d (initial_numbers flat.walk ∙ w.all_initials) l m (ap as_initial q) (ap as_initial (sym e ∙ q))
 
 is_driver : (p : design.Part) (k : ℕ) → as_driver p ≡ Some k → p ≡ part.Driver k
 is_driver (part.Driver j) k e = let q : j ≡ k = cc in ap part.Driver q
 is_driver (part.Clocked j) k e = cc
 is_driver (part.Combinational j) k e = cc
+is_driver (part.Initial j) k e = cc
 
 is_clocked : (p : design.Part) (k : ℕ) → as_clocked p ≡ Some k → p ≡ part.Clocked k
 is_clocked (part.Driver j) k e = cc
 is_clocked (part.Clocked j) k e = let q : j ≡ k = cc in ap part.Clocked q
 is_clocked (part.Combinational j) k e = cc
+is_clocked (part.Initial j) k e = cc
 
 is_combinational : (p : design.Part) (k : ℕ) → as_combinational p ≡ Some k → p ≡ part.Combinational k
 is_combinational (part.Driver j) k e = cc
 is_combinational (part.Clocked j) k e = cc
 is_combinational (part.Combinational j) k e = let q : j ≡ k = cc in ap part.Combinational q
+is_combinational (part.Initial j) k e = cc
 
 pub driver_somewhere : (flat : Flat) → HasWalk flat → (k : ℕ) (d : design.Part) → k < length flat.drivers → (i : ℕ) × ((i < length flat.walk) × (get_or flat.walk i d ≡ part.Driver k))
 driver_somewhere flat w k d l =
@@ -179,5 +203,5 @@ pub past_plain : {X Y : Type 0} (f : X → Y) (xs : List X) (k : ℕ) → length
 past_plain f xs k l = rw (length-map xs f) l
 
 -- the walk of a design as plain data
-pub has_walk : (d : Design) (walk : List design.Part) → walk ≡ d.walk → IsWalk (length d.drivers) (length d.clocked) (length d.combinational) walk → HasWalk (plain_flat d)
-has_walk d walk e w = rw (length-map d.drivers plain_driver, length-map d.clocked plain_block, length-map d.combinational plain_block, ← e) w
+pub has_walk : (d : Design) (walk : List design.Part) → walk ≡ d.walk → IsWalk (length d.drivers) (length d.clocked) (length d.combinational) (length d.initials) walk → HasWalk (plain_flat d)
+has_walk d walk e w = rw (length-map d.drivers plain_driver, length-map d.clocked plain_block, length-map d.combinational plain_block, length-map d.initials plain_initial, ← e) w

@@ -4,7 +4,7 @@ use Rattle.rr_expr.specs.declared.types.Bit.{Bit}
 use Rattle.rr_flat.specs.declared.design.Part as design
 use Rattle.rr_flat.specs.declared.design.Part.TheVariants as part
 use Rattle.rr_flat.specs.Plain.{Flat}
-use Rattle.rr_flat.specs.Writers.{Writer, Driven, Clocked, Combinational, Writes, driver_at, block_at}
+use Rattle.rr_flat.specs.Writers.{Writer, Driven, Clocked, Combinational, Writes, driver_at, block_at, initial_at}
 use Rattle.rr_writers.specs.declared.doubles.TwoDrivers.{TwoDrivers}
 
 -- the driver or block that a writer stands in
@@ -16,11 +16,12 @@ part_of (Combinational k) = part.Combinational k
 abbrev pub part_at : Flat → ℕ → design.Part
 part_at flat i = get_or flat.walk i (part.Driver 0)
 
--- the token of its target, or of its `always`
+-- the token of its target, or of its `always` or `initial`
 abbrev pub token_of : Flat → design.Part → ℕ
 token_of flat (part.Driver k) = (driver_at flat k).token
 token_of flat (part.Clocked k) = (block_at flat.clocked k).token
 token_of flat (part.Combinational k) = (block_at flat.combinational k).token
+token_of flat (part.Initial k) = (initial_at flat.initials k).token
 
 -- a writer among the first n drivers and blocks
 abbrev pub IsAmong : Flat → ℕ → Writer → Type 0

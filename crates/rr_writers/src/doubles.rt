@@ -85,10 +85,12 @@ fn mark_part(
             Some(block) => mark_block(alloc, flat, &block, number, table),
             None => Ok(None),
         },
+        // it sets what variables begin with, and writes no bit
+        Part::Initial(_) => Ok(None),
     }
 }
 
-/// The token of a driver's target, or of an `always`.
+/// The token of a driver's target, or of an `always` or `initial`.
 fn token_of(flat: &Flat, part: Part) -> u32
     ensures { result ≡ token_of_part (plain_flat flat.now) part }
 {
@@ -103,6 +105,10 @@ fn token_of(flat: &Flat, part: Part) -> u32
         },
         Part::Combinational(at) => match flat.combinational_block(at) {
             Some(block) => block.token,
+            None => 0,
+        },
+        Part::Initial(at) => match flat.initial(at) {
+            Some(initial) => initial.token,
             None => 0,
         },
     }

@@ -11,4 +11,4 @@ returns-clause-aims c =
     sym (add_done (aims_of_part (plain_flat c.args.flat.now)) (map (plain_aim (plain_flat c.args.flat.now)) c.loop-part.list.items) c.parts-walk.result.now c.loop-part.part-index c.loop-part-test.false) ∙ c.loop-part.invariant
 
 pub returns-clause-walked : goal.returns-clause-walked
-returns-clause-walked c = subst (IsWalk (length c.args.flat.now.drivers) (length c.args.flat.now.clocked) (length c.args.flat.now.combinational)) c.parts-walk.ensures.value c.parts-walk.ensures.sound
+returns-clause-walked c = subst (IsWalk (length c.args.flat.now.drivers) (length c.args.flat.now.clocked) (length c.args.flat.now.combinational) (length c.args.flat.now.initials)) c.parts-walk.ensures.value c.parts-walk.ensures.sound

@@ -23,7 +23,7 @@ pub returns-clause-first : goal.returns-clause-first
 returns-clause-first c = walk_done (uses_of_part (plain_flat c.args.flat.now) (λ x. is_the c.args.clock (entry c.args.table.now x))) c.parts-walk.result.now c.loop-part.part-index c.loop-part-test.false ∙ c.loop-part.invariant
 
 pub returns-then-is_some-clause-walked : goal.returns-then-is_some-clause-walked
-returns-then-is_some-clause-walked c = subst (IsWalk (length c.args.flat.now.drivers) (length c.args.flat.now.clocked) (length c.args.flat.now.combinational)) c.parts-walk.ensures.value c.parts-walk.ensures.sound
+returns-then-is_some-clause-walked c = subst (IsWalk (length c.args.flat.now.drivers) (length c.args.flat.now.clocked) (length c.args.flat.now.combinational) (length c.args.flat.now.initials)) c.parts-walk.ensures.value c.parts-walk.ensures.sound
 
 pub returns-clause-walked : goal.returns-clause-walked
-returns-clause-walked c = subst (IsWalk (length c.args.flat.now.drivers) (length c.args.flat.now.clocked) (length c.args.flat.now.combinational)) c.parts-walk.ensures.value c.parts-walk.ensures.sound
+returns-clause-walked c = subst (IsWalk (length c.args.flat.now.drivers) (length c.args.flat.now.clocked) (length c.args.flat.now.combinational) (length c.args.flat.now.initials)) c.parts-walk.ensures.value c.parts-walk.ensures.sound

@@ -8,7 +8,7 @@ use Rattle.rr_order.proofs.steps.graph_of.Goals as goal
 
 pub returns-clause-sound : goal.returns-clause-sound
 returns-clause-sound c =
-    let K : Design → Type 0 = λ d. IsFlat d.signals d.scopes d.drivers d.clocked d.combinational d.walk d.inputs d.outputs d.owners in
+    let K : Design → Type 0 = λ d. IsFlat d.signals d.scopes d.drivers d.clocked d.combinational d.walk d.inputs d.outputs d.owners d.starts d.initials in
     sound_of c.args.flat.now (subst K c.flat.view_is c.flat.invariant)
 
 pub loop-driver-init : goal.loop-driver-init

@@ -1,5 +1,5 @@
 use Rattle.std.proofs.Common.{◌≡◌, map, drop}
-use Rattle.rr_syntax.specs.View.{plain_net}
+use Rattle.rr_syntax.specs.View.{plain_declarator}
 use Rattle.rr_flat.specs.Faults.{each}
 use Rattle.rr_walk.specs.Kept.{plain_walked, IsSame}
 use Rattle.rr_walk.specs.Walk.{net}
@@ -7,6 +7,6 @@ use Rattle.rr_walk.proofs.items.nets.Given as goal
 
 abbrev pub invariant-loop-one : goal.invariant-loop-one
 invariant-loop-one l = record {
-  walked : each (net l.number) (map plain_net (drop l.one-index l.list)) (plain_walked l.walked) ≡ each (net l.number) (map plain_net l.list) (plain_walked l.fn.walked);
+  walked : each (net l.number) (map plain_declarator (drop l.one-index l.list)) (plain_walked l.walked) ≡ each (net l.number) (map plain_declarator l.list) (plain_walked l.fn.walked);
   same : IsSame l.fn.walked l.walked;
 }

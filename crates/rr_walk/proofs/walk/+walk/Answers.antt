@@ -101,6 +101,18 @@ pub item-always-requires-clause-fit : goal.item-always-requires-clause-fit
 unfolding FitLiteralsItem plain_item
 item-always-requires-clause-fit t c = let h = rw c.in-Always.is at c.requires.fit in h.1
 
+pub item-initial-requires-clause-initial : goal.item-initial-requires-clause-initial
+unfolding WellFormedItem plain_item
+item-initial-requires-clause-initial t c = let h = rw c.in-Initial.is at c.requires.formed in h.0
+
+pub item-initial-requires-clause-formed : goal.item-initial-requires-clause-formed
+unfolding WellFormedItem plain_item
+item-initial-requires-clause-formed t c = let h = rw c.in-Initial.is at c.requires.formed in h.1
+
+pub item-initial-requires-clause-fit : goal.item-initial-requires-clause-fit
+unfolding FitLiteralsItem plain_item
+item-initial-requires-clause-fit t c = rw c.in-Initial.is at c.requires.fit
+
 pub item-instances-requires : goal.item-instances-requires
 unfolding WellFormedItem FitLiteralsItem plain_item
 item-instances-requires t c =

@@ -1,11 +1,12 @@
 use Rattle.std.proofs.Common.{◌+◌, ◌<◌, inr, arith}
+use Rattle.rr_syntax.specs.View.{plain_declarator}
 use Rattle.rr_head.proofs.Listings.{counted_full}
 use Rattle.rr_head.proofs.declare.Declarations.append.Goals as goal
 
 pub returns-then-bits-gt-FLAT_BITS-clause-value : goal.returns-then-bits-gt-FLAT_BITS-clause-value
 returns-then-bits-gt-FLAT_BITS-clause-value c =
     let lt : 65536 < c.self.inside.bits + c.args.width = omega arith in
-    inr (rw (← c.self.view_is) (counted_full c.args.one.now c.args.token c.args.name.now _ c.args.width c.requires.width lt))
+    inr (rw (← c.self.view_is) (counted_full c.args.one.now (plain_declarator c.args.name.now) c.args.start _ c.args.width c.requires.width lt))
 
 pub invariant_of-self-in_err-put : goal.invariant_of-self-in_err-put
 invariant_of-self-in_err-put c =

@@ -1,0 +1,7 @@
+use Rattle.std.proofs.Common.{arith}
+use Rattle.rr_flat.proofs.WalkLemmas.{flat_begun}
+use Rattle.rr_flat.proofs.design.Flat.begin.Goals as goal
+
+pub invariant_of-self-2 : goal.invariant_of-self-2
+invariant_of-self-2 c = flat_begun _ _ _ _ _ _ _ _ _ _ _ _ _ _ _ _ c.self.invariant (rw (← c.self.view_is) at c.requires) c.in_ok-push.ensures.items c.push_reserved.ensures.items c.in_ok-reserve.ensures.items
+    (omega (arith, c.in_ok-number.ensures, c.len.ensures, c.self.inside.initials.ok.0))

@@ -1,0 +1,79 @@
+-- Starting values (IEEE 1364-2005 sections 6.2.1 and 9.9.1): of declarations, and by `initial` items.
+use Rattle.std.specs.Prelude.{ℕ, max, List, [], ◌++◌, Bool, false, true, Option, Some, None, Result, slice_set, pos}
+use Rattle.rr_bits.specs.Words.{number, select}
+use Rattle.rr_syntax.specs.Tree.{Tree, Name, Literal, Bit as BitSelect, Part, Indexed, Unary, Binary, Cond, Concat, Repeat, Cast, Paren, Statement, Statements, Null, Block, If, IfElse, Case, Assign, Done, Then}
+use Rattle.rr_expr.specs.declared.types.Entity.{Entity}
+use Rattle.rr_expr.specs.declared.types.Entity.TheVariants.{Constant, Signal, Instance}
+use Rattle.rr_expr.specs.Scopes.{Names, meant, entity_shape}
+use Rattle.rr_expr.specs.Values.{form, value, nowhere}
+use Rattle.rr_expr.specs.Faults.{fault}
+use Rattle.rr_flat.specs.declared.fault.FlatFault.{FlatFault}
+use Rattle.rr_flat.specs.Faults.{answer_of, faults_in}
+use Rattle.rr_flat.specs.Shapes.{shape_faults}
+
+-- the number that a variable of w bits begins with: the lowest bits of the value of an assignment of the constant to it, which
+-- is as wide as the wider of the two (section 5.4)
+abbrev pub start_of : Names → ℕ → Tree → ℕ
+start_of s w t = number (select (value s t nowhere (max w (form s t).width) (form s t).signed) (pos 0) w)
+
+-- that number, or the first fault of the expression, in which no signal may stand
+unfoldable pub start : Names → ℕ → Tree → Result ℕ FlatFault
+start s w t = answer_of (fault s t true) (start_of s w t)
+
+-- the faults of a constant
+abbrev pub constant_faults : Names → Tree → List FlatFault
+constant_faults s t = faults_in (answer_of (fault s t true) t)
+
+-- the variable that a name stands for
+abbrev pub variable_of : Entity → Option ℕ
+variable_of (Constant bits signed) = None
+variable_of (Signal id range signed) = Some id
+variable_of Instance = None
+
+abbrev pub set_at : Option ℕ → ℕ → List ℕ → List ℕ
+set_at None n starts = starts
+set_at (Some id) n starts = slice_set starts id n
+
+-- a whole variable is set; other targets stand in no `initial` item
+unfoldable pub set_target : Names → Tree → Tree → List ℕ → List ℕ
+set_target s (Name token name) t starts = set_at (variable_of (meant s name)) (start_of s (entity_shape (meant s name)).width t) starts
+set_target s (Literal token n) t starts = starts
+set_target s (BitSelect token name i) t starts = starts
+set_target s (Part token name l r) t starts = starts
+set_target s (Indexed token name f n up) t starts = starts
+set_target s (Unary op a) t starts = starts
+set_target s (Binary op a b) t starts = starts
+set_target s (Cond a b c) t starts = starts
+set_target s (Concat ts) t starts = starts
+set_target s (Repeat n ts) t starts = starts
+set_target s (Cast signed a) t starts = starts
+set_target s (Paren a) t starts = starts
+
+-- what an `initial` item makes of the starting values of all signals: its assignments one after the other, so that the last one
+-- of a variable counts
+unfoldable mutual
+  pub started : Names → Statement → List ℕ → List ℕ
+  started s Null starts = starts
+  started s (Block label ss) starts = all_started s ss starts
+  started s (If t a) starts = starts
+  started s (IfElse t a b) starts = starts
+  started s (Case kind t arms) starts = starts
+  started s (Assign target now t) starts = set_target s target t starts
+
+  pub all_started : Names → Statements → List ℕ → List ℕ
+  all_started s Done starts = starts
+  all_started s (Then a rest) starts = all_started s rest (started s a starts)
+
+-- each target gets its shape, and each value is constant
+unfoldable mutual
+  pub initial_faults : Names → Statement → List FlatFault
+  initial_faults s Null = []
+  initial_faults s (Block label ss) = all_initial_faults s ss
+  initial_faults s (If t a) = []
+  initial_faults s (IfElse t a b) = []
+  initial_faults s (Case kind t arms) = []
+  initial_faults s (Assign target now t) = shape_faults s target ++ constant_faults s t
+
+  pub all_initial_faults : Names → Statements → List FlatFault
+  all_initial_faults s Done = []
+  all_initial_faults s (Then a rest) = initial_faults s a ++ all_initial_faults s rest

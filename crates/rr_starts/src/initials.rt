@@ -1,0 +1,116 @@
+//! `initial` items (IEEE 1364-2005 section 9.9.1).
+ghost use Rattle.std.specs.Prelude.{◌≡◌, ◌<◌, None, [], false, true, fold, length};
+ghost use Rattle.rr_syntax.specs.View.{plain, plain_statement, plain_statements};
+ghost use Rattle.rr_expr.specs.Faults.{fault};
+ghost use Rattle.rr_expr.specs.Scopes.{entity_shape, meant};
+ghost use Rattle.rr_flat.specs.Faults.{sooner};
+ghost use Rattle.rr_flat.specs.Shapes.{shape_faults};
+ghost use Rattle.rr_flat.specs.Sound.{names_at};
+ghost use Rattle.rr_starts.specs.Starts.{all_initial_faults, all_started, initial_faults, set_at, set_target, start_of, started, variable_of};
+
+use crate::values::{note_constant, start_number};
+use rr_expr::{Entity, Scope, entity_shape as shape_of, shape};
+use rr_flat::{Flat, FlatFault, sooner_of};
+use rr_syntax::{Expr, Stmt};
+
+/// The first of a fault that was found, if any, and that of a target's shape.
+#[tactic(auto, unfolding(rr_flat::specs::Shapes::shape))]
+fn note_target(found: Option<FlatFault>, target: &Expr, names: &Scope) -> Option<FlatFault>
+    ensures { result ≡ fold sooner found (shape_faults names.now (plain target.now)) }
+{
+    match shape(target, names) {
+        Ok(_) => found,
+        Err(fault) => sooner_of(found, FlatFault::from(fault)),
+    }
+}
+
+/// The first of a fault that was found, if any, and those of an `initial` item.
+#[cycle(notes)]
+#[tactic(auto, using(crate::proofs::Nodes::initial_notes))]
+pub fn note_initial(found: Option<FlatFault>, stmt: &Stmt, names: &Scope) -> Option<FlatFault>
+    ensures { result ≡ fold sooner found (initial_faults names.now (plain_statement stmt.now)) }
+{
+    match stmt {
+        Stmt::Block { body, .. } => note_initials(found, body, names),
+        Stmt::Assign { target, value, .. } => {
+            let found = note_target(found, target, names);
+            note_constant(found, value, names)
+        }
+        Stmt::Null | Stmt::If { .. } | Stmt::Case { .. } => found,
+    }
+}
+
+#[cycle(notes)]
+fn note_initials(found: Option<FlatFault>, body: &[Stmt], names: &Scope) -> Option<FlatFault>
+    ensures { result ≡ fold sooner found (all_initial_faults names.now (plain_statements body.now)) }
+{
+    let mut found = found;
+    for stmt in body.iter() {
+        found = note_initial(found, stmt, names);
+    }
+    found
+}
+
+/// The variable of that name is set.
+fn set_named(flat: &mut Flat, scope: u32, name: &str, value: &Expr)
+    requires there { scope < length flat.old.scopes }
+    requires constant { fault (names_at flat.old.scopes scope) (plain value.now) true ≡ None }
+    ensures { flat.new ≡ record flat.old { starts = set_at (variable_of (meant (names_at flat.old.scopes scope) name.now)) (start_of (names_at flat.old.scopes scope) (entity_shape (meant (names_at flat.old.scopes scope) name.now)).width (plain value.now)) flat.old.starts } }
+{
+    let names = &flat.scopes[scope as usize];
+    let entity = names.meaning(name);
+    if let Entity::Signal { id, .. } = entity {
+        let number = start_number(value, names, shape_of(&entity).width);
+        flat.start(id, number);
+    }
+}
+
+/// The variable that a target names is set.
+#[tactic(auto, using(crate::proofs::Nodes::set_targets))]
+fn set_one(flat: &mut Flat, scope: u32, target: &Expr, value: &Expr)
+    requires there { scope < length flat.old.scopes }
+    requires constant { fault (names_at flat.old.scopes scope) (plain value.now) true ≡ None }
+    ensures { flat.new ≡ record flat.old { starts = set_target (names_at flat.old.scopes scope) (plain target.now) (plain value.now) flat.old.starts } }
+{
+    match target {
+        Expr::Name { name, .. } => set_named(flat, scope, name, value),
+        Expr::Literal { .. }
+        | Expr::Bit { .. }
+        | Expr::Part { .. }
+        | Expr::Indexed { .. }
+        | Expr::Unary { .. }
+        | Expr::Binary { .. }
+        | Expr::Cond { .. }
+        | Expr::Concat { .. }
+        | Expr::Repeat { .. }
+        | Expr::Cast { .. }
+        | Expr::Paren { .. } => {}
+    }
+}
+
+/// An `initial` item without a fault sets the starting values of its variables, of which the last
+/// one counts.
+#[cycle(setting)]
+#[tactic(auto, using(crate::proofs::Nodes::settings))]
+pub fn set_starts(flat: &mut Flat, scope: u32, stmt: &Stmt)
+    requires there { scope < length flat.old.scopes }
+    requires none { initial_faults (names_at flat.old.scopes scope) (plain_statement stmt.now) ≡ [] }
+    ensures { flat.new ≡ record flat.old { starts = started (names_at flat.old.scopes scope) (plain_statement stmt.now) flat.old.starts } }
+{
+    match stmt {
+        Stmt::Block { body, .. } => set_all(flat, scope, body),
+        Stmt::Assign { target, value, .. } => set_one(flat, scope, target, value),
+        Stmt::Null | Stmt::If { .. } | Stmt::Case { .. } => {}
+    }
+}
+
+#[cycle(setting)]
+fn set_all(flat: &mut Flat, scope: u32, body: &[Stmt])
+    requires there { scope < length flat.old.scopes }
+    requires none { all_initial_faults (names_at flat.old.scopes scope) (plain_statements body.now) ≡ [] }
+    ensures { flat.new ≡ record flat.old { starts = all_started (names_at flat.old.scopes scope) (plain_statements body.now) flat.old.starts } }
+{
+    for stmt in body.iter() {
+        set_starts(flat, scope, stmt);
+    }
+}
