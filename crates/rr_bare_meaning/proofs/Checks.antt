@@ -2,7 +2,7 @@
 use Rattle.std.proofs.Common.{◌≡◌, ◌∙◌, sym, ap, ◌⊎◌, ℕ, zero, suc, ◌<◌, Bool, true, false, ◌&&◌, ◌||◌, List, [], ◌∷◌, ◌++◌, length, map, get_or, Option, Some, None, refl}
 use Rattle.std.specs.List.{All}
 use Rattle.std.proofs.lemmas.List.{length-map}
-use Rattle.rr_syntax.specs.Tree.{Tree, Trees, Name, Literal, Bit as BitSelect, Part, Indexed, Unary, Binary, Cond, Concat, Repeat, Cast, Paren, End, More, bare, bare_parts}
+use Rattle.rr_syntax.specs.Tree.{Tree, Trees, Name, Literal, Bit as BitSelect, Part, Indexed, Unary, Binary, Cond, Concat, Repeat, Cast, Paren, End, More, Statement, bare, bare_parts, bare_statement}
 use Rattle.rr_syntax.proofs.BareExpressions.{is_target-bare}
 use Rattle.rr_expr.specs.declared.types.Bit.{Bit}
 use Rattle.rr_expr.specs.declared.types.Entity.{Entity}
@@ -14,16 +14,16 @@ use Rattle.rr_flat.specs.Signals.{Text}
 use Rattle.rr_flat.specs.declared.design.Step.{Step}
 use Rattle.rr_flat.specs.declared.design.Step.TheVariants as step
 use Rattle.rr_flat.specs.Clocks.{IsScalarInput, IsInputNamed}
-use Rattle.rr_flat.specs.Lawful.{ClockNamed, MayDrive, MayAssign, DriverTarget, BlockTargets, labels_fit, OneWriter, HasRanks}
+use Rattle.rr_flat.specs.Lawful.{ClockNamed, MayDrive, MayAssign, MayAssignAll, DriverTarget, BlockTargets, InitialTargets, labels_fit, OneWriter, HasRanks}
 use Rattle.rr_flat.specs.Ordered.{IsStep, StepWrites, StepNames}
 use Rattle.rr_flat.specs.Plain.{Side, Written, Whole, Driver, Block, Flat}
 use Rattle.rr_flat.specs.Reads.{Assigned, StatementReads, assigned_by}
 use Rattle.rr_flat.specs.Targets.{target_parts, part_name, is_fixed}
-use Rattle.rr_flat.specs.Writers.{scope_at, driver_at, block_at, SideReads, Writer, Driven, Combinational, is_wiring, are_wiring, taken, all_taken, side_is_wiring, side_taken, side_signed, taken_at, wires, NamesIf, DriverNames, BlockNames, BitNames}
-use Rattle.rr_flat_bare.specs.Bare.{bare_side, bare_block, bare_flat, IsSameFlat}
+use Rattle.rr_flat.specs.Writers.{scope_at, driver_at, block_at, initial_at, SideReads, Writer, Driven, Combinational, is_wiring, are_wiring, taken, all_taken, side_is_wiring, side_taken, side_signed, taken_at, wires, NamesIf, DriverNames, BlockNames, BitNames}
+use Rattle.rr_flat_bare.specs.Bare.{bare_side, bare_block, bare_initial, bare_flat, IsSameFlat}
 use Rattle.rr_flat_bare.proofs.Shapes.{form-bare}
 use Rattle.rr_bare_meaning.proofs.Targets.{target_bits-bare, constant-bare, parts-bare, part_name-bare, is_fixed-bare}
-use Rattle.rr_bare_meaning.proofs.Designs.{block_at-bare, driver_at-bare, drivers_many, clocked_many, combinational_many, signal_same, bits-bare, driven-bare, block_writes, Writes-bare}
+use Rattle.rr_bare_meaning.proofs.Designs.{block_at-bare, initial_at-bare, driver_at-bare, drivers_many, clocked_many, combinational_many, initials_many, signal_same, bits-bare, driven-bare, block_writes, Writes-bare}
 use Rattle.rr_bare_meaning.proofs.Naming.{labels_fit-bare, bare_assigned, assigned_by-bare, NamesBit-bare, StatementReads-bare}
 
 -- what is the same of a design and of it without numbers is the same of two designs that are equal without them
@@ -80,13 +80,13 @@ module _ (f : Flat) where
   DriverTarget-bare (Whole id) (Written t i) = λ k. (signal_same f id k).instance ≡ i → ((signal_same f id k).variable ≡ false) × ((signal_same f id k).port ≡ Input → ⊥) × (true ≡ true)
   DriverTarget-bare (Written t i) v = λ k. (is_target-bare t k ≡ true) × parts_path (scope_at f i) t k
 
-  BlockTargets-bare : (b : Block) → BlockTargets (bare_flat f) (bare_block b) ≡ BlockTargets f b
+  MayAssignAll-bare : (i : ℕ) (t : Statement) → MayAssignAll (bare_flat f) i (bare_statement t) ≡ MayAssignAll f i t
   unfolding bare_flat
-  BlockTargets-bare b =
-      let P : Assigned → Type 0 = λ a. MayAssign (bare_flat f) (meant (scope_at f b.scope) (part_name a.part)) in
-      ap (All P) (assigned_by-bare b.body)
-      ∙ (all_mapped bare_assigned P (λ a k. MayAssign (bare_flat f) (meant (scope_at f b.scope) (part_name-bare a.part k))) (assigned_by b.body)
-      ∙ (λ j. (k : ℕ) (d : Assigned) → k < length (assigned_by b.body) → MayAssign-bare (meant (scope_at f b.scope) (part_name (get_or (assigned_by b.body) k d).part)) j))
+  MayAssignAll-bare i t =
+      let P : Assigned → Type 0 = λ a. MayAssign (bare_flat f) (meant (scope_at f i) (part_name a.part)) in
+      ap (All P) (assigned_by-bare t)
+      ∙ (all_mapped bare_assigned P (λ a k. MayAssign (bare_flat f) (meant (scope_at f i) (part_name-bare a.part k))) (assigned_by t)
+      ∙ (λ j. (k : ℕ) (d : Assigned) → k < length (assigned_by t) → MayAssign-bare (meant (scope_at f i) (part_name (get_or (assigned_by t) k d).part)) j))
 
   pub drivers_path : ((k : ℕ) → k < length (bare_flat f).drivers → DriverTarget (bare_flat f) (driver_at (bare_flat f) k).target (driver_at (bare_flat f) k).value)
       ≡ ((k : ℕ) → k < length f.drivers → DriverTarget f (driver_at f k).target (driver_at f k).value)
@@ -96,7 +96,10 @@ module _ (f : Flat) where
       one k = (λ j. DriverTarget (bare_flat f) (driver_at-bare f k j).target (driver_at-bare f k j).value) ∙ DriverTarget-bare (driver_at f k).target (driver_at f k).value
 
   block_targets_at : (bs : List Block) (k : ℕ) → BlockTargets (bare_flat f) (block_at (map bare_block bs) k) ≡ BlockTargets f (block_at bs k)
-  block_targets_at bs k = (λ j. BlockTargets (bare_flat f) (block_at-bare bs k j)) ∙ BlockTargets-bare (block_at bs k)
+  block_targets_at bs k = (λ j. BlockTargets (bare_flat f) (block_at-bare bs k j)) ∙ MayAssignAll-bare (block_at bs k).scope (block_at bs k).body
+
+  initial_targets_at : (k : ℕ) → InitialTargets (bare_flat f) (initial_at (map bare_initial f.initials) k) ≡ InitialTargets f (initial_at f.initials k)
+  initial_targets_at k = (λ j. InitialTargets (bare_flat f) (initial_at-bare f.initials k j)) ∙ MayAssignAll-bare (initial_at f.initials k).scope (initial_at f.initials k).body
 
   pub clocked_targets : ((k : ℕ) → k < length (bare_flat f).clocked → BlockTargets (bare_flat f) (block_at (bare_flat f).clocked k)) ≡ ((k : ℕ) → k < length f.clocked → BlockTargets f (block_at f.clocked k))
   unfolding bare_flat
@@ -105,6 +108,10 @@ module _ (f : Flat) where
   pub combinational_targets : ((k : ℕ) → k < length (bare_flat f).combinational → BlockTargets (bare_flat f) (block_at (bare_flat f).combinational k)) ≡ ((k : ℕ) → k < length f.combinational → BlockTargets f (block_at f.combinational k))
   unfolding bare_flat
   combinational_targets = λ j. (k : ℕ) → k < combinational_many f j → block_targets_at f.combinational k j
+
+  pub initial_targets : ((k : ℕ) → k < length (bare_flat f).initials → InitialTargets (bare_flat f) (initial_at (bare_flat f).initials k)) ≡ ((k : ℕ) → k < length f.initials → InitialTargets f (initial_at f.initials k))
+  unfolding bare_flat
+  initial_targets = λ j. (k : ℕ) → k < initials_many f j → initial_targets_at k j
 
   -- labels
 

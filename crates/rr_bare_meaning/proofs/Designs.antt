@@ -6,13 +6,13 @@ use Rattle.rr_bits.specs.Words.{number, extend}
 use Rattle.rr_syntax.specs.Tree.{bare_statement}
 use Rattle.rr_expr.specs.declared.types.Entity.TheVariants as entity
 use Rattle.rr_flat.specs.Signals.{signal_at}
-use Rattle.rr_flat.specs.Plain.{Side, Written, Whole, Driver, Block, Flat}
+use Rattle.rr_flat.specs.Plain.{Side, Written, Whole, Driver, Block, Initial, Flat}
 use Rattle.rr_flat.specs.Reads.{writes}
 use Rattle.rr_flat.specs.Targets.{bits_there}
-use Rattle.rr_flat.specs.Writers.{scope_at, driver_at, block_at, no_driver, signal_bits, driven_by, driven, Writer, Driven, Clocked, Combinational, Writes}
+use Rattle.rr_flat.specs.Writers.{scope_at, driver_at, block_at, initial_at, no_driver, signal_bits, driven_by, driven, Writer, Driven, Clocked, Combinational, Writes}
 use Rattle.rr_cycle.specs.Cycles.{bit_value, side_shape, side_value, driver_value, IsInputBit, after_block, updates_of_block, outputs_of}
 use Rattle.rr_cycle.specs.Exec.{Environment}
-use Rattle.rr_flat_bare.specs.Bare.{bare_signal, bare_side, bare_driver, bare_block, bare_flat}
+use Rattle.rr_flat_bare.specs.Bare.{bare_signal, bare_side, bare_driver, bare_block, bare_initial, bare_flat}
 use Rattle.rr_flat_bare.proofs.Shapes.{form-bare, value_path}
 use Rattle.rr_flat_bare.proofs.Tables.{signal_at-bare}
 use Rattle.rr_bare_meaning.proofs.Targets.{target_bits-bare}
@@ -39,6 +39,12 @@ block_at-bare [] k = refl
 block_at-bare (b ∷ bs) zero = refl
 block_at-bare (b ∷ bs) (suc k) = block_at-bare bs k
 
+pub initial_at-bare : (is : List Initial) (k : ℕ) → initial_at (map bare_initial is) k ≡ bare_initial (initial_at is k)
+unfolding bare_statement
+initial_at-bare [] k = refl
+initial_at-bare (i ∷ is) zero = refl
+initial_at-bare (i ∷ is) (suc k) = initial_at-bare is k
+
 module _ (f : Flat) where
   pub driver_at-bare : (k : ℕ) → driver_at (bare_flat f) k ≡ bare_driver (driver_at f k)
   unfolding bare_flat
@@ -55,6 +61,10 @@ module _ (f : Flat) where
   pub combinational_many : length (bare_flat f).combinational ≡ length f.combinational
   unfolding bare_flat
   combinational_many = length-map f.combinational bare_block
+
+  pub initials_many : length (bare_flat f).initials ≡ length f.initials
+  unfolding bare_flat
+  initials_many = length-map f.initials bare_initial
 
   pub signal_same : (id : ℕ) → signal_at (bare_flat f).signals id ≡ bare_signal (signal_at f.signals id)
   unfolding bare_flat

@@ -7,17 +7,17 @@ use Rattle.rr_expr.specs.Scopes.{Names, meant}
 use Rattle.rr_flat.specs.Signals.{Text}
 use Rattle.rr_flat.specs.declared.design.Step.{Step}
 use Rattle.rr_flat.specs.Latches.{NoLatch}
-use Rattle.rr_flat.specs.Lawful.{ClockNamed, DriverTarget, BlockTargets, RightTargets, labels_fit, RightLabels, OneWriter, AssignedIn, AssignedSomewhere, RightKinds, NoRace, NoLatches, HasRanks, Lawful}
+use Rattle.rr_flat.specs.Lawful.{ClockNamed, DriverTarget, BlockTargets, InitialTargets, RightTargets, labels_fit, RightLabels, OneWriter, AssignedIn, AssignedSomewhere, RightKinds, NoRace, NoLatches, HasRanks, Lawful}
 use Rattle.rr_flat.specs.Ordered.{IsStep, StepWrites, StepNames, step_at, Ordered}
 use Rattle.rr_flat.specs.Plain.{Block, Flat}
 use Rattle.rr_flat.specs.Reads.{Assigned, assigned_by, names_read}
 use Rattle.rr_flat.specs.Targets.{part_name}
-use Rattle.rr_flat.specs.Writers.{scope_at, driver_at, block_at}
+use Rattle.rr_flat.specs.Writers.{scope_at, driver_at, block_at, initial_at}
 use Rattle.rr_flat_bare.specs.Bare.{bare_block, IsSameFlat}
 use Rattle.rr_bare_meaning.proofs.Targets.{part_name-bare}
 use Rattle.rr_bare_meaning.proofs.Designs.{moved}
 use Rattle.rr_bare_meaning.proofs.Naming.{names_read-bare, bare_assigned, assigned_by-bare, latch_reads, latch_ends}
-use Rattle.rr_bare_meaning.proofs.Checks.{agree, ClockNamed-bare, drivers_path, clocked_targets, combinational_targets, clocked_labels, combinational_labels, OneWriter-bare, blocking_path, HasRanks-bare, IsStep-bare, StepWrites-bare, StepNames-bare}
+use Rattle.rr_bare_meaning.proofs.Checks.{agree, ClockNamed-bare, drivers_path, clocked_targets, combinational_targets, initial_targets, clocked_labels, combinational_labels, OneWriter-bare, blocking_path, HasRanks-bare, IsStep-bare, StepWrites-bare, StepNames-bare}
 use Rattle.rr_bare_meaning.proofs.Clocking.{text_at, scope_same, clocked_same, combinational_same, block_same, many_same, one_clock, no_clock_read}
 
 -- targets and labels
@@ -27,6 +27,7 @@ right_targets f g same h = record {
   drivers = moved (agree (λ (x : Flat). (k : ℕ) → k < length x.drivers → DriverTarget x (driver_at x k).target (driver_at x k).value) drivers_path f g same) h.drivers;
   clocked = moved (agree (λ (x : Flat). (k : ℕ) → k < length x.clocked → BlockTargets x (block_at x.clocked k)) clocked_targets f g same) h.clocked;
   combinational = moved (agree (λ (x : Flat). (k : ℕ) → k < length x.combinational → BlockTargets x (block_at x.combinational k)) combinational_targets f g same) h.combinational;
+  initials = moved (agree (λ (x : Flat). (k : ℕ) → k < length x.initials → InitialTargets x (initial_at x.initials k)) initial_targets f g same) h.initials;
 }
 
 right_labels : (f g : Flat) → IsSameFlat f g → RightLabels f → RightLabels g

@@ -11,7 +11,7 @@ use Rattle.rr_flat.specs.Plain.{Flat}
 use Rattle.rr_flat.specs.Writers.{Writer, Driven, Clocked, Combinational, Writes, BitNames}
 
 abbrev pub empty : Flat
-empty = record { top = 0; signals = []; scopes = [] ∷ []; drivers = []; clocked = []; combinational = []; walk = []; inputs = []; outputs = []; owners = 0 ∷ []; reached = 0 ∷ [] }
+empty = record { top = 0; signals = []; starts = []; scopes = [] ∷ []; drivers = []; clocked = []; combinational = []; initials = []; walk = []; inputs = []; outputs = []; owners = 0 ∷ []; reached = 0 ∷ [] }
 
 pub sound : IsSound empty
 sound = record { drivers = tt; inputs = tt }
@@ -36,7 +36,7 @@ nothing_assigned id now (inr a) = absurd (omega (arith, a.1.0))
 pub lawful : Lawful empty None
 lawful = record {
   named = tt;
-  targets = record { drivers = λ k l. absurd (omega (arith, l)); clocked = λ k l. absurd (omega (arith, l)); combinational = λ k l. absurd (omega (arith, l)) };
+  targets = record { drivers = λ k l. absurd (omega (arith, l)); clocked = λ k l. absurd (omega (arith, l)); combinational = λ k l. absurd (omega (arith, l)); initials = λ k l. absurd (omega (arith, l)) };
   labels = record { clocked = λ k l. absurd (omega (arith, l)); combinational = λ k l. absurd (omega (arith, l)) };
   clock = None;
   rising = true;

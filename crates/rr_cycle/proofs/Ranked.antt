@@ -9,7 +9,7 @@ use Rattle.rr_flat.specs.Lawful.{Lawful}
 use Rattle.rr_flat.specs.Plain.{Flat}
 use Rattle.rr_flat.specs.Reads.{assigned_by}
 use Rattle.rr_flat.specs.Writers.{scope_at, driver_at, block_at, driven, Writer, Driven, Clocked, Combinational, Writes, writes_now, writes_later, writes_at_all, wires, DriverNames, BitNames}
-use Rattle.rr_cycle.specs.Cycles.{driver_value, side_shape, IsInputBit, Settled, IsNext, Runs, ended, cycle, Run, zeros, outputs_of}
+use Rattle.rr_cycle.specs.Cycles.{driver_value, side_shape, IsInputBit, Settled, IsNext, Runs, ended, cycle, Run, beginning, outputs_of}
 use Rattle.rr_cycle.specs.Exec.{Environment}
 use Rattle.rr_cycle.proofs.Local.{statement_local}
 use Rattle.rr_cycle.proofs.Sequence.{only_next}
@@ -87,4 +87,4 @@ module _ (flat : Flat) (word : Option (List ℕ)) (lawful : Lawful flat word) (c
       rw (ap (outputs_of flat) same, runs_same rows m n f i x y next r w) refl
 
   pub run_once : (rows a b : List (List ℕ)) → Run flat clock rows a → Run flat clock rows b → a ≡ b
-  run_once rows a b h k = runs_same rows a b zeros zeros h.0 k.0 refl h.1 k.1
+  run_once rows a b h k = runs_same rows a b (beginning flat) (beginning flat) h.0 k.0 refl h.1 k.1

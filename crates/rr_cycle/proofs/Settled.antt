@@ -4,7 +4,7 @@ use Rattle.rr_expr.specs.declared.types.Bit.{Bit}
 use Rattle.rr_flat.specs.declared.design.Step.{Step}
 use Rattle.rr_flat.specs.Plain.{Flat}
 use Rattle.rr_flat.specs.Writers.{Clocked, Writes}
-use Rattle.rr_cycle.specs.Cycles.{Settled, IsNext, Runs, ended, cycle, Run, zeros, outputs_of}
+use Rattle.rr_cycle.specs.Cycles.{Settled, IsNext, Runs, ended, cycle, Run, beginning, outputs_of}
 use Rattle.rr_flat.specs.Elaborated.{IsSound}
 use Rattle.rr_cycle.specs.Designs.{IsInOrder, IsLawful}
 use Rattle.rr_cycle.specs.Exec.{Environment, applied}
@@ -64,7 +64,7 @@ runs_exist flat clock rising steps e o (row ∷ rows) state =
     (outputs_of flat s.0 ∷ r.0, (r.1.0, cycle s.0 n.0 s.1 n.1 r.1.1))
 
 pub run_exists : (flat : Flat) (clock : Option ℕ) (rising : Bool) (steps : List Step) → IsSound flat → IsInOrder flat clock rising steps → (rows : List (List ℕ)) → (outputs : List (List ℕ)) × Run flat clock rows outputs
-run_exists flat clock rising steps e o rows = runs_exist flat clock rising steps e o rows zeros
+run_exists flat clock rising steps e o rows = runs_exist flat clock rising steps e o rows (beginning flat)
 
 pub run_only : (flat : Flat) → IsLawful flat → (clock : Option ℕ) (rows a b : List (List ℕ)) → Run flat clock rows a → Run flat clock rows b → a ≡ b
 run_only flat l clock rows a b h k = run_once flat l.0 l.1 clock rows a b h k

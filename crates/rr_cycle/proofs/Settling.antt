@@ -21,7 +21,7 @@ use Rattle.rr_flat.specs.Plain as plain
 use Rattle.rr_flat.specs.Reads.{Assigned, writes, write_any, arm_writes, arms_write, assigned_by, assigned_by_all, assigned_by_arm, assigned_by_arms, assigned_parts}
 use Rattle.rr_flat.specs.Targets.{has_bit, target_bits, targets_bits, target_parts, may_write}
 use Rattle.rr_flat.specs.Writers.{scope_at, driver_at, block_at, driven, driven_by, entity_of_signal, SideReads, Writer, Driven, Clocked, Combinational, Writes, writes_now, writes_later, writes_at_all, wires, side_is_wiring, side_taken, side_signed, taken_at, NamesIf}
-use Rattle.rr_cycle.specs.Cycles.{driver_value, side_shape, side_value, given, IsInputBit, Settled}
+use Rattle.rr_cycle.specs.Cycles.{driver_value, side_shape, side_value, given, beginning, IsInputBit, Settled}
 use Rattle.rr_flat.specs.Inputs.{row_inputs}
 use Rattle.rr_cycle.specs.Exec.{Environment, write}
 use Rattle.rr_cycle.specs.Performing.{act, performed, any_writes, any_is, base}
@@ -197,7 +197,7 @@ base_input : (flat : Flat) (clock : Option ℕ) (state : Environment) (row : Lis
 unfolding base
 base_input flat clock state row b i n = rw (no_writes flat b n, input_tested flat b i) refl
 
-base_rest : (flat : Flat) (clock : Option ℕ) (state : Environment) (row : List ℕ) (b : Bit) → ((k : ℕ) → Writes flat (Clocked k) b → ⊥) → (IsInputBit flat b → ⊥) → base flat clock state row b ≡ false
+base_rest : (flat : Flat) (clock : Option ℕ) (state : Environment) (row : List ℕ) (b : Bit) → ((k : ℕ) → Writes flat (Clocked k) b → ⊥) → (IsInputBit flat b → ⊥) → base flat clock state row b ≡ beginning flat b
 unfolding base
 base_rest flat clock state row b r i = rw (no_writes flat b r, missed (input_test flat b) (λ t. i (tested_input flat b t))) refl
 

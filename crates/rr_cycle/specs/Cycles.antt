@@ -4,6 +4,7 @@ use Rattle.std.specs.Prelude.{ℕ, ◌<◌, ◌≡◌, max, List, [], ◌∷◌,
 use Rattle.rr_bits.specs.Words.{number, word, extend}
 use Rattle.rr_expr.specs.declared.types.Bit.{Bit}
 use Rattle.rr_expr.specs.declared.types.Shape.{Shape}
+use Rattle.rr_expr.specs.Scopes.{env_of}
 use Rattle.rr_expr.specs.Values.{form, value}
 use Rattle.rr_flat.specs.Signals.{signal_at}
 use Rattle.rr_flat.specs.Inputs.{row_inputs}
@@ -53,6 +54,16 @@ given (id ∷ ids) row b = cond (nat_eq id b.signal) (get_or (word 128 (head row
 abbrev pub IsInputBit : Flat → Bit → Type 0
 IsInputBit flat b = ((k : ℕ) × ((k < length flat.inputs) × (get_or flat.inputs k 0 ≡ b.signal))) × (b.place < (signal_at flat.signals b.signal).width)
 
+-- Values without a row
+
+-- each bit 0
+abbrev pub zeros : Environment
+zeros b = false
+
+-- each bit of a signal has the value that it begins with (sections 6.2.1 and 9.9.1), any other bit is 0
+abbrev pub beginning : Flat → Environment
+beginning flat = env_of flat.starts
+
 -- Settled environments
 
 abbrev pub after_block : Flat → Block → Environment → Environment
@@ -60,13 +71,13 @@ after_block flat block env = executed (scope_at flat block.scope) block.body env
 
 -- the bits that clocked blocks write have their values in the state, the top inputs those of the row, and the clock, which
 -- has none there, is 0; each driver's equation holds; each combinational block leaves what it would write as it is; each
--- other bit is 0
+-- other bit has the value that it begins with
 pub record Settled (flat : Flat) (clock : Option ℕ) (state : Environment) (row : List ℕ) (env : Environment) : Type 0 where
   pub registers : (k : ℕ) (b : Bit) → Writes flat (Clocked k) b → env b ≡ state b
   pub inputs : (b : Bit) → IsInputBit flat b → env b ≡ given (row_inputs clock flat.inputs) row b
   pub drivers : (k i : ℕ) (b : Bit) → Writes flat (Driven k i) b → env b ≡ get_or (driver_value flat k env) i false
   pub blocks : (k : ℕ) → k < length flat.combinational → after_block flat (block_at flat.combinational k) env ≡ env
-  pub others : (b : Bit) → (IsInputBit flat b → ⊥) → ((x : Writer) → Writes flat x b → ⊥) → env b ≡ false
+  pub others : (b : Bit) → (IsInputBit flat b → ⊥) → ((x : Writer) → Writes flat x b → ⊥) → env b ≡ beginning flat b
 
 -- The clock edge
 
@@ -84,9 +95,6 @@ IsNext flat env next = (mid : Environment) × (AfterBlocks flat env mid × (next
 
 -- Runs
 
-abbrev pub zeros : Environment
-zeros b = false
-
 -- the numbers of the outputs, in port order
 abbrev pub outputs_of : Flat → Environment → List ℕ
 outputs_of flat env = map (λ id. number (signal_value flat id env)) flat.outputs
@@ -97,6 +105,6 @@ pub data Runs (flat : Flat) (clock : Option ℕ) : Environment → List (List �
   cycle : {state last : Environment} {row : List ℕ} {rows : List (List ℕ)} {more : List (List ℕ)} (env next : Environment) →
       Settled flat clock state row env → IsNext flat env next → Runs flat clock next rows more last → Runs flat clock state (row ∷ rows) (outputs_of flat env ∷ more) last
 
--- a run from the state 0
+-- a run from the starting values
 abbrev pub Run : Flat → Option ℕ → List (List ℕ) → List (List ℕ) → Type 0
-Run flat clock rows outputs = (last : Environment) × Runs flat clock zeros rows outputs last
+Run flat clock rows outputs = (last : Environment) × Runs flat clock (beginning flat) rows outputs last

@@ -8,7 +8,7 @@ use Rattle.rr_flat.specs.declared.design.Step.TheVariants as step
 use Rattle.rr_flat.specs.Plain.{Block, Flat}
 use Rattle.rr_flat.specs.Writers.{block_at, driven, writes_at_all}
 use Rattle.rr_cycle.specs.Exec.{Environment, applied, write, Update}
-use Rattle.rr_cycle.specs.Cycles.{driver_value, given, after_block, updates_of_block}
+use Rattle.rr_cycle.specs.Cycles.{driver_value, given, beginning, after_block, updates_of_block}
 use Rattle.rr_flat.specs.Inputs.{row_inputs}
 
 -- a driver gives all its bits their values, a wire one of them; a block runs
@@ -30,11 +30,11 @@ unfoldable pub any_is : List ℕ → ℕ → Bool
 any_is [] n = false
 any_is (m ∷ ms) n = nat_eq m n || any_is ms n
 
--- before the first step: the registers from the state, the inputs from the row, 0 elsewhere
+-- before the first step: the registers from the state, the inputs from the row, the starting values elsewhere
 unfoldable pub base : Flat → Option ℕ → Environment → List ℕ → Environment
 base flat clock state row b =
     cond (any_writes flat flat.clocked b) (state b)
-    (cond (any_is flat.inputs b.signal && nat_lt b.place (signal_at flat.signals b.signal).width) (given (row_inputs clock flat.inputs) row b) false)
+    (cond (any_is flat.inputs b.signal && nat_lt b.place (signal_at flat.signals b.signal).width) (given (row_inputs clock flat.inputs) row b) (beginning flat b))
 
 -- the clocked blocks in order, each on what those before it left
 unfoldable pub run_blocks : Flat → List Block → Environment → Environment

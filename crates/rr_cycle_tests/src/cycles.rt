@@ -403,6 +403,87 @@ const WORKED: [Case; 4] = [
     ),
 ];
 
+/// Registers that begin with the starting values of their declarations (section 6.2.1).
+const STARTING_VALUES: [Case; 4] = [
+    (
+        "module m(input clk, output reg [3:0] q = 4'd5); always @(posedge clk) q <= q + 4'd1; endmodule",
+        "q\nx\nx\n",
+        "q\n5\n6\n",
+    ),
+    (
+        "module m(clk, q); input clk; output q; reg q = 1'b1; always @(posedge clk) q <= ~q; endmodule",
+        "q\nx\nx\nx\n",
+        "q\n1\n0\n1\n",
+    ),
+    (
+        "module m(input clk, input d, output reg [1:0] q = 2'd2, output reg r); reg s = 1'b1; always @(posedge clk) begin q[0] <= d; s <= d; r = s; end endmodule",
+        "d\n1\n0\n0\n",
+        "d,q,r\n1,2,0\n0,3,1\n0,2,1\n",
+    ),
+    (
+        "module m(input clk, input go, output [1:0] y); reg [1:0] state = 2'd2; assign y = state; always @(posedge clk) case (state) 2'd0: state <= 2'd3; 2'd2: if (go) state <= 2'd0; default: state <= 2'd2; endcase endmodule",
+        "go\n0\n1\n0\n0\n0\n",
+        "go,y\n0,2\n1,2\n0,0\n0,3\n0,2\n",
+    ),
+];
+
+/// Variables that no clocked block writes: those of a combinational block have its values, all others
+/// keep what they begin with.
+const STARTS_WITHOUT_A_REGISTER: [Case; 4] = [
+    (
+        "module m(output reg [7:0] q = 4'd15 + 4'd1); endmodule",
+        "q\nx\nx\n",
+        "q\n16\n16\n",
+    ),
+    (
+        "module m(input a, output reg y = 1'b1); always @* y = a; endmodule",
+        "a\n0\n1\n",
+        "a,y\n0,0\n1,1\n",
+    ),
+    (
+        "module m(input [3:0] a, output [3:0] y, output reg [3:0] z); reg signed [2:0] mask = -3'sd2; assign y = a & mask; always @* z = mask; endmodule",
+        "a\n15\n5\n",
+        "a,y,z\n15,6,14\n5,4,14\n",
+    ),
+    (
+        "module m(input a, output reg [2:0] q = 3'b110); always @* q[1] = a; endmodule",
+        "a\n0\n1\n",
+        "a,q\n0,4\n1,6\n",
+    ),
+];
+
+/// `initial` items (section 9.9.1), and starting values of instances by parameters.
+const INITIAL_ITEMS: [Case; 4] = [
+    (
+        "module m(input clk, output reg [3:0] q = 4'd1); initial q = 4'd8; initial begin q = 4'd9; q = 4'd14; end always @(posedge clk) q <= q + 4'd1; endmodule",
+        "q\nx\nx\nx\n",
+        "q\n14\n15\n0\n",
+    ),
+    (
+        "module m(input clk, output reg a, output reg b); initial begin a = 1'b1; ; begin b = 2'd2; end end always @(posedge clk) begin a <= b; b <= a; end endmodule",
+        "a\nx\nx\nx\n",
+        "a,b\n1,0\n0,1\n1,0\n",
+    ),
+    (
+        "module c #(parameter P = 3)(input ck, output reg [3:0] q = P); always @(posedge ck) q <= q - 4'd1; endmodule module m(input clk, output [3:0] y, output [3:0] z); c u(clk, y); c #(.P(12)) v(clk, z); endmodule",
+        "y\nx\nx\n",
+        "y,z\n3,12\n2,11\n",
+    ),
+    (
+        "module c #(parameter P = 1)(input ck, output reg q); initial q = P; always @(posedge ck) q <= ~q; endmodule module m(input clk, output [1:0] y); c u(clk, y[0]); c #(2) v(clk, y[1]); endmodule",
+        "y\nx\nx\n",
+        "y\n1\n2\n",
+    ),
+];
+
+#[test]
+fn designs_with_starts(rt: HostRuntime) -> Result<(), Fail> {
+    all_right(
+        rt.alloc(),
+        &[&STARTING_VALUES, &STARTS_WITHOUT_A_REGISTER, &INITIAL_ITEMS],
+    )
+}
+
 #[test]
 fn designs_with_rows(rt: HostRuntime) -> Result<(), Fail> {
     all_right(

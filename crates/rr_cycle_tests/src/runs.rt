@@ -292,6 +292,68 @@ const REFUSED: [Refused; 25] = [
     ),
 ];
 
+/// Refusals of starting values and of `initial` items.
+const REFUSED_STARTS: [Refused; 10] = [
+    (
+        "module m(output reg q = a, input a);wire [128:0] w;endmodule",
+        &None,
+        "13 NotConstant at 24",
+    ),
+    (
+        "module m(input a, output reg y);initial y = a;endmodule",
+        &None,
+        "13 NotConstant at 44",
+    ),
+    (
+        "module m(output reg y);initial y = x;endmodule",
+        &None,
+        "11 UnknownName at 35",
+    ),
+    (
+        "module m(output reg y);reg y = x;endmodule",
+        &None,
+        "10 NameTwice at 27",
+    ),
+    (
+        "module m(output y);initial y=1'b1;assign y=1'b0;assign y=1'b1;endmodule",
+        &None,
+        "24 BadTarget at 27",
+    ),
+    (
+        "module m(output y = 1'b1);endmodule",
+        &None,
+        "6 Syntax at 18",
+    ),
+    (
+        "module m(output y);integer i = 0;endmodule",
+        &None,
+        "6 Syntax at 29",
+    ),
+    (
+        "module m(output reg y);initial y <= 1'b1;endmodule",
+        &None,
+        "6 Syntax at 33",
+    ),
+    (
+        "module m(output reg [1:0] y);initial y[0] = 1'b1;endmodule",
+        &None,
+        "6 Syntax at 38",
+    ),
+    (
+        "module m(output reg y);initial #1 y = 1'b1;endmodule",
+        &None,
+        "5 Unsupported at 31",
+    ),
+];
+
+#[test]
+fn refusals_of_starts(rt: HostRuntime) -> Result<(), Fail> {
+    for (design, top, expected) in REFUSED_STARTS.iter() {
+        assert!(rt; tells(rt.alloc(), design, **top, expected)?, "{expected}");
+    }
+    Ok(())
+}
+
 #[test]
 fn refusals_of_designs(rt: HostRuntime) -> Result<(), Fail> {
     for (design, top, expected) in REFUSED.iter() {

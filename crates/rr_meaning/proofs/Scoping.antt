@@ -28,7 +28,7 @@ use Rattle.rr_exec.specs.Work.{Holds}
 use Rattle.rr_exec.proofs.Fitting.{Named}
 
 abbrev pub IsSound : Design → Type 0
-IsSound d = IsFlat d.signals d.scopes d.drivers d.clocked d.combinational d.walk d.inputs d.outputs d.owners
+IsSound d = IsFlat d.signals d.scopes d.drivers d.clocked d.combinational d.walk d.inputs d.outputs d.owners d.starts d.initials
 
 -- what holds of each entry, and of a name that is not there, holds of what each name stands for
 pub entry_of : (P : Entity → Type 0) (s : Names) (name : List ℕ) → AllByRecursion (λ x. P x.1) s → P entity.Instance → P (meant s name)

@@ -1,11 +1,12 @@
 //! Settled environments, the clock edge, and runs.
-ghost use Rattle.std.specs.Prelude.{◌≡◌, ◌<◌, ◌∷◌, ◌++◌, [], ℕ, All, IfOk, OnOk, cond, false, true, length, map, List};
+ghost use Rattle.std.specs.Prelude.{◌≡◌, ◌<◌, ◌∷◌, ◌++◌, [], ℕ, All, IfOk, OnOk, cond, false, true, get_or, length, map, List};
+ghost use Rattle.rr_bits.specs.Words.{word};
 ghost use Rattle.rr_expr.specs.Scopes.{env_of};
 ghost use Rattle.rr_expr.specs.declared.types.Bit.{Bit as FlatBit};
 ghost use Rattle.rr_flat.specs.Signals.{signal_at};
 ghost use Rattle.rr_flat.specs.Ordered.{IsStep};
 ghost use Rattle.rr_flat.specs.View.{plain_flat};
-ghost use Rattle.rr_cycle.specs.Cycles.{IsNext, Run, Settled, outputs_of, zeros as zeros_of};
+ghost use Rattle.rr_cycle.specs.Cycles.{IsNext, Run, Settled, beginning as beginning_of, outputs_of};
 ghost use Rattle.rr_flat.specs.Inputs.{row_inputs as inputs_but};
 ghost use Rattle.rr_cycle.specs.Exec.{Environment, applied};
 ghost use Rattle.rr_cycle.specs.Performing.{any_writes, performed, run_blocks, updates_of_blocks};
@@ -13,9 +14,10 @@ ghost use Rattle.rr_flat.specs.Elaborated.{IsSound};
 ghost use Rattle.rr_cycle.specs.Designs.{IsInOrder, IsLawful};
 ghost use Rattle.rr_meaning.specs.Calls.{IsRow};
 ghost use Rattle.rr_exec.specs.Work.{IsLater, updates_in};
-ghost use Rattle.rr_meaning.specs.Work.{cut_to, given_over, masked, row_items};
+ghost use Rattle.rr_meaning.specs.Work.{NoneAbove, cut_to, given_over, inner_beginning, masked, row_items};
 
 use crate::registers::register_masks;
+use crate::starts::{copy_of, starts_inside, starts_of};
 use crate::steps::{perform, signal_value};
 use rr_bits::Bits;
 use rr_exec::{Machine, apply, execute};
@@ -38,14 +40,22 @@ fn machine_on(alloc: Global, env: Env) -> Machine
     }
 }
 
-/// Each value keeps the bits of its mask alone.
-fn mask(values: &mut Vec<u128>, masks: &[u128])
-    requires { length masks.now ≡ length values.old.items }
-    ensures env { env_of values.new.items ≡ masked masks.now (env_of values.old.items) }
+/// The bits of a value that a mask has, and all others of another one.
+fn mixed(mask: u128, value: u128, other: u128) -> u128
+    ensures { (p : ℕ) → get_or (word 128 result) p false ≡ cond (get_or (word 128 mask) p false) (get_or (word 128 value) p false) (get_or (word 128 other) p false) }
+{
+    value & mask | other & !mask
+}
+
+/// Each value keeps the bits of its mask alone, and has the others of another one.
+fn mask(values: &mut Vec<u128>, masks: &[u128], others: &[u128])
+    requires masks { length masks.now ≡ length values.old.items }
+    requires others { length others.now ≡ length values.old.items }
+    ensures env { env_of values.new.items ≡ masked masks.now others.now (env_of values.old.items) }
     ensures count { length values.new.items ≡ length values.old.items }
 {
     for place in 0..values.len() {
-        values[place] = values[place] & masks[place];
+        values[place] = mixed(masks[place], values[place], others[place]);
     }
 }
 
@@ -121,11 +131,13 @@ fn edge(flat: &Flat, machine: &mut Machine) -> Result<(), AllocError>
     Ok(())
 }
 
-/// What stays the same in a run: the inputs of a row, and the bits of registers.
+/// What stays the same in a run: the inputs of a row, the bits of registers, and what the signals
+/// inside begin with.
 #[derive(Drop)]
 struct Plan {
     inputs: Vec<u32>,
     registers: Vec<u128>,
+    starts: Vec<u128>,
 }
 
 fn prepare(alloc: Global, flat: &Flat, clock: Option<u32>) -> Result<Plan, AllocError>
@@ -134,10 +146,18 @@ fn prepare(alloc: Global, flat: &Flat, clock: Option<u32>) -> Result<Plan, Alloc
     ensures registers { IfOk result (λ r. (b : FlatBit) → env_of r.registers.items b ≡ any_writes (plain_flat flat.now) (plain_flat flat.now).clocked b) }
     ensures count { IfOk result (λ r. length r.registers.items ≡ length flat.now.signals) }
     ensures narrow { IfOk result (λ r. (b : FlatBit) → env_of r.registers.items b ≡ true → b.place < (signal_at (plain_flat flat.now).signals b.signal).width) }
+    ensures starts { IfOk result (λ r. env_of r.starts.items ≡ inner_beginning (plain_flat flat.now)) }
+    ensures starts_count { IfOk result (λ r. length r.starts.items ≡ length flat.now.signals) }
+    ensures above { OnOk result (NoneAbove (plain_flat flat.now)) }
 {
     let inputs = flat.row_inputs(alloc, clock)?;
     let registers = register_masks(alloc, flat)?;
-    Ok(Plan { inputs, registers })
+    let starts = starts_inside(alloc, flat)?;
+    Ok(Plan {
+        inputs,
+        registers,
+        starts,
+    })
 }
 
 /// Settles a state with a row of inputs.
@@ -156,6 +176,9 @@ fn settle_in(
     requires registers { (b : FlatBit) → env_of plan.now.registers.items b ≡ any_writes (plain_flat flat.now) (plain_flat flat.now).clocked b }
     requires narrow { (b : FlatBit) → env_of plan.now.registers.items b ≡ true → b.place < (signal_at (plain_flat flat.now).signals b.signal).width }
     requires masks { length plan.now.registers.items ≡ length flat.now.signals }
+    requires starts { env_of plan.now.starts.items ≡ inner_beginning (plain_flat flat.now) }
+    requires starts_count { length plan.now.starts.items ≡ length flat.now.signals }
+    requires above { NoneAbove (plain_flat flat.now) }
     requires count { length machine.old.env.values.items ≡ length flat.now.signals }
     requires none { machine.old.none.values.items ≡ [] }
     ensures settled { OnOk result (Settled (plain_flat flat.now) order.now.clock (env_of machine.old.env.values.items) row.now (env_of machine.new.env.values.items)) }
@@ -163,7 +186,11 @@ fn settle_in(
     ensures none { OnOk result (machine.new.none ≡ machine.old.none) }
 {
     machine.later.clear();
-    mask(&mut machine.env.values, plan.registers.as_slice());
+    mask(
+        &mut machine.env.values,
+        plan.registers.as_slice(),
+        plan.starts.as_slice(),
+    );
     give(flat, &mut machine.env.values, plan.inputs.as_slice(), row);
     perform_all(flat, order.steps.as_slice(), machine)
 }
@@ -171,23 +198,24 @@ fn settle_in(
 fn copied(alloc: Global, env: &Env) -> Result<Env, AllocError>
     ensures { IfOk result (λ r. r.values.items ≡ env.now.values.items) }
 {
-    let values = env.values.clone()?;
+    let values = copy_of(alloc, env.values.as_slice())?;
     Ok(Env { values })
 }
 
-fn zeros(alloc: Global, count: usize) -> Result<Env, AllocError>
-    ensures env { IfOk result (λ r. env_of r.values.items ≡ zeros_of) }
-    ensures count { IfOk result (λ r. length r.values.items ≡ count) }
+/// The values that the signals begin with.
+fn beginning(alloc: Global, flat: &Flat) -> Result<Env, AllocError>
+    ensures env { IfOk result (λ r. env_of r.values.items ≡ beginning_of (plain_flat flat.now)) }
+    ensures count { IfOk result (λ r. length r.values.items ≡ length flat.now.signals) }
 {
-    let values = vec![in alloc; 0u128; count]?;
+    let values = starts_of(alloc, flat)?;
     Ok(Env { values })
 }
 
 /// The one settled environment of a state and a row of inputs: registers have their values in the
 /// state, the inputs of the top but the clock those of the row, in port order, and the clock is 0; each
-/// driver's equation holds, and each combinational block leaves what it would write as it is. The
-/// design is the flat design of a source and lawful, the order is one of its steps; the state has one
-/// value per signal. An error says that memory ran out.
+/// driver's equation holds, each combinational block leaves what it would write as it is, and each
+/// other bit has its starting value. The design is the flat design of a source and lawful, the order is
+/// one of its steps; the state has one value per signal. An error says that memory ran out.
 pub fn settle(
     alloc: Global,
     flat: &Flat,
@@ -251,8 +279,8 @@ fn push_row(list: &mut Vec<Vec<u128>>, row: Vec<u128>) -> Result<(), AllocError>
     Ok(())
 }
 
-/// Per row of inputs the numbers of the outputs, in port order, of the run from the state 0. The
-/// conditions are those of [`settle`]. An error says that memory ran out.
+/// Per row of inputs the numbers of the outputs, in port order, of the run from the starting values.
+/// The conditions are those of [`settle`]. An error says that memory ran out.
 pub fn run_table(
     alloc: Global,
     flat: &Flat,
@@ -266,7 +294,7 @@ pub fn run_table(
     ensures only { IfOk result (λ r. (outputs : List (List ℕ)) → Run (plain_flat flat.now) order.now.clock (map row_items inputs.now) outputs → outputs ≡ map row_items r.items) }
 {
     let plan = prepare(alloc, flat, order.clock)?;
-    let mut machine = machine_on(alloc, zeros(alloc, flat.signals.len())?);
+    let mut machine = machine_on(alloc, beginning(alloc, flat)?);
     let mut table = Vec::new(alloc);
     for row in inputs.iter() {
         settle_in(flat, order, &plan, row.as_slice(), &mut machine)?;

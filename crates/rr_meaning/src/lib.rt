@@ -6,8 +6,10 @@
 mod cycle;
 mod laws;
 mod registers;
+mod starts;
 mod steps;
 
 pub use cycle::{run_table, settle, step};
 pub use laws::table_rows;
 pub use registers::register_masks;
+pub use starts::starts_inside;

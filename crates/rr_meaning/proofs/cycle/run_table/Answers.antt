@@ -1,11 +1,11 @@
-use Rattle.std.proofs.Common.{◌≡◌, ◌∙◌, ◌+◌, ◌++◌, ◌∷◌, [], sym, ap, arith, List, ℕ, map, take, length}
+use Rattle.std.proofs.Common.{◌≡◌, ◌∙◌, ◌+◌, ◌++◌, ◌∷◌, [], sym, ap, List, ℕ, map, take, length}
 use Rattle.std.specs.Prelude.{Vec}
 use Rattle.std.specs.declared.alloc.Global.{Global}
 use Rattle.std.proofs.lemmas.List.{map_more, map_push, take_all}
 use Rattle.rr_expr.specs.Scopes.{env_of}
 use Rattle.rr_expr.specs.declared.types.Env.{Env}
-use Rattle.rr_flat.specs.View.{Design, plain_flat}
-use Rattle.rr_cycle.specs.Cycles.{ended, outputs_of, zeros}
+use Rattle.rr_flat.specs.View.{plain_flat}
+use Rattle.rr_cycle.specs.Cycles.{beginning, ended, outputs_of}
 use Rattle.rr_cycle.proofs.Settled.{run_only}
 use Rattle.rr_meaning.specs.Work.{row_items}
 use Rattle.rr_meaning.proofs.Walking.{runs_more}
@@ -13,10 +13,9 @@ use Rattle.rr_meaning.proofs.cycle.run_table.Goals as goal
 
 pub loop-row-init : goal.loop-row-init
 loop-row-init c =
-    let e : env_of c.machine_on-machine.result.env.values.items ≡ zeros = ap (λ (v : Env). env_of v.values.items) c.machine_on-machine.ensures.env ∙ c.in_ok-zeros.ensures.env in
+    let e : env_of c.machine_on-machine.result.env.values.items ≡ beginning (plain_flat c.args.flat.now) = ap (λ (v : Env). env_of v.values.items) c.machine_on-machine.ensures.env ∙ c.in_ok-beginning.ensures.env in
     let n : length c.machine_on-machine.result.env.values.items ≡ length c.args.flat.now.signals =
-    ap (λ (v : Env). length v.values.items) c.machine_on-machine.ensures.env
-    ∙ omega (arith, c.in_ok-zeros.ensures.count, c.len.ensures, c.flat.inside.signals.ok.0, ap (λ (d : Design). length d.signals) c.flat.view_is) in
+    ap (λ (v : Env). length v.values.items) c.machine_on-machine.ensures.env ∙ c.in_ok-beginning.ensures.count in
     record { runs = rw (c.new-table.ensures.items, e) ended; count = n; none = c.machine_on-machine.ensures.none }
 
 pub loop-row-preserved : goal.loop-row-preserved
