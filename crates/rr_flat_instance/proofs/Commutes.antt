@@ -3,7 +3,7 @@ use Rattle.std.proofs.Common.{◌≡◌, ◌∙◌, sym, ap, ap₂, ℕ, ◌<◌
 use Rattle.std.specs.List.{AllByRecursion}
 use Rattle.std.proofs.lemmas.Bool.{ne_eqb}
 use Rattle.std.proofs.lemmas.List.{map-append, length-map}
-use Rattle.rr_syntax.specs.Tree.{Tree, Statement, EventControl, Star, Edges, Levels, NetIdentifier, NetAssignment}
+use Rattle.rr_syntax.specs.Tree.{Tree, Statement, EventControl, Star, Edges, Levels, DeclaredName, NetAssignment}
 use Rattle.rr_expr.specs.Faults.{first}
 use Rattle.rr_expr.specs.Scopes.{Names, lookup}
 use Rattle.rr_flat.specs.declared.fault.FlatFault.{FlatFault}
@@ -13,8 +13,9 @@ use Rattle.rr_flat.specs.declared.design.Part.TheVariants as part
 use Rattle.rr_flat.specs.Plain.{Side, Written, Whole, Driver, Flat}
 use Rattle.rr_flat.specs.Plain as plain_design
 use Rattle.rr_walk.specs.Tables.{place_of}
-use Rattle.rr_walk.specs.Walk.{Walked, scope_at, with_driver, with_block, combined, clocked, assign, net_driver, net_value, net_with, net, event_faults, always}
+use Rattle.rr_walk.specs.Walk.{Walked, scope_at, with_driver, with_block, combined, clocked, assign, net_driver, net_value, net_with, net, event_faults, always, with_initial, initial}
 use Rattle.rr_flat.specs.Shapes.{shape_faults, statement_faults}
+use Rattle.rr_starts.specs.Starts.{initial_faults}
 use Rattle.rr_flat.proofs.Alike.{Alike}
 use Rattle.rr_choice.specs.declared.pick.Pick.{Pick}
 use Rattle.rr_instance.specs.Firsts.{first_token}
@@ -152,7 +153,7 @@ module _ (ss : List Site) (ps : List Pick) where
     net_with_instance i at name None w v h n e = let q : w ≡ v = cc in ap (λ (x : Walked). Ok (instance_walked ss ps x)) q
     net_with_instance i at name (Some t) w v h n e = net_value_instance i at name t w v (h t refl) n e
 
-    pub net_instance : (i : ℕ) (x : NetIdentifier) (w v : Walked) → IsApart x → ((name : List ℕ) → IsNameOfValue ss x.value name → IsScalar (scope_at w i) name)
+    pub net_instance : (i : ℕ) (x : DeclaredName) (w v : Walked) → IsApart x → ((name : List ℕ) → IsNameOfValue ss x.value name → IsScalar (scope_at w i) name)
         → net i x w ≡ Ok v → net i (instance_net ss ps x) (instance_walked ss ps w) ≡ Ok (instance_walked ss ps v)
     unfolding net instance_net
     net_instance i x w v h n e = net_with_instance i x.token x.text x.value w v h n e
@@ -168,3 +169,10 @@ module _ (ss : List Site) (ps : List Pick) where
         (nil_both _ _ (nil_left (event_faults (scope_at w i) events) (statement_faults (scope_at w i) s) r.none)
         (body_stays ss ps (scope_at w i) (first_token s) s n a (nil_right (event_faults (scope_at w i) events) (statement_faults (scope_at w i) s) r.none)))
         ∙ ap (λ (x : Walked). Ok x) (block_instance i events s at w ∙ ap (instance_walked ss ps) r.is)
+
+    -- an `initial` item, which stays as it is
+    pub initial_instance : (i : ℕ) (s : Statement) (at : ℕ) (w v : Walked) → initial i s at w ≡ Ok v → initial i s at (instance_walked ss ps w) ≡ Ok (instance_walked ss ps v)
+    unfolding initial instance_flat
+    initial_instance i s at w v e =
+        let r = settled (initial_faults (scope_at w i) s) (with_initial i s at w) v e in
+        settle_none (initial_faults (scope_at w i) s) (with_initial i s at (instance_walked ss ps w)) r.none ∙ ap (λ (x : Walked). Ok (instance_walked ss ps x)) r.is

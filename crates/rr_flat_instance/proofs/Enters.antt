@@ -2,7 +2,7 @@
 use Rattle.std.proofs.Common.{◌≡◌, ◌∙◌, sym, ap, inl, inr, ℕ, zero, suc, ◌<◌, List, [], ◌∷◌, ◌++◌, length, map, get_or, not, nat_lt, subst, Option, Some, None, Result, Ok, arith, append_assoc, length-append}
 use Rattle.std.specs.List.{AllByRecursion}
 use Rattle.std.proofs.lemmas.List.{get_or_at}
-use Rattle.rr_syntax.specs.Tree.{ModuleInstance, Connections, ModuleItem, Ports, Nets, Variables, Integers, Parameters, Assigns, Always, Instances, ModuleDeclaration}
+use Rattle.rr_syntax.specs.Tree.{ModuleInstance, Connections, ModuleItem, Ports, Nets, Variables, Integers, Parameters, Assigns, Always, Initial, Instances, ModuleDeclaration}
 use Rattle.rr_expr.specs.Scopes.{Names, lookup}
 use Rattle.rr_flat.specs.declared.fault.FlatFault.{FlatFault}
 use Rattle.rr_flat.specs.declared.fault.FlatFault.TheVariants.{TooMany}
@@ -23,7 +23,7 @@ use Rattle.rr_flat_instance.proofs.Heads.{head_instance}
 use Rattle.rr_flat_instance.proofs.Tables.{module_instance}
 use Rattle.rr_flat_instance.proofs.Shapes.{settle_none}
 use Rattle.rr_flat_instance.proofs.Grown.{Grows, grows-trans, each_grows, assign_grows, net_grows, always_grows, with_instance_grows, joined_grows, began, begin_grows, EnterGrows, inside, instance_grows, item_grows, entered, enter_grows}
-use Rattle.rr_flat_instance.proofs.Commutes.{instance_walked, Ready, scalar_alike, width_alike, each_instance, assign_instance, net_instance, always_instance}
+use Rattle.rr_flat_instance.proofs.Commutes.{instance_walked, Ready, scalar_alike, width_alike, each_instance, assign_instance, net_instance, always_instance, initial_instance}
 use Rattle.rr_flat_instance.proofs.Connected.{checked_stays, joined_instance}
 
 -- what holds of each name of some element holds of each name of each
@@ -94,6 +94,7 @@ module _ (ss : List Site) (ps : List Pick) (source : List ModuleDeclaration) (fi
       always_instance ss ps final i events s at w v
       (λ name p. scalar_alike (scope_at w i) (scope_at final i) name (now.alike i r.there) (f.0.guards name p))
       (λ target k p. width_alike (scope_at w i) (scope_at final i) target k (now.alike i r.there) (f.0.aims target k p)) e
+  item_instance above i sub other grows commutes table (Initial s at) w v f r g e = initial_instance ss ps final i s at w v e
   item_instance above i sub other grows commutes table (Instances m at over list) w v f r g e =
       each_instance ss ps final (instance_child ss ps) (instance_of source above i sub at over (place_of (lookup m table)))
       (instance_of (map (instance_module ss ps) source) above i other at over (place_of (lookup m table)))

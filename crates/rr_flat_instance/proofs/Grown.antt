@@ -2,7 +2,7 @@
 use Rattle.std.proofs.Common.{◌≡◌, ◌∙◌, sym, ap, ◌⊎◌, inl, inr, ℕ, zero, suc, ◌+◌, ◌<◌, ◌≤◌, List, [], ◌∷◌, ◌++◌, length, Option, Some, None, Result, Ok, refl, arith, fold, length-append, not, nat_lt}
 use Rattle.std.proofs.lemmas.Bool.{cases_eq}
 use Rattle.std.proofs.lemmas.List.{length-set, get_or-set_same, get_or-set_other, get_or_append_left}
-use Rattle.rr_syntax.specs.Tree.{Tree, Trees, End, More, Statement, EventControl, Star, Edges, Levels, NetIdentifier, NetAssignment, NamedConnection, Connections, Positions, Names as Named, ModuleInstance, ModuleItem, Ports, Nets, Variables, Integers, Parameters, Assigns, Always, Instances, ModuleDeclaration}
+use Rattle.rr_syntax.specs.Tree.{Tree, Trees, End, More, Statement, EventControl, Star, Edges, Levels, DeclaredName, NetAssignment, NamedConnection, Connections, Positions, Names as Named, ModuleInstance, ModuleItem, Ports, Nets, Variables, Integers, Parameters, Assigns, Always, Initial, Instances, ModuleDeclaration}
 use Rattle.rr_expr.specs.Faults.{first}
 use Rattle.rr_expr.specs.Scopes.{Names, lookup, meant}
 use Rattle.rr_expr.specs.declared.types.Entity.TheVariants as entity
@@ -16,8 +16,9 @@ use Rattle.rr_head.specs.Heads.{Head, head}
 use Rattle.rr_flat.specs.Signals.{with_name, Text, signal_at}
 use Rattle.rr_flat.specs.Plain.{Side, Written, Whole}
 use Rattle.rr_walk.specs.Tables.{place_of, port_names}
-use Rattle.rr_walk.specs.Walk.{Walked, Enter, scope_at, module_at, with_driver, with_block, assign, net_driver, net_value, net_with, net, event_faults, always, checked, with_instance, join_port, join_at, join, join_value, join_named, join_positions, joined, instance_of, item, opened, begin, enter_by, enter}
+use Rattle.rr_walk.specs.Walk.{Walked, Enter, scope_at, module_at, with_driver, with_block, assign, net_driver, net_value, net_with, net, event_faults, always, with_initial, initial, checked, with_instance, join_port, join_at, join, join_value, join_named, join_positions, joined, instance_of, item, opened, begin, enter_by, enter}
 use Rattle.rr_flat.specs.Shapes.{shape_faults, statement_faults}
+use Rattle.rr_starts.specs.Starts.{initial_faults}
 use Rattle.rr_flat.proofs.Alike.{Alike, alike_named}
 use Rattle.rr_flat_instance.proofs.Lists.{Begins, begins_here, begins_with, begins-trans, stepped}
 use Rattle.rr_flat_instance.proofs.Shapes.{settled}
@@ -83,7 +84,7 @@ net_with_grows : (i at : ℕ) (name : Text) (o : Option Tree) (w v : Walked) →
 net_with_grows i at name None w v e = grows_to w w v (grows_here w) (cc)
 net_with_grows i at name (Some t) w v e = net_value_grows i at name t w v e
 
-pub net_grows : (i : ℕ) (n : NetIdentifier) (w v : Walked) → net i n w ≡ Ok v → Grows w v
+pub net_grows : (i : ℕ) (n : DeclaredName) (w v : Walked) → net i n w ≡ Ok v → Grows w v
 unfolding net
 net_grows i n w v e = net_with_grows i n.token n.text n.value w v e
 
@@ -92,6 +93,12 @@ unfolding always
 always_grows i events s at w v e =
     let r = settled (event_faults (scope_at w i) events ++ statement_faults (scope_at w i) s) (with_block i events s at w) v e in
     grows_to w _ v (block_grows i events s at w) r.is
+
+pub initial_grows : (i : ℕ) (s : Statement) (at : ℕ) (w v : Walked) → initial i s at w ≡ Ok v → Grows w v
+unfolding initial
+initial_grows i s at w v e =
+    let r = settled (initial_faults (scope_at w i) s) (with_initial i s at w) v e in
+    grows_to w (with_initial i s at w) v (record { more = omega arith; alike = λ i l n. refl; owners = begins_here w.flat.owners; drivers = begins_here w.flat.drivers; even = λ e. e }) r.is
 
 -- connections
 
@@ -215,6 +222,7 @@ item_grows source table above i sub h (Integers list) w v e = grows_to w w v (gr
 item_grows source table above i sub h (Parameters p) w v e = grows_to w w v (grows_here w) (cc)
 item_grows source table above i sub h (Assigns pairs) w v e = each_grows (assign i) (assign_grows i) pairs w v e
 item_grows source table above i sub h (Always events s at) w v e = always_grows i events s at w v e
+item_grows source table above i sub h (Initial s at) w v e = initial_grows i s at w v e
 item_grows source table above i sub h (Instances m at over list) w v e =
     each_grows (instance_of source above i sub at over (place_of (lookup m table))) (instance_grows source above i sub at over (place_of (lookup m table)) h) list w v e
 

@@ -1,11 +1,11 @@
 -- Declarations see nothing of an instance: the head of a module is that of its instance.
-use Rattle.std.proofs.Common.{◌≡◌, ◌∙◌, ap, ℕ, Bool, false, List, [], map, Option, Ok, refl, fold}
-use Rattle.rr_syntax.specs.Tree.{NetIdentifier, Range, ModuleItem, Ports, Nets, Variables, Integers, Parameters, Assigns, Always, Instances, ModuleDeclaration}
-use Rattle.rr_expr.specs.Scopes.{Names}
+use Rattle.std.proofs.Common.{◌≡◌, ◌∙◌, ap, ℕ, Bool, true, false, List, [], map, Option, Some, None, Ok, refl, fold}
+use Rattle.rr_syntax.specs.Tree.{DeclaredName, Range, ModuleItem, Ports, Nets, Variables, Integers, Parameters, Assigns, Always, Initial, Instances, ModuleDeclaration}
+use Rattle.rr_expr.specs.Scopes.{Names, lookup}
 use Rattle.rr_flat.specs.Faults.{and_then, each}
 use Rattle.rr_head.specs.Values.{range_in}
 use Rattle.rr_head.specs.Parameters.{add_parameters, add_item_parameters, parameters}
-use Rattle.rr_head.specs.Declarations.{Declarations, know_net, know_ports, know_item, known, know_port_item, add_plain_name, plain_names, brackets, inner_declaration, declare_net, declare_nets, declare_ports, declare_item, declarations}
+use Rattle.rr_head.specs.Declarations.{Declarations, know_declarator, know_ports, know_item, known, know_port_item, add_plain_name, plain_names, brackets, inner_declaration, again_place, repeated_place, declare_new, declare_again, declare_at, declare, declare_nets, declare_ports, declare_item, declarations}
 use Rattle.rr_head.specs.Heads.{signals_in_order, declared, numbered, head}
 use Rattle.rr_choice.specs.declared.pick.Pick.{Pick}
 use Rattle.rr_choice.specs.Sites.{Site}
@@ -25,6 +25,7 @@ module _ (ss : List Site) (ps : List Pick) where
   add_item_parameters_instance given (Parameters p) names = refl
   add_item_parameters_instance given (Assigns pairs) names = refl
   add_item_parameters_instance given (Always events body token) names = refl
+  add_item_parameters_instance given (Initial body token) names = refl
   add_item_parameters_instance given (Instances m token over list) names = refl
 
   pub parameters_instance : (given : Names) (m : ModuleDeclaration) → parameters given (instance_module ss ps m) ≡ parameters given m
@@ -35,19 +36,20 @@ module _ (ss : List Site) (ps : List Pick) where
 
   -- names
 
-  know_net_instance : (names : Names) (n : NetIdentifier) → know_net names (instance_net ss ps n) ≡ know_net names n
+  know_net_instance : (names : Names) (n : DeclaredName) → know_declarator names (instance_net ss ps n) ≡ know_declarator names n
   unfolding instance_net
   know_net_instance names n = refl
 
   know_item_instance : (names : Names) (i : ModuleItem) → know_item names (instance_item ss ps i) ≡ know_item names i
   unfolding know_item instance_item
   know_item_instance names (Ports p) = refl
-  know_item_instance names (Nets signed range list) = fold_mapped (instance_net ss ps) know_net know_net_instance names list
+  know_item_instance names (Nets signed range list) = fold_mapped (instance_net ss ps) know_declarator know_net_instance names list
   know_item_instance names (Variables signed range list) = refl
   know_item_instance names (Integers list) = refl
   know_item_instance names (Parameters p) = refl
   know_item_instance names (Assigns pairs) = refl
   know_item_instance names (Always events body token) = refl
+  know_item_instance names (Initial body token) = refl
   know_item_instance names (Instances m token over list) = refl
 
   known_instance : (m : ModuleDeclaration) (names : Names) → known (instance_module ss ps m) names ≡ known m names
@@ -63,6 +65,7 @@ module _ (ss : List Site) (ps : List Pick) where
   know_port_item_instance names (Parameters p) = refl
   know_port_item_instance names (Assigns pairs) = refl
   know_port_item_instance names (Always events body token) = refl
+  know_port_item_instance names (Initial body token) = refl
   know_port_item_instance names (Instances m token over list) = refl
 
   brackets_instance : (m : ModuleDeclaration) → brackets (instance_module ss ps m) ≡ brackets m
@@ -73,17 +76,26 @@ module _ (ss : List Site) (ps : List Pick) where
 
   -- declarations
 
-  declare_net_instance : (bracketed : Names) (r : Option (ℕ × ℕ)) (signed : Bool) (n : NetIdentifier) (d : Declarations) → declare_net bracketed (inner_declaration false signed r) (instance_net ss ps n) d ≡ declare_net bracketed (inner_declaration false signed r) n d
-  unfolding instance_net
-  declare_net_instance bracketed r signed n d = refl
+  -- what drives a net is no starting value
 
-  declare_nets_instance : (bracketed all : Names) (signed : Bool) (range : Option Range) (list : List NetIdentifier) (d : Declarations) → declare_nets bracketed all signed range (map (instance_net ss ps) list) d ≡ declare_nets bracketed all signed range list d
+  net_at_instance : (bracketed all : Names) (r : Option (ℕ × ℕ)) (signed : Bool) (n : DeclaredName) (d : Declarations) (place : Option ℕ)
+      → declare_at bracketed all (inner_declaration false signed r) (instance_net ss ps n) d place ≡ declare_at bracketed all (inner_declaration false signed r) n d place
+  unfolding declare_new declare_again instance_net
+  net_at_instance bracketed all r signed n d None = refl
+  net_at_instance bracketed all r signed n d (Some place) = refl
+
+  declare_net_instance : (bracketed all : Names) (r : Option (ℕ × ℕ)) (signed : Bool) (n : DeclaredName) (d : Declarations)
+      → declare bracketed all (inner_declaration false signed r) (instance_net ss ps n) d ≡ declare bracketed all (inner_declaration false signed r) n d
+  unfolding declare instance_net
+  declare_net_instance bracketed all r signed n d = net_at_instance bracketed all r signed n d (repeated_place true (again_place (lookup n.text d.names) d.list))
+
+  declare_nets_instance : (bracketed all : Names) (signed : Bool) (range : Option Range) (list : List DeclaredName) (d : Declarations) → declare_nets bracketed all signed range (map (instance_net ss ps) list) d ≡ declare_nets bracketed all signed range list d
   unfolding declare_nets
   declare_nets_instance bracketed all signed range list d =
       and_then_same (range_in all range) (range_in all range)
-      (λ r. each (declare_net bracketed (inner_declaration false signed r)) (map (instance_net ss ps) list) d)
-      (λ r. each (declare_net bracketed (inner_declaration false signed r)) list d)
-      refl (λ r. each_mapped (instance_net ss ps) (declare_net bracketed (inner_declaration false signed r)) (declare_net_instance bracketed r signed) list d)
+      (λ r. each (declare bracketed all (inner_declaration false signed r)) (map (instance_net ss ps) list) d)
+      (λ r. each (declare bracketed all (inner_declaration false signed r)) list d)
+      refl (λ r. each_mapped (instance_net ss ps) (declare bracketed all (inner_declaration false signed r)) (declare_net_instance bracketed all r signed) list d)
 
   declare_item_instance : (bracketed all : Names) (i : ModuleItem) (d : Declarations) → declare_item bracketed all (instance_item ss ps i) d ≡ declare_item bracketed all i d
   unfolding declare_item instance_item
@@ -94,6 +106,7 @@ module _ (ss : List Site) (ps : List Pick) where
   declare_item_instance bracketed all (Parameters p) d = refl
   declare_item_instance bracketed all (Assigns pairs) d = refl
   declare_item_instance bracketed all (Always events body token) d = refl
+  declare_item_instance bracketed all (Initial body token) d = refl
   declare_item_instance bracketed all (Instances m token over list) d = refl
 
   declarations_instance : (bracketed all : Names) (m : ModuleDeclaration) (d : Declarations) → declarations bracketed all (instance_module ss ps m) d ≡ declarations bracketed all m d

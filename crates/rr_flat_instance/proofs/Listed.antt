@@ -2,8 +2,8 @@
 use Rattle.std.proofs.Common.{◌≡◌, ap, ◌⊎◌, inl, inr, ℕ, zero, suc, ◌+◌, ◌<◌, ◌≤◌, List, [], ◌∷◌, length, Option, Some, None, refl, arith}
 use Rattle.std.specs.List.{All, AllByRecursion, Contains}
 use Rattle.std.proofs.lemmas.Bool.{cases_lt, cases_order}
-use Rattle.rr_syntax.specs.Items.{spell_all, spell_type, spell_net, spell_item, spell_parameters, spell_ports, spell_module, WellFormedValue, WellFormedNet, WellFormedItem, WellFormedModule, WellFormedSource, NumberedEach, NumberedSeparated, NumberedAll, NumberedValue, NumberedNet, NumberedItem, NumberedModule, NumberedSource}
-use Rattle.rr_syntax.specs.Tree.{Tree, NetIdentifier, ModuleItem, Ports, Nets, Variables, Integers, Parameters, Assigns, Always, Instances, ModuleDeclaration, SourceText}
+use Rattle.rr_syntax.specs.Items.{spell_all, spell_type, spell_declarator, spell_item, spell_parameters, spell_ports, spell_module, WellFormedValue, WellFormedDeclarator, WellFormedItem, WellFormedModule, WellFormedSource, NumberedEach, NumberedSeparated, NumberedAll, NumberedValue, NumberedDeclarator, NumberedItem, NumberedModule, NumberedSource}
+use Rattle.rr_syntax.specs.Tree.{Tree, DeclaredName, ModuleItem, Ports, Nets, Variables, Integers, Parameters, Assigns, Always, Initial, Instances, ModuleDeclaration, SourceText}
 use Rattle.rr_expr.specs.Faults.{first}
 use Rattle.rr_expr.specs.Scopes.{Names}
 use Rattle.rr_flat.specs.Lawful.{DriverTarget}
@@ -113,19 +113,19 @@ value_apart None token at e w n t q h = absurd (cc)
 value_apart (Some u) token at e w n t q h =
     let s : u ≡ t = cc in let f = first_is u (at + 1 + 1) w n in let g = ap first s in omega (arith, e, f, g, h)
 
-net_apart : (x : NetIdentifier) (at : ℕ) → WellFormedNet x → NumberedNet x at → IsApart x
-unfolding WellFormedNet NumberedNet
+net_apart : (x : DeclaredName) (at : ℕ) → WellFormedDeclarator x → NumberedDeclarator x at → IsApart x
+unfolding WellFormedDeclarator NumberedDeclarator
 net_apart x at w n = value_apart x.value x.token at n.0 w n.1
 
-nets_each : (xs : List NetIdentifier) (at : ℕ) → AllByRecursion WellFormedNet xs → NumberedEach spell_net NumberedNet xs at → AllByRecursion IsApart xs
+nets_each : (xs : List DeclaredName) (at : ℕ) → AllByRecursion WellFormedDeclarator xs → NumberedEach spell_declarator NumberedDeclarator xs at → AllByRecursion IsApart xs
 unfolding NumberedEach
 nets_each [] at w n = tt
-nets_each (x ∷ xs) at w n = (net_apart x (at + 1) w.0 n.0, nets_each xs (at + 1 + length (spell_net x)) w.1 n.1)
+nets_each (x ∷ xs) at w n = (net_apart x (at + 1) w.0 n.0, nets_each xs (at + 1 + length (spell_declarator x)) w.1 n.1)
 
-nets_separated : (xs : List NetIdentifier) (at : ℕ) → AllByRecursion WellFormedNet xs → NumberedSeparated spell_net NumberedNet xs at → AllByRecursion IsApart xs
+nets_separated : (xs : List DeclaredName) (at : ℕ) → AllByRecursion WellFormedDeclarator xs → NumberedSeparated spell_declarator NumberedDeclarator xs at → AllByRecursion IsApart xs
 unfolding NumberedSeparated
 nets_separated [] at w n = tt
-nets_separated (x ∷ xs) at w n = (net_apart x at w.0 n.0, nets_each xs (at + length (spell_net x)) w.1 n.1)
+nets_separated (x ∷ xs) at w n = (net_apart x at w.0 n.0, nets_each xs (at + length (spell_declarator x)) w.1 n.1)
 
 item_apart : (x : ModuleItem) (at : ℕ) → WellFormedItem x → NumberedItem x at → NetsApartIn x
 unfolding WellFormedItem NumberedItem NetsApartIn
@@ -136,6 +136,7 @@ item_apart (Integers list) at w n = tt
 item_apart (Parameters p) at w n = tt
 item_apart (Assigns pairs) at w n = tt
 item_apart (Always events t token) at w n = tt
+item_apart (Initial body token) at w n = tt
 item_apart (Instances m token over list) at w n = tt
 
 items_apart : (xs : List ModuleItem) (at : ℕ) → AllByRecursion WellFormedItem xs → NumberedAll spell_item NumberedItem xs at → AllByRecursion NetsApartIn xs

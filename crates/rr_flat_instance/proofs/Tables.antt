@@ -1,7 +1,7 @@
 -- Tables of names see nothing of an instance.
 use Rattle.std.proofs.Common.{◌≡◌, ◌∙◌, ap, ℕ, zero, suc, ◌+◌, if◌then◌else◌, List, [], ◌∷◌, map, Option, Some, None, refl, fold, is_some, nat_eq}
 use Rattle.std.specs.List.{list_any}
-use Rattle.rr_syntax.specs.Tree.{ModuleItem, Ports, Nets, Variables, Integers, Parameters, Assigns, Always, Instances, ModuleDeclaration}
+use Rattle.rr_syntax.specs.Tree.{ModuleItem, Ports, Nets, Variables, Integers, Parameters, Assigns, Always, Initial, Instances, ModuleDeclaration}
 use Rattle.rr_expr.specs.Scopes.{Names, lookup}
 use Rattle.rr_flat.specs.Faults.{each}
 use Rattle.rr_flat.specs.Signals.{Text}
@@ -38,6 +38,7 @@ module _ (ss : List Site) (ps : List Pick) where
   instantiated_by_item_instance names (Parameters p) = refl
   instantiated_by_item_instance names (Assigns pairs) = refl
   instantiated_by_item_instance names (Always events body token) = refl
+  instantiated_by_item_instance names (Initial body token) = refl
   instantiated_by_item_instance names (Instances m token over list) = refl
 
   instantiated_by_instance : (names : Names) (m : ModuleDeclaration) → instantiated_by names (instance_module ss ps m) ≡ instantiated_by names m
@@ -71,6 +72,7 @@ module _ (ss : List Site) (ps : List Pick) where
   add_item_parameter_names_instance table (Parameters p) = refl
   add_item_parameter_names_instance table (Assigns pairs) = refl
   add_item_parameter_names_instance table (Always events body token) = refl
+  add_item_parameter_names_instance table (Initial body token) = refl
   add_item_parameter_names_instance table (Instances m token over list) = refl
 
   pub parameter_table_instance : (m : ModuleDeclaration) → parameter_table (instance_module ss ps m) ≡ parameter_table m
@@ -86,6 +88,7 @@ module _ (ss : List Site) (ps : List Pick) where
   add_item_open_names_instance names (Parameters p) = refl
   add_item_open_names_instance names (Assigns pairs) = refl
   add_item_open_names_instance names (Always events body token) = refl
+  add_item_open_names_instance names (Initial body token) = refl
   add_item_open_names_instance names (Instances m token over list) = refl
 
   pub open_names_instance : (m : ModuleDeclaration) → open_names (instance_module ss ps m) ≡ open_names m

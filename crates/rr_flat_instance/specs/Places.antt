@@ -2,7 +2,7 @@
 use Rattle.std.specs.Prelude.{◌≡◌, ◌⊎◌, ℕ, ◌<◌, true, List, [], ◌∷◌, length, Option, Some, None, IsTrue, slice_index_or}
 use Rattle.std.specs.List.{AllByRecursion}
 use Rattle.rr_syntax.specs.Expressions.{is_target}
-use Rattle.rr_syntax.specs.Tree.{Tree, NetIdentifier, NetAssignment, NamedConnection, Connections, Positions, Names as Named, ModuleInstance, ModuleItem, Ports, Nets, Variables, Integers, Parameters, Assigns, Always, Instances, ModuleDeclaration, SourceText}
+use Rattle.rr_syntax.specs.Tree.{Tree, DeclaredName, NetAssignment, NamedConnection, Connections, Positions, Names as Named, ModuleInstance, ModuleItem, Ports, Nets, Variables, Integers, Parameters, Assigns, Always, Initial, Instances, ModuleDeclaration, SourceText}
 use Rattle.rr_expr.specs.Faults.{first, is_width}
 use Rattle.rr_expr.specs.Scopes.{Names, meant, entity_shape}
 use Rattle.rr_flat.specs.Plain.{Side, Written, Whole, Flat}
@@ -25,7 +25,7 @@ abbrev pub IsNameOfValue : List Site → Option Tree → List ℕ → Type 0
 IsNameOfValue ss None name = ⊥
 IsNameOfValue ss (Some t) name = IsGuardName ss t name
 
-abbrev pub IsNameOfNet : List Site → List ℕ → NetIdentifier → Type 0
+abbrev pub IsNameOfNet : List Site → List ℕ → DeclaredName → Type 0
 IsNameOfNet ss name n = IsNameOfValue ss n.value name
 
 abbrev pub IsNameOfPair : List Site → List ℕ → NetAssignment → Type 0
@@ -49,6 +49,7 @@ IsNameOfItem ss name (Integers list) = ⊥
 IsNameOfItem ss name (Parameters p) = ⊥
 IsNameOfItem ss name (Assigns pairs) = Somewhere (IsNameOfPair ss name) pairs
 IsNameOfItem ss name (Always events body token) = IsBodyName ss (first_token body) body name
+IsNameOfItem ss name (Initial body token) = ⊥
 IsNameOfItem ss name (Instances m token overrides list) = Somewhere (IsNameOfInstance ss name) list
 
 -- a variable of that width that a last assignment may have as its target
@@ -70,6 +71,7 @@ IsAimOfItem ss target w (Integers list) = ⊥
 IsAimOfItem ss target w (Parameters p) = ⊥
 IsAimOfItem ss target w (Assigns pairs) = ⊥
 IsAimOfItem ss target w (Always events body token) = IsAimAt ss (first_token body) target w
+IsAimOfItem ss target w (Initial body token) = ⊥
 IsAimOfItem ss target w (Instances m token overrides list) = ⊥
 
 -- a name of that width, which is 1 to 128
@@ -86,7 +88,7 @@ abbrev pub FitsModule : List Site → Names → ModuleDeclaration → Type 0
 FitsModule ss names m = AllByRecursion (FitsItem ss names) m.items
 
 -- the name of a net is another token than the first of its value
-abbrev pub IsApart : NetIdentifier → Type 0
+abbrev pub IsApart : DeclaredName → Type 0
 IsApart n = (t : Tree) → n.value ≡ Some t → n.token ≡ first t → ⊥
 
 unfoldable pub NetsApartIn : ModuleItem → Type 0
@@ -97,6 +99,7 @@ NetsApartIn (Integers list) = Unit {0}
 NetsApartIn (Parameters p) = Unit {0}
 NetsApartIn (Assigns pairs) = Unit {0}
 NetsApartIn (Always events body token) = Unit {0}
+NetsApartIn (Initial body token) = Unit {0}
 NetsApartIn (Instances m token overrides list) = Unit {0}
 
 abbrev pub NetsApart : ModuleDeclaration → Type 0

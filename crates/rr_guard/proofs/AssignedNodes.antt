@@ -13,7 +13,7 @@ use Rattle.rr_syntax.specs.declared.tree.Group.{Group}
 use Rattle.rr_syntax.specs.declared.tree.Instance.{Instance}
 use Rattle.rr_syntax.specs.declared.tree.Item.TheVariants as item
 use Rattle.rr_syntax.specs.declared.tree.Named.{Named}
-use Rattle.rr_syntax.specs.declared.tree.NetName.{NetName}
+use Rattle.rr_syntax.specs.declared.tree.Declarator.{Declarator}
 use Rattle.rr_syntax.specs.declared.tree.Pair.{Pair}
 use Rattle.rr_syntax.specs.declared.tree.Params.{Params}
 use Rattle.rr_syntax.specs.declared.tree.Stmt.{Stmt}
@@ -46,11 +46,11 @@ pub at-Ports : (acc : List Assigned) (g : Group) → acc ++ assigned_at_edges (p
 unfolding plain_item assigned_at_edges
 at-Ports acc g = append-nil acc
 
-pub at-Nets : (acc : List Assigned) (signed : Bool) (range : Option Bounds) (names : Bor (List NetName)) → acc ++ assigned_at_edges (plain_item (item.Nets signed range names)) ≡ acc
+pub at-Nets : (acc : List Assigned) (signed : Bool) (range : Option Bounds) (names : Bor (List Declarator)) → acc ++ assigned_at_edges (plain_item (item.Nets signed range names)) ≡ acc
 unfolding plain_item assigned_at_edges
 at-Nets acc signed range names = append-nil acc
 
-pub at-Variables : (acc : List Assigned) (signed : Bool) (range : Option Bounds) (names : Bor (List Named)) → acc ++ assigned_at_edges (plain_item (item.Variables signed range names)) ≡ acc
+pub at-Variables : (acc : List Assigned) (signed : Bool) (range : Option Bounds) (names : Bor (List Declarator)) → acc ++ assigned_at_edges (plain_item (item.Variables signed range names)) ≡ acc
 unfolding plain_item assigned_at_edges
 at-Variables acc signed range names = append-nil acc
 
@@ -66,11 +66,15 @@ pub at-Assigns : (acc : List Assigned) (pairs : Bor (List Pair)) → acc ++ assi
 unfolding plain_item assigned_at_edges
 at-Assigns acc pairs = append-nil acc
 
+pub at-Initial : (acc : List Assigned) (s : Bor Stmt) (token : ℕ) → acc ++ assigned_at_edges (plain_item (item.Initial s token)) ≡ acc
+unfolding plain_item assigned_at_edges
+at-Initial acc s token = append-nil acc
+
 pub at-Instances : (acc : List Assigned) (m : Bor (List ℕ)) (token : ℕ) (overrides : Option Conns) (list : Bor (List Instance)) → acc ++ assigned_at_edges (plain_item (item.Instances m token overrides list)) ≡ acc
 unfolding plain_item assigned_at_edges
 at-Instances acc m token overrides list = append-nil acc
 
-pub ruleset assigned_nodes = (at-Edges, at-Star, at-Levels, at-Ports, at-Nets, at-Variables, at-Integers, at-Parameters, at-Assigns, at-Instances)
+pub ruleset assigned_nodes = (at-Edges, at-Star, at-Levels, at-Ports, at-Nets, at-Variables, at-Integers, at-Parameters, at-Assigns, at-Initial, at-Instances)
 
 -- the name of a target as a whole
 

@@ -9,12 +9,12 @@ use Rattle.rr_syntax.specs.declared.tree.Instance.{Instance}
 use Rattle.rr_syntax.specs.declared.tree.Item.TheVariants as item
 use Rattle.rr_syntax.specs.declared.tree.Module.{Module}
 use Rattle.rr_syntax.specs.declared.tree.Named.{Named}
-use Rattle.rr_syntax.specs.declared.tree.NetName.{NetName}
+use Rattle.rr_syntax.specs.declared.tree.Declarator.{Declarator}
 use Rattle.rr_syntax.specs.declared.tree.Pair.{Pair}
 use Rattle.rr_syntax.specs.declared.tree.Params.{Params}
 use Rattle.rr_syntax.specs.declared.tree.Stmt.{Stmt}
 use Rattle.rr_syntax.specs.Tree.{Identifier}
-use Rattle.rr_syntax.specs.View.{plain_range, plain_identifier, plain_port, plain_net, plain_item, plain_module}
+use Rattle.rr_syntax.specs.View.{plain_range, plain_identifier, plain_port, plain_declarator, plain_item, plain_module}
 use Rattle.std.specs.List.{list_any}
 use Rattle.std.specs.Str.{bytes_eq}
 use Rattle.rr_flat.specs.Signals.{Text}
@@ -22,13 +22,13 @@ use Rattle.rr_guard.proofs.Sets.{same_named}
 use Rattle.rr_guard.specs.Names.{texts_of, with_first, firsts, scalars_if, net_name, port_scalars, item_scalars, scalars}
 use denote.Ref.{Bor}
 
-pub port-None : (acc : List Identifier) (g : Group) → g.range ≡ None → acc ++ port_scalars (plain_port g) ≡ acc ++ map plain_identifier g.names.now
+pub port-None : (acc : List Identifier) (g : Group) → g.range ≡ None → acc ++ port_scalars (plain_port g) ≡ acc ++ map net_name (map plain_declarator g.names.now)
 unfolding plain_port plain_range
-port-None acc g e = ap (λ r. acc ++ scalars_if (plain_range r) (map plain_identifier g.names.now)) e
+port-None acc g e = ap (λ r. acc ++ scalars_if (plain_range r) (map net_name (map plain_declarator g.names.now))) e
 
 pub port-Some : (acc : List Identifier) (g : Group) (b : Bounds) → g.range ≡ Some b → acc ++ port_scalars (plain_port g) ≡ acc
 unfolding plain_port plain_range
-port-Some acc g b e = ap (λ r. acc ++ scalars_if (plain_range r) (map plain_identifier g.names.now)) e ∙ append-nil acc
+port-Some acc g b e = ap (λ r. acc ++ scalars_if (plain_range r) (map net_name (map plain_declarator g.names.now))) e ∙ append-nil acc
 
 pub ruleset port_nodes = (port-None, port-Some)
 
@@ -36,19 +36,19 @@ pub item-Ports : (acc : List Identifier) (g : Group) → acc ++ item_scalars (pl
 unfolding plain_item item_scalars
 item-Ports acc g = refl
 
-pub nets-None : (acc : List Identifier) (signed : Bool) (names : Bor (List NetName)) → acc ++ item_scalars (plain_item (item.Nets signed None names)) ≡ acc ++ map net_name (map plain_net names.now)
+pub nets-None : (acc : List Identifier) (signed : Bool) (names : Bor (List Declarator)) → acc ++ item_scalars (plain_item (item.Nets signed None names)) ≡ acc ++ map net_name (map plain_declarator names.now)
 unfolding plain_item item_scalars plain_range
 nets-None acc signed names = refl
 
-pub nets-Some : (acc : List Identifier) (signed : Bool) (b : Bounds) (names : Bor (List NetName)) → acc ++ item_scalars (plain_item (item.Nets signed (Some b) names)) ≡ acc
+pub nets-Some : (acc : List Identifier) (signed : Bool) (b : Bounds) (names : Bor (List Declarator)) → acc ++ item_scalars (plain_item (item.Nets signed (Some b) names)) ≡ acc
 unfolding plain_item item_scalars plain_range
 nets-Some acc signed b names = append-nil acc
 
-pub variables-None : (acc : List Identifier) (signed : Bool) (names : Bor (List Named)) → acc ++ item_scalars (plain_item (item.Variables signed None names)) ≡ acc ++ map plain_identifier names.now
+pub variables-None : (acc : List Identifier) (signed : Bool) (names : Bor (List Declarator)) → acc ++ item_scalars (plain_item (item.Variables signed None names)) ≡ acc ++ map net_name (map plain_declarator names.now)
 unfolding plain_item item_scalars plain_range
 variables-None acc signed names = refl
 
-pub variables-Some : (acc : List Identifier) (signed : Bool) (b : Bounds) (names : Bor (List Named)) → acc ++ item_scalars (plain_item (item.Variables signed (Some b) names)) ≡ acc
+pub variables-Some : (acc : List Identifier) (signed : Bool) (b : Bounds) (names : Bor (List Declarator)) → acc ++ item_scalars (plain_item (item.Variables signed (Some b) names)) ≡ acc
 unfolding plain_item item_scalars plain_range
 variables-Some acc signed b names = append-nil acc
 
@@ -68,11 +68,15 @@ pub item-Always : (acc : List Identifier) (events : Events) (body : Bor Stmt) (t
 unfolding plain_item item_scalars
 item-Always acc events body token = append-nil acc
 
+pub item-Initial : (acc : List Identifier) (s : Bor Stmt) (token : ℕ) → acc ++ item_scalars (plain_item (item.Initial s token)) ≡ acc
+unfolding plain_item item_scalars
+item-Initial acc s token = append-nil acc
+
 pub item-Instances : (acc : List Identifier) (m : Bor (List ℕ)) (token : ℕ) (overrides : Option Conns) (list : Bor (List Instance)) → acc ++ item_scalars (plain_item (item.Instances m token overrides list)) ≡ acc
 unfolding plain_item item_scalars
 item-Instances acc m token overrides list = append-nil acc
 
-pub ruleset item_nodes = (item-Ports, nets-None, nets-Some, variables-None, variables-Some, item-Integers, item-Parameters, item-Assigns, item-Always, item-Instances)
+pub ruleset item_nodes = (item-Ports, nets-None, nets-Some, variables-None, variables-Some, item-Integers, item-Parameters, item-Assigns, item-Always, item-Initial, item-Instances)
 
 pub module_scalars : (m : Module) → scalars (plain_module m) ≡ flat_map port_scalars (map plain_port m.groups.now) ++ flat_map item_scalars (map plain_item m.items.now)
 unfolding plain_module scalars

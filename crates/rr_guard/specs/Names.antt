@@ -2,7 +2,7 @@
 use Rattle.std.specs.Prelude.{ℕ, Bool, false, not, ◌&&◌, ◌||◌, if◌then◌else◌, List, [], ◌∷◌, ◌++◌, map, filter, take, flat_map, fold, nat_lt, Option, Some, None}
 use Rattle.std.specs.List.{list_any}
 use Rattle.std.specs.Str.{bytes_eq}
-use Rattle.rr_syntax.specs.Tree.{Tree, Name, Literal, Bit, Part, Indexed, Unary, Binary, Cond, Concat, Repeat, Cast, Paren, Identifier, Range, PortDeclaration, NetIdentifier, ModuleItem, Ports, Nets, Variables, Integers, Parameters, Assigns, Always, Instances, ModuleDeclaration}
+use Rattle.rr_syntax.specs.Tree.{Tree, Name, Literal, Bit, Part, Indexed, Unary, Binary, Cond, Concat, Repeat, Cast, Paren, Identifier, Range, PortDeclaration, DeclaredName, ModuleItem, Ports, Nets, Variables, Integers, Parameters, Assigns, Always, Initial, Instances, ModuleDeclaration}
 use Rattle.rr_flat.specs.Reads.{Assigned, assigned_by}
 use Rattle.rr_flat.specs.Signals.{Text}
 use Rattle.rr_flat.specs.Targets.{part_name}
@@ -15,20 +15,22 @@ abbrev pub scalars_if : Option Range → List Identifier → List Identifier
 scalars_if None names = names
 scalars_if (Some r) names = []
 
-abbrev pub net_name : NetIdentifier → Identifier
+-- the name of a declared net or variable
+abbrev pub net_name : DeclaredName → Identifier
 net_name n = record { token = n.token; text = n.text }
 
 abbrev pub port_scalars : PortDeclaration → List Identifier
-port_scalars p = scalars_if p.range p.names
+port_scalars p = scalars_if p.range (map net_name p.names)
 
 unfoldable pub item_scalars : ModuleItem → List Identifier
 item_scalars (Ports p) = port_scalars p
 item_scalars (Nets signed range list) = scalars_if range (map net_name list)
-item_scalars (Variables signed range list) = scalars_if range list
+item_scalars (Variables signed range list) = scalars_if range (map net_name list)
 item_scalars (Integers list) = []
 item_scalars (Parameters p) = []
 item_scalars (Assigns pairs) = []
 item_scalars (Always events body token) = []
+item_scalars (Initial s token) = []
 item_scalars (Instances m token overrides list) = []
 
 -- the inputs, nets and variables of a module that are declared without a range and not as `integer`, in the order of their
@@ -57,6 +59,7 @@ assigned_at_edges (Integers list) = []
 assigned_at_edges (Parameters p) = []
 assigned_at_edges (Assigns pairs) = []
 assigned_at_edges (Always events body token) = if has_edges events then assigned_by body else []
+assigned_at_edges (Initial s token) = []
 assigned_at_edges (Instances m token overrides list) = []
 
 -- the name that a target is as a whole

@@ -37,6 +37,7 @@ fn add_item<'a>(list: &mut Vec<Target<'a>>, item: &'a Item<'a>) -> Result<(), Al
         | Item::Integers { .. }
         | Item::Parameters(_)
         | Item::Assigns { .. }
+        | Item::Initial { .. }
         | Item::Instances { .. } => Ok(()),
     }
 }

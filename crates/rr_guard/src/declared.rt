@@ -1,11 +1,11 @@
 //! The names that a module declares without a range and not as `integer`.
 
 ghost use Rattle.std.specs.Prelude.{◌≡◌, ◌++◌, ◌∷◌, [], IfOk, OnOk, flat_map, map};
-ghost use Rattle.rr_syntax.specs.View.{plain_identifier, plain_item, plain_module, plain_net, plain_port};
+ghost use Rattle.rr_syntax.specs.View.{plain_identifier, plain_item, plain_module, plain_declarator, plain_port};
 ghost use Rattle.rr_guard.specs.Names.{firsts, item_scalars, net_name, port_scalars, scalars as scalars_of, texts_of, with_first};
 
 use crate::texts::TextSet;
-use rr_syntax::{Group, Item, Module, Named, NetName};
+use rr_syntax::{Declarator, Group, Item, Module, Named};
 use std::alloc::{AllocError, Global};
 
 fn push_named<'a>(list: &mut Vec<Named<'a>>, name: &Named<'a>) -> Result<(), AllocError>
@@ -15,31 +15,22 @@ fn push_named<'a>(list: &mut Vec<Named<'a>>, name: &Named<'a>) -> Result<(), All
     Ok(())
 }
 
-#[tactic(auto, unfolding(rr_syntax::specs::View::plain_identifier, rr_syntax::specs::View::plain_net))]
-fn push_net<'a>(list: &mut Vec<Named<'a>>, net: &NetName<'a>) -> Result<(), AllocError>
-    ensures { OnOk result (map plain_identifier list.new.items ≡ map plain_identifier list.old.items ++ net_name (plain_net net.now) ∷ []) }
+#[tactic(auto, unfolding(rr_syntax::specs::View::plain_identifier, rr_syntax::specs::View::plain_declarator))]
+fn push_declared<'a>(list: &mut Vec<Named<'a>>, name: &Declarator<'a>) -> Result<(), AllocError>
+    ensures { OnOk result (map plain_identifier list.new.items ≡ map plain_identifier list.old.items ++ net_name (plain_declarator name.now) ∷ []) }
 {
     list.push(Named {
-        token: net.token,
-        name: net.name,
+        token: name.token,
+        name: name.name,
     })?;
     Ok(())
 }
 
-fn add_named<'a>(list: &mut Vec<Named<'a>>, names: &[Named<'a>]) -> Result<(), AllocError>
-    ensures { OnOk result (map plain_identifier list.new.items ≡ map plain_identifier list.old.items ++ map plain_identifier names.now) }
+fn add_declared<'a>(list: &mut Vec<Named<'a>>, names: &[Declarator<'a>]) -> Result<(), AllocError>
+    ensures { OnOk result (map plain_identifier list.new.items ≡ map plain_identifier list.old.items ++ map net_name (map plain_declarator names.now)) }
 {
     for name in names.iter() {
-        push_named(list, name)?;
-    }
-    Ok(())
-}
-
-fn add_nets<'a>(list: &mut Vec<Named<'a>>, nets: &[NetName<'a>]) -> Result<(), AllocError>
-    ensures { OnOk result (map plain_identifier list.new.items ≡ map plain_identifier list.old.items ++ map net_name (map plain_net nets.now)) }
-{
-    for net in nets.iter() {
-        push_net(list, net)?;
+        push_declared(list, name)?;
     }
     Ok(())
 }
@@ -49,7 +40,7 @@ fn add_port<'a>(list: &mut Vec<Named<'a>>, group: &Group<'a>) -> Result<(), Allo
     ensures { OnOk result (map plain_identifier list.new.items ≡ map plain_identifier list.old.items ++ port_scalars (plain_port group.now)) }
 {
     match group.range {
-        None => add_named(list, group.names),
+        None => add_declared(list, group.names),
         Some(_) => Ok(()),
     }
 }
@@ -64,18 +55,19 @@ fn add_item<'a>(list: &mut Vec<Named<'a>>, item: &Item<'a>) -> Result<(), AllocE
             range: None,
             names,
             ..
-        } => add_nets(list, names),
-        Item::Variables {
+        }
+        | Item::Variables {
             range: None,
             names,
             ..
-        } => add_named(list, names),
+        } => add_declared(list, names),
         Item::Nets { range: Some(_), .. }
         | Item::Variables { range: Some(_), .. }
         | Item::Integers { .. }
         | Item::Parameters(_)
         | Item::Assigns { .. }
         | Item::Always { .. }
+        | Item::Initial { .. }
         | Item::Instances { .. } => Ok(()),
     }
 }

@@ -2,7 +2,7 @@
 use Rattle.std.proofs.Common.{◌≡◌, ℕ, ◌==◌, Bool, true, false, ◌&&◌, if◌then◌else◌, List, [], ◌∷◌, map, get_or, Option, Some, None, refl, sym, ◌∙◌, ap, ap₂, subst}
 use Rattle.rr_syntax.specs.declared.token.Number.{Number}
 use Rattle.rr_syntax.specs.Words.{mark_not, mark_logical_and, mark_logical_or}
-use Rattle.rr_syntax.specs.Tree.{Tree, Trees, Name, Literal, Bit, Part, Indexed, Unary, Binary, Cond, Concat, Repeat, Cast, Paren, End, More, Identifier, Statement, Statements, Arm, Arms, Null, Block, If, IfElse, Case, Assign, Done, Then, CaseItem, NoArms, MoreArms, Range, PortDeclaration, ParameterDeclaration, EventControl, NetIdentifier, NetAssignment, NamedConnection, Connections, Positions, Names, ModuleInstance, ModuleItem, Ports, Nets, Variables, Integers, Parameters, Assigns, Always, Instances, ModuleDeclaration, SourceText, IsSame, IsSameStatement, IsSameItem, bare, bare_parts, bare_statement, bare_statements, bare_arm, bare_arms, bare_label, bare_value, bare_net, bare_pair, bare_connection, bare_connections, bare_instance, bare_item, bare_module, bare_source}
+use Rattle.rr_syntax.specs.Tree.{Tree, Trees, Name, Literal, Bit, Part, Indexed, Unary, Binary, Cond, Concat, Repeat, Cast, Paren, End, More, Identifier, Statement, Statements, Arm, Arms, Null, Block, If, IfElse, Case, Assign, Done, Then, CaseItem, NoArms, MoreArms, Range, PortDeclaration, ParameterDeclaration, EventControl, DeclaredName, NetAssignment, NamedConnection, Connections, Positions, Names, ModuleInstance, ModuleItem, Ports, Nets, Variables, Integers, Parameters, Assigns, Always, Initial, Instances, ModuleDeclaration, SourceText, IsSame, IsSameStatement, IsSameItem, bare, bare_parts, bare_statement, bare_statements, bare_arm, bare_arms, bare_label, bare_value, bare_declarator, bare_pair, bare_connection, bare_connections, bare_instance, bare_item, bare_module, bare_source}
 use Rattle.rr_expr.specs.declared.operators.Infix.TheVariants.{Either}
 use Rattle.rr_expr.specs.Faults.{takes_constants}
 use Rattle.rr_expr.specs.Operators.{infixes}
@@ -128,7 +128,7 @@ module _ (ss : List Site) (ps : List Pick) where
   value_exists None = tt
   value_exists (Some t) = tree_exists ss ps t
 
-  net_exists : (n : NetIdentifier) → StandsNet ss ps n (instance_net ss ps n)
+  net_exists : (n : DeclaredName) → StandsNet ss ps n (instance_net ss ps n)
   unfolding instance_net
   net_exists n = (refl, value_exists n.value)
 
@@ -158,6 +158,7 @@ module _ (ss : List Site) (ps : List Pick) where
   item_exists (Parameters p) = refl
   item_exists (Assigns pairs) = pairs_exist (StandsPair ss ps) (instance_pair ss ps) pair_exists pairs
   item_exists (Always events body token) = (refl, all_exist (first_token body) ss ps (StandsStatement ss ps body) (instance_statement ss ps body) (statement_exists ss ps body))
+  item_exists (Initial s token) = refl
   item_exists (Instances m token overrides list) = (refl, (refl, pairs_exist (StandsInstance ss ps) (instance_child ss ps) child_exists list))
 
   module_exists : (m : ModuleDeclaration) → StandsModule ss ps m (instance_module ss ps m)
@@ -297,8 +298,8 @@ module _ (ss : List Site) (ps : List Pick) where
   value_same (Some t) None h = absurd h
   value_same (Some t) (Some u) h = ap Some (tree_same ss ps t u h)
 
-  net_same : (n m : NetIdentifier) → StandsNet ss ps n m → bare_net m ≡ bare_net (instance_net ss ps n)
-  unfolding instance_net bare_net
+  net_same : (n m : DeclaredName) → StandsNet ss ps n m → bare_declarator m ≡ bare_declarator (instance_net ss ps n)
+  unfolding instance_net bare_declarator
   net_same n m h i = record { token = 0; text = h.0 i; value = value_same n.value m.value h.1 i }
 
   pair_same : (p q : NetAssignment) → StandsPair ss ps p q → bare_pair q ≡ bare_pair (instance_pair ss ps p)
@@ -323,13 +324,14 @@ module _ (ss : List Site) (ps : List Pick) where
   item_same : (x y : ModuleItem) → StandsItem ss ps x y → bare_item y ≡ bare_item (instance_item ss ps x)
   unfolding StandsItem instance_item bare_item
   item_same (Ports p) (Ports q) h = ap Ports h
-  item_same (Nets signed range names) (Nets sign bounds list) h = three Nets h.0 h.1.0 (pairs_same (StandsNet ss ps) (instance_net ss ps) bare_net net_same names list h.1.1)
+  item_same (Nets signed range names) (Nets sign bounds list) h = three Nets h.0 h.1.0 (pairs_same (StandsNet ss ps) (instance_net ss ps) bare_declarator net_same names list h.1.1)
   item_same (Variables signed range names) (Variables sign bounds list) h = h
   item_same (Integers names) (Integers list) h = h
   item_same (Parameters p) (Parameters q) h = ap Parameters h
   item_same (Assigns pairs) (Assigns list) h = ap Assigns (pairs_same (StandsPair ss ps) (instance_pair ss ps) bare_pair pair_same pairs list h)
   item_same (Always events body token) (Always control inner at) h =
       both (λ e s. Always e s 0) h.0 (all_same (first_token body) ss ps (StandsStatement ss ps body) inner (instance_statement ss ps body) (λ v k. statement_same ss ps body v k) h.1)
+  item_same (Initial s token) (Initial t at) h = h
   item_same (Instances m token overrides list) (Instances n at settings more) h =
       three (λ text o is. Instances text 0 o is) h.0 h.1.0 (pairs_same (StandsInstance ss ps) (instance_child ss ps) bare_instance child_same list more h.1.1)
   item_same x y h = absurd h

@@ -2,7 +2,7 @@
 -- has the form of the site's kind, everywhere else the same node. The token numbers of the second tree are free.
 use Rattle.std.specs.Prelude.{◌≡◌, ℕ, Bool, true, false, ◌&&◌, List, [], ◌∷◌, map, get_or, Option, Some, None}
 use Rattle.rr_syntax.specs.declared.token.Number.{Number}
-use Rattle.rr_syntax.specs.Tree.{Tree, Trees, Name, Literal, Bit, Part, Indexed, Unary, Binary, Cond, Concat, Repeat, Cast, Paren, End, More, Statement, Statements, Arm, Arms, Null, Block, If, IfElse, Case, Assign, Done, Then, CaseItem, NoArms, MoreArms, NetIdentifier, NetAssignment, NamedConnection, Connections, Positions, Names, ModuleInstance, ModuleItem, Ports, Nets, Variables, Integers, Parameters, Assigns, Always, Instances, ModuleDeclaration, SourceText, IsSame, IsSameStatement, IsSameItem, IsSameSource, bare_label, bare_range, bare_port, bare_parameter, bare_header, bare_events, bare_overrides}
+use Rattle.rr_syntax.specs.Tree.{Tree, Trees, Name, Literal, Bit, Part, Indexed, Unary, Binary, Cond, Concat, Repeat, Cast, Paren, End, More, Statement, Statements, Arm, Arms, Null, Block, If, IfElse, Case, Assign, Done, Then, CaseItem, NoArms, MoreArms, DeclaredName, NetAssignment, NamedConnection, Connections, Positions, Names, ModuleInstance, ModuleItem, Ports, Nets, Variables, Integers, Parameters, Assigns, Always, Initial, Instances, ModuleDeclaration, SourceText, IsSame, IsSameStatement, IsSameItem, IsSameSource, bare_label, bare_range, bare_port, bare_parameter, bare_header, bare_events, bare_overrides}
 use Rattle.rr_expr.specs.declared.operators.Infix.TheVariants.{Either}
 use Rattle.rr_expr.specs.Faults.{takes_constants}
 use Rattle.rr_expr.specs.Operators.{infixes}
@@ -100,14 +100,14 @@ AreOverwritten token (s ∷ ss) (p ∷ ps) P u = AreOverwritten token ss ps (IsO
 abbrev pub StandsBody : List Site → List Pick → Statement → Statement → Type 0
 StandsBody ss ps t u = AreOverwritten (first_token t) ss ps (StandsStatement ss ps t) u
 
--- items; declarations of ports, variables and parameters, ranges, overrides and event lists stay
+-- items; declarations of ports, variables and parameters, ranges, overrides, event lists and `initial` items stay
 unfoldable pub StandsValue : List Site → List Pick → Option Tree → Option Tree → Type 0
 StandsValue ss ps None None = Unit {0}
 StandsValue ss ps None (Some u) = ⊥
 StandsValue ss ps (Some t) None = ⊥
 StandsValue ss ps (Some t) (Some u) = Stands ss ps t u
 
-abbrev pub StandsNet : List Site → List Pick → NetIdentifier → NetIdentifier → Type 0
+abbrev pub StandsNet : List Site → List Pick → DeclaredName → DeclaredName → Type 0
 StandsNet ss ps n m = (m.text ≡ n.text) × StandsValue ss ps n.value m.value
 
 abbrev pub StandsPair : List Site → List Pick → NetAssignment → NetAssignment → Type 0
@@ -133,6 +133,7 @@ StandsItem ss ps (Integers names) (Integers list) = IsSameItem (Integers list) (
 StandsItem ss ps (Parameters p) (Parameters q) = bare_parameter q ≡ bare_parameter p
 StandsItem ss ps (Assigns pairs) (Assigns list) = InPairs (StandsPair ss ps) pairs list
 StandsItem ss ps (Always events body token) (Always control inner at) = (bare_events control ≡ bare_events events) × StandsBody ss ps body inner
+StandsItem ss ps (Initial s token) (Initial t at) = IsSameItem (Initial t at) (Initial s token)
 StandsItem ss ps (Instances m token overrides list) (Instances n at settings more) = (n ≡ m) × ((bare_overrides settings ≡ bare_overrides overrides) × InPairs (StandsInstance ss ps) list more)
 StandsItem ss ps i j = ⊥
 

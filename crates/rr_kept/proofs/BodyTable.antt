@@ -13,12 +13,12 @@ use Rattle.rr_syntax.specs.declared.tree.Item.{Item}
 use Rattle.rr_syntax.specs.declared.tree.Item.TheVariants as item
 use Rattle.rr_syntax.specs.declared.tree.Module.{Module}
 use Rattle.rr_syntax.specs.declared.tree.Named.{Named}
-use Rattle.rr_syntax.specs.declared.tree.NetName.{NetName}
+use Rattle.rr_syntax.specs.declared.tree.Declarator.{Declarator}
 use Rattle.rr_syntax.specs.declared.tree.Pair.{Pair}
 use Rattle.rr_syntax.specs.declared.tree.Params.{Params}
 use Rattle.rr_syntax.specs.declared.tree.Source.{Source}
 use Rattle.rr_syntax.specs.declared.tree.Stmt.{Stmt}
-use Rattle.rr_syntax.specs.Tree.{ModuleItem, Ports, Nets, Variables, Integers, Parameters, Assigns, Always, Instances, ModuleDeclaration, SourceText}
+use Rattle.rr_syntax.specs.Tree.{ModuleItem, Ports, Nets, Variables, Integers, Parameters, Assigns, Always, Initial, Instances, ModuleDeclaration, SourceText}
 use Rattle.rr_syntax.specs.Words.{Reserved, Marked, keyword_endmodule, mark_semicolon}
 use Rattle.rr_syntax.specs.Statements.{spell_statement}
 use Rattle.rr_syntax.specs.Items.{spell_all, spell_events, spell_item, spell_module, spell_parameters, spell_ports, spell_source}
@@ -68,11 +68,11 @@ module _ (o : ℕ → Option ℕ) (i : Item) where
   unfolding body_at plain_item
   Ports_none g q = with_item o o i (item.Ports g) q (λ k. or_none (o k))
 
-  pub Nets_none : (signed : Bool) (range : Option Bounds) (names : Bor (List NetName)) → i ≡ item.Nets signed range names → AddsItem o o i
+  pub Nets_none : (signed : Bool) (range : Option Bounds) (names : Bor (List Declarator)) → i ≡ item.Nets signed range names → AddsItem o o i
   unfolding body_at plain_item
   Nets_none signed range names q = with_item o o i (item.Nets signed range names) q (λ k. or_none (o k))
 
-  pub Variables_none : (signed : Bool) (range : Option Bounds) (names : Bor (List Named)) → i ≡ item.Variables signed range names → AddsItem o o i
+  pub Variables_none : (signed : Bool) (range : Option Bounds) (names : Bor (List Declarator)) → i ≡ item.Variables signed range names → AddsItem o o i
   unfolding body_at plain_item
   Variables_none signed range names q = with_item o o i (item.Variables signed range names) q (λ k. or_none (o k))
 
@@ -88,6 +88,10 @@ module _ (o : ℕ → Option ℕ) (i : Item) where
   unfolding body_at plain_item
   Assigns_none pairs q = with_item o o i (item.Assigns pairs) q (λ k. or_none (o k))
 
+  pub Initial_none : (s : Bor Stmt) (token : ℕ) → i ≡ item.Initial s token → AddsItem o o i
+  unfolding body_at plain_item
+  Initial_none s token q = with_item o o i (item.Initial s token) q (λ k. or_none (o k))
+
   pub Instances_none : (m : Bor (List ℕ)) (token : ℕ) (u : Option Conns) (list : Bor (List Instance)) → i ≡ item.Instances m token u list → AddsItem o o i
   unfolding body_at plain_item
   Instances_none m token u list q = with_item o o i (item.Instances m token u list) q (λ k. or_none (o k))
@@ -100,7 +104,7 @@ module _ (o : ℕ → Option ℕ) (i : Item) where
       with_item o o1 i (item.Always events s token) q
       (λ k. h k ∙ ap (λ n. option_or (o k) (if n == k then Some size else None)) a ∙ ap (λ n. option_or (o k) (if token + 2 + length (spell_events (plain_events events)) == k then Some n else None)) b)
 
-pub ruleset item_steps = (size-Always, Ports_none, Nets_none, Variables_none, Integers_none, Parameters_none, Assigns_none, Instances_none, Always_found)
+pub ruleset item_steps = (size-Always, Ports_none, Nets_none, Variables_none, Integers_none, Parameters_none, Assigns_none, Initial_none, Instances_none, Always_found)
 
 -- several items, one after the other
 pub items_more : (o o1 o2 : ℕ → Option ℕ) (xs : List Item) (n : ℕ) (d : Item) → n < length xs → Adds o o1 (map plain_item (take n xs)) → AddsItem o1 o2 (get_or xs n d) → Adds o o2 (map plain_item (take (n + 1) xs))
@@ -159,6 +163,7 @@ body_short k (Always events body token) = by_test (token + 2 + length (spell_eve
     by_test : (c : Bool) → unwrap_or (if c then Some (length (spell_statement body)) else None) 0 ≤ length (spell_item (Always events body token))
     by_test true = omega (arith, length-append (spell_events events) (spell_statement body))
     by_test false = omega arith
+body_short k (Initial s token) = omega arith
 body_short k (Instances m token overrides list) = omega arith
 
 length_short : (k : ℕ) (xs : List ModuleItem) → body_length k xs ≤ length (spell_all spell_item xs)

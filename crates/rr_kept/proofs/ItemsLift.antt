@@ -3,10 +3,10 @@ use Rattle.std.proofs.Common.{◌≡◌, ℕ, ◌+◌, ◌==◌, ◌<◌, ◌≤
 use Rattle.std.specs.List.{AllByRecursion, flat_map}
 use Rattle.std.proofs.lemmas.Bool.{eq-eqb, ne_eqb}
 use Rattle.rr_syntax.specs.Words.{Word, Named, Reserved, Marked, keyword_always, keyword_assign, keyword_endmodule, keyword_module, keyword_wire, mark_open_parenthesis, mark_close_parenthesis, mark_comma, mark_semicolon, mark_dot, mark_at, mark_equals, mark_less_or_equal}
-use Rattle.rr_syntax.specs.Tree.{Tree, Statement, Null, Block, If, IfElse, Case, Assign, NetIdentifier, NetAssignment, NamedConnection, Connections, Positions, Names, ModuleInstance, ModuleItem, Ports, Nets, Variables, Integers, Parameters, Assigns, Always, Instances, ModuleDeclaration, SourceText}
+use Rattle.rr_syntax.specs.Tree.{Tree, Statement, Null, Block, If, IfElse, Case, Assign, DeclaredName, NetAssignment, NamedConnection, Connections, Positions, Names, ModuleInstance, ModuleItem, Ports, Nets, Variables, Integers, Parameters, Assigns, Always, Initial, Instances, ModuleDeclaration, SourceText}
 use Rattle.rr_syntax.specs.Expressions.{spell}
 use Rattle.rr_syntax.specs.Statements.{spell_statement}
-use Rattle.rr_syntax.specs.Items.{spell_each, spell_separated, spell_all, spell_type, spell_value, spell_net, spell_pair, spell_events, spell_optional, spell_connection, spell_connections, spell_overrides, spell_instance, spell_item, spell_parameters, spell_ports, spell_module, spell_source, WellFormedValue, WellFormedNet, WellFormedPair, WellFormedConnection, WellFormedConnections, WellFormedInstance, WellFormedItem, WellFormedModule, WellFormedSource, NumberedEach, NumberedSeparated, NumberedAll, NumberedValue, NumberedNet, NumberedPair, NumberedConnection, NumberedConnections, NumberedInstance, NumberedItem, NumberedModule, NumberedSource}
+use Rattle.rr_syntax.specs.Items.{spell_each, spell_separated, spell_all, spell_type, spell_value, spell_declarator, spell_pair, spell_events, spell_optional, spell_connection, spell_connections, spell_overrides, spell_instance, spell_item, spell_parameters, spell_ports, spell_module, spell_source, WellFormedValue, WellFormedDeclarator, WellFormedPair, WellFormedConnection, WellFormedConnections, WellFormedInstance, WellFormedItem, WellFormedModule, WellFormedSource, NumberedEach, NumberedSeparated, NumberedAll, NumberedValue, NumberedDeclarator, NumberedPair, NumberedConnection, NumberedConnections, NumberedInstance, NumberedItem, NumberedModule, NumberedSource}
 use Rattle.rr_choice.specs.declared.pick.Pick.{Pick}
 use Rattle.rr_choice.specs.Sites.{Site}
 use Rattle.rr_respell.specs.Pieces.{Piece}
@@ -39,6 +39,7 @@ Sized size (Integers names) at = Unit {0}
 Sized size (Parameters p) at = Unit {0}
 Sized size (Assigns pairs) at = Unit {0}
 Sized size (Always events body token) at = size (at + 2 + length (spell_events events)) ≡ length (spell_statement body)
+Sized size (Initial s token) at = Unit {0}
 Sized size (Instances m token overrides list) at = Unit {0}
 
 -- an item is the first that has its body, and none of the later ones
@@ -61,6 +62,7 @@ sized size (Always events body token) xs at n h =
           let there : (token + 2 + E == k) ≡ false = ne_eqb (token + 2 + E) k (λ q. absurd (omega (arith, q, e, l, s, t))) in
           h k (omega (arith, l)) ∙ ap (λ c. or_next (if c then Some (length (spell_statement body)) else None) (body_length k xs)) there,
     )
+sized size (Initial s token) xs at n h = (tt, λ k l. h k (omega (arith, l)))
 sized size (Instances m token overrides list) xs at n h = (tt, λ k l. h k (omega (arith, l)))
 
 module _ (T P : ℕ → Type 0) where
@@ -93,8 +95,8 @@ module _ (T P : ℕ → Type 0) where
     optional_lifts None at w n = none
     optional_lifts (Some t) at w n = tree_lifts T P size ss allow ps t (at + 1) w n
 
-    net_lifts : (x : NetIdentifier) (at : ℕ) → WellFormedNet x → NumberedNet x at → Lifts T P at (net_pieces ss ps x) (spell_net x)
-    unfolding net_pieces spell_net WellFormedNet NumberedNet
+    net_lifts : (x : DeclaredName) (at : ℕ) → WellFormedDeclarator x → NumberedDeclarator x at → Lifts T P at (net_pieces ss ps x) (spell_declarator x)
+    unfolding net_pieces spell_declarator WellFormedDeclarator NumberedDeclarator
     net_lifts x at w n = keep (Named x.text) (value_lifts x.value (at + 1) w n.1)
 
     pair_lifts : (p : NetAssignment) (at : ℕ) → WellFormedPair p → NumberedPair p at → Lifts T P at (pair_pieces ss ps p) (spell_pair p)
@@ -124,7 +126,7 @@ module _ (T P : ℕ → Type 0) where
     item_lifts (Nets signed range names) at w n z =
         keep (Reserved keyword_wire)
         (join (words (spell_type signed range))
-        (join (separated_lift (net_pieces ss ps) spell_net WellFormedNet NumberedNet net_lifts names (at + 1 + length (spell_type signed range)) w.2 n.1) (keep (Marked mark_semicolon) none)))
+        (join (separated_lift (net_pieces ss ps) spell_declarator WellFormedDeclarator NumberedDeclarator net_lifts names (at + 1 + length (spell_type signed range)) w.2 n.1) (keep (Marked mark_semicolon) none)))
     item_lifts (Variables signed range names) at w n z = words (spell_item (Variables signed range names))
     item_lifts (Integers names) at w n z = words (spell_item (Integers names))
     item_lifts (Parameters p) at w n z = words (spell_item (Parameters p))
@@ -133,6 +135,7 @@ module _ (T P : ℕ → Type 0) where
     item_lifts (Always events body token) at w n z =
         keep (Reserved keyword_always)
         (keep (Marked mark_at) (join (words (spell_events events)) (from (omega arith) (body_lifts T P size ss allow ps nowhere body (at + 2 + length (spell_events events)) w.1 n.2 z))))
+    item_lifts (Initial s token) at w n z = words (spell_item (Initial s token))
     item_lifts (Instances m token overrides list) at w n z =
         keep (Named m)
         (join (words (spell_overrides overrides))

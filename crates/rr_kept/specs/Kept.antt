@@ -3,7 +3,7 @@ use Rattle.std.specs.Prelude.{ℕ, ◌+◌, ◌-◌, ◌==◌, ◌&&◌, ◌≡�
 use Rattle.std.specs.List.{flat_map}
 use Rattle.rr_syntax.specs.Items.{spell_events}
 use Rattle.rr_syntax.specs.Statements.{spell_statement}
-use Rattle.rr_syntax.specs.Tree.{ModuleItem, Ports, Nets, Variables, Integers, Parameters, Assigns, Always, Instances, SourceText}
+use Rattle.rr_syntax.specs.Tree.{ModuleItem, Ports, Nets, Variables, Integers, Parameters, Assigns, Always, Initial, Instances, SourceText}
 use Rattle.rr_syntax.specs.Words.{Marked}
 use Rattle.rr_directive.specs.declared.origin.Origin.{Origin}
 use Rattle.rr_lex.specs.Tokens.{Lexeme}
@@ -35,6 +35,7 @@ body_at k (Integers names) = None
 body_at k (Parameters p) = None
 body_at k (Assigns pairs) = None
 body_at k (Always events body token) = if token + 2 + length (spell_events events) == k then Some (length (spell_statement body)) else None
+body_at k (Initial s token) = None
 body_at k (Instances m token overrides list) = None
 
 abbrev pub or_next : Option ℕ → ℕ → ℕ

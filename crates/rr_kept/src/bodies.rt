@@ -40,6 +40,7 @@ fn item(alloc: Global, item: &Item, bodies: &mut IndexMap<u64, u64>) -> Result<(
         Item::Integers { .. } => Ok(()),
         Item::Parameters(_) => Ok(()),
         Item::Assigns { .. } => Ok(()),
+        Item::Initial { .. } => Ok(()),
         Item::Instances { .. } => Ok(()),
         Item::Always {
             events,

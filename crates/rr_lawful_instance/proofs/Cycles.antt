@@ -12,7 +12,7 @@ use Rattle.rr_flat.specs.Writers.{block_at, Writer, Writes}
 use Rattle.rr_flat_instance.specs.Flats.{instance_block, instance_flat}
 use Rattle.rr_flat_instance.proofs.Whole.{instances_flatten}
 use Rattle.rr_walk.proofs.WalkOf.{sound}
-use Rattle.rr_cycle.specs.Cycles.{IsInputBit, Settled, IsNext, Runs, ended, cycle, zeros, given}
+use Rattle.rr_cycle.specs.Cycles.{IsInputBit, Settled, IsNext, Runs, ended, cycle, beginning, given}
 use Rattle.rr_flat.specs.Inputs.{row_inputs}
 use Rattle.rr_cycle.specs.Exec.{Environment}
 use Rattle.rr_cycle.specs.Performing.{base, any_writes, any_is, next_after, settled_by}
@@ -60,7 +60,7 @@ module _ (source : SourceText) (top : Option Text) (flat : Flat) (word : Option 
 pub bases_stay : BasesStay
 unfolding base instance_flat
 bases_stay source top flat word clock rising steps ss r ps state row = fun_ext (λ b.
-    ap (λ w. cond w (state b) (cond (any_is flat.inputs b.signal && nat_lt b.place (signal_at flat.signals b.signal).width) (given (row_inputs clock flat.inputs) row b) false))
+    ap (λ w. cond w (state b) (cond (any_is flat.inputs b.signal && nat_lt b.place (signal_at flat.signals b.signal).width) (given (row_inputs clock flat.inputs) row b) (beginning flat b)))
     (same_writes flat word ss ps flat.clocked (its_sites source top flat word clock rising steps ss r).clocked b))
 
 -- Settled environments, next states and runs
@@ -108,5 +108,6 @@ instances_go_on source top flat word clock rising steps ss r ps env next =
 
 pub instances_run : InstancesRun
 instances_run source top flat word clock rising steps ss r ps rows outputs =
-    let run = runs source top flat word clock rising steps ss r ps rows zeros in
-    (λ h. run_once (instance_flat ss ps flat) word (new_lawful source top flat word clock rising steps ss r ps) clock rows outputs (outputs_by (instance_flat ss ps flat) clock steps zeros rows) h run, run)
+    let start : Environment = beginning (instance_flat ss ps flat) in
+    let run = runs source top flat word clock rising steps ss r ps rows start in
+    (λ h. run_once (instance_flat ss ps flat) word (new_lawful source top flat word clock rising steps ss r ps) clock rows outputs (outputs_by (instance_flat ss ps flat) clock steps start rows) h run, run)

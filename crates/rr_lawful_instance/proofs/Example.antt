@@ -75,7 +75,7 @@ abbrev one : Number
 one = record { width = 1; signed = false; value = 1; any = 0; unknown = 0 }
 
 abbrev port : Dir → ℕ → Text → PortDeclaration
-port d token name = record { dir = d; signed = false; range = None; names = record { token = token; text = name } ∷ [] }
+port d token name = record { dir = d; signed = false; range = None; names = record { token = token; text = name; value = None } ∷ [] }
 
 abbrev value : Tree
 value = Cond (Name 20 q) (Name 22 a) (Name 24 q)
@@ -100,7 +100,7 @@ abbrev source : SourceText
 source = record { modules = the_module ∷ [] }
 
 abbrev signal : Text → Bool → Port → ℕ → Signal
-signal name variable p token = record { instance = 0; name = name; variable = variable; port = p; range = None; signed = false; width = 1; token = token }
+signal name variable p token = record { instance = 0; name = name; variable = variable; port = p; range = None; signed = false; width = 1; token = token; start = 0 }
 
 abbrev scope : Names
 scope = (c, entity.Signal 0 None false) ∷ (a, entity.Signal 1 None false) ∷ (q, entity.Signal 2 None false) ∷ (y, entity.Signal 3 None false) ∷ []
@@ -109,10 +109,12 @@ abbrev flat : Flat
 flat = record {
   top = 1;
   signals = signal c false Input 4 ∷ signal a false Input 7 ∷ signal q true Output 11 ∷ signal y false Output 14 ∷ [];
+  starts = 0 ∷ 0 ∷ 0 ∷ 0 ∷ [];
   scopes = scope ∷ [];
   drivers = record { target = Written (Name 18 y) 0; value = Written value 0; token = 18 } ∷ [];
   clocked = record { body = body; edges = edge ∷ []; scope = 0; token = 26 } ∷ [];
   combinational = [];
+  initials = [];
   walk = part.Driver 0 ∷ part.Clocked 0 ∷ [];
   inputs = 0 ∷ 1 ∷ [];
   outputs = 2 ∷ 3 ∷ [];
@@ -214,6 +216,7 @@ targets = record {
   clocked = at_first (λ k. BlockTargets flat (block_at flat.clocked k))
       (All-from_recursion (λ p. MayAssign flat (meant scope (part_name p.part))) (record { part = Name 36 q; now = false } ∷ []) (rw name_q (refl, (λ e. cc)), tt));
   combinational = λ k l. absurd (omega (arith, l));
+  initials = λ k l. absurd (omega (arith, l));
 }
 
 labels : RightLabels flat
@@ -389,19 +392,19 @@ q_is_register = record { guard = q_may; register = (0, (omega arith, refl)) }
 
 -- where the items stand
 start_0 : item_start source.modules 0 0 ≡ 17
-unfolding start_of items_before spell_ports spell_parameters spell_item S.spell_separated S.spell_each S.spell_pair S.spell_port S.spell_dir S.spell_type S.spell_where S.spell_range S.spell_identifier S.spell_events S.spell_edges S.spell_edge S.spell_more_edges E.spell St.spell_statement
+unfolding start_of items_before spell_ports spell_parameters spell_item S.spell_separated S.spell_each S.spell_value S.spell_declarator S.spell_pair S.spell_port S.spell_dir S.spell_type S.spell_where S.spell_range S.spell_identifier S.spell_events S.spell_edges S.spell_edge S.spell_more_edges E.spell St.spell_statement
 start_0 = refl
 
 start_1 : item_start source.modules 0 1 ≡ 26
-unfolding start_of items_before spell_ports spell_parameters spell_item S.spell_separated S.spell_each S.spell_pair S.spell_port S.spell_dir S.spell_type S.spell_where S.spell_range S.spell_identifier S.spell_events S.spell_edges S.spell_edge S.spell_more_edges E.spell St.spell_statement
+unfolding start_of items_before spell_ports spell_parameters spell_item S.spell_separated S.spell_each S.spell_value S.spell_declarator S.spell_pair S.spell_port S.spell_dir S.spell_type S.spell_where S.spell_range S.spell_identifier S.spell_events S.spell_edges S.spell_edge S.spell_more_edges E.spell St.spell_statement
 start_1 = refl
 
 long_0 : length (spell_item (item_at source.modules 0 0)) ≡ 9
-unfolding spell_ports spell_parameters spell_item S.spell_separated S.spell_each S.spell_pair S.spell_port S.spell_dir S.spell_type S.spell_where S.spell_range S.spell_identifier S.spell_events S.spell_edges S.spell_edge S.spell_more_edges E.spell St.spell_statement
+unfolding spell_ports spell_parameters spell_item S.spell_separated S.spell_each S.spell_value S.spell_declarator S.spell_pair S.spell_port S.spell_dir S.spell_type S.spell_where S.spell_range S.spell_identifier S.spell_events S.spell_edges S.spell_edge S.spell_more_edges E.spell St.spell_statement
 long_0 = refl
 
 long_1 : length (spell_item (item_at source.modules 0 1)) ≡ 14
-unfolding spell_ports spell_parameters spell_item S.spell_separated S.spell_each S.spell_pair S.spell_port S.spell_dir S.spell_type S.spell_where S.spell_range S.spell_identifier S.spell_events S.spell_edges S.spell_edge S.spell_more_edges E.spell St.spell_statement
+unfolding spell_ports spell_parameters spell_item S.spell_separated S.spell_each S.spell_value S.spell_declarator S.spell_pair S.spell_port S.spell_dir S.spell_type S.spell_where S.spell_range S.spell_identifier S.spell_events S.spell_edges S.spell_edge S.spell_more_edges E.spell St.spell_statement
 long_1 = refl
 
 in_assign : (token : ℕ) → 17 ≤ token → token < 26 → StandsIn source.modules 0 0 token
@@ -415,24 +418,24 @@ unfolding assigned_by target_parts assigned_parts
 q_stands = (36, (0, omega arith, refl))
 
 formed : WellFormedSource source
-unfolding WellFormedSource S.WellFormedModule S.WellFormedPort S.WellFormedRange S.WellFormedItem S.WellFormedPair S.WellFormedEvents E.WellFormed is_target E.level E.infix_level E.is_prefix St.WellFormedStatement
+unfolding WellFormedSource S.WellFormedModule S.WellFormedPort S.WellFormedRange S.WellFormedValue S.WellFormedDeclarator S.MayStart S.WellFormedItem S.WellFormedPair S.WellFormedEvents E.WellFormed is_target E.level E.infix_level E.is_prefix St.WellFormedStatement
 formed = (
   (
     tt,
     inl refl,
-    ((tt, omega arith), ((tt, omega arith), ((tt, omega arith), ((tt, omega arith), tt)))),
+    ((tt, omega arith, (tt, tt), (refl, tt)), ((tt, omega arith, (tt, tt), (refl, tt)), ((tt, omega arith, (tt, tt), (tt, tt)), ((tt, omega arith, (tt, tt), (refl, tt)), tt)))),
     ((omega arith, ((refl, tt, (tt, tt, tt, omega arith)), tt)), ((refl, (tt, (refl, tt, tt))), tt)),
   ),
   tt,
 )
 
 tokens : NumberedSource source
-unfolding NumberedSource S.NumberedAll S.NumberedModule S.NumberedParameters S.NumberedPorts S.NumberedPort S.NumberedType S.NumberedRange S.NumberedSeparated S.NumberedEach S.NumberedIdentifier S.NumberedItem S.NumberedPair S.NumberedEvents S.NumberedEdge E.Numbered St.NumberedStatement spell_ports spell_parameters spell_item S.spell_separated S.spell_each S.spell_pair S.spell_port S.spell_dir S.spell_type S.spell_where S.spell_range S.spell_identifier S.spell_events S.spell_edges S.spell_edge S.spell_more_edges E.spell St.spell_statement
+unfolding NumberedSource S.NumberedAll S.NumberedModule S.NumberedParameters S.NumberedPorts S.NumberedPort S.NumberedType S.NumberedRange S.NumberedSeparated S.NumberedEach S.NumberedValue S.NumberedDeclarator S.NumberedIdentifier S.NumberedItem S.NumberedPair S.NumberedEvents S.NumberedEdge E.Numbered St.NumberedStatement spell_ports spell_parameters spell_item S.spell_separated S.spell_each S.spell_value S.spell_declarator S.spell_pair S.spell_port S.spell_dir S.spell_type S.spell_where S.spell_range S.spell_identifier S.spell_events S.spell_edges S.spell_edge S.spell_more_edges E.spell St.spell_statement
 tokens = (
   (
     refl,
     tt,
-    (tt, ((tt, (refl, tt)), ((tt, (refl, tt)), ((tt, (refl, tt)), ((tt, (refl, tt)), tt))))),
+    (tt, ((tt, ((refl, tt), tt)), ((tt, ((refl, tt), tt)), ((tt, ((refl, tt), tt)), ((tt, ((refl, tt), tt)), tt))))),
     (((refl, (refl, refl, refl)), tt), ((refl, (refl, tt), (refl, (refl, refl))), tt)),
   ),
   tt,

@@ -3,7 +3,7 @@ use Rattle.std.proofs.Common.{◌≡◌, inl, inr, ℕ, zero, suc, ◌+◌, ◌-
 use Rattle.std.specs.Prelude.{slice_index_or}
 use Rattle.std.specs.List.{AllByRecursion, Contains}
 use Rattle.std.proofs.lemmas.List.{length-set, get_or_append_left, get_or-append_right}
-use Rattle.rr_syntax.specs.Tree.{Tree, Trees, End, More, Statement, NetIdentifier, NetAssignment, EventControl, Star, Edges, Levels, Connections, Positions, Names as Named, ModuleInstance, ModuleItem, Ports, Nets, Variables, Integers, Parameters, Assigns, Always, Instances, ModuleDeclaration, SourceText}
+use Rattle.rr_syntax.specs.Tree.{Tree, Trees, End, More, Statement, DeclaredName, NetAssignment, EventControl, Star, Edges, Levels, Connections, Positions, Names as Named, ModuleInstance, ModuleItem, Ports, Nets, Variables, Integers, Parameters, Assigns, Always, Initial, Instances, ModuleDeclaration, SourceText}
 use Rattle.rr_expr.specs.Faults.{first}
 use Rattle.rr_expr.specs.Scopes.{Names, lookup}
 use Rattle.rr_expr.specs.declared.types.Entity.TheVariants as entity
@@ -15,7 +15,7 @@ use Rattle.rr_head.specs.Heads.{Head}
 use Rattle.rr_flat.specs.Signals.{with_name, Text, signal_at}
 use Rattle.rr_flat.specs.Plain.{Side, Written, Whole, Driver, Block, Flat}
 use Rattle.rr_walk.specs.Tables.{place_of, add_module, port_names}
-use Rattle.rr_walk.specs.Walk.{Walked, Enter, scope_at, module_at, with_driver, with_block, assign, net_driver, net_value, net_with, net, always, with_instance, join_port, join_at, join, join_value, join_named, join_positions, joined, instance_of, item, opened, enter_by, enter, nothing, finished, top_place, enter_top, flat_of}
+use Rattle.rr_walk.specs.Walk.{Walked, Enter, scope_at, module_at, with_driver, with_block, assign, net_driver, net_value, net_with, net, always, with_initial, initial, with_instance, join_port, join_at, join, join_value, join_named, join_positions, joined, instance_of, item, opened, enter_by, enter, nothing, finished, top_place, enter_top, flat_of}
 use Rattle.rr_walk.proofs.HeadOf.{ok_is, not_ok, settled_is, first_ok, fold_over, all_append, all_weaker}
 use Rattle.rr_flat_instance.specs.Places.{Somewhere, IsNameOfValue, IsNameOfNet, IsNameOfPair, IsNameOfConnection, IsNameOfConnections, IsNameOfInstance, IsNameOfItem}
 use Rattle.rr_flat_instance.proofs.Grown.{EnterGrows, began, inside, entered, enter_grows}
@@ -106,7 +106,7 @@ module _ (ms : List ModuleDeclaration) (ss : List Site) where
   after_net_with i k x q at text (Some u) w t b g e =
       subst (Good i k) (settled_is _ (net_driver i at u (place_of (lookup text (scope_at w i))) w) t e) (after_net_driver i k x q at u b (place_of (lookup text (scope_at w i))) w g)
 
-  after_net : (i k : ℕ) (x : ModuleItem) → IsQuiet k x → (n : NetIdentifier) (w t : Walked) → ((name : Text) → IsNameOfNet ss name n → IsNameOfItem ss name x) → Good i k w → net i n w ≡ Ok t → Good i k t
+  after_net : (i k : ℕ) (x : ModuleItem) → IsQuiet k x → (n : DeclaredName) (w t : Walked) → ((name : Text) → IsNameOfNet ss name n → IsNameOfItem ss name x) → Good i k w → net i n w ≡ Ok t → Good i k t
   unfolding net
   after_net i k x q n w t b g e = after_net_with i k x q n.token n.text n.value w t b g e
 
@@ -148,6 +148,15 @@ module _ (ms : List ModuleDeclaration) (ss : List Site) where
   after_always : (i k : ℕ) (events : EventControl) (s : Statement) (at : ℕ) (w t : Walked) → Contains (items_of ms k) (Always events s at) → Good i k w → always i events s at w ≡ Ok t → Good i k t
   unfolding always
   after_always i k events s at w t c g e = subst (Good i k) (settled_is _ (with_block i events s at w) t e) (after_block i k events s at w c g)
+
+  -- an `initial` item is neither a driver nor a block
+  after_initial : (i k : ℕ) (s : Statement) (at : ℕ) (w t : Walked) → Good i k w → initial i s at w ≡ Ok t → Good i k t
+  unfolding initial
+  after_initial i k s at w t g e = subst (Good i k) (settled_is _ (with_initial i s at w) t e) (
+    record { even = g.0.even; drivers = g.0.drivers; clocked = g.0.clocked; combinational = g.0.combinational },
+    g.1,
+    g.2,
+  )
 
   -- Connections
 
@@ -227,6 +236,7 @@ module _ (ms : List ModuleDeclaration) (ss : List Site) where
       each_over (λ n. (name : Text) → IsNameOfPair ss name n → IsNameOfItem ss name (Assigns pairs)) (Good i k) (assign i) (λ n u v b p h. after_assign i k (Assigns pairs) (c, refl) n u v b p h) pairs w t
       (all_parts (λ name n. IsNameOfPair ss name n) (λ name. IsNameOfItem ss name (Assigns pairs)) pairs (λ name n. n)) g e
   after_item table above i k sub gs s (Always events body at) w t c g e = after_always i k events body at w t c g e
+  after_item table above i k sub gs s (Initial body at) w t c g e = after_initial i k body at w t g e
   after_item table above i k sub gs s (Instances m at over list) w t c g e =
       each_over (λ n. (name : Text) → IsNameOfInstance ss name n → IsNameOfItem ss name (Instances m at over list)) (Good i k) (instance_of ms above i sub at over (place_of (lookup m table)))
       (λ n u v b p h. after_instance above i k (Instances m at over list) (c, refl) sub gs s at over (place_of (lookup m table)) n u v b p h) list w t

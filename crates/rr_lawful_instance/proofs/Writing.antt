@@ -68,6 +68,7 @@ module _ (ss : List Site) (ps : List Pick) (flat : Flat) (word : Option Text) (s
         (λ k l. block_targets (MayGuard flat word (block_at flat.clocked k).scope) (block_at flat.clocked k) (sites.clocked k l) (r.clocked k l));
     combinational = each_block ss ps flat.combinational (BlockTargets other)
         (λ k l. block_targets (MayGuardElsewhere flat word (block_at flat.combinational k).scope) (block_at flat.combinational k) (sites.combinational k l) (r.combinational k l));
+    initials = λ k l. r.initials k l;
   }
 
   -- Labels

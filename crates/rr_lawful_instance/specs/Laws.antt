@@ -77,6 +77,10 @@ InstancesAreOrdered = (clock : Option ℕ) (rising : Bool) (steps : List Step) �
 abbrev pub KeepsAtNoCost : Type 0
 KeepsAtNoCost = (flat : Flat) (ss : List Site) (ps : List Pick) → cost ps ≡ 0 → instance_flat ss ps flat ≡ flat
 
+-- an instance begins with the values of its design, which the same `initial` items set
+abbrev pub StartsStay : Type 0
+StartsStay = (flat : Flat) (ss : List Site) (ps : List Pick) → ((instance_flat ss ps flat).starts ≡ flat.starts) × ((instance_flat ss ps flat).initials ≡ flat.initials)
+
 -- no sites are sites of any design
 abbrev pub NoSitesFit : Type 0
 NoSitesFit = (flat : Flat) (word : Option Text) → AreSitesOf flat word []

@@ -3,7 +3,7 @@
 use Rattle.std.specs.Prelude.{ℕ, zero, suc, ◌+◌, ◌<◌, ◌≤◌, ◌≡◌, List, [], ◌∷◌, length, Bool, true, false, Option, slice_index_or}
 use Rattle.std.specs.List.{All, AllByRecursion}
 use Rattle.rr_syntax.specs.Items.{spell_item, spell_parameters, spell_ports, WellFormedSource, NumberedSource}
-use Rattle.rr_syntax.specs.Tree.{EventControl, Star, Edges, Levels, ModuleItem, Ports, Nets, Variables, Integers, Parameters, Assigns, Always, Instances, ModuleDeclaration, SourceText}
+use Rattle.rr_syntax.specs.Tree.{ModuleItem, Ports, Nets, Variables, Integers, Parameters, Assigns, Always, Initial, Instances, ModuleDeclaration, SourceText}
 use Rattle.rr_spots.specs.Spots.{is_clocked}
 use Rattle.rr_flat.specs.Signals.{Text}
 use Rattle.rr_flat.specs.Plain.{Flat}
@@ -56,6 +56,7 @@ TargetFits (Integers list) kind = Unit {0}
 TargetFits (Parameters p) kind = Unit {0}
 TargetFits (Assigns pairs) kind = Unit {0}
 TargetFits (Always events body token) kind = TargetStands body kind
+TargetFits (Initial body token) kind = Unit {0}
 TargetFits (Instances m token overrides list) kind = Unit {0}
 
 -- a guard or an overwrite of the module with this number stands in an item of it; its names are such as a guard may be there

@@ -10,11 +10,11 @@ use Rattle.rr_syntax.specs.declared.tree.Instance.{Instance}
 use Rattle.rr_syntax.specs.declared.tree.Item.TheVariants as item
 use Rattle.rr_syntax.specs.declared.tree.Module.{Module}
 use Rattle.rr_syntax.specs.declared.tree.Named.{Named}
-use Rattle.rr_syntax.specs.declared.tree.NetName.{NetName}
+use Rattle.rr_syntax.specs.declared.tree.Declarator.{Declarator}
 use Rattle.rr_syntax.specs.declared.tree.Pair.{Pair}
 use Rattle.rr_syntax.specs.declared.tree.Params.{Params}
 use Rattle.rr_syntax.specs.declared.tree.Stmt.{Stmt}
-use Rattle.rr_syntax.specs.View.{plain_identifier, plain_item, plain_module, plain_net, plain_port, plain_range}
+use Rattle.rr_syntax.specs.View.{plain_identifier, plain_item, plain_module, plain_declarator, plain_port, plain_range}
 use Rattle.rr_flat.specs.Signals.{Text}
 use Rattle.rr_guard.proofs.Lists.{any_more}
 use Rattle.rr_guard.specs.Names.{net_name}
@@ -31,41 +31,41 @@ pub identifier_text : (n : Named) → (plain_identifier n).text ≡ n.name.now
 unfolding plain_identifier
 identifier_text n = refl
 
-pub net_text : (n : NetName) → (net_name (plain_net n)).text ≡ n.name.now
-unfolding plain_net
+pub net_text : (n : Declarator) → (net_name (plain_declarator n)).text ≡ n.name.now
+unfolding plain_declarator
 net_text n = refl
 
 -- declarations by `reg`
 
-pub sets-OutputReg : (was : Bool) (name : Text) (g : Group) → g.dir ≡ dir.OutputReg → (was || port_sets name (plain_port g)) ≡ (was || is_in name (map plain_identifier g.names.now))
+pub sets-OutputReg : (was : Bool) (name : Text) (g : Group) → g.dir ≡ dir.OutputReg → (was || port_sets name (plain_port g)) ≡ (was || is_in name (map net_name (map plain_declarator g.names.now)))
 unfolding plain_port
-sets-OutputReg was name g e = ap (λ d. was || (is_reg d && is_in name (map plain_identifier g.names.now))) e
+sets-OutputReg was name g e = ap (λ d. was || (is_reg d && is_in name (map net_name (map plain_declarator g.names.now)))) e
 
 pub sets-Input : (was : Bool) (name : Text) (g : Group) → g.dir ≡ dir.Input → (was || port_sets name (plain_port g)) ≡ was
 unfolding plain_port
-sets-Input was name g e = ap (λ d. was || (is_reg d && is_in name (map plain_identifier g.names.now))) e ∙ or_none was
+sets-Input was name g e = ap (λ d. was || (is_reg d && is_in name (map net_name (map plain_declarator g.names.now)))) e ∙ or_none was
 
 pub sets-InputWire : (was : Bool) (name : Text) (g : Group) → g.dir ≡ dir.InputWire → (was || port_sets name (plain_port g)) ≡ was
 unfolding plain_port
-sets-InputWire was name g e = ap (λ d. was || (is_reg d && is_in name (map plain_identifier g.names.now))) e ∙ or_none was
+sets-InputWire was name g e = ap (λ d. was || (is_reg d && is_in name (map net_name (map plain_declarator g.names.now)))) e ∙ or_none was
 
 pub sets-Output : (was : Bool) (name : Text) (g : Group) → g.dir ≡ dir.Output → (was || port_sets name (plain_port g)) ≡ was
 unfolding plain_port
-sets-Output was name g e = ap (λ d. was || (is_reg d && is_in name (map plain_identifier g.names.now))) e ∙ or_none was
+sets-Output was name g e = ap (λ d. was || (is_reg d && is_in name (map net_name (map plain_declarator g.names.now)))) e ∙ or_none was
 
 pub sets-OutputWire : (was : Bool) (name : Text) (g : Group) → g.dir ≡ dir.OutputWire → (was || port_sets name (plain_port g)) ≡ was
 unfolding plain_port
-sets-OutputWire was name g e = ap (λ d. was || (is_reg d && is_in name (map plain_identifier g.names.now))) e ∙ or_none was
+sets-OutputWire was name g e = ap (λ d. was || (is_reg d && is_in name (map net_name (map plain_declarator g.names.now)))) e ∙ or_none was
 
 pub sets-Ports : (was : Bool) (name : Text) (g : Group) → (was || item_sets name (plain_item (item.Ports g))) ≡ (was || port_sets name (plain_port g))
 unfolding plain_item item_sets
 sets-Ports was name g = refl
 
-pub sets-Nets : (was : Bool) (name : Text) (signed : Bool) (range : Option Bounds) (names : Bor (List NetName)) → (was || item_sets name (plain_item (item.Nets signed range names))) ≡ was
+pub sets-Nets : (was : Bool) (name : Text) (signed : Bool) (range : Option Bounds) (names : Bor (List Declarator)) → (was || item_sets name (plain_item (item.Nets signed range names))) ≡ was
 unfolding plain_item item_sets
 sets-Nets was name signed range names = or_none was
 
-pub sets-Variables : (was : Bool) (name : Text) (signed : Bool) (range : Option Bounds) (names : Bor (List Named)) → (was || item_sets name (plain_item (item.Variables signed range names))) ≡ (was || is_in name (map plain_identifier names.now))
+pub sets-Variables : (was : Bool) (name : Text) (signed : Bool) (range : Option Bounds) (names : Bor (List Declarator)) → (was || item_sets name (plain_item (item.Variables signed range names))) ≡ (was || is_in name (map net_name (map plain_declarator names.now)))
 unfolding plain_item item_sets
 sets-Variables was name signed range names = refl
 
@@ -85,22 +85,26 @@ pub sets-Always : (was : Bool) (name : Text) (events : Events) (body : Bor Stmt)
 unfolding plain_item item_sets
 sets-Always was name events body token = or_none was
 
+pub sets-Initial : (was : Bool) (name : Text) (s : Bor Stmt) (token : ℕ) → (was || item_sets name (plain_item (item.Initial s token))) ≡ was
+unfolding plain_item item_sets
+sets-Initial was name s token = or_none was
+
 pub sets-Instances : (was : Bool) (name : Text) (m : Bor (List ℕ)) (token : ℕ) (overrides : Option Conns) (list : Bor (List Instance)) → (was || item_sets name (plain_item (item.Instances m token overrides list))) ≡ was
 unfolding plain_item item_sets
 sets-Instances was name m token overrides list = or_none was
 
 pub ruleset sets_nodes =
-    (sets-OutputReg, sets-Input, sets-InputWire, sets-Output, sets-OutputWire, sets-Ports, sets-Nets, sets-Variables, sets-Integers, sets-Parameters, sets-Assigns, sets-Always, sets-Instances)
+    (sets-OutputReg, sets-Input, sets-InputWire, sets-Output, sets-OutputWire, sets-Ports, sets-Nets, sets-Variables, sets-Integers, sets-Parameters, sets-Assigns, sets-Always, sets-Initial, sets-Instances)
 
 -- declarations as `integer` or with a range in which a name stands
 
-pub opens-some : (was : Bool) (name : Text) (g : Group) → is_open (plain_range g.range) ≡ true → (was || port_opens name (plain_port g)) ≡ (was || is_in name (map plain_identifier g.names.now))
+pub opens-some : (was : Bool) (name : Text) (g : Group) → is_open (plain_range g.range) ≡ true → (was || port_opens name (plain_port g)) ≡ (was || is_in name (map net_name (map plain_declarator g.names.now)))
 unfolding plain_port
-opens-some was name g e = ap (λ b. was || (b && is_in name (map plain_identifier g.names.now))) e
+opens-some was name g e = ap (λ b. was || (b && is_in name (map net_name (map plain_declarator g.names.now)))) e
 
 pub opens-none : (was : Bool) (name : Text) (g : Group) → is_open (plain_range g.range) ≡ false → (was || port_opens name (plain_port g)) ≡ was
 unfolding plain_port
-opens-none was name g e = ap (λ b. was || (b && is_in name (map plain_identifier g.names.now))) e ∙ or_none was
+opens-none was name g e = ap (λ b. was || (b && is_in name (map net_name (map plain_declarator g.names.now)))) e ∙ or_none was
 
 pub and_some : (was b other : Bool) → b ≡ true → (was || (b && other)) ≡ (was || other)
 and_some was b other e = ap (λ z. was || (z && other)) e
@@ -112,11 +116,11 @@ pub opens-Ports : (was : Bool) (name : Text) (g : Group) → (was || item_opens 
 unfolding plain_item item_opens
 opens-Ports was name g = refl
 
-pub opens-Nets : (was : Bool) (name : Text) (signed : Bool) (range : Option Bounds) (names : Bor (List NetName)) → (was || item_opens name (plain_item (item.Nets signed range names))) ≡ (was || (is_open (plain_range range) && is_in name (map net_name (map plain_net names.now))))
+pub opens-Nets : (was : Bool) (name : Text) (signed : Bool) (range : Option Bounds) (names : Bor (List Declarator)) → (was || item_opens name (plain_item (item.Nets signed range names))) ≡ (was || (is_open (plain_range range) && is_in name (map net_name (map plain_declarator names.now))))
 unfolding plain_item item_opens
 opens-Nets was name signed range names = refl
 
-pub opens-Variables : (was : Bool) (name : Text) (signed : Bool) (range : Option Bounds) (names : Bor (List Named)) → (was || item_opens name (plain_item (item.Variables signed range names))) ≡ (was || (is_open (plain_range range) && is_in name (map plain_identifier names.now)))
+pub opens-Variables : (was : Bool) (name : Text) (signed : Bool) (range : Option Bounds) (names : Bor (List Declarator)) → (was || item_opens name (plain_item (item.Variables signed range names))) ≡ (was || (is_open (plain_range range) && is_in name (map net_name (map plain_declarator names.now))))
 unfolding plain_item item_opens
 opens-Variables was name signed range names = refl
 
@@ -136,11 +140,15 @@ pub opens-Always : (was : Bool) (name : Text) (events : Events) (body : Bor Stmt
 unfolding plain_item item_opens
 opens-Always was name events body token = or_none was
 
+pub opens-Initial : (was : Bool) (name : Text) (s : Bor Stmt) (token : ℕ) → (was || item_opens name (plain_item (item.Initial s token))) ≡ was
+unfolding plain_item item_opens
+opens-Initial was name s token = or_none was
+
 pub opens-Instances : (was : Bool) (name : Text) (m : Bor (List ℕ)) (token : ℕ) (overrides : Option Conns) (list : Bor (List Instance)) → (was || item_opens name (plain_item (item.Instances m token overrides list))) ≡ was
 unfolding plain_item item_opens
 opens-Instances was name m token overrides list = or_none was
 
-pub ruleset opens_nodes = (opens-some, opens-none, opens-Ports, opens-Nets, opens-Variables, opens-Integers, opens-Parameters, opens-Assigns, opens-Always, opens-Instances)
+pub ruleset opens_nodes = (opens-some, opens-none, opens-Ports, opens-Nets, opens-Variables, opens-Integers, opens-Parameters, opens-Assigns, opens-Always, opens-Initial, opens-Instances)
 
 -- of a module
 

@@ -4,7 +4,7 @@ use Rattle.std.specs.List.{list_any}
 use Rattle.std.specs.Str.{bytes_eq}
 use Rattle.rr_syntax.specs.declared.tree.Dir.{Dir}
 use Rattle.rr_syntax.specs.declared.tree.Dir.TheVariants as dir
-use Rattle.rr_syntax.specs.Tree.{Identifier, Range, PortDeclaration, Statement, ModuleItem, Ports, Nets, Variables, Integers, Parameters, Assigns, Always, Instances, ModuleDeclaration}
+use Rattle.rr_syntax.specs.Tree.{Identifier, Range, PortDeclaration, Statement, ModuleItem, Ports, Nets, Variables, Integers, Parameters, Assigns, Always, Initial, Instances, ModuleDeclaration}
 use Rattle.rr_expr.specs.Scopes.{Names, meant, entity_shape}
 use Rattle.rr_flat.specs.Reads.{Assigned, assigned_by, names_in}
 use Rattle.rr_flat.specs.Signals.{Text}
@@ -49,17 +49,18 @@ abbrev pub is_in : Text → List Identifier → Bool
 is_in name list = list_any (λ (x : Identifier). bytes_eq name x.text) list
 
 abbrev pub port_opens : Text → PortDeclaration → Bool
-port_opens name p = is_open p.range && is_in name p.names
+port_opens name p = is_open p.range && is_in name (map net_name p.names)
 
 -- a declaration of a name as `integer`, or with such a range
 unfoldable pub item_opens : Text → ModuleItem → Bool
 item_opens name (Ports p) = port_opens name p
 item_opens name (Nets signed range list) = is_open range && is_in name (map net_name list)
-item_opens name (Variables signed range list) = is_open range && is_in name list
+item_opens name (Variables signed range list) = is_open range && is_in name (map net_name list)
 item_opens name (Integers list) = is_in name list
 item_opens name (Parameters p) = false
 item_opens name (Assigns pairs) = false
 item_opens name (Always events body token) = false
+item_opens name (Initial s token) = false
 item_opens name (Instances m token overrides list) = false
 
 abbrev pub is_reg : Dir → Bool
@@ -71,16 +72,17 @@ is_reg dir.OutputReg = true
 
 -- a declaration of a name by `reg`
 abbrev pub port_sets : Text → PortDeclaration → Bool
-port_sets name p = is_reg p.dir && is_in name p.names
+port_sets name p = is_reg p.dir && is_in name (map net_name p.names)
 
 unfoldable pub item_sets : Text → ModuleItem → Bool
 item_sets name (Ports p) = port_sets name p
 item_sets name (Nets signed range list) = false
-item_sets name (Variables signed range list) = is_in name list
+item_sets name (Variables signed range list) = is_in name (map net_name list)
 item_sets name (Integers list) = false
 item_sets name (Parameters p) = false
 item_sets name (Assigns pairs) = false
 item_sets name (Always events body token) = false
+item_sets name (Initial s token) = false
 item_sets name (Instances m token overrides list) = false
 
 abbrev pub is_variable : ModuleDeclaration → Text → Bool

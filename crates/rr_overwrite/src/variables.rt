@@ -2,7 +2,7 @@
 
 ghost use Rattle.std.specs.Prelude.{◌≡◌, ◌||◌, ◌&&◌, IfOk, OnOk, map};
 ghost use Rattle.std.specs.List.{list_any};
-ghost use Rattle.rr_syntax.specs.View.{plain_identifier, plain_item, plain_module, plain_net, plain_port, plain_range};
+ghost use Rattle.rr_syntax.specs.View.{plain_identifier, plain_item, plain_module, plain_declarator, plain_port, plain_range};
 ghost use Rattle.rr_flat.specs.Signals.{Text};
 ghost use Rattle.rr_guard.specs.Candidates.{is_among};
 ghost use Rattle.rr_guard.specs.Names.{net_name};
@@ -11,7 +11,7 @@ ghost use Rattle.rr_overwrite.specs.Variables.{AreVariables};
 
 use crate::ranges::is_open;
 use rr_guard::TextSet;
-use rr_syntax::{Bounds, Dir, Group, Item, Module, Named, NetName};
+use rr_syntax::{Bounds, Declarator, Dir, Group, Item, Module, Named};
 use std::alloc::{AllocError, Global};
 
 /// The names that a module declares by `reg`, and those that no last assignment may write: those of an
@@ -31,11 +31,11 @@ fn add_names<'a>(set: &mut TextSet<'a>, names: &[Named<'a>]) -> Result<(), Alloc
     Ok(())
 }
 
-fn add_nets<'a>(set: &mut TextSet<'a>, nets: &[NetName<'a>]) -> Result<(), AllocError>
-    ensures { OnOk result ((name : Text) → is_among name set.new ≡ (is_among name set.old || is_in name (map net_name (map plain_net nets.now)))) }
+fn add_declared<'a>(set: &mut TextSet<'a>, names: &[Declarator<'a>]) -> Result<(), AllocError>
+    ensures { OnOk result ((name : Text) → is_among name set.new ≡ (is_among name set.old || is_in name (map net_name (map plain_declarator names.now)))) }
 {
-    for net in nets.iter() {
-        set.add(net.name)?;
+    for declared in names.iter() {
+        set.add(declared.name)?;
     }
     Ok(())
 }
@@ -46,7 +46,7 @@ fn add_set_by_port<'a>(set: &mut TextSet<'a>, group: &Group<'a>) -> Result<(), A
     ensures { OnOk result ((name : Text) → is_among name set.new ≡ (is_among name set.old || port_sets name (plain_port group.now))) }
 {
     match group.dir {
-        Dir::OutputReg => add_names(set, group.names),
+        Dir::OutputReg => add_declared(set, group.names),
         Dir::Input | Dir::InputWire | Dir::Output | Dir::OutputWire => Ok(()),
     }
 }
@@ -57,12 +57,13 @@ fn add_set_by_item<'a>(set: &mut TextSet<'a>, item: &Item<'a>) -> Result<(), All
 {
     match item {
         Item::Ports(group) => add_set_by_port(set, group),
-        Item::Variables { names, .. } => add_names(set, names),
+        Item::Variables { names, .. } => add_declared(set, names),
         Item::Nets { .. }
         | Item::Integers { .. }
         | Item::Parameters(_)
         | Item::Assigns { .. }
         | Item::Always { .. }
+        | Item::Initial { .. }
         | Item::Instances { .. } => Ok(()),
     }
 }
@@ -77,21 +78,7 @@ fn add_open_by_port<'a>(
     ensures { OnOk result ((name : Text) → is_among name set.new ≡ (is_among name set.old || port_opens name (plain_port group.now))) }
 {
     if is_open(alloc, &group.range)? {
-        return add_names(set, group.names);
-    }
-    Ok(())
-}
-
-fn add_open_nets<'a>(
-    alloc: Global,
-    set: &mut TextSet<'a>,
-    range: &Option<Bounds<'a>>,
-    nets: &[NetName<'a>],
-) -> Result<(), AllocError>
-    ensures { OnOk result ((name : Text) → is_among name set.new ≡ (is_among name set.old || (is_open_range (plain_range range.now) && is_in name (map net_name (map plain_net nets.now))))) }
-{
-    if is_open(alloc, range)? {
-        return add_nets(set, nets);
+        return add_declared(set, group.names);
     }
     Ok(())
 }
@@ -100,12 +87,12 @@ fn add_open_names<'a>(
     alloc: Global,
     set: &mut TextSet<'a>,
     range: &Option<Bounds<'a>>,
-    names: &[Named<'a>],
+    names: &[Declarator<'a>],
 ) -> Result<(), AllocError>
-    ensures { OnOk result ((name : Text) → is_among name set.new ≡ (is_among name set.old || (is_open_range (plain_range range.now) && is_in name (map plain_identifier names.now)))) }
+    ensures { OnOk result ((name : Text) → is_among name set.new ≡ (is_among name set.old || (is_open_range (plain_range range.now) && is_in name (map net_name (map plain_declarator names.now))))) }
 {
     if is_open(alloc, range)? {
-        return add_names(set, names);
+        return add_declared(set, names);
     }
     Ok(())
 }
@@ -121,11 +108,15 @@ fn add_open_by_item<'a>(
 {
     match item {
         Item::Ports(group) => add_open_by_port(alloc, set, group),
-        Item::Nets { range, names, .. } => add_open_nets(alloc, set, range, names),
-        Item::Variables { range, names, .. } => add_open_names(alloc, set, range, names),
+        Item::Nets { range, names, .. } | Item::Variables { range, names, .. } => {
+            add_open_names(alloc, set, range, names)
+        }
         Item::Integers { names } => add_names(set, names),
-        Item::Parameters(_) | Item::Assigns { .. } | Item::Always { .. } | Item::Instances { .. } =>
-            Ok(()),
+        Item::Parameters(_)
+        | Item::Assigns { .. }
+        | Item::Always { .. }
+        | Item::Initial { .. }
+        | Item::Instances { .. } => Ok(()),
     }
 }
 

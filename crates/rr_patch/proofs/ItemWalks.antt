@@ -13,15 +13,15 @@ use Rattle.rr_syntax.specs.declared.tree.Item.{Item}
 use Rattle.rr_syntax.specs.declared.tree.Item.TheVariants as item
 use Rattle.rr_syntax.specs.declared.tree.Module.{Module}
 use Rattle.rr_syntax.specs.declared.tree.Named.{Named}
-use Rattle.rr_syntax.specs.declared.tree.NetName.{NetName}
+use Rattle.rr_syntax.specs.declared.tree.Declarator.{Declarator}
 use Rattle.rr_syntax.specs.declared.tree.Pair.{Pair}
 use Rattle.rr_syntax.specs.declared.tree.Params.{Params}
 use Rattle.rr_syntax.specs.declared.tree.Stmt.{Stmt}
 use Rattle.rr_syntax.specs.Words.{Word, Marked, Reserved, keyword_endmodule, mark_close_parenthesis, mark_equals, mark_semicolon}
 use Rattle.rr_syntax.specs.Expressions.{spell}
-use Rattle.rr_syntax.specs.Items.{spell_type, spell_events, spell_overrides, spell_item, spell_parameters, spell_ports, spell_net, spell_pair, spell_connection, spell_instance, WellFormedPair, WellFormedItem, WellFormedModule, NumberedEach, NumberedSeparated, NumberedAll, NumberedNet, NumberedPair, NumberedConnection, NumberedConnections, NumberedInstance, NumberedItem, NumberedModule}
-use Rattle.rr_syntax.specs.View.{plain, plain_list, plain_statement, plain_range, plain_header, plain_parameter, plain_port, plain_value, plain_net, plain_pair, plain_events, plain_connection, plain_connections, plain_overrides, plain_instance, plain_item, plain_module}
-use Rattle.rr_syntax.proofs.ItemLengths.{separated_len, size-net-none, size-net-some, size-pair, size-connection-none, size-connection-some, size-positions, size-named, size-instance, size-Nets, size-Assigns, size-Always, size-Instances, size-module}
+use Rattle.rr_syntax.specs.Items.{spell_type, spell_events, spell_overrides, spell_item, spell_parameters, spell_ports, spell_declarator, spell_pair, spell_connection, spell_instance, WellFormedPair, WellFormedItem, WellFormedModule, NumberedEach, NumberedSeparated, NumberedAll, NumberedDeclarator, NumberedPair, NumberedConnection, NumberedConnections, NumberedInstance, NumberedItem, NumberedModule}
+use Rattle.rr_syntax.specs.View.{plain, plain_list, plain_statement, plain_range, plain_header, plain_parameter, plain_port, plain_value, plain_declarator, plain_pair, plain_events, plain_connection, plain_connections, plain_overrides, plain_instance, plain_item, plain_module}
+use Rattle.rr_syntax.proofs.ItemLengths.{separated_len, size-declarator-none, size-declarator-some, size-pair, size-connection-none, size-connection-some, size-positions, size-named, size-instance, size-Nets, size-Assigns, size-Always, size-Instances, size-module}
 use Rattle.rr_syntax.proofs.Lengths.{parts_len}
 use Rattle.rr_expr.specs.Faults.{first}
 use Rattle.rr_instance_laws.proofs.FirstLaws.{first_is}
@@ -41,12 +41,12 @@ module _ (ss : List Site) (ps : List Pick) where
   abbrev T : Bor Expr → List Piece
   T e = tree_pieces ss ps (plain e.now)
 
-  pub made_net_none : (o : List Change) (k : ℕ) (n : NetName) → n.value ≡ None → o ≡ o ++ changes k (net_pieces ss ps (plain_net n))
-  unfolding net_pieces value_pieces plain_net plain_value changes
+  pub made_net_none : (o : List Change) (k : ℕ) (n : Declarator) → n.value ≡ None → o ≡ o ++ changes k (net_pieces ss ps (plain_declarator n))
+  unfolding net_pieces value_pieces plain_declarator plain_value changes
   made_net_none o k n q = sym (append-nil o) ∙ ap (λ v. o ++ changes (k + 1) (value_pieces ss ps (plain_value v))) (sym q)
 
-  pub made_net_some : (o o' : List Change) (k : ℕ) (n : NetName) (e : Bor Expr) → n.value ≡ Some e → o' ≡ o ++ changes (k + 2) (T e) → o' ≡ o ++ changes k (net_pieces ss ps (plain_net n))
-  unfolding net_pieces value_pieces plain_net plain_value changes
+  pub made_net_some : (o o' : List Change) (k : ℕ) (n : Declarator) (e : Bor Expr) → n.value ≡ Some e → o' ≡ o ++ changes (k + 2) (T e) → o' ≡ o ++ changes k (net_pieces ss ps (plain_declarator n))
+  unfolding net_pieces value_pieces plain_declarator plain_value changes
   made_net_some o o' k n e q h = h ∙ ap (λ (i : ℕ). o ++ changes i (T e)) (omega arith) ∙ ap (λ v. o ++ changes (k + 1) (value_pieces ss ps (plain_value v))) (sym q)
 
   pub made_pair : (o o' : List Change) (k m : ℕ) (p : Pair) → m ≡ k + length (spell (plain p.target.now)) → o' ≡ o ++ changes (m + 1) (T p.value) → o' ≡ o ++ changes k (pair_pieces ss ps (plain_pair p))
@@ -97,7 +97,7 @@ module _ (ss : List Site) (ps : List Pick) where
   unfolding item_pieces plain_item
   made_Ports o k i g q = at_item o o k i (item.Ports g) q (stays o k (spell_item (plain_item (item.Ports g))))
 
-  pub made_Variables : (o : List Change) (k : ℕ) (i : Item) (signed : Bool) (range : Option Bounds) (names : Bor (List Named)) → i ≡ item.Variables signed range names → MadeItem o o k i
+  pub made_Variables : (o : List Change) (k : ℕ) (i : Item) (signed : Bool) (range : Option Bounds) (names : Bor (List Declarator)) → i ≡ item.Variables signed range names → MadeItem o o k i
   unfolding item_pieces plain_item
   made_Variables o k i signed range names q = at_item o o k i (item.Variables signed range names) q (stays o k (spell_item (plain_item (item.Variables signed range names))))
 
@@ -109,14 +109,18 @@ module _ (ss : List Site) (ps : List Pick) where
   unfolding item_pieces plain_item
   made_Parameters o k i p q = at_item o o k i (item.Parameters p) q (stays o k (spell_item (plain_item (item.Parameters p))))
 
-  pub made_Nets : (o o' : List Change) (k before : ℕ) (i : Item) (signed : Bool) (range : Option Bounds) (names : Bor (List NetName)) → i ≡ item.Nets signed range names →
-      before ≡ k + length (spell_type signed (plain_range range)) → o' ≡ o ++ changes before (each_pieces (net_pieces ss ps) (map plain_net names.now)) → MadeItem o o' k i
+  pub made_Initial : (o : List Change) (k : ℕ) (i : Item) (s : Bor Stmt) (token : ℕ) → i ≡ item.Initial s token → MadeItem o o k i
+  unfolding item_pieces plain_item
+  made_Initial o k i s token q = at_item o o k i (item.Initial s token) q (stays o k (spell_item (plain_item (item.Initial s token))))
+
+  pub made_Nets : (o o' : List Change) (k before : ℕ) (i : Item) (signed : Bool) (range : Option Bounds) (names : Bor (List Declarator)) → i ≡ item.Nets signed range names →
+      before ≡ k + length (spell_type signed (plain_range range)) → o' ≡ o ++ changes before (each_pieces (net_pieces ss ps) (map plain_declarator names.now)) → MadeItem o o' k i
   unfolding item_pieces plain_item changes
   made_Nets o o' k before i signed range names q n h =
       let W : List Word = spell_type signed (plain_range range) in
-      let S : List Piece = separated_pieces (net_pieces ss ps) (map plain_net names.now) in
-      let inner : changes (k + 1 + length W) (S ++ kept (Marked mark_semicolon ∷ [])) ≡ changes before (each_pieces (net_pieces ss ps) (map plain_net names.now)) =
-      kept_last (k + 1 + length W) S (Marked mark_semicolon ∷ []) ∙ ap (λ (j : ℕ). changes j S) (omega (arith, n)) ∙ separated_are (net_pieces ss ps) before (map plain_net names.now) in
+      let S : List Piece = separated_pieces (net_pieces ss ps) (map plain_declarator names.now) in
+      let inner : changes (k + 1 + length W) (S ++ kept (Marked mark_semicolon ∷ [])) ≡ changes before (each_pieces (net_pieces ss ps) (map plain_declarator names.now)) =
+      kept_last (k + 1 + length W) S (Marked mark_semicolon ∷ []) ∙ ap (λ (j : ℕ). changes j S) (omega (arith, n)) ∙ separated_are (net_pieces ss ps) before (map plain_declarator names.now) in
       at_item o o' k i (item.Nets signed range names) q (h ∙ ap (λ (l : List Change). o ++ l) (sym (kept_first (k + 1) W (S ++ kept (Marked mark_semicolon ∷ [])) ∙ inner)))
 
   pub made_Assigns : (o o' : List Change) (k : ℕ) (i : Item) (pairs : Bor (List Pair)) → i ≡ item.Assigns pairs → o' ≡ o ++ changes k (each_pieces (pair_pieces ss ps) (map plain_pair pairs.now)) → MadeItem o o' k i
@@ -160,11 +164,11 @@ module _ (ss : List Site) (ps : List Pick) where
       h ∙ ap (λ (l : List Change). o ++ l) (sym a)
 
   -- the same where the numbers of their tokens tell where the parts stand
-  pub net_none : (o : List Change) (n : NetName) → n.value ≡ None → Adds o o (NumberedNet (plain_net n)) (net_pieces ss ps (plain_net n))
+  pub net_none : (o : List Change) (n : Declarator) → n.value ≡ None → Adds o o (NumberedDeclarator (plain_declarator n)) (net_pieces ss ps (plain_declarator n))
   net_none o n q at w = made_net_none o at n q
 
-  pub net_some : (o o' : List Change) (k : ℕ) (n : NetName) (e : Bor Expr) → n.value ≡ Some e → k ≡ n.token + 2 → o' ≡ o ++ changes k (T e) → Adds o o' (NumberedNet (plain_net n)) (net_pieces ss ps (plain_net n))
-  unfolding NumberedNet plain_net
+  pub net_some : (o o' : List Change) (k : ℕ) (n : Declarator) (e : Bor Expr) → n.value ≡ Some e → k ≡ n.token + 2 → o' ≡ o ++ changes k (T e) → Adds o o' (NumberedDeclarator (plain_declarator n)) (net_pieces ss ps (plain_declarator n))
+  unfolding NumberedDeclarator plain_declarator
   net_some o o' k n e q m h at w = let a = w.0 in made_net_some o o' at n e q (h ∙ ap (λ (i : ℕ). o ++ changes i (T e)) (omega (arith, m, a)))
 
   pub pair_adds : (o o' : List Change) (k : ℕ) (p : Pair) → k ≡ first (plain p.target.now) + length (spell (plain p.target.now)) → o' ≡ o ++ changes (k + 1) (T p.value) → Adds o o' (PairAt (plain_pair p)) (pair_pieces ss ps (plain_pair p))
@@ -202,7 +206,7 @@ module _ (ss : List Site) (ps : List Pick) where
   pub Ports_adds : (o : List Change) (i : Item) (g : Group) → i ≡ item.Ports g → AddsItem o o i
   Ports_adds o i g q at w = made_Ports o at i g q
 
-  pub Variables_adds : (o : List Change) (i : Item) (signed : Bool) (range : Option Bounds) (names : Bor (List Named)) → i ≡ item.Variables signed range names → AddsItem o o i
+  pub Variables_adds : (o : List Change) (i : Item) (signed : Bool) (range : Option Bounds) (names : Bor (List Declarator)) → i ≡ item.Variables signed range names → AddsItem o o i
   Variables_adds o i signed range names q at w = made_Variables o at i signed range names q
 
   pub Integers_adds : (o : List Change) (i : Item) (names : Bor (List Named)) → i ≡ item.Integers names → AddsItem o o i
@@ -211,15 +215,18 @@ module _ (ss : List Site) (ps : List Pick) where
   pub Parameters_adds : (o : List Change) (i : Item) (p : Params) → i ≡ item.Parameters p → AddsItem o o i
   Parameters_adds o i p q at w = made_Parameters o at i p q
 
-  pub Nets_adds : (o o' : List Change) (i : Item) (signed : Bool) (range : Option Bounds) (names : Bor (List NetName)) → i ≡ item.Nets signed range names →
-      Adds o o' (NumberedEach spell_net NumberedNet (map plain_net names.now)) (each_pieces (net_pieces ss ps) (map plain_net names.now)) → AddsItem o o' i
+  pub Initial_adds : (o : List Change) (i : Item) (s : Bor Stmt) (token : ℕ) → i ≡ item.Initial s token → AddsItem o o i
+  Initial_adds o i s token q at w = made_Initial o at i s token q
+
+  pub Nets_adds : (o o' : List Change) (i : Item) (signed : Bool) (range : Option Bounds) (names : Bor (List Declarator)) → i ≡ item.Nets signed range names →
+      Adds o o' (NumberedEach spell_declarator NumberedDeclarator (map plain_declarator names.now)) (each_pieces (net_pieces ss ps) (map plain_declarator names.now)) → AddsItem o o' i
   unfolding NumberedItem plain_item
   Nets_adds o o' i signed range names q h =
       with_item o o' i (item.Nets signed range names) q
       (λ at w.
       let L : ℕ = length (spell_type signed (plain_range range)) in
-      let n = subst (NumberedSeparated spell_net NumberedNet (map plain_net names.now)) (omega arith) w.1.1 in
-      made_Nets o o' at (at + L) (item.Nets signed range names) signed range names refl refl (h (at + L) (separated_each spell_net NumberedNet (map plain_net names.now) (at + L) n)))
+      let n = subst (NumberedSeparated spell_declarator NumberedDeclarator (map plain_declarator names.now)) (omega arith) w.1.1 in
+      made_Nets o o' at (at + L) (item.Nets signed range names) signed range names refl refl (h (at + L) (separated_each spell_declarator NumberedDeclarator (map plain_declarator names.now) (at + L) n)))
 
   pub Assigns_adds : (o o' : List Change) (i : Item) (pairs : Bor (List Pair)) → i ≡ item.Assigns pairs →
       Adds o o' (NumberedEach spell_pair PairAt (map plain_pair pairs.now)) (each_pieces (pair_pieces ss ps) (map plain_pair pairs.now)) → AddsItem o o' i
@@ -254,7 +261,7 @@ module _ (ss : List Site) (ps : List Pick) where
       let n = subst (NumberedAll spell_item NumberedItem (map plain_item m.items.now)) (omega arith) w.1.3 in
       made_module o o' at first m refl (h first (all_both spell_item WellFormedItem NumberedItem (map plain_item m.items.now) first w.0.3 n))
 
-pub ruleset net_walks = (net_none, net_some, size-net-none, size-net-some)
+pub ruleset net_walks = (net_none, net_some, size-declarator-none, size-declarator-some)
 
 pub ruleset pair_walks = (pair_adds, size-pair)
 
@@ -264,6 +271,6 @@ pub ruleset connections_walks = (made_positions, named_adds, size-positions, siz
 
 pub ruleset child_walks = (child_adds, size-instance)
 
-pub ruleset item_walks = (Ports_adds, Variables_adds, Integers_adds, Parameters_adds, Nets_adds, Assigns_adds, Always_adds, Instances_adds, separated_len, size-Nets, size-Assigns, size-Always, size-Instances)
+pub ruleset item_walks = (Ports_adds, Variables_adds, Integers_adds, Parameters_adds, Initial_adds, Nets_adds, Assigns_adds, Always_adds, Instances_adds, separated_len, size-Nets, size-Assigns, size-Always, size-Instances)
 
 pub ruleset module_walks = (module_adds, size-module)

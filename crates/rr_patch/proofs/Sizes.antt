@@ -1,7 +1,7 @@
 -- The pieces of parts have as many tokens of the source as the parts have words.
 use Rattle.std.proofs.Common.{◌≡◌, List, length, ap}
-use Rattle.rr_syntax.specs.Tree.{NetIdentifier, NetAssignment, NamedConnection, ModuleInstance, ModuleItem, ModuleDeclaration}
-use Rattle.rr_syntax.specs.Items.{spell_net, spell_pair, spell_connection, spell_instance, spell_item, spell_module}
+use Rattle.rr_syntax.specs.Tree.{DeclaredName, NetAssignment, NamedConnection, ModuleInstance, ModuleItem, ModuleDeclaration}
+use Rattle.rr_syntax.specs.Items.{spell_declarator, spell_pair, spell_connection, spell_instance, spell_item, spell_module}
 use Rattle.rr_choice.specs.declared.pick.Pick.{Pick}
 use Rattle.rr_choice.specs.Sites.{Site}
 use Rattle.rr_respell.specs.Pieces.{source_words}
@@ -9,7 +9,7 @@ use Rattle.rr_respell.specs.Printing.{net_pieces, pair_pieces, connection_pieces
 use Rattle.rr_respell.proofs.SourceParts.{Free, free, net_makes, pair_makes, connection_makes, child_makes, item_makes, module_makes}
 
 module _ (ss : List Site) (ps : List Pick) where
-  pub net_size : (x : NetIdentifier) → length (source_words (net_pieces ss ps x)) ≡ length (spell_net x)
+  pub net_size : (x : DeclaredName) → length (source_words (net_pieces ss ps x)) ≡ length (spell_declarator x)
   net_size x = ap length (net_makes Free ss (free ss) ps x).source
 
   pub pair_size : (x : NetAssignment) → length (source_words (pair_pieces ss ps x)) ≡ length (spell_pair x)

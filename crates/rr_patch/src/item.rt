@@ -2,8 +2,8 @@
 //! of its tokens, so what stays needs no step.
 
 ghost use Rattle.std.specs.Prelude.{◌<◌, ◌^◌, length, map, IfOk};
-ghost use Rattle.rr_syntax.specs.Items.{spell_each, spell_item, spell_net, spell_pair, NumberedEach, NumberedNet};
-ghost use Rattle.rr_syntax.specs.View.{plain_item, plain_net, plain_pair};
+ghost use Rattle.rr_syntax.specs.Items.{spell_each, spell_item, spell_declarator, spell_pair, NumberedEach, NumberedDeclarator};
+ghost use Rattle.rr_syntax.specs.View.{plain_item, plain_declarator, plain_pair};
 ghost use Rattle.rr_respell.specs.Printing.{each_pieces, item_pieces, net_pieces, pair_pieces};
 ghost use Rattle.rr_patch.specs.Changes.{plain_changes};
 ghost use Rattle.rr_patch.specs.Walks.{Adds, ItemAt, PairAt};
@@ -14,19 +14,19 @@ use crate::connections::children;
 use crate::expression::expression;
 use rr_choice::{Choice, SiteList};
 use rr_expr::first_token;
-use rr_syntax::{Item, NetName, Pair, events_len, expression_len};
+use rr_syntax::{Declarator, Item, Pair, events_len, expression_len};
 use std::alloc::AllocError;
 
 /// The changes of a declared net, whose value begins two tokens after its name.
 #[tactic(auto, using(crate::proofs::ItemWalks::net_walks))]
 fn net<'a>(
-    net: &NetName,
+    net: &Declarator,
     list: &SiteList<'a>,
     choice: &Choice,
     out: &mut Vec<Change<'a>>,
 ) -> Result<(), AllocError>
-    requires fits { length (spell_net (plain_net net.now)) < 2 ^ 62 }
-    ensures { IfOk result (λ _. Adds (plain_changes out.old.items) (plain_changes out.new.items) (NumberedNet (plain_net net.now)) (net_pieces list.now choice.now.picks.items (plain_net net.now))) }
+    requires fits { length (spell_declarator (plain_declarator net.now)) < 2 ^ 62 }
+    ensures { IfOk result (λ _. Adds (plain_changes out.old.items) (plain_changes out.new.items) (NumberedDeclarator (plain_declarator net.now)) (net_pieces list.now choice.now.picks.items (plain_declarator net.now))) }
 {
     match net.value {
         None => Ok(()),
@@ -40,13 +40,13 @@ fn net<'a>(
 
 /// The changes of declared nets, each after a comma.
 fn nets<'a>(
-    entries: &[NetName],
+    entries: &[Declarator],
     list: &SiteList<'a>,
     choice: &Choice,
     out: &mut Vec<Change<'a>>,
 ) -> Result<(), AllocError>
-    requires fits { length (spell_each spell_net (map plain_net entries.now)) < 2 ^ 62 }
-    ensures { IfOk result (λ _. Adds (plain_changes out.old.items) (plain_changes out.new.items) (NumberedEach spell_net NumberedNet (map plain_net entries.now)) (each_pieces (net_pieces list.now choice.now.picks.items) (map plain_net entries.now))) }
+    requires fits { length (spell_each spell_declarator (map plain_declarator entries.now)) < 2 ^ 62 }
+    ensures { IfOk result (λ _. Adds (plain_changes out.old.items) (plain_changes out.new.items) (NumberedEach spell_declarator NumberedDeclarator (map plain_declarator entries.now)) (each_pieces (net_pieces list.now choice.now.picks.items) (map plain_declarator entries.now))) }
 {
     for one in entries.iter() {
         net(one, list, choice, out)?;
@@ -87,7 +87,7 @@ fn pairs<'a>(
 }
 
 /// The changes of an item; declarations of ports, variables and parameters stay, and so do ranges,
-/// overrides and event lists.
+/// overrides, event lists and `initial` items.
 #[tactic(auto, using(crate::proofs::ItemWalks::item_walks))]
 pub(crate) fn item<'a>(
     item: &Item,
@@ -103,6 +103,7 @@ pub(crate) fn item<'a>(
         Item::Variables { .. } => Ok(()),
         Item::Integers { .. } => Ok(()),
         Item::Parameters(_) => Ok(()),
+        Item::Initial { .. } => Ok(()),
         Item::Nets { names, .. } => {
             nets(names, list, choice, out)?;
             Ok(())

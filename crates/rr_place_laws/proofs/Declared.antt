@@ -7,7 +7,7 @@ use Rattle.std.proofs.lemmas.List.Elements.{Contains-append_left, Contains-appen
 use Rattle.std.proofs.lemmas.Slice.Eq.{bytes_eq-Decides}
 use Rattle.rr_syntax.specs.declared.tree.Dir.{Dir}
 use Rattle.rr_syntax.specs.declared.tree.Dir.TheVariants as dir
-use Rattle.rr_syntax.specs.Tree.{Identifier, Range, PortDeclaration, ModuleItem, Ports, Nets, Variables, Integers, Parameters, Assigns, Always, Instances, ModuleDeclaration}
+use Rattle.rr_syntax.specs.Tree.{Identifier, Range, PortDeclaration, ModuleItem, Ports, Nets, Variables, Integers, Parameters, Assigns, Always, Initial, Instances, ModuleDeclaration}
 use Rattle.rr_flat.specs.Reads.{names_in}
 use Rattle.rr_flat.specs.Signals.{Text}
 use Rattle.rr_guard.specs.Names.{scalars_if, net_name, port_scalars, item_scalars, scalars}
@@ -51,37 +51,39 @@ if_in r names x e c = subst (λ o. Contains (scalars_if o names) x) e c
 
 item_from : (i : ModuleItem) (x : Identifier) → Contains (item_scalars i) x → (sort : Sort) × ItemDeclares i x None sort × (sort ≡ AsInteger → ⊥)
 unfolding item_scalars
-item_from (Ports p) x c = let r = if_from p.range p.names x c in (AsPort p.dir, (r.1, r.0, refl), no_port p.dir)
+item_from (Ports p) x c = let r = if_from p.range (map net_name p.names) x c in (AsPort p.dir, (r.1, r.0, refl), no_port p.dir)
 item_from (Nets signed range list) x c = let r = if_from range (map net_name list) x c in (AsNet, (r.1, r.0, refl), λ h. cc)
-item_from (Variables signed range list) x c = let r = if_from range list x c in (AsVariable, (r.1, r.0, refl), λ h. cc)
+item_from (Variables signed range list) x c = let r = if_from range (map net_name list) x c in (AsVariable, (r.1, r.0, refl), λ h. cc)
 item_from (Integers list) x c = absurd (none_in x c)
 item_from (Parameters p) x c = absurd (none_in x c)
 item_from (Assigns pairs) x c = absurd (none_in x c)
 item_from (Always events body token) x c = absurd (none_in x c)
+item_from (Initial body token) x c = absurd (none_in x c)
 item_from (Instances m token over list) x c = absurd (none_in x c)
 
 item_in : (i : ModuleItem) (x : Identifier) (sort : Sort) → ItemDeclares i x None sort → (sort ≡ AsInteger → ⊥) → Contains (item_scalars i) x
 unfolding item_scalars
-item_in (Ports p) x sort h n = if_in p.range p.names x h.1 h.0
+item_in (Ports p) x sort h n = if_in p.range (map net_name p.names) x h.1 h.0
 item_in (Nets signed range list) x sort h n = if_in range (map net_name list) x h.1 h.0
-item_in (Variables signed range list) x sort h n = if_in range list x h.1 h.0
+item_in (Variables signed range list) x sort h n = if_in range (map net_name list) x h.1 h.0
 item_in (Integers list) x sort h n = absurd (n h.2)
 item_in (Parameters p) x sort h n = absurd h
 item_in (Assigns pairs) x sort h n = absurd h
 item_in (Always events body token) x sort h n = absurd h
+item_in (Initial body token) x sort h n = absurd h
 item_in (Instances m token over list) x sort h n = absurd h
 
 pub scalars_from : (m : ModuleDeclaration) (x : Identifier) → Contains (scalars m) x → IsScalar m x
 unfolding scalars
 scalars_from m x c = elim (Contains-append_cases (flat_map port_scalars m.groups) (flat_map item_scalars m.items) x c) [
-  | inl d ↦ let r = flat_from port_scalars m.groups x d in let q = if_from r.0.range r.0.names x r.2 in (record { sort = AsPort r.0.dir; declared = inl (r.0, r.1, (q.1, q.0, refl)); no_integer = no_port r.0.dir })
+  | inl d ↦ let r = flat_from port_scalars m.groups x d in let q = if_from r.0.range (map net_name r.0.names) x r.2 in (record { sort = AsPort r.0.dir; declared = inl (r.0, r.1, (q.1, q.0, refl)); no_integer = no_port r.0.dir })
   | inr d ↦ let r = flat_from item_scalars m.items x d in let q = item_from r.0 x r.2 in (record { sort = q.0; declared = inr (r.0, r.1, q.1); no_integer = q.2 })
 ]
 
 declared_in : (m : ModuleDeclaration) (x : Identifier) (sort : Sort) → Declares m x None sort → (sort ≡ AsInteger → ⊥) → Contains (scalars m) x
 unfolding scalars
 declared_in m x sort (inl (p, c, h)) n =
-    Contains-append_left (flat_map port_scalars m.groups) (flat_map item_scalars m.items) x (flat_in port_scalars m.groups p x c (if_in p.range p.names x h.1 h.0))
+    Contains-append_left (flat_map port_scalars m.groups) (flat_map item_scalars m.items) x (flat_in port_scalars m.groups p x c (if_in p.range (map net_name p.names) x h.1 h.0))
 declared_in m x sort (inr (i, c, h)) n =
     Contains-append_right (flat_map port_scalars m.groups) (flat_map item_scalars m.items) x (flat_in item_scalars m.items i x c (item_in i x sort h n))
 
@@ -109,17 +111,18 @@ port_reg d sort e (inr h) = let no : AsPort d ≡ AsVariable = sym e ∙ h in ab
 
 port_sets_from : (name : Text) (p : PortDeclaration) → port_sets name p ≡ true → (x : Identifier) × PortDeclares p x p.range (AsPort p.dir) × (x.text ≡ name) × IsByReg (AsPort p.dir)
 port_sets_from name p h =
-    let r = and_parts (is_reg p.dir) (is_in name p.names) h in let q = named_from name p.names r.1 in (q.0, (q.1, refl, refl), q.2, inl (ap AsPort (reg_from p.dir r.0)))
+    let r = and_parts (is_reg p.dir) (is_in name (map net_name p.names)) h in let q = named_from name (map net_name p.names) r.1 in (q.0, (q.1, refl, refl), q.2, inl (ap AsPort (reg_from p.dir r.0)))
 
 item_sets_from : (name : Text) (i : ModuleItem) → item_sets name i ≡ true → (x : Identifier) × (range : Option Range) × (sort : Sort) × ItemDeclares i x range sort × (x.text ≡ name) × IsByReg sort
 unfolding item_sets
 item_sets_from name (Ports p) h = let r = port_sets_from name p h in (r.0, p.range, AsPort p.dir, r.1, r.2, r.3)
 item_sets_from name (Nets signed range list) h = absurd (both_ways false refl h)
-item_sets_from name (Variables signed range list) h = let q = named_from name list h in (q.0, range, AsVariable, (q.1, refl, refl), q.2, inr refl)
+item_sets_from name (Variables signed range list) h = let q = named_from name (map net_name list) h in (q.0, range, AsVariable, (q.1, refl, refl), q.2, inr refl)
 item_sets_from name (Integers list) h = absurd (both_ways false refl h)
 item_sets_from name (Parameters p) h = absurd (both_ways false refl h)
 item_sets_from name (Assigns pairs) h = absurd (both_ways false refl h)
 item_sets_from name (Always events body token) h = absurd (both_ways false refl h)
+item_sets_from name (Initial body token) h = absurd (both_ways false refl h)
 item_sets_from name (Instances m token over list) h = absurd (both_ways false refl h)
 
 pub variable_from : (m : ModuleDeclaration) (name : Text) → is_variable m name ≡ true → IsVariable m name
@@ -129,19 +132,20 @@ variable_from m name h = elim (or_cases (list_any (port_sets name) m.groups) (li
 ]
 
 port_sets_in : (name : Text) (p : PortDeclaration) (x : Identifier) (range : Option Range) (sort : Sort) → PortDeclares p x range sort → x.text ≡ name → IsByReg sort → port_sets name p ≡ true
-port_sets_in name p x range sort h e r = and_from (is_reg p.dir) (is_in name p.names) (port_reg p.dir sort h.2 r) (named_in name p.names x h.0 e)
+port_sets_in name p x range sort h e r = and_from (is_reg p.dir) (is_in name (map net_name p.names)) (port_reg p.dir sort h.2 r) (named_in name (map net_name p.names) x h.0 e)
 
 item_sets_in : (name : Text) (i : ModuleItem) (x : Identifier) (range : Option Range) (sort : Sort) → ItemDeclares i x range sort → x.text ≡ name → IsByReg sort → item_sets name i ≡ true
 unfolding item_sets
 item_sets_in name (Ports p) x range sort h e r = port_sets_in name p x range sort h e r
 item_sets_in name (Nets signed o list) x range sort h e (inl r) = let no : AsNet ≡ AsPort dir.OutputReg = sym h.2 ∙ r in absurd cc
 item_sets_in name (Nets signed o list) x range sort h e (inr r) = let no : AsNet ≡ AsVariable = sym h.2 ∙ r in absurd cc
-item_sets_in name (Variables signed o list) x range sort h e r = named_in name list x h.0 e
+item_sets_in name (Variables signed o list) x range sort h e r = named_in name (map net_name list) x h.0 e
 item_sets_in name (Integers list) x range sort h e (inl r) = let no : AsInteger ≡ AsPort dir.OutputReg = sym h.2 ∙ r in absurd cc
 item_sets_in name (Integers list) x range sort h e (inr r) = let no : AsInteger ≡ AsVariable = sym h.2 ∙ r in absurd cc
 item_sets_in name (Parameters p) x range sort h e r = absurd h
 item_sets_in name (Assigns pairs) x range sort h e r = absurd h
 item_sets_in name (Always events body token) x range sort h e r = absurd h
+item_sets_in name (Initial body token) x range sort h e r = absurd h
 item_sets_in name (Instances m token over list) x range sort h e r = absurd h
 
 pub variable_in : (m : ModuleDeclaration) (name : Text) → IsVariable m name → is_variable m name ≡ true
@@ -178,7 +182,7 @@ NoneOpens m name = (list_any (port_opens name) m.groups ≡ true → ⊥) × (li
 port_plain : (name : Text) (p : PortDeclaration) (x : Identifier) (range : Option Range) (sort : Sort) → (port_opens name p ≡ true → ⊥) → PortDeclares p x range sort → x.text ≡ name → (sort ≡ AsInteger → ⊥) × HasNoNames range
 port_plain name p x range sort n h e = (
   λ s. no_port p.dir (sym h.2 ∙ s),
-  subst HasNoNames (sym h.1) (open_none p.range (λ o. n (and_from (is_open p.range) (is_in name p.names) o (named_in name p.names x h.0 e)))),
+  subst HasNoNames (sym h.1) (open_none p.range (λ o. n (and_from (is_open p.range) (is_in name (map net_name p.names)) o (named_in name (map net_name p.names) x h.0 e)))),
 )
 
 item_plain : (name : Text) (i : ModuleItem) (x : Identifier) (range : Option Range) (sort : Sort) → (item_opens name i ≡ true → ⊥) → ItemDeclares i x range sort → x.text ≡ name → (sort ≡ AsInteger → ⊥) × HasNoNames range
@@ -190,12 +194,13 @@ item_plain name (Nets signed o list) x range sort n h e = (
 )
 item_plain name (Variables signed o list) x range sort n h e = (
   λ s. let no : AsVariable ≡ AsInteger = sym h.2 ∙ s in cc,
-  subst HasNoNames (sym h.1) (open_none o (λ q. n (and_from (is_open o) (is_in name list) q (named_in name list x h.0 e)))),
+  subst HasNoNames (sym h.1) (open_none o (λ q. n (and_from (is_open o) (is_in name (map net_name list)) q (named_in name (map net_name list) x h.0 e)))),
 )
 item_plain name (Integers list) x range sort n h e = absurd (n (named_in name list x h.0 e))
 item_plain name (Parameters p) x range sort n h e = absurd h
 item_plain name (Assigns pairs) x range sort n h e = absurd h
 item_plain name (Always events body token) x range sort n h e = absurd h
+item_plain name (Initial body token) x range sort n h e = absurd h
 item_plain name (Instances m token over list) x range sort n h e = absurd h
 
 plain_from : (m : ModuleDeclaration) (name : Text) → NoneOpens m name → IsPlain m name
@@ -204,8 +209,8 @@ plain_from m name n x range sort (inr (i, c, h)) e = item_plain name i x range s
 
 port_opens_not : (m : ModuleDeclaration) (name : Text) → IsPlain m name → (p : PortDeclaration) → ((x : Identifier) → PortDeclares p x p.range (AsPort p.dir) → Declares m x p.range (AsPort p.dir)) → port_opens name p ≡ true → ⊥
 port_opens_not m name h p d e =
-    let r = and_parts (is_open p.range) (is_in name p.names) e in
-    let q = named_from name p.names r.1 in
+    let r = and_parts (is_open p.range) (is_in name (map net_name p.names)) e in
+    let q = named_from name (map net_name p.names) r.1 in
     none_open p.range (h q.0 p.range (AsPort p.dir) (d q.0 (q.1, refl, refl)) q.2).1 r.0
 
 item_opens_not : (m : ModuleDeclaration) (name : Text) → IsPlain m name → (i : ModuleItem) → Contains m.items i → item_opens name i ≡ true → ⊥
@@ -216,11 +221,14 @@ item_opens_not m name h (Nets signed range list) c e =
     let q = named_from name (map net_name list) r.1 in
     none_open range (h q.0 range AsNet (inr (Nets signed range list, c, (q.1, refl, refl))) q.2).1 r.0
 item_opens_not m name h (Variables signed range list) c e =
-    let r = and_parts (is_open range) (is_in name list) e in let q = named_from name list r.1 in none_open range (h q.0 range AsVariable (inr (Variables signed range list, c, (q.1, refl, refl))) q.2).1 r.0
+    let r = and_parts (is_open range) (is_in name (map net_name list)) e in
+    let q = named_from name (map net_name list) r.1 in
+    none_open range (h q.0 range AsVariable (inr (Variables signed range list, c, (q.1, refl, refl))) q.2).1 r.0
 item_opens_not m name h (Integers list) c e = let q = named_from name list e in (h q.0 None AsInteger (inr (Integers list, c, (q.1, refl, refl))) q.2).0 refl
 item_opens_not m name h (Parameters p) c e = both_ways false refl e
 item_opens_not m name h (Assigns pairs) c e = both_ways false refl e
 item_opens_not m name h (Always events body token) c e = both_ways false refl e
+item_opens_not m name h (Initial body token) c e = both_ways false refl e
 item_opens_not m name h (Instances k token over list) c e = both_ways false refl e
 
 plain_in : (m : ModuleDeclaration) (name : Text) → IsPlain m name → NoneOpens m name

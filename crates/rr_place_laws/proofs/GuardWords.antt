@@ -5,7 +5,7 @@ use Rattle.std.specs.Str.{bytes_eq}
 use Rattle.std.proofs.lemmas.Bool.{and_parts, and_from, or_cases, or_left, or_right, both_ways, not-true, not_from_false, false_from_ne_true, ltb-true, lt-ltb, cases_Bool}
 use Rattle.std.proofs.lemmas.Slice.Eq.{bytes_eq-Decides}
 use Rattle.rr_syntax.specs.Items.{WellFormedModule, NumberedModule}
-use Rattle.rr_syntax.specs.Tree.{Tree, Name, Literal, Bit, Part, Indexed, Unary, Binary, Cond, Concat, Repeat, Cast, Paren, Identifier, Statement, EventControl, ModuleItem, Ports, Nets, Variables, Integers, Parameters, Assigns, Always, Instances, ModuleDeclaration}
+use Rattle.rr_syntax.specs.Tree.{Tree, Name, Literal, Bit, Part, Indexed, Unary, Binary, Cond, Concat, Repeat, Cast, Paren, Identifier, Statement, EventControl, ModuleItem, Ports, Nets, Variables, Integers, Parameters, Assigns, Always, Initial, Instances, ModuleDeclaration}
 use Rattle.rr_flat.specs.Reads.{Assigned, assigned_by}
 use Rattle.rr_flat.specs.Signals.{Text}
 use Rattle.rr_flat.specs.Targets.{part_name}
@@ -45,6 +45,7 @@ edges_from (Always events body token) a c = by (has_edges events) refl c
     by : (b : Bool) → has_edges events ≡ b → Contains (if b then assigned_by body else []) a → AtEdges (Always events body token) a
     by true e c = record { events = events; body = body; token = token; is = refl; edges = e; there = c }
     by false e c = absurd (none_in a c)
+edges_from (Initial body token) a c = absurd (none_in a c)
 edges_from (Instances m token over list) a c = absurd (none_in a c)
 
 block_of : (m : ModuleDeclaration) (i : ModuleItem) (a : Assigned) → Contains m.items i → (h : AtEdges i a) → IsClockedBlock m h.body

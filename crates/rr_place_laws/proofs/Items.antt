@@ -1,6 +1,6 @@
 -- The spots of an item are the body of an `always`, and the literals and tests that stand in it.
 use Rattle.std.proofs.Common.{◌≡◌, inl, inr, ℕ, [], ◌++◌, Option, Some, None, Contains, refl, sym, subst}
-use Rattle.rr_syntax.specs.Tree.{Tree, Trees, Literal, Statement, EventControl, Connections, Positions, Names, ModuleItem, Ports, Nets, Variables, Integers, Parameters, Assigns, Always, Instances}
+use Rattle.rr_syntax.specs.Tree.{Tree, Trees, Literal, Statement, EventControl, Connections, Positions, Names, ModuleItem, Ports, Nets, Variables, Integers, Parameters, Assigns, Always, Initial, Instances}
 use Rattle.rr_spots.specs.Spots.{Spot, Body, Test, Value, spots, spots_of, spots_of_parts, spots_of_value, spots_of_net, spots_of_pair, spots_of_connection, spots_of_connections, spots_of_instance, spots_of_item}
 use Rattle.rr_place_laws.specs.Places.{IsConnected, in_order, by_name, IsPlace, of_net, of_assign, of_always, of_instance, Stands, IsTest, of_statement, of_conditional}
 use Rattle.rr_place_laws.proofs.Lists.{head_in, tail_in, none_in, all_in, cases_in, flat_in, flat_from}
@@ -59,6 +59,7 @@ item_there (Always events body token) s c = elim (cases_in (Body body) (spots_of
   | inl e ↦ subst (IsSpotAt (Always events body token)) e (record { events = events; token = token; is = refl })
   | inr d ↦ of_body events body token s (all_in (IsSpotOf body) (spots_of body) s (spots_there body) d)
 ]
+item_there (Initial body token) s c = absurd (none_in s c)
 item_there (Instances m token over list) s c =
     let r = flat_from spots_of_instance list s c in of_connections r.0.connections (Instances m token over list) (λ e h. of_instance r.0 r.1 h) s r.2
 

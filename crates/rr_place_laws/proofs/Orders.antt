@@ -3,7 +3,7 @@ use Rattle.std.proofs.Common.{◌≡◌, inl, inr, ℕ, zero, suc, ◌+◌, ◌<
 use Rattle.std.specs.List.{AllByRecursion}
 use Rattle.std.proofs.lemmas.List.Elements.{Contains-append_left, Contains-append_cases, Contains-get_or}
 use Rattle.rr_syntax.specs.Items.{spell_item, spell_parameters, spell_ports, spell_all, spell_module, WellFormedItem, WellFormedModule, WellFormedSource, NumberedAll, NumberedItem, NumberedModule, NumberedSource}
-use Rattle.rr_syntax.specs.Tree.{Statement, EventControl, ModuleItem, Ports, Nets, Variables, Integers, Parameters, Assigns, Always, Instances, ModuleDeclaration, SourceText}
+use Rattle.rr_syntax.specs.Tree.{Statement, EventControl, ModuleItem, Ports, Nets, Variables, Integers, Parameters, Assigns, Always, Initial, Instances, ModuleDeclaration, SourceText}
 use Rattle.rr_expr.specs.Scopes.{Names}
 use Rattle.rr_flat.specs.Signals.{Text}
 use Rattle.rr_flat_instance.specs.Owned.{start_of}
@@ -119,6 +119,7 @@ IsAlways (Integers list) = ⊥
 IsAlways (Parameters p) = ⊥
 IsAlways (Assigns pairs) = ⊥
 IsAlways (Always events body token) = Unit {0}
+IsAlways (Initial body token) = ⊥
 IsAlways (Instances m token over list) = ⊥
 
 abbrev IsNoBody : Spot → Type 0
@@ -212,6 +213,7 @@ module _ (ms : List ModuleDeclaration) (owner : ℕ) (scope : Names) (clocks : L
   item_up (Parameters p) c = no_always (Parameters p) (λ h. h)
   item_up (Assigns pairs) c = no_always (Assigns pairs) (λ h. h)
   item_up (Always events body token) c = always_up events body token c
+  item_up (Initial body token) c = no_always (Initial body token) (λ h. h)
   item_up (Instances k token over list) c = no_always (Instances k token over list) (λ h. h)
 
   abbrev f : ModuleItem → List Site

@@ -1,7 +1,7 @@
 -- The scalars of a module are listed in the order of their tokens.
 use Rattle.std.proofs.Common.{◌≡◌, ℕ, ◌+◌, Bool, List, [], ◌∷◌, length, map, flat_map, Option, Some, None, refl, subst, ap, arith, length-append}
-use Rattle.rr_syntax.specs.Tree.{Identifier, Range, PortDeclaration, NetIdentifier, ModuleItem, Ports, Nets, Variables, Integers, Parameters, Assigns, Always, Instances, ModuleDeclaration}
-use Rattle.rr_syntax.specs.Items.{spell_each, spell_separated, spell_all, spell_identifier, spell_type, spell_dir, spell_port, spell_net, spell_item, spell_parameters, spell_ports, IsHeader, WellFormedModule, NumberedEach, NumberedSeparated, NumberedAll, NumberedIdentifier, NumberedPort, NumberedNet, NumberedItem, NumberedPorts, NumberedModule}
+use Rattle.rr_syntax.specs.Tree.{Identifier, Range, PortDeclaration, DeclaredName, ModuleItem, Ports, Nets, Variables, Integers, Parameters, Assigns, Always, Initial, Instances, ModuleDeclaration}
+use Rattle.rr_syntax.specs.Items.{spell_each, spell_separated, spell_all, spell_identifier, spell_type, spell_dir, spell_port, spell_declarator, spell_item, spell_parameters, spell_ports, IsHeader, WellFormedModule, NumberedEach, NumberedSeparated, NumberedAll, NumberedPort, NumberedDeclarator, NumberedItem, NumberedPorts, NumberedModule}
 use Rattle.rr_syntax.specs.Words.{Word}
 use Rattle.rr_flat_instance.proofs.Spans as span
 use Rattle.rr_guard.specs.Names.{scalars_if, net_name, port_scalars, item_scalars, scalars}
@@ -47,23 +47,12 @@ singles : {A : Type 0} (g : A → Identifier) (xs : List A) → flat_map (λ a. 
 singles g [] = refl
 singles g (x ∷ xs) = ap (λ ys. g x ∷ ys) (singles g xs)
 
-alone : (xs : List Identifier) → flat_map (λ (a : Identifier). a ∷ []) xs ≡ xs
-alone [] = refl
-alone (x ∷ xs) = ap (λ ys. x ∷ ys) (alone xs)
+net_in : (x : DeclaredName) (at : ℕ) → NumberedDeclarator x at → In at (at + length (spell_declarator x)) (net_name x ∷ [])
+unfolding NumberedDeclarator spell_declarator
+net_in x at n = let e = n.0 in spread_one token_of at (at + length (spell_declarator x)) (net_name x) (omega (arith, e)) (omega (arith, e))
 
-name_in : (x : Identifier) (at : ℕ) → NumberedIdentifier x at → In at (at + length (spell_identifier x)) (x ∷ [])
-unfolding NumberedIdentifier spell_identifier
-name_in x at n = spread_one token_of at (at + 1) x (omega (arith, n)) (omega (arith, n))
-
-net_in : (x : NetIdentifier) (at : ℕ) → NumberedNet x at → In at (at + length (spell_net x)) (net_name x ∷ [])
-unfolding NumberedNet spell_net
-net_in x at n = let e = n.0 in spread_one token_of at (at + length (spell_net x)) (net_name x) (omega (arith, e)) (omega (arith, e))
-
-names_in_order : (xs : List Identifier) (at : ℕ) → NumberedSeparated spell_identifier NumberedIdentifier xs at → In at (at + length (spell_separated spell_identifier xs)) xs
-names_in_order xs at n = subst (In at (at + length (spell_separated spell_identifier xs))) (alone xs) (separated_in spell_identifier NumberedIdentifier (λ (a : Identifier). a ∷ []) name_in xs at n)
-
-nets_in_order : (xs : List NetIdentifier) (at : ℕ) → NumberedSeparated spell_net NumberedNet xs at → In at (at + length (spell_separated spell_net xs)) (map net_name xs)
-nets_in_order xs at n = subst (In at (at + length (spell_separated spell_net xs))) (singles net_name xs) (separated_in spell_net NumberedNet (λ a. net_name a ∷ []) net_in xs at n)
+nets_in_order : (xs : List DeclaredName) (at : ℕ) → NumberedSeparated spell_declarator NumberedDeclarator xs at → In at (at + length (spell_separated spell_declarator xs)) (map net_name xs)
+nets_in_order xs at n = subst (In at (at + length (spell_separated spell_declarator xs))) (singles net_name xs) (separated_in spell_declarator NumberedDeclarator (λ a. net_name a ∷ []) net_in xs at n)
 
 if_in_order : (r : Option Range) (low high : ℕ) (xs : List Identifier) → In low high xs → In low high (scalars_if r xs)
 if_in_order None low high xs h = h
@@ -71,7 +60,7 @@ if_in_order (Some r) low high xs h = spread_none token_of low high
 
 -- Declarations and items
 
-long-port : (p : PortDeclaration) → length (spell_port p) ≡ length (spell_dir p.dir) + length (spell_type p.signed p.range) + length (spell_separated spell_identifier p.names)
+long-port : (p : PortDeclaration) → length (spell_port p) ≡ length (spell_dir p.dir) + length (spell_type p.signed p.range) + length (spell_separated spell_declarator p.names)
 unfolding spell_port
 long-port p = simp length-append (omega arith)
 
@@ -79,8 +68,8 @@ long-Ports : (p : PortDeclaration) → length (spell_item (Ports p)) ≡ length 
 unfolding spell_item
 long-Ports p = simp length-append (omega arith)
 
-long-Variables : (signed : Bool) (range : Option Range) (list : List Identifier) →
-    length (spell_item (Variables signed range list)) ≡ 2 + length (spell_type signed range) + length (spell_separated spell_identifier list)
+long-Variables : (signed : Bool) (range : Option Range) (list : List DeclaredName) →
+    length (spell_item (Variables signed range list)) ≡ 2 + length (spell_type signed range) + length (spell_separated spell_declarator list)
 unfolding spell_item
 long-Variables signed range list = simp length-append (omega arith)
 
@@ -89,8 +78,8 @@ unfolding NumberedPort
 port_in_order p at n =
     let e = long-port p in
     let mid = at + length (spell_dir p.dir) + length (spell_type p.signed p.range) in
-    if_in_order p.range at (at + length (spell_port p)) p.names
-    (spread_wider token_of mid (mid + length (spell_separated spell_identifier p.names)) at (at + length (spell_port p)) p.names (omega arith) (omega (arith, e)) (names_in_order p.names mid n.1))
+    if_in_order p.range at (at + length (spell_port p)) (map net_name p.names)
+    (spread_wider token_of mid (mid + length (spell_separated spell_declarator p.names)) at (at + length (spell_port p)) (map net_name p.names) (omega arith) (omega (arith, e)) (nets_in_order p.names mid n.1))
 
 item_in_order : (x : ModuleItem) (at : ℕ) → NumberedItem x at → In at (at + length (spell_item x)) (item_scalars x)
 unfolding NumberedItem item_scalars
@@ -100,16 +89,17 @@ item_in_order (Nets signed range list) at n =
     let e = span.long-Nets signed range list in
     let mid = at + 1 + length (spell_type signed range) in
     if_in_order range at (at + length (spell_item (Nets signed range list))) (map net_name list)
-    (spread_wider token_of mid (mid + length (spell_separated spell_net list)) at (at + length (spell_item (Nets signed range list))) (map net_name list) (omega arith) (omega (arith, e)) (nets_in_order list mid n.1))
+    (spread_wider token_of mid (mid + length (spell_separated spell_declarator list)) at (at + length (spell_item (Nets signed range list))) (map net_name list) (omega arith) (omega (arith, e)) (nets_in_order list mid n.1))
 item_in_order (Variables signed range list) at n =
     let e = long-Variables signed range list in
     let mid = at + 1 + length (spell_type signed range) in
-    if_in_order range at (at + length (spell_item (Variables signed range list))) list
-    (spread_wider token_of mid (mid + length (spell_separated spell_identifier list)) at (at + length (spell_item (Variables signed range list))) list (omega arith) (omega (arith, e)) (names_in_order list mid n.1))
+    if_in_order range at (at + length (spell_item (Variables signed range list))) (map net_name list)
+    (spread_wider token_of mid (mid + length (spell_separated spell_declarator list)) at (at + length (spell_item (Variables signed range list))) (map net_name list) (omega arith) (omega (arith, e)) (nets_in_order list mid n.1))
 item_in_order (Integers list) at n = spread_none token_of at (at + length (spell_item (Integers list)))
 item_in_order (Parameters p) at n = spread_none token_of at (at + length (spell_item (Parameters p)))
 item_in_order (Assigns pairs) at n = spread_none token_of at (at + length (spell_item (Assigns pairs)))
 item_in_order (Always events body token) at n = spread_none token_of at (at + length (spell_item (Always events body token)))
+item_in_order (Initial body token) at n = spread_none token_of at (at + length (spell_item (Initial body token)))
 item_in_order (Instances m token over list) at n = spread_none token_of at (at + length (spell_item (Instances m token over list)))
 
 -- Modules

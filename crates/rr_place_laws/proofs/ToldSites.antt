@@ -2,7 +2,7 @@
 use Rattle.std.proofs.Common.{◌≡◌, inl, inr, ℕ, zero, suc, ◌+◌, ◌<◌, List, [], ◌∷◌, ◌++◌, length, Option, Some, Contains, refl, sym, subst, ◌∙◌, arith, append-nil}
 use Rattle.std.specs.List.{AllByRecursion}
 use Rattle.rr_syntax.specs.Expressions.{spell, spell_parts, WellFormed, Numbered}
-use Rattle.rr_syntax.specs.Items.{spell_each, spell_separated, spell_all, spell_type, spell_value, spell_net, spell_pair, spell_events, spell_optional, spell_connection, spell_connections, spell_overrides, spell_instance, spell_item, spell_parameters, spell_ports, spell_module, spell_source, WellFormedValue, WellFormedNet, WellFormedPair, WellFormedConnection, WellFormedConnections, WellFormedInstance, WellFormedItem, WellFormedModule, WellFormedSource, NumberedEach, NumberedSeparated, NumberedAll, NumberedValue, NumberedNet, NumberedPair, NumberedConnection, NumberedConnections, NumberedInstance, NumberedItem, NumberedModule, NumberedSource}
+use Rattle.rr_syntax.specs.Items.{spell_each, spell_separated, spell_all, spell_type, spell_value, spell_declarator, spell_pair, spell_events, spell_optional, spell_connection, spell_connections, spell_overrides, spell_instance, spell_item, spell_parameters, spell_ports, spell_module, spell_source, WellFormedValue, WellFormedDeclarator, WellFormedPair, WellFormedConnection, WellFormedConnections, WellFormedInstance, WellFormedItem, WellFormedModule, WellFormedSource, NumberedEach, NumberedSeparated, NumberedAll, NumberedValue, NumberedDeclarator, NumberedPair, NumberedConnection, NumberedConnections, NumberedInstance, NumberedItem, NumberedModule, NumberedSource}
 use Rattle.rr_syntax.specs.Statements.{spell_statement}
 use Rattle.rr_syntax.specs.Tree.{Tree, Name, Statement, EventControl, Connections, ModuleItem, Always, ModuleDeclaration}
 use Rattle.rr_syntax.specs.Words.{Word, Digits}
@@ -91,11 +91,11 @@ module _ (ws : List Word) where
       record { at = mid; formed = w.1; numbered = n.2; spelled = back ws (spell_events events) (spell_statement body) (at + 2) (second ws _ _ _ at h) }
 
   place_at : {e : Tree} {x : ModuleItem} → IsPlace e x → (at : ℕ) → WellFormedItem x → NumberedItem x at → StandAt ws at (spell_item x) → Told ws e
-  unfolding WellFormedItem NumberedItem spell_item WellFormedNet NumberedNet spell_net WellFormedPair NumberedPair spell_pair WellFormedInstance NumberedInstance spell_instance
+  unfolding WellFormedItem NumberedItem spell_item WellFormedDeclarator NumberedDeclarator spell_declarator WellFormedPair NumberedPair spell_pair WellFormedInstance NumberedInstance spell_instance
   place_at {e} (of_net {signed} {range} {list} x c v) at w n h =
       let mid = at + 1 + length (spell_type signed range) in
-      let r = separated_told spell_net NumberedNet list x c mid n.1 (front ws (spell_separated spell_net list) _ mid (back ws (spell_type signed range) _ (at + 1) (next ws _ _ at h))) in
-      value_told x.value e v (r.at + 1) (all_in WellFormedNet list x w.2 c) r.numbered.1 (next ws _ (spell_value x.value) r.at r.spelled)
+      let r = separated_told spell_declarator NumberedDeclarator list x c mid n.1 (front ws (spell_separated spell_declarator list) _ mid (back ws (spell_type signed range) _ (at + 1) (next ws _ _ at h))) in
+      value_told x.value e v (r.at + 1) (all_in WellFormedDeclarator list x w.2 c) r.numbered.1 (next ws _ (spell_value x.value) r.at r.spelled)
   place_at {e} (of_assign {pairs} p c v) at w n h =
       let r = separated_told spell_pair NumberedPair pairs p c (at + 1) n (front ws (spell_separated spell_pair pairs) _ (at + 1) (next ws _ _ at h)) in
       let mid = r.at + length (spell p.target) + 1 in

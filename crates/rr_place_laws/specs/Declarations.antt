@@ -2,7 +2,7 @@
 use Rattle.std.specs.Prelude.{◌≡◌, ◌⊎◌, [], map, Option, Some, None, Contains}
 use Rattle.rr_syntax.specs.declared.tree.Dir.{Dir}
 use Rattle.rr_syntax.specs.declared.tree.Dir.TheVariants.{OutputReg}
-use Rattle.rr_syntax.specs.Tree.{Identifier, Range, PortDeclaration, ModuleItem, Ports, Nets, Variables, Integers, Parameters, Assigns, Always, Instances, ModuleDeclaration}
+use Rattle.rr_syntax.specs.Tree.{Identifier, Range, PortDeclaration, ModuleItem, Ports, Nets, Variables, Integers, Parameters, Assigns, Always, Initial, Instances, ModuleDeclaration}
 use Rattle.rr_flat.specs.Reads.{names_in}
 use Rattle.rr_flat.specs.Signals.{Text}
 use Rattle.rr_guard.specs.Names.{net_name}
@@ -15,16 +15,17 @@ pub data Sort : Type 0 where
   AsInteger : Sort
 
 abbrev pub PortDeclares : PortDeclaration → Identifier → Option Range → Sort → Type 0
-PortDeclares p x range sort = Contains p.names x × (range ≡ p.range) × (sort ≡ AsPort p.dir)
+PortDeclares p x range sort = Contains (map net_name p.names) x × (range ≡ p.range) × (sort ≡ AsPort p.dir)
 
 abbrev pub ItemDeclares : ModuleItem → Identifier → Option Range → Sort → Type 0
 ItemDeclares (Ports p) x range sort = PortDeclares p x range sort
 ItemDeclares (Nets signed r list) x range sort = Contains (map net_name list) x × (range ≡ r) × (sort ≡ AsNet)
-ItemDeclares (Variables signed r list) x range sort = Contains list x × (range ≡ r) × (sort ≡ AsVariable)
+ItemDeclares (Variables signed r list) x range sort = Contains (map net_name list) x × (range ≡ r) × (sort ≡ AsVariable)
 ItemDeclares (Integers list) x range sort = Contains list x × (range ≡ None) × (sort ≡ AsInteger)
 ItemDeclares (Parameters p) x range sort = ⊥
 ItemDeclares (Assigns pairs) x range sort = ⊥
 ItemDeclares (Always events body token) x range sort = ⊥
+ItemDeclares (Initial body token) x range sort = ⊥
 ItemDeclares (Instances m token over list) x range sort = ⊥
 
 -- in the port brackets of a module, or by an item

@@ -1,7 +1,7 @@
 -- The places of an item at which sites stand.
 use Rattle.std.specs.Prelude.{◌≡◌, ℕ, Bool, List, Option, Some, Contains}
 use Rattle.rr_syntax.specs.declared.token.Number.{Number}
-use Rattle.rr_syntax.specs.Tree.{Tree, Trees, Literal, Cond, Statement, Arms, If, IfElse, Case, Assign, CaseItem, Range, NetIdentifier, NetAssignment, NamedConnection, EventControl, Connections, Positions, Names, ModuleInstance, ModuleItem, Nets, Assigns, Always, Instances}
+use Rattle.rr_syntax.specs.Tree.{Tree, Trees, Literal, Cond, Statement, Arms, If, IfElse, Case, Assign, CaseItem, Range, DeclaredName, NetAssignment, NamedConnection, EventControl, Connections, Positions, Names, ModuleInstance, ModuleItem, Nets, Assigns, Always, Instances}
 use Rattle.rr_place_laws.specs.Inside.{IsPart, IsArm, IsInside, StandsIn}
 
 -- the condition of an `if` that stands in a statement
@@ -22,9 +22,10 @@ pub data IsConnected (e : Tree) : Connections → Type 0 where
   in_order : {ts : Trees} → IsPart e ts → IsConnected e (Positions ts)
   by_name : {list : List NamedConnection} (c : NamedConnection) → Contains list c → c.value ≡ Some e → IsConnected e (Names list)
 
--- a right side, a condition, a selector, a label or a port connection of an item
+-- a right side, a condition, a selector, a label or a port connection of an item; no change is made in starting values and
+-- `initial` items
 pub data IsPlace (e : Tree) : ModuleItem → Type 0 where
-  of_net : {signed : Bool} {range : Option Range} {list : List NetIdentifier} (n : NetIdentifier) → Contains list n → n.value ≡ Some e → IsPlace e (Nets signed range list)
+  of_net : {signed : Bool} {range : Option Range} {list : List DeclaredName} (n : DeclaredName) → Contains list n → n.value ≡ Some e → IsPlace e (Nets signed range list)
   of_assign : {pairs : List NetAssignment} (p : NetAssignment) → Contains pairs p → p.value ≡ e → IsPlace e (Assigns pairs)
   of_always : {events : EventControl} {body : Statement} {token : ℕ} → StandsAt e body → IsPlace e (Always events body token)
   of_instance : {m : List ℕ} {token : ℕ} {over : Option Connections} {list : List ModuleInstance} (i : ModuleInstance) → Contains list i → IsConnected e i.connections → IsPlace e (Instances m token over list)

@@ -4,7 +4,7 @@ use Rattle.std.specs.List.{flat_map}
 use Rattle.std.proofs.lemmas.Bool.{eqb-true}
 use Rattle.rr_syntax.specs.Items.{NumberedAll, NumberedItem, NumberedModule, NumberedSource, spell_all, spell_events, spell_item, spell_module, spell_parameters, spell_ports, spell_source}
 use Rattle.rr_syntax.specs.Statements.{spell_statement}
-use Rattle.rr_syntax.specs.Tree.{Always, Assigns, Instances, Integers, ModuleDeclaration, ModuleItem, Nets, Parameters, Ports, SourceText, Variables}
+use Rattle.rr_syntax.specs.Tree.{Always, Assigns, Initial, Instances, Integers, ModuleDeclaration, ModuleItem, Nets, Parameters, Ports, SourceText, Variables}
 use Rattle.rr_syntax.specs.Words.{Marked, Reserved, keyword_endmodule, mark_semicolon}
 use Rattle.rr_kept.specs.Kept.{body_at, body_length, body_length_in, or_next}
 
@@ -29,6 +29,7 @@ item_fits k (Always events body token) at n = by_test (token + 2 + length (spell
         let s = length-append (spell_events events) (spell_statement body) in
         omega (arith, q, n.0, s)
     by_test false e = tt
+item_fits k (Initial body token) at n = tt
 item_fits k (Instances m token overrides list) at n = tt
 
 -- so the first body among items and later ones is one of the later, or ends with the items

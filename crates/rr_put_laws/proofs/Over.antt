@@ -2,7 +2,7 @@
 use Rattle.std.proofs.Common.{ℕ, ◌%◌, ◌^◌, ◌==◌, ◌&&◌, Bool, true, false, cond, if◌then◌else◌, List, [], ◌∷◌, ◌++◌, get_or, codes, Option, Some, None}
 use Rattle.rr_syntax.specs.declared.token.Number.{Number}
 use Rattle.rr_syntax.specs.Words.{Word, Named, System, Digits, Reserved, Marked, keyword_always, keyword_assign, keyword_begin, keyword_else, keyword_end, keyword_endcase, keyword_endmodule, keyword_if, keyword_module, keyword_wire, mark_open_parenthesis, mark_close_parenthesis, mark_open_brace, mark_close_brace, mark_comma, mark_semicolon, mark_colon, mark_dot, mark_at, mark_question, mark_equals, mark_not, mark_less_or_equal, mark_logical_and, mark_logical_or}
-use Rattle.rr_syntax.specs.Tree.{Tree, Trees, Name, Literal, Bit, Part, Indexed, Unary, Binary, Cond, Concat, Repeat, Cast, Paren, End, More, Statement, Statements, Arm, Arms, Null, Block, If, IfElse, Case, Assign, Done, Then, CaseItem, NoArms, MoreArms, NetIdentifier, NetAssignment, NamedConnection, Connections, Positions, Names, ModuleInstance, ModuleItem, Ports, Nets, Variables, Integers, Parameters, Assigns, Always, Instances, ModuleDeclaration, SourceText}
+use Rattle.rr_syntax.specs.Tree.{Tree, Trees, Name, Literal, Bit, Part, Indexed, Unary, Binary, Cond, Concat, Repeat, Cast, Paren, End, More, Statement, Statements, Arm, Arms, Null, Block, If, IfElse, Case, Assign, Done, Then, CaseItem, NoArms, MoreArms, DeclaredName, NetAssignment, NamedConnection, Connections, Positions, Names, ModuleInstance, ModuleItem, Ports, Nets, Variables, Integers, Parameters, Assigns, Always, Initial, Instances, ModuleDeclaration, SourceText}
 use Rattle.rr_syntax.specs.Expressions.{spell}
 use Rattle.rr_syntax.specs.Statements.{spell_label, spell_labels}
 use Rattle.rr_syntax.specs.Items.{spell_type, spell_events, spell_overrides, spell_item, spell_parameters, spell_ports}
@@ -229,7 +229,7 @@ module _ (P : New → Type 0) (literals : (w : ℕ) (signed : Bool) (v : ℕ) �
     optional_over None = none P
     optional_over (Some t) = tree_over t
 
-    net_over : (n : NetIdentifier) → Over P (net_pieces ss ps n)
+    net_over : (n : DeclaredName) → Over P (net_pieces ss ps n)
     unfolding net_pieces
     net_over n = keep P (Named n.text) (value_pieces ss ps n.value) (value_over n.value)
 
@@ -263,6 +263,7 @@ module _ (P : New → Type 0) (literals : (w : ℕ) (signed : Bool) (v : ℕ) �
     item_over (Assigns pairs) = keep P (Reserved keyword_assign) _ (last (Marked mark_semicolon) (separated_pieces (pair_pieces ss ps) pairs) (separated_over P (pair_pieces ss ps) pair_over pairs))
     item_over (Always events body token) =
         keep P (Reserved keyword_always) _ (keep P (Marked mark_at) _ (join P (kept (spell_events events)) _ (words P (spell_events events)) (body_over (first_token body) body)))
+    item_over (Initial s token) = words P (spell_item (Initial s token))
     item_over (Instances m token overrides list) =
         keep P (Named m) _
         (join P (kept (spell_overrides overrides)) _ (words P (spell_overrides overrides)) (last (Marked mark_semicolon) (separated_pieces (child_pieces ss ps) list) (separated_over P (child_pieces ss ps) child_over list)))

@@ -3,11 +3,11 @@ use Rattle.std.proofs.Common.{◌≡◌, ◌⊎◌, inl, inr, ℕ, ◌%◌, ◌^
 use Rattle.std.proofs.lemmas.Bool.{eqb-true, cases_Bool}
 use Rattle.std.proofs.lemmas.List.{append_assoc}
 use Rattle.rr_syntax.specs.declared.token.Number.{Number}
-use Rattle.rr_syntax.specs.Words.{Word, Named, System, Digits, Reserved, Marked, keyword_always, keyword_assign, keyword_begin, keyword_default, keyword_else, keyword_end, keyword_endcase, keyword_endmodule, keyword_if, keyword_module, keyword_reg, keyword_integer, keyword_signed, keyword_wire, mark_open_parenthesis, mark_close_parenthesis, mark_open_bracket, mark_close_bracket, mark_open_brace, mark_close_brace, mark_comma, mark_semicolon, mark_colon, mark_dot, mark_hash, mark_at, mark_question, mark_equals, mark_not, mark_less_or_equal, mark_logical_and, mark_logical_or, mark_part_up, mark_part_down}
-use Rattle.rr_syntax.specs.Tree.{Tree, Trees, Name, Literal, Bit, Part, Indexed, Unary, Binary, Cond, Concat, Repeat, Cast, Paren, End, More, Identifier, Range, Statement, Statements, Arm, Arms, Null, Block, If, IfElse, Case, Assign, Done, Then, CaseItem, NoArms, MoreArms, PortDeclaration, ParameterDeclaration, NetIdentifier, NetAssignment, NamedConnection, Connections, Positions, Names, ModuleInstance, ModuleItem, Ports, Nets, Variables, Integers, Parameters, Assigns, Always, Instances, ModuleDeclaration, SourceText}
+use Rattle.rr_syntax.specs.Words.{Word, Named, System, Digits, Reserved, Marked, keyword_always, keyword_assign, keyword_begin, keyword_default, keyword_else, keyword_end, keyword_endcase, keyword_endmodule, keyword_if, keyword_initial, keyword_module, keyword_reg, keyword_integer, keyword_signed, keyword_wire, mark_open_parenthesis, mark_close_parenthesis, mark_open_bracket, mark_close_bracket, mark_open_brace, mark_close_brace, mark_comma, mark_semicolon, mark_colon, mark_dot, mark_hash, mark_at, mark_question, mark_equals, mark_not, mark_less_or_equal, mark_logical_and, mark_logical_or, mark_part_up, mark_part_down}
+use Rattle.rr_syntax.specs.Tree.{Tree, Trees, Name, Literal, Bit, Part, Indexed, Unary, Binary, Cond, Concat, Repeat, Cast, Paren, End, More, Identifier, Range, Statement, Statements, Arm, Arms, Null, Block, If, IfElse, Case, Assign, Done, Then, CaseItem, NoArms, MoreArms, PortDeclaration, ParameterDeclaration, DeclaredName, NetAssignment, NamedConnection, Connections, Positions, Names, ModuleInstance, ModuleItem, Ports, Nets, Variables, Integers, Parameters, Assigns, Always, Initial, Instances, ModuleDeclaration, SourceText}
 use Rattle.rr_syntax.specs.Expressions.{spell, spell_parts, WellFormed, WellFormedParts, WellFormedMore, is_prefix, prefixes}
-use Rattle.rr_syntax.specs.Statements.{spell_label, spell_labels, spell_statement, WellFormedStatement, WellFormedStatements, WellFormedArm, WellFormedArms}
-use Rattle.rr_syntax.specs.Items.{spell_separated, spell_where, spell_identifier, spell_range, spell_type, spell_port, spell_parameter, spell_events, spell_connection, spell_connections, spell_overrides, spell_item, spell_parameters, spell_ports, WellFormedValue, WellFormedNet, WellFormedPair, WellFormedConnection, WellFormedConnections, WellFormedInstance, WellFormedItem, WellFormedModule, WellFormedSource}
+use Rattle.rr_syntax.specs.Statements.{spell_label, spell_labels, spell_statement, spell_statements, spell_arms, WellFormedStatement, WellFormedStatements, WellFormedArm, WellFormedArms}
+use Rattle.rr_syntax.specs.Items.{spell_separated, spell_where, spell_identifier, spell_declarator, spell_range, spell_type, spell_port, spell_parameter, spell_events, spell_connection, spell_connections, spell_overrides, spell_item, spell_parameters, spell_ports, WellFormedValue, WellFormedDeclarator, WellFormedPair, WellFormedConnection, WellFormedConnections, WellFormedInstance, WellFormedItem, WellFormedModule, WellFormedSource}
 use Rattle.rr_expr.specs.declared.operators.Infix.TheVariants.{Either}
 use Rattle.rr_expr.specs.Faults.{takes_constants}
 use Rattle.rr_expr.specs.Operators.{infixes}
@@ -74,6 +74,23 @@ tree_ended (Repeat n ts) =
 tree_ended (Cast signed t) =
     ended_more (System (cond signed (codes "signed") (codes "unsigned"))) _ (ended_more (Marked mark_open_parenthesis) _ (ended_join (spell t) _ (ended (Marked mark_close_parenthesis) refl)))
 tree_ended (Paren t) = ended_more (Marked mark_open_parenthesis) _ (ended_join (spell t) _ (ended (Marked mark_close_parenthesis) refl))
+
+-- none ends with a `*`
+statement_ended : (t : Statement) → Ended (spell_statement t)
+unfolding spell_statement
+statement_ended Null = ended (Marked mark_semicolon) refl
+statement_ended (Block label ts) = ended_more (Reserved keyword_begin) _ (ended_join (spell_label label) _ (ended_join (spell_statements ts) _ (ended (Reserved keyword_end) refl)))
+statement_ended (If c t) =
+    ended_more (Reserved keyword_if) _ (ended_more (Marked mark_open_parenthesis) _ (ended_join (spell c) _ (ended_more (Marked mark_close_parenthesis) (spell_statement t) (statement_ended t))))
+statement_ended (IfElse c t u) =
+    ended_more (Reserved keyword_if) _
+    (ended_more (Marked mark_open_parenthesis) _
+    (ended_join (spell c) _ (ended_more (Marked mark_close_parenthesis) _ (ended_join (spell_statement t) _ (ended_more (Reserved keyword_else) (spell_statement u) (statement_ended u))))))
+statement_ended (Case kind on arms) =
+    ended_more (Reserved kind) _
+    (ended_more (Marked mark_open_parenthesis) _ (ended_join (spell on) _ (ended_more (Marked mark_close_parenthesis) _ (ended_join (spell_arms arms) _ (ended (Reserved keyword_endcase) refl)))))
+statement_ended (Assign t now e) =
+    ended_join (spell t) _ (ended_more (Marked (cond now mark_equals mark_less_or_equal)) _ (ended_join (spell e) _ (ended (Marked mark_semicolon) refl)))
 
 -- no statement begins with a closing bracket
 statement_opens : (t : Statement) → WellFormedStatement t → (more : List Word) → Opens (spell_statement t ++ more)
@@ -296,8 +313,8 @@ module _ (ss : List Site) (ps : List Pick) where
   optional_quiet None h = none
   optional_quiet (Some t) h = tree_quiet ss ps t h
 
-  net_quiet : (n : NetIdentifier) → WellFormedNet n → Quiet (net_pieces ss ps n)
-  unfolding net_pieces WellFormedNet
+  net_quiet : (n : DeclaredName) → WellFormedDeclarator n → Quiet (net_pieces ss ps n)
+  unfolding net_pieces WellFormedDeclarator
   net_quiet n h = keep (Named n.text) _ refl (value_quiet n.value h)
 
   pair_quiet : (p : NetAssignment) → WellFormedPair p → Quiet (pair_pieces ss ps p)
@@ -327,9 +344,9 @@ module _ (ss : List Site) (ps : List Pick) where
   item_quiet (Nets signed range names) h =
       keep (Reserved keyword_wire) _ refl
       (join (kept (spell_type signed range)) _ (type_quiet signed range)
-      (join (separated_pieces (net_pieces ss ps) names) _ (separated_quiet (net_pieces ss ps) WellFormedNet net_quiet names h.2) (keep (Marked mark_semicolon) [] refl none)))
+      (join (separated_pieces (net_pieces ss ps) names) _ (separated_quiet (net_pieces ss ps) WellFormedDeclarator net_quiet names h.2) (keep (Marked mark_semicolon) [] refl none)))
   item_quiet (Variables signed range names) h =
-      words _ (ended_more (Reserved keyword_reg) _ (ended_join (spell_type signed range) _ (ended_join (spell_separated spell_identifier names) _ (ended (Marked mark_semicolon) refl))))
+      words _ (ended_more (Reserved keyword_reg) _ (ended_join (spell_type signed range) _ (ended_join (spell_separated spell_declarator names) _ (ended (Marked mark_semicolon) refl))))
   item_quiet (Integers names) h = words _ (ended_more (Reserved keyword_integer) _ (ended_join (spell_separated spell_identifier names) _ (ended (Marked mark_semicolon) refl)))
   item_quiet (Parameters p) h = words _ (ended_join (spell_parameter p) _ (ended (Marked mark_semicolon) refl))
   item_quiet (Assigns pairs) h =
@@ -339,6 +356,7 @@ module _ (ss : List Site) (ps : List Pick) where
       keep (Reserved keyword_always) _ refl
       (keep (Marked mark_at) _ refl
       (kept_before (spell_events events) (body_pieces ss ps (first_token body) body) (body_opening (first_token body) body h.1) (body_quiet (first_token body) body h.1)))
+  item_quiet (Initial s token) h = words _ (ended_more (Reserved keyword_initial) (spell_statement s) (statement_ended s))
   item_quiet (Instances m token overrides list) h =
       keep (Named m) _ refl
       (join (kept (spell_overrides overrides)) _ (overrides_quiet overrides)

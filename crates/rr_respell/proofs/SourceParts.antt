@@ -2,10 +2,10 @@
 use Rattle.std.proofs.Common.{◌≡◌, ℕ, ◌%◌, ◌^◌, ◌==◌, ◌&&◌, Bool, true, false, cond, if◌then◌else◌, List, [], ◌∷◌, ◌++◌, map, Option, Some, None, refl, sym, ap, arith}
 use Rattle.std.proofs.lemmas.List.{append_assoc}
 use Rattle.rr_syntax.specs.Words.{Word, Named, Reserved, Marked, keyword_always, keyword_assign, keyword_begin, keyword_else, keyword_end, keyword_endcase, keyword_endmodule, keyword_if, keyword_module, keyword_wire, mark_open_parenthesis, mark_close_parenthesis, mark_comma, mark_semicolon, mark_colon, mark_dot, mark_at, mark_equals, mark_not, mark_less_or_equal}
-use Rattle.rr_syntax.specs.Tree.{Tree, Trees, Literal, End, More, Statement, Statements, Arm, Arms, Null, Block, If, IfElse, Case, Assign, Done, Then, CaseItem, NoArms, MoreArms, NetIdentifier, NetAssignment, NamedConnection, Connections, Positions, Names, ModuleInstance, ModuleItem, Ports, Nets, Variables, Integers, Parameters, Assigns, Always, Instances, ModuleDeclaration, SourceText}
+use Rattle.rr_syntax.specs.Tree.{Tree, Trees, Literal, End, More, Statement, Statements, Arm, Arms, Null, Block, If, IfElse, Case, Assign, Done, Then, CaseItem, NoArms, MoreArms, DeclaredName, NetAssignment, NamedConnection, Connections, Positions, Names, ModuleInstance, ModuleItem, Ports, Nets, Variables, Integers, Parameters, Assigns, Always, Initial, Instances, ModuleDeclaration, SourceText}
 use Rattle.rr_syntax.specs.Expressions.{spell}
 use Rattle.rr_syntax.specs.Statements.{spell_label, spell_labels, spell_statement, spell_statements, spell_arm, spell_arms}
-use Rattle.rr_syntax.specs.Items.{spell_each, spell_separated, spell_all, spell_type, spell_events, spell_overrides, spell_value, spell_net, spell_pair, spell_optional, spell_connection, spell_connections, spell_instance, spell_item, spell_parameters, spell_ports, spell_module, spell_source}
+use Rattle.rr_syntax.specs.Items.{spell_each, spell_separated, spell_all, spell_type, spell_events, spell_overrides, spell_value, spell_declarator, spell_pair, spell_optional, spell_connection, spell_connections, spell_instance, spell_item, spell_parameters, spell_ports, spell_module, spell_source}
 use Rattle.rr_lex.specs.Patch as lex
 use Rattle.rr_lex.specs.Patch.{New, new_keyword, new_mark, new_name, new_words}
 use Rattle.rr_choice.specs.declared.pick.Pick.{Pick}
@@ -157,8 +157,8 @@ module _ (P : New → Type 0) (ss : List Site) (k : Allows P ss) where
     optional_makes None = none P
     optional_makes (Some t) = tree_makes P ss k ps t
 
-    pub net_makes : (n : NetIdentifier) → Makes P (net_pieces ss ps n) (spell_net n) (spell_net (instance_net ss ps n))
-    unfolding net_pieces spell_net instance_net
+    pub net_makes : (n : DeclaredName) → Makes P (net_pieces ss ps n) (spell_declarator n) (spell_declarator (instance_net ss ps n))
+    unfolding net_pieces spell_declarator instance_net
     net_makes n = keep (Named n.text) (value_makes n.value)
 
     pub pair_makes : (p : NetAssignment) → Makes P (pair_pieces ss ps p) (spell_pair p) (spell_pair (instance_pair ss ps p))
@@ -186,7 +186,7 @@ module _ (P : New → Type 0) (ss : List Site) (k : Allows P ss) where
     item_makes (Ports p) = words P (spell_item (Ports p))
     item_makes (Nets signed range names) =
         keep (Reserved keyword_wire)
-        (join (words P (spell_type signed range)) (join (separated_make P (net_pieces ss ps) (instance_net ss ps) spell_net net_makes names) (keep (Marked mark_semicolon) (none P))))
+        (join (words P (spell_type signed range)) (join (separated_make P (net_pieces ss ps) (instance_net ss ps) spell_declarator net_makes names) (keep (Marked mark_semicolon) (none P))))
     item_makes (Variables signed range names) = words P (spell_item (Variables signed range names))
     item_makes (Integers names) = words P (spell_item (Integers names))
     item_makes (Parameters p) = words P (spell_item (Parameters p))
@@ -194,6 +194,7 @@ module _ (P : New → Type 0) (ss : List Site) (k : Allows P ss) where
         keep (Reserved keyword_assign) (join (separated_make P (pair_pieces ss ps) (instance_pair ss ps) spell_pair pair_makes pairs) (keep (Marked mark_semicolon) (none P)))
     item_makes (Always events body token) =
         keep (Reserved keyword_always) (keep (Marked mark_at) (join (words P (spell_events events)) (body_makes (first_token body) body)))
+    item_makes (Initial s token) = words P (spell_item (Initial s token))
     item_makes (Instances m token overrides list) =
         keep (Named m)
         (join (words P (spell_overrides overrides)) (join (separated_make P (child_pieces ss ps) (instance_child ss ps) spell_instance child_makes list) (keep (Marked mark_semicolon) (none P))))

@@ -3,7 +3,7 @@
 use Rattle.std.specs.Prelude.{ℕ, ◌%◌, ◌^◌, ◌==◌, ◌&&◌, Bool, false, cond, if◌then◌else◌, List, [], ◌∷◌, ◌++◌, get_or, codes, Option, Some, None}
 use Rattle.rr_syntax.specs.declared.token.Number.{Number}
 use Rattle.rr_syntax.specs.Words.{Named, System, Digits, Reserved, Marked, keyword_always, keyword_assign, keyword_begin, keyword_else, keyword_end, keyword_endcase, keyword_endmodule, keyword_if, keyword_module, keyword_wire, mark_open_parenthesis, mark_close_parenthesis, mark_open_brace, mark_close_brace, mark_comma, mark_semicolon, mark_colon, mark_dot, mark_at, mark_question, mark_equals, mark_not, mark_less_or_equal, mark_logical_and, mark_logical_or}
-use Rattle.rr_syntax.specs.Tree.{Tree, Trees, Name, Literal, Bit, Part, Indexed, Unary, Binary, Cond, Concat, Repeat, Cast, Paren, End, More, Statement, Statements, Arm, Arms, Null, Block, If, IfElse, Case, Assign, Done, Then, CaseItem, NoArms, MoreArms, NetIdentifier, NetAssignment, NamedConnection, Connections, Positions, Names, ModuleInstance, ModuleItem, Ports, Nets, Variables, Integers, Parameters, Assigns, Always, Instances, ModuleDeclaration, SourceText}
+use Rattle.rr_syntax.specs.Tree.{Tree, Trees, Name, Literal, Bit, Part, Indexed, Unary, Binary, Cond, Concat, Repeat, Cast, Paren, End, More, Statement, Statements, Arm, Arms, Null, Block, If, IfElse, Case, Assign, Done, Then, CaseItem, NoArms, MoreArms, DeclaredName, NetAssignment, NamedConnection, Connections, Positions, Names, ModuleInstance, ModuleItem, Ports, Nets, Variables, Integers, Parameters, Assigns, Always, Initial, Instances, ModuleDeclaration, SourceText}
 use Rattle.rr_syntax.specs.Expressions.{spell}
 use Rattle.rr_syntax.specs.Statements.{spell_label, spell_labels}
 use Rattle.rr_syntax.specs.Items.{spell_type, spell_events, spell_overrides, spell_item, spell_parameters, spell_ports}
@@ -178,7 +178,7 @@ unfoldable pub value_pieces : List Site → List Pick → Option Tree → List P
 value_pieces ss ps None = []
 value_pieces ss ps (Some t) = Kept (Marked mark_equals) ∷ tree_pieces ss ps t
 
-unfoldable pub net_pieces : List Site → List Pick → NetIdentifier → List Piece
+unfoldable pub net_pieces : List Site → List Pick → DeclaredName → List Piece
 net_pieces ss ps n = Kept (Named n.text) ∷ value_pieces ss ps n.value
 
 unfoldable pub pair_pieces : List Site → List Pick → NetAssignment → List Piece
@@ -202,7 +202,7 @@ connections_pieces ss ps (Names cs) =
 unfoldable pub child_pieces : List Site → List Pick → ModuleInstance → List Piece
 child_pieces ss ps i = Kept (Named i.text) ∷ connections_pieces ss ps i.connections
 
--- an item; declarations of parameters, ranges, overrides and event lists stay
+-- an item; declarations of parameters, ranges, overrides, event lists, starting values and `initial` items stay
 unfoldable pub item_pieces : List Site → List Pick → ModuleItem → List Piece
 item_pieces ss ps (Ports p) = kept (spell_item (Ports p))
 item_pieces ss ps (Nets signed range names) =
@@ -213,6 +213,7 @@ item_pieces ss ps (Parameters p) = kept (spell_item (Parameters p))
 item_pieces ss ps (Assigns pairs) = Kept (Reserved keyword_assign) ∷ (separated_pieces (pair_pieces ss ps) pairs ++ (Kept (Marked mark_semicolon) ∷ []))
 item_pieces ss ps (Always events body token) =
     Kept (Reserved keyword_always) ∷ (Kept (Marked mark_at) ∷ (kept (spell_events events) ++ body_pieces ss ps (first_token body) body))
+item_pieces ss ps (Initial s token) = kept (spell_item (Initial s token))
 item_pieces ss ps (Instances m token overrides list) =
     Kept (Named m) ∷ (kept (spell_overrides overrides) ++ (separated_pieces (child_pieces ss ps) list ++ (Kept (Marked mark_semicolon) ∷ [])))
 

@@ -5,7 +5,7 @@ use Rattle.std.specs.List.{AllByRecursion, list_any}
 use Rattle.std.specs.Str.{bytes_eq}
 use Rattle.std.proofs.lemmas.Bool.{and_parts, or_cases, both_ways, eqb-true}
 use Rattle.std.proofs.lemmas.Slice.Eq.{bytes_eq-Decides}
-use Rattle.rr_syntax.specs.Tree.{Identifier, PortDeclaration, Range, ModuleItem, Ports, Nets, Variables, Integers, Parameters, Assigns, Always, Instances, ModuleDeclaration, SourceText}
+use Rattle.rr_syntax.specs.Tree.{Identifier, PortDeclaration, Range, ModuleItem, Ports, Nets, Variables, Integers, Parameters, Assigns, Always, Initial, Instances, ModuleDeclaration, SourceText}
 use Rattle.rr_expr.specs.Faults.{is_width}
 use Rattle.rr_expr.specs.Scopes.{Names, entity_shape, range_width}
 use Rattle.rr_flat.specs.Signals.{Text}
@@ -15,6 +15,7 @@ use Rattle.rr_walk.specs.Tables.{add_module}
 use Rattle.rr_walk.specs.Walk.{enter_top, finished, flat_of, module_at, reached_from, top_place}
 use Rattle.rr_walk.proofs.HeadOf.{first_ok, ok_is}
 use Rattle.rr_clock.specs.Places.{Place}
+use Rattle.rr_guard.specs.Names.{net_name}
 use Rattle.rr_overwrite.specs.Overwrites.{is_reg, is_in, port_sets, item_sets, is_variable, width_in}
 use Rattle.rr_overwrite.specs.Variables.{AreFit}
 use Rattle.rr_listing.specs.Listing.{AreRising, scope_of}
@@ -39,23 +40,24 @@ module _ (scope seen : Names) (name : Text) where
   by_list o list s h = some_in Goal (λ (x : Identifier). bytes_eq name x.text) list h
       (all_weaken (λ (y : Identifier). IsBy (IsSet scope) seen o y.text) list (λ y k e. subst (λ n. is_width (width_in scope n) ≡ true) (sym ((bytes_eq-Decides name y.text).0 e)) (set_fits scope y.text k.0 k.1.1)) s)
 
-  by_ports : (p : PortDeclaration) → AreBy (IsSet scope) seen p.range p.names → port_sets name p ≡ true → Goal
-  by_ports p s h = by_list p.range p.names s (and_parts (is_reg p.dir) (is_in name p.names) h).1
+  by_ports : (p : PortDeclaration) → AreBy (IsSet scope) seen p.range (map net_name p.names) → port_sets name p ≡ true → Goal
+  by_ports p s h = by_list p.range (map net_name p.names) s (and_parts (is_reg p.dir) (is_in name (map net_name p.names)) h).1
 
   by_item : (x : ModuleItem) → ItemBy (IsSet scope) seen x → item_sets name x ≡ true → Goal
   unfolding item_sets
   by_item (Ports p) s h = by_ports p s h
   by_item (Nets signed range list) s h = absurd (both_ways false refl h)
-  by_item (Variables signed range list) s h = by_list range list s h
+  by_item (Variables signed range list) s h = by_list range (map net_name list) s h
   by_item (Integers list) s h = absurd (both_ways false refl h)
   by_item (Parameters p) s h = absurd (both_ways false refl h)
   by_item (Assigns pairs) s h = absurd (both_ways false refl h)
   by_item (Always events body token) s h = absurd (both_ways false refl h)
+  by_item (Initial body token) s h = absurd (both_ways false refl h)
   by_item (Instances m token overrides list) s h = absurd (both_ways false refl h)
 
   by_module : (m : ModuleDeclaration) → AllBy (IsSet scope) seen m → is_variable m name ≡ true → Goal
   by_module m s v = elim (or_cases (list_any (port_sets name) m.groups) (list_any (item_sets name) m.items) v) [
-    | inl h ↦ some_in Goal (port_sets name) m.groups h (all_weaken (λ p. AreBy (IsSet scope) seen p.range p.names) m.groups (λ p k q. by_ports p k q) s.groups)
+    | inl h ↦ some_in Goal (port_sets name) m.groups h (all_weaken (λ p. AreBy (IsSet scope) seen p.range (map net_name p.names)) m.groups (λ p k q. by_ports p k q) s.groups)
     | inr h ↦ some_in Goal (item_sets name) m.items h (all_weaken (ItemBy (IsSet scope) seen) m.items (λ x k q. by_item x k q) s.items)
   ]
 

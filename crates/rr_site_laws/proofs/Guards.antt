@@ -4,7 +4,7 @@ use Rattle.std.specs.List.{AllByRecursion, Contains, list_any}
 use Rattle.std.specs.Str.{bytes_eq}
 use Rattle.std.proofs.lemmas.Bool.{and_parts, both_ways, not-true, and_from, eq-eqb, true≢false}
 use Rattle.std.proofs.lemmas.Slice.Eq.{bytes_eq-Decides}
-use Rattle.rr_syntax.specs.Tree.{Tree, Name, Literal, Bit as BitSelect, Part, Indexed, Unary, Binary, Cond, Concat, Repeat, Cast, Paren, Identifier, Statement, EventControl, ModuleItem, Ports, Nets, Variables, Integers, Parameters, Assigns, Always, Instances, ModuleDeclaration}
+use Rattle.rr_syntax.specs.Tree.{Tree, Name, Literal, Bit as BitSelect, Part, Indexed, Unary, Binary, Cond, Concat, Repeat, Cast, Paren, Identifier, Statement, EventControl, ModuleItem, Ports, Nets, Variables, Integers, Parameters, Assigns, Always, Initial, Instances, ModuleDeclaration}
 use Rattle.rr_expr.specs.declared.types.Bit.{Bit}
 use Rattle.rr_expr.specs.declared.types.Entity.TheVariants.{Signal as SignalEntity}
 use Rattle.rr_expr.specs.Scopes.{Names, meant, entity_shape}
@@ -117,6 +117,7 @@ module _ (ms : List ModuleDeclaration) (flat : Flat) (known : Known ms flat) (fr
             let k = known.blocks i there events body at (here (Always events body at) c) e in
             all_weaken (later_at (scope_at flat i) bit (IsRegister flat id)) (assigned_by body) later_of
             (targets_write false (scope_at flat i) bit (IsRegister flat id) body (block_later body k.0 k.1.0 k.1.1.0 k.1.1.1))
+    item_later (Initial body token) c = tt
     item_later (Instances q at over list) c = tt
 
     register : writes_later m name ≡ true → IsRegister flat id

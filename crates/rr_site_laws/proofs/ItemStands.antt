@@ -2,8 +2,8 @@
 use Rattle.std.proofs.Common.{◌≡◌, ℕ, ◌+◌, ◌<◌, ◌≤◌, List, [], ◌∷◌, length, flat_map, Option, Some, None, refl, arith}
 use Rattle.std.specs.List.{AllByRecursion}
 use Rattle.rr_syntax.specs.Expressions.{WellFormed, Numbered}
-use Rattle.rr_syntax.specs.Items.{spell_each, spell_separated, spell_type, spell_value, spell_net, spell_pair, spell_events, spell_optional, spell_connection, spell_connections, spell_overrides, spell_instance, spell_item, WellFormedValue, WellFormedNet, WellFormedPair, WellFormedConnection, WellFormedConnections, WellFormedInstance, WellFormedItem, NumberedEach, NumberedSeparated, NumberedValue, NumberedNet, NumberedPair, NumberedConnection, NumberedConnections, NumberedInstance, NumberedItem}
-use Rattle.rr_syntax.specs.Tree.{Tree, End, More, Statement, NetIdentifier, NetAssignment, EventControl, NamedConnection, Connections, Positions, Names, ModuleInstance, ModuleItem, Ports, Nets, Variables, Integers, Parameters, Assigns, Always, Instances}
+use Rattle.rr_syntax.specs.Items.{spell_each, spell_separated, spell_type, spell_value, spell_declarator, spell_pair, spell_events, spell_optional, spell_connection, spell_connections, spell_overrides, spell_instance, spell_item, WellFormedValue, WellFormedDeclarator, WellFormedPair, WellFormedConnection, WellFormedConnections, WellFormedInstance, WellFormedItem, NumberedEach, NumberedSeparated, NumberedValue, NumberedDeclarator, NumberedPair, NumberedConnection, NumberedConnections, NumberedInstance, NumberedItem}
+use Rattle.rr_syntax.specs.Tree.{Tree, End, More, Statement, DeclaredName, NetAssignment, EventControl, NamedConnection, Connections, Positions, Names, ModuleInstance, ModuleItem, Ports, Nets, Variables, Integers, Parameters, Assigns, Always, Initial, Instances}
 use Rattle.rr_syntax.specs.Words.{Word}
 use Rattle.rr_syntax.proofs.Nonempty.{spell_statement-some}
 use Rattle.rr_expr.specs.Faults.{first}
@@ -22,8 +22,8 @@ module _ (low high : ℕ) where
   value_stands None at w n l h = tt
   value_stands (Some t) at w n l h = tree_stands low high t (at + 1) w n (omega arith) (omega (arith, h))
 
-  net_stands : (x : NetIdentifier) (at : ℕ) → WellFormedNet x → NumberedNet x at → low ≤ at → at + length (spell_net x) ≤ high → All low high (spots_of_net x)
-  unfolding WellFormedNet NumberedNet spell_net
+  net_stands : (x : DeclaredName) (at : ℕ) → WellFormedDeclarator x → NumberedDeclarator x at → low ≤ at → at + length (spell_declarator x) ≤ high → All low high (spots_of_net x)
+  unfolding WellFormedDeclarator NumberedDeclarator spell_declarator
   net_stands x at w n l h = value_stands x.value (at + 1) w n.1 (omega arith) (omega (arith, h))
 
   pair_stands : (p : NetAssignment) (at : ℕ) → WellFormedPair p → NumberedPair p at → low ≤ at → at + length (spell_pair p) ≤ high → All low high (spots_of_pair p)
@@ -94,7 +94,7 @@ module _ (low high : ℕ) where
   item_stands (Ports p) at w n l h = tt
   item_stands (Nets signed range list) at w n l h =
       let e = span.long-Nets signed range list in
-      also_all (Nets signed range list) (flat_map spots_of_net list) (separated_stand spell_net WellFormedNet NumberedNet spots_of_net net_stands list (at + 1 + length (spell_type signed range)) w.2 n.1 (omega arith) (omega (arith, e, h)))
+      also_all (Nets signed range list) (flat_map spots_of_net list) (separated_stand spell_declarator WellFormedDeclarator NumberedDeclarator spots_of_net net_stands list (at + 1 + length (spell_type signed range)) w.2 n.1 (omega arith) (omega (arith, e, h)))
   item_stands (Variables signed range list) at w n l h = tt
   item_stands (Integers list) at w n l h = tt
   item_stands (Parameters p) at w n l h = tt
@@ -107,6 +107,7 @@ module _ (low high : ℕ) where
         ((events, (token, refl)), λ a. let f = begins_at t start w.1 n.2 a in (omega (arith, f, l), omega (arith, f, e, h, some))),
         also_all (Always events t token) (spots_of t) (statement_stands low high t start w.1 n.2 (omega arith) (omega (arith, e, h))),
       )
+  item_stands (Initial body token) at w n l h = tt
   item_stands (Instances m token over list) at w n l h =
       let e = span.long-Instances m token over list in
       also_all (Instances m token over list) (flat_map spots_of_instance list)

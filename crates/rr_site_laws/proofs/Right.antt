@@ -6,7 +6,7 @@ use Rattle.std.proofs.lemmas.List.Elements.{All-from_recursion}
 use Rattle.rr_syntax.specs.declared.token.Number.{Number}
 use Rattle.rr_syntax.specs.Expressions.{spell}
 use Rattle.rr_syntax.specs.Items.{spell_item, WellFormedSource, NumberedSource}
-use Rattle.rr_syntax.specs.Tree.{Tree, Statement, EventControl, ModuleItem, Ports, Nets, Variables, Integers, Parameters, Assigns, Always, Instances, ModuleDeclaration, SourceText}
+use Rattle.rr_syntax.specs.Tree.{Tree, Statement, EventControl, ModuleItem, Ports, Nets, Variables, Integers, Parameters, Assigns, Always, Initial, Instances, ModuleDeclaration, SourceText}
 use Rattle.rr_expr.specs.Faults.{first}
 use Rattle.rr_expr.specs.Scopes.{Names}
 use Rattle.rr_flat.specs.Signals.{Text}
@@ -45,6 +45,7 @@ guard_fits (Integers list) owner extent names = tt
 guard_fits (Parameters p) owner extent names = tt
 guard_fits (Assigns pairs) owner extent names = tt
 guard_fits (Always events body token) owner extent names = tt
+guard_fits (Initial body token) owner extent names = tt
 guard_fits (Instances m token over list) owner extent names = tt
 
 module _ (source : SourceText) (flat : Flat) (word : Option Text) (formed : WellFormedSource source) (numbered : NumberedSource source) (known : Known source.modules flat) (from : From source.modules [] flat) where

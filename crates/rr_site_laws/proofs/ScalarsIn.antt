@@ -1,7 +1,7 @@
 -- In each instance the names that its module declares as scalars are scalars.
 use Rattle.std.proofs.Common.{◌≡◌, ℕ, List, get_or, map, flat_map, Option, Some, None, Ok, refl, sym, subst}
 use Rattle.std.specs.List.{AllByRecursion}
-use Rattle.rr_syntax.specs.Tree.{Identifier, Range, ModuleItem, Ports, Nets, Variables, Integers, Parameters, Assigns, Always, Instances, ModuleDeclaration}
+use Rattle.rr_syntax.specs.Tree.{Identifier, Range, ModuleItem, Ports, Nets, Variables, Integers, Parameters, Assigns, Always, Initial, Instances, ModuleDeclaration}
 use Rattle.rr_expr.specs.Scopes.{Names}
 use Rattle.rr_flat.specs.Signals.{Text}
 use Rattle.rr_flat.specs.Plain.{Flat}
@@ -32,13 +32,14 @@ module _ (P : Text → Option (ℕ × ℕ) → Type 0) (seen : Names) where
 
   item_hold : (x : ModuleItem) → ItemBy P seen x → AllByRecursion Q (item_scalars x)
   unfolding item_scalars
-  item_hold (Ports p) h = scalars_hold p.range p.names h
+  item_hold (Ports p) h = scalars_hold p.range (map net_name p.names) h
   item_hold (Nets signed range list) h = scalars_hold range (map net_name list) h
-  item_hold (Variables signed range list) h = scalars_hold range list h
+  item_hold (Variables signed range list) h = scalars_hold range (map net_name list) h
   item_hold (Integers list) h = tt
   item_hold (Parameters p) h = tt
   item_hold (Assigns pairs) h = tt
   item_hold (Always events body token) h = tt
+  item_hold (Initial body token) h = tt
   item_hold (Instances m token overrides list) h = tt
 
   -- and so the scalars have none
@@ -46,7 +47,7 @@ module _ (P : Text → Option (ℕ × ℕ) → Type 0) (seen : Names) where
   unfolding scalars
   all_scalars m h =
       both Q (flat_map port_scalars m.groups) (flat_map item_scalars m.items)
-      (all_flat Q port_scalars m.groups (all_weaken (λ p. AreBy P seen p.range p.names) m.groups (λ p g. scalars_hold p.range p.names g) h.groups))
+      (all_flat Q port_scalars m.groups (all_weaken (λ p. AreBy P seen p.range (map net_name p.names)) m.groups (λ p g. scalars_hold p.range (map net_name p.names) g) h.groups))
       (all_flat Q item_scalars m.items (all_weaken (ItemBy P seen) m.items item_hold h.items))
 
 pub has_scalars : (ms : List ModuleDeclaration) (flat : Flat) → Headed ms flat.scopes flat.owners flat.signals → HasScalars ms flat

@@ -1,16 +1,17 @@
 -- A variable that may be overwritten has one width in all instances of its module.
-use Rattle.std.proofs.Common.{◌≡◌, inl, inr, ℕ, zero, suc, ◌-◌, ◌<◌, Bool, true, false, not, ◌&&◌, if◌then◌else◌, List, [], ◌∷◌, ◌++◌, length, Option, Some, None, refl, sym, subst, ap, ap₂, ◌∙◌, arith, length-append, nat_lt, nat_eq}
+use Rattle.std.proofs.Common.{◌≡◌, inl, inr, ℕ, zero, suc, ◌-◌, ◌<◌, Bool, true, false, not, ◌&&◌, if◌then◌else◌, List, [], ◌∷◌, ◌++◌, length, map, Option, Some, None, refl, sym, subst, ap, ap₂, ◌∙◌, arith, length-append, nat_lt, nat_eq}
 use Rattle.std.specs.Prelude.{slice_index_or}
 use Rattle.std.specs.List.{AllByRecursion, list_any}
 use Rattle.std.specs.Str.{bytes_eq}
 use Rattle.std.proofs.lemmas.Bool.{and_parts, or_cases, both_ways, not-true, eqb-true, eq-eqb, lt-ltb, ltb-false}
 use Rattle.std.proofs.lemmas.Slice.Eq.{bytes_eq-Decides}
-use Rattle.rr_syntax.specs.Tree.{Tree, Identifier, Range, PortDeclaration, ModuleItem, Ports, Nets, Variables, Integers, Parameters, Assigns, Always, Instances, ModuleDeclaration}
+use Rattle.rr_syntax.specs.Tree.{Tree, Identifier, Range, PortDeclaration, ModuleItem, Ports, Nets, Variables, Integers, Parameters, Assigns, Always, Initial, Instances, ModuleDeclaration}
 use Rattle.rr_expr.specs.Faults.{is_width, first}
 use Rattle.rr_expr.specs.Reading.{Occurs}
 use Rattle.rr_expr.specs.Scopes.{Names, meant, entity_shape, range_width}
 use Rattle.rr_expr.specs.Values.{form, value, own, nowhere}
 use Rattle.rr_expr.proofs.NamesAlone.{shape_by_names, value_by_names, fault_by_names}
+use Rattle.rr_guard.specs.Names.{net_name}
 use Rattle.rr_overwrite.specs.Overwrites.{is_reg, Target, targets_of, is_open, is_in, port_opens, item_opens, port_sets, item_sets, is_variable, may_overwrite, width_in}
 use Rattle.rr_flat.specs.Faults.{answer_of}
 use Rattle.rr_flat.specs.Signals.{Text}
@@ -105,21 +106,22 @@ module _ (a b seen other : Names) (name : Text) where
       by true e h = absurd (both_ways (is_in name list) h i)
       by false e h = e
 
-  by_ports : (p : PortDeclaration) → AreBy (IsSet a) seen p.range p.names → AreBy (IsSet b) other p.range p.names → port_opens name p ≡ false → port_sets name p ≡ true → Goal
-  by_ports p s u o h = let i = (and_parts (is_reg p.dir) (is_in name p.names) h).1 in by_list p.range p.names (closed p.range p.names o i) s u i
+  by_ports : (p : PortDeclaration) → AreBy (IsSet a) seen p.range (map net_name p.names) → AreBy (IsSet b) other p.range (map net_name p.names) → port_opens name p ≡ false → port_sets name p ≡ true → Goal
+  by_ports p s u o h = let i = (and_parts (is_reg p.dir) (is_in name (map net_name p.names)) h).1 in by_list p.range (map net_name p.names) (closed p.range (map net_name p.names) o i) s u i
 
   by_item : (x : ModuleItem) → ItemBy (IsSet a) seen x → ItemBy (IsSet b) other x → item_opens name x ≡ false → item_sets name x ≡ true → Goal
   unfolding item_opens item_sets
   by_item (Ports p) s u o h = by_ports p s u o h
   by_item (Nets signed range list) s u o h = absurd (both_ways false refl h)
-  by_item (Variables signed range list) s u o h = by_list range list (closed range list o h) s u h
+  by_item (Variables signed range list) s u o h = by_list range (map net_name list) (closed range (map net_name list) o h) s u h
   by_item (Integers list) s u o h = absurd (both_ways false refl h)
   by_item (Parameters p) s u o h = absurd (both_ways false refl h)
   by_item (Assigns pairs) s u o h = absurd (both_ways false refl h)
   by_item (Always events body token) s u o h = absurd (both_ways false refl h)
+  by_item (Initial body token) s u o h = absurd (both_ways false refl h)
   by_item (Instances m token overrides list) s u o h = absurd (both_ways false refl h)
 
-  all_ports : (ps : List PortDeclaration) → AllByRecursion (λ p. AreBy (IsSet a) seen p.range p.names) ps → AllByRecursion (λ p. AreBy (IsSet b) other p.range p.names) ps → AllByRecursion (λ p. port_opens name p ≡ false) ps →
+  all_ports : (ps : List PortDeclaration) → AllByRecursion (λ p. AreBy (IsSet a) seen p.range (map net_name p.names)) ps → AllByRecursion (λ p. AreBy (IsSet b) other p.range (map net_name p.names)) ps → AllByRecursion (λ p. port_opens name p ≡ false) ps →
       AllByRecursion (λ p. port_sets name p ≡ true → Goal) ps
   all_ports [] s u o = tt
   all_ports (p ∷ ps) s u o = (by_ports p s.0 u.0 o.0, all_ports ps s.1 u.1 o.1)

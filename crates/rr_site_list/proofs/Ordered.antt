@@ -5,9 +5,9 @@ use Rattle.std.proofs.lemmas.Bool.{cases_lt}
 use Rattle.std.proofs.lemmas.Grind.{flat_map-append}
 use Rattle.rr_syntax.specs.declared.token.Number.{Number}
 use Rattle.rr_syntax.specs.Expressions.{spell, spell_more, WellFormed, WellFormedMore, Numbered, NumberedMore}
-use Rattle.rr_syntax.specs.Items.{spell_each, spell_separated, spell_all, spell_type, spell_value, spell_net, spell_pair, spell_events, spell_optional, spell_connection, spell_connections, spell_overrides, spell_instance, spell_item, WellFormedValue, WellFormedNet, WellFormedPair, WellFormedConnection, WellFormedConnections, WellFormedInstance, WellFormedItem, NumberedAll, NumberedEach, NumberedSeparated, NumberedValue, NumberedNet, NumberedPair, NumberedConnection, NumberedConnections, NumberedInstance, NumberedItem}
+use Rattle.rr_syntax.specs.Items.{spell_each, spell_separated, spell_all, spell_type, spell_value, spell_declarator, spell_pair, spell_events, spell_optional, spell_connection, spell_connections, spell_overrides, spell_instance, spell_item, WellFormedValue, WellFormedDeclarator, WellFormedPair, WellFormedConnection, WellFormedConnections, WellFormedInstance, WellFormedItem, NumberedAll, NumberedEach, NumberedSeparated, NumberedValue, NumberedDeclarator, NumberedPair, NumberedConnection, NumberedConnections, NumberedInstance, NumberedItem}
 use Rattle.rr_syntax.specs.Statements.{spell_label, spell_labels, spell_statement, spell_statements, spell_arm, spell_arms, WellFormedStatement, WellFormedStatements, WellFormedArm, WellFormedArms, NumberedLabels, NumberedStatement, NumberedStatements, NumberedArm, NumberedArms}
-use Rattle.rr_syntax.specs.Tree.{Tree, Trees, Name, Literal, Bit, Part, Indexed, Unary, Binary, Cond, Concat, Repeat, Cast, Paren, End, More, Statement, Statements, Arm, Arms, Null, Block, If, IfElse, Case, Assign, Done, Then, CaseItem, NoArms, MoreArms, NetIdentifier, NetAssignment, NamedConnection, Connections, Positions, Names, ModuleInstance, ModuleItem, Ports, Nets, Variables, Integers, Parameters, Assigns, Always, Instances, ModuleDeclaration}
+use Rattle.rr_syntax.specs.Tree.{Tree, Trees, Name, Literal, Bit, Part, Indexed, Unary, Binary, Cond, Concat, Repeat, Cast, Paren, End, More, Statement, Statements, Arm, Arms, Null, Block, If, IfElse, Case, Assign, Done, Then, CaseItem, NoArms, MoreArms, DeclaredName, NetAssignment, NamedConnection, Connections, Positions, Names, ModuleInstance, ModuleItem, Ports, Nets, Variables, Integers, Parameters, Assigns, Always, Initial, Instances, ModuleDeclaration}
 use Rattle.rr_syntax.specs.Words.{Word}
 use Rattle.rr_syntax.proofs.Nonempty.{spell-some, spell_statement-some}
 use Rattle.rr_expr.specs.declared.operators.Infix.TheVariants.{Either}
@@ -278,8 +278,8 @@ module _ (f : Spot → List Site) (owner : ℕ) (names : ℕ → List Text)
   value_in None at w n = none at (at + 0) 0
   value_in (Some t) at w n = fit (at + 1) (at + 1 + length (spell t)) (length (spell t)) at (at + suc (length (spell t))) (suc (length (spell t))) (spots t) (omega arith) (omega arith) (omega arith) (tree_in t (at + 1) w n)
 
-  net_in : (x : NetIdentifier) (at : ℕ) → WellFormedNet x → NumberedNet x at → In at (at + length (spell_net x)) (length (spell_net x)) (spots_of_net x)
-  unfolding WellFormedNet NumberedNet spell_net
+  net_in : (x : DeclaredName) (at : ℕ) → WellFormedDeclarator x → NumberedDeclarator x at → In at (at + length (spell_declarator x)) (length (spell_declarator x)) (spots_of_net x)
+  unfolding WellFormedDeclarator NumberedDeclarator spell_declarator
   net_in x at w n =
       let long = length (spell_value x.value) in
       fit (at + 1) (at + 1 + long) long at (at + suc long) (suc long) (spots_of_value x.value) (omega arith) (omega arith) (omega arith) (value_in x.value (at + 1) w n.1)
@@ -415,9 +415,9 @@ module _ (m : ModuleDeclaration) (owner : ℕ) (scope : Scope) (clocks : List Te
     item_in (Nets signed range list) at w n =
         let e = span.long-Nets signed range list in
         let mid = at + 1 + length (spell_type signed range) in
-        let long = length (spell_separated spell_net list) in
+        let long = length (spell_separated spell_declarator list) in
         stays_of mid (mid + long) long at (at + length (spell_item (Nets signed range list))) (flat_map spots_of_net list) (omega arith) (omega (arith, e))
-        (separated_in g owner more (λ t. refl) (λ t d. refl) spell_net WellFormedNet NumberedNet spots_of_net (net_in g owner more (λ t. refl) (λ t d. refl)) list mid w.2 n.1)
+        (separated_in g owner more (λ t. refl) (λ t d. refl) spell_declarator WellFormedDeclarator NumberedDeclarator spots_of_net (net_in g owner more (λ t. refl) (λ t d. refl)) list mid w.2 n.1)
     item_in (Variables signed range list) at w n = stays_none at (at + length (spell_item (Variables signed range list)))
     item_in (Integers list) at w n = stays_none at (at + length (spell_item (Integers list)))
     item_in (Parameters p) at w n = stays_none at (at + length (spell_item (Parameters p)))
@@ -436,6 +436,7 @@ module _ (m : ModuleDeclaration) (owner : ℕ) (scope : Scope) (clocks : List Te
         let os = overwrites_at m owner scope clocks c (Body t) in
         let h = overwrites_before start high os (flat_map g (spots_of t)) (omega (arith, e, some)) (overwrites_at_start t start w.1 n.2) inside in
         stays_wider start high at high (g (Body t) ++ flat_map g (spots_of t)) (omega arith) (omega arith) (subst (λ xs. Stays start high (xs ++ flat_map g (spots_of t))) (sym (append-nil os)) h)
+    item_in (Initial body token) at w n = stays_none at (at + length (spell_item (Initial body token)))
     item_in (Instances q token over list) at w n =
         let e = span.long-Instances q token over list in
         let mid = at + 1 + length (spell_overrides over) in

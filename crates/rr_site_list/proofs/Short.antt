@@ -2,9 +2,9 @@
 use Rattle.std.proofs.Common.{ℕ, ◌+◌, ◌<◌, ◌≤◌, ◌^◌, Bool, true, false, if◌then◌else◌, List, [], ◌∷◌, ◌++◌, length, get_or, flat_map, Option, Some, None, arith}
 use Rattle.std.specs.List.{AllByRecursion}
 use Rattle.rr_syntax.specs.Expressions.{spell, spell_more, IsFit, FitLiterals, FitLiteralsParts}
-use Rattle.rr_syntax.specs.Items.{spell_each, spell_separated, spell_all, spell_value, spell_net, spell_pair, spell_optional, spell_connection, spell_connections, spell_instance, spell_item, spell_module, spell_source, FitLiteralsValue, FitLiteralsNet, FitLiteralsPair, FitLiteralsConnection, FitLiteralsConnections, FitLiteralsInstance, FitLiteralsItem, FitLiteralsModule, FitLiteralsSource}
+use Rattle.rr_syntax.specs.Items.{spell_each, spell_separated, spell_all, spell_value, spell_declarator, spell_pair, spell_optional, spell_connection, spell_connections, spell_instance, spell_item, spell_module, spell_source, FitLiteralsValue, FitLiteralsDeclarator, FitLiteralsPair, FitLiteralsConnection, FitLiteralsConnections, FitLiteralsInstance, FitLiteralsItem, FitLiteralsModule, FitLiteralsSource}
 use Rattle.rr_syntax.specs.Statements.{spell_labels, spell_statement, spell_statements, spell_arm, spell_arms, FitLiteralsStatement, FitLiteralsStatements, FitLiteralsArm, FitLiteralsArms}
-use Rattle.rr_syntax.specs.Tree.{Tree, Trees, Name, Literal, Bit, Part, Indexed, Unary, Binary, Cond, Concat, Repeat, Cast, Paren, End, More, Statement, Statements, Arm, Arms, Null, Block, If, IfElse, Case, Assign, Done, Then, CaseItem, NoArms, MoreArms, NetIdentifier, NetAssignment, NamedConnection, Connections, Positions, Names, ModuleInstance, ModuleItem, Ports, Nets, Variables, Integers, Parameters, Assigns, Always, Instances, ModuleDeclaration, SourceText}
+use Rattle.rr_syntax.specs.Tree.{Tree, Trees, Name, Literal, Bit, Part, Indexed, Unary, Binary, Cond, Concat, Repeat, Cast, Paren, End, More, Statement, Statements, Arm, Arms, Null, Block, If, IfElse, Case, Assign, Done, Then, CaseItem, NoArms, MoreArms, DeclaredName, NetAssignment, NamedConnection, Connections, Positions, Names, ModuleInstance, ModuleItem, Ports, Nets, Variables, Integers, Parameters, Assigns, Always, Initial, Instances, ModuleDeclaration, SourceText}
 use Rattle.rr_syntax.specs.Words.{Word}
 use Rattle.rr_expr.specs.declared.operators.Infix.TheVariants.{Either}
 use Rattle.rr_expr.specs.Faults.{takes_constants}
@@ -113,8 +113,8 @@ module _ (n : ℕ) where
   given_short None f h = tt
   given_short (Some t) f h = tree_short t f (omega (arith, h))
 
-  net_short : (x : NetIdentifier) → FitLiteralsNet x → length (spell_net x) ≤ n → All (spots_of_net x)
-  unfolding FitLiteralsNet spell_net
+  net_short : (x : DeclaredName) → FitLiteralsDeclarator x → length (spell_declarator x) ≤ n → All (spots_of_net x)
+  unfolding FitLiteralsDeclarator spell_declarator
   net_short x f h = given_short x.value f (omega (arith, h))
 
   pair_short : (p : NetAssignment) → FitLiteralsPair p → length (spell_pair p) ≤ n → All (spots_of_pair p)
@@ -149,12 +149,13 @@ module _ (n : ℕ) where
   pub item_short : (x : ModuleItem) → FitLiteralsItem x → length (spell_item x) ≤ n → All (spots_of_item x)
   unfolding FitLiteralsItem spots_of_item
   item_short (Ports p) f h = tt
-  item_short (Nets signed range list) f h = let e = span.long-Nets signed range list in separated_short spell_net FitLiteralsNet spots_of_net net_short list f.1 (omega (arith, e, h))
+  item_short (Nets signed range list) f h = let e = span.long-Nets signed range list in separated_short spell_declarator FitLiteralsDeclarator spots_of_net net_short list f.1 (omega (arith, e, h))
   item_short (Variables signed range list) f h = tt
   item_short (Integers list) f h = tt
   item_short (Parameters p) f h = tt
   item_short (Assigns pairs) f h = let e = span.long-Assigns pairs in separated_short spell_pair FitLiteralsPair spots_of_pair pair_short pairs f (omega (arith, e, h))
   item_short (Always events t token) f h = let e = span.long-Always events t token in (tt, statement_short t f.1 (omega (arith, e, h)))
+  item_short (Initial body token) f h = tt
   item_short (Instances m token over list) f h =
       let e = span.long-Instances m token over list in separated_short spell_instance FitLiteralsInstance spots_of_instance instance_short list f.1 (omega (arith, e, h))
 

@@ -2,9 +2,9 @@
 use Rattle.std.proofs.Common.{◌≡◌, ◌∙◌, ℕ, zero, suc, ◌+◌, ◌<◌, Bool, true, false, if◌then◌else◌, List, [], ◌∷◌, ◌++◌, length, get_or, map, filter, flat_map, Option, Some, None, refl, ap, subst, arith}
 use Rattle.std.specs.List.{AllByRecursion}
 use Rattle.rr_syntax.specs.Expressions.{spell, spell_parts, spell_more, Numbered, NumberedMore}
-use Rattle.rr_syntax.specs.Items.{spell_each, spell_separated, spell_all, spell_type, spell_value, spell_net, spell_pair, spell_events, spell_optional, spell_connection, spell_connections, spell_overrides, spell_instance, spell_item, spell_parameters, spell_ports, spell_module, spell_source, NumberedAll, NumberedEach, NumberedSeparated, NumberedValue, NumberedNet, NumberedPair, NumberedConnection, NumberedConnections, NumberedInstance, NumberedItem, NumberedModule, NumberedSource}
+use Rattle.rr_syntax.specs.Items.{spell_each, spell_separated, spell_all, spell_type, spell_value, spell_declarator, spell_pair, spell_events, spell_optional, spell_connection, spell_connections, spell_overrides, spell_instance, spell_item, spell_parameters, spell_ports, spell_module, spell_source, NumberedAll, NumberedEach, NumberedSeparated, NumberedValue, NumberedDeclarator, NumberedPair, NumberedConnection, NumberedConnections, NumberedInstance, NumberedItem, NumberedModule, NumberedSource}
 use Rattle.rr_syntax.specs.Statements.{spell_label, spell_labels, spell_statement, spell_statements, spell_arm, spell_arms, NumberedLabels, NumberedStatement, NumberedStatements, NumberedArm, NumberedArms}
-use Rattle.rr_syntax.specs.Tree.{Tree, Trees, Name, Literal, Bit, Part, Indexed, Unary, Binary, Cond, Concat, Repeat, Cast, Paren, End, More, Statement, Statements, Arm, Arms, Null, Block, If, IfElse, Case, Assign, Done, Then, CaseItem, NoArms, MoreArms, NetIdentifier, NetAssignment, NamedConnection, Connections, Positions, Names, ModuleInstance, ModuleItem, Ports, Nets, Variables, Integers, Parameters, Assigns, Always, Instances, ModuleDeclaration, SourceText}
+use Rattle.rr_syntax.specs.Tree.{Tree, Trees, Name, Literal, Bit, Part, Indexed, Unary, Binary, Cond, Concat, Repeat, Cast, Paren, End, More, Statement, Statements, Arm, Arms, Null, Block, If, IfElse, Case, Assign, Done, Then, CaseItem, NoArms, MoreArms, DeclaredName, NetAssignment, NamedConnection, Connections, Positions, Names, ModuleInstance, ModuleItem, Ports, Nets, Variables, Integers, Parameters, Assigns, Always, Initial, Instances, ModuleDeclaration, SourceText}
 use Rattle.rr_syntax.specs.Words.{Word, Digits, Marked}
 use Rattle.rr_expr.specs.declared.operators.Infix.TheVariants.{Either}
 use Rattle.rr_expr.specs.Faults.{takes_constants}
@@ -150,8 +150,8 @@ module _ (W : ℕ → Word) where
   connected_told None at n h = tt
   connected_told (Some t) at n h = tree_told t (at + 1) n h
 
-  net_told : (x : NetIdentifier) (at : ℕ) → NumberedNet x at → StandAt W at (spell_net x) → All (spots_of_net x)
-  unfolding NumberedNet spell_net
+  net_told : (x : DeclaredName) (at : ℕ) → NumberedDeclarator x at → StandAt W at (spell_declarator x) → All (spots_of_net x)
+  unfolding NumberedDeclarator spell_declarator
   net_told x at n h = value_told x.value (at + 1) n.1 h.1
 
   pair_told : (p : NetAssignment) (at : ℕ) → NumberedPair p at → StandAt W at (spell_pair p) → All (spots_of_pair p)
@@ -194,13 +194,14 @@ module _ (W : ℕ → Word) where
   item_told (Ports p) at n h = tt
   item_told (Nets signed range list) at n h =
       let mid = at + 1 + length (spell_type signed range) in
-      separated_told spell_net NumberedNet spots_of_net net_told list mid n.1 (front (spell_separated spell_net list) _ mid (back (spell_type signed range) _ (at + 1) h.1))
+      separated_told spell_declarator NumberedDeclarator spots_of_net net_told list mid n.1 (front (spell_separated spell_declarator list) _ mid (back (spell_type signed range) _ (at + 1) h.1))
   item_told (Variables signed range list) at n h = tt
   item_told (Integers list) at n h = tt
   item_told (Parameters p) at n h = tt
   item_told (Assigns pairs) at n h = separated_told spell_pair NumberedPair spots_of_pair pair_told pairs (at + 1) n (front (spell_separated spell_pair pairs) _ (at + 1) h.1)
   item_told (Always events t token) at n h =
       (tt, statement_told t (at + 2 + length (spell_events events)) n.2 (back (spell_events events) (spell_statement t) (at + 2) (to (spell_events events ++ spell_statement t) (at + 1 + 1) (at + 2) (omega arith) h.1.1)))
+  item_told (Initial body token) at n h = tt
   item_told (Instances m token over list) at n h =
       let mid = at + 1 + length (spell_overrides over) in
       separated_told spell_instance NumberedInstance spots_of_instance instance_told list mid n.2 (front (spell_separated spell_instance list) _ mid (back (spell_overrides over) _ (at + 1) h.1))

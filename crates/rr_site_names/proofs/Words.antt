@@ -4,8 +4,8 @@ use Rattle.std.specs.List.{AllByRecursion, list_all}
 use Rattle.std.proofs.lemmas.Bool.{and_parts, and_from}
 use Rattle.std.proofs.lemmas.Bool.Decides.{nat_tests}
 use Rattle.rr_syntax.specs.Words.{Word, Named, System, Digits, Reserved, Marked}
-use Rattle.rr_syntax.specs.Tree.{Identifier, PortDeclaration, NetIdentifier, ModuleItem, Ports, Nets, Variables, Integers, Parameters, Assigns, Always, Instances, ModuleDeclaration, SourceText}
-use Rattle.rr_syntax.specs.Items.{spell_each, spell_separated, spell_all, spell_identifier, spell_dir, spell_type, spell_net, spell_port, spell_item, spell_parameters, spell_ports, spell_module, spell_source, IsHeader, WellFormedModule, WellFormedSource}
+use Rattle.rr_syntax.specs.Tree.{Identifier, PortDeclaration, DeclaredName, ModuleItem, Ports, Nets, Variables, Integers, Parameters, Assigns, Always, Initial, Instances, ModuleDeclaration, SourceText}
+use Rattle.rr_syntax.specs.Items.{spell_each, spell_separated, spell_all, spell_identifier, spell_dir, spell_type, spell_declarator, spell_port, spell_item, spell_parameters, spell_ports, spell_module, spell_source, IsHeader, WellFormedModule, WellFormedSource}
 use Rattle.rr_lex.specs.Bytes.{begins, is_letter, is_name_byte, is_printable}
 use Rattle.rr_lex.specs.Tokens.{Lexeme, IsToken, named, reserved, escaped_name, system_name, numbered, marked, Read, here, white, token, AreTokens, words_of}
 use Rattle.rr_lex.specs.Patch.{IsNameText}
@@ -89,48 +89,50 @@ module _ {A : Type 0} (f : A → List Word) (P : A → Type 0) (g : (x : A) → 
 abbrev pub IsWritten : Identifier → Type 0
 IsWritten x = IsNameText x.text
 
-identifier_written : (x : Identifier) → Each (spell_identifier x) → IsWritten x
-unfolding spell_identifier
-identifier_written x h = h.0
-
-net_written : (n : NetIdentifier) → Each (spell_net n) → IsWritten (net_name n)
-unfolding spell_net
+net_written : (n : DeclaredName) → Each (spell_declarator n) → IsWritten (net_name n)
+unfolding spell_declarator
 net_written n h = h.0
 
 abbrev pub PortWritten : PortDeclaration → Type 0
-PortWritten p = AllByRecursion IsWritten p.names
+PortWritten p = AllByRecursion IsWritten (map net_name p.names)
+
+mapped : (list : List DeclaredName) → AllByRecursion (λ n. IsWritten (net_name n)) list → AllByRecursion IsWritten (map net_name list)
+mapped [] h = tt
+mapped (n ∷ list) h = (h.0, mapped list h.1)
+
+-- the names of a declaration
+list_written : (list : List DeclaredName) → Each (spell_separated spell_declarator list) → AllByRecursion IsWritten (map net_name list)
+list_written list h = mapped list (separated spell_declarator (λ n. IsWritten (net_name n)) net_written list h)
 
 port_written : (p : PortDeclaration) → Each (spell_port p) → PortWritten p
 unfolding spell_port
-port_written p h = separated spell_identifier IsWritten identifier_written p.names (back (spell_type p.signed p.range) _ (back (spell_dir p.dir) _ h))
+port_written p h = list_written p.names (back (spell_type p.signed p.range) _ (back (spell_dir p.dir) _ h))
 
 -- the names that an item declares
 abbrev pub declared : ModuleItem → List Identifier
-declared (Ports p) = p.names
+declared (Ports p) = map net_name p.names
 declared (Nets signed range list) = map net_name list
-declared (Variables signed range list) = list
+declared (Variables signed range list) = map net_name list
 declared (Integers list) = []
 declared (Parameters p) = []
 declared (Assigns pairs) = []
 declared (Always events body at) = []
+declared (Initial body at) = []
 declared (Instances m at overrides list) = []
 
 abbrev pub ItemWritten : ModuleItem → Type 0
 ItemWritten x = AllByRecursion IsWritten (declared x)
 
-mapped : (list : List NetIdentifier) → AllByRecursion (λ n. IsWritten (net_name n)) list → AllByRecursion IsWritten (map net_name list)
-mapped [] h = tt
-mapped (n ∷ list) h = (h.0, mapped list h.1)
-
 item_written : (x : ModuleItem) → Each (spell_item x) → ItemWritten x
 unfolding spell_item
 item_written (Ports p) h = port_written p (front (spell_port p) _ h)
-item_written (Nets signed range list) h = mapped list (separated spell_net (λ n. IsWritten (net_name n)) net_written list (front (spell_separated spell_net list) _ (back (spell_type signed range) _ h.1)))
-item_written (Variables signed range list) h = separated spell_identifier IsWritten identifier_written list (front (spell_separated spell_identifier list) _ (back (spell_type signed range) _ h.1))
+item_written (Nets signed range list) h = list_written list (front (spell_separated spell_declarator list) _ (back (spell_type signed range) _ h.1))
+item_written (Variables signed range list) h = list_written list (front (spell_separated spell_declarator list) _ (back (spell_type signed range) _ h.1))
 item_written (Integers list) h = tt
 item_written (Parameters p) h = tt
 item_written (Assigns pairs) h = tt
 item_written (Always events body at) h = tt
+item_written (Initial body at) h = tt
 item_written (Instances m at overrides list) h = tt
 
 pub record ModuleWritten (m : ModuleDeclaration) : Type 0 where

@@ -1,10 +1,10 @@
 -- Each name of a site is declared in its module.
-use Rattle.std.proofs.Common.{◌≡◌, ℕ, Bool, true, false, ◌||◌, if◌then◌else◌, List, [], ◌∷◌, ◌++◌, filter, flat_map, Option, Some, None, refl, sym, subst, zero, suc}
+use Rattle.std.proofs.Common.{◌≡◌, ℕ, Bool, true, false, ◌||◌, if◌then◌else◌, List, [], ◌∷◌, ◌++◌, map, filter, flat_map, Option, Some, None, refl, sym, subst, zero, suc}
 use Rattle.std.specs.List.{AllByRecursion, All, list_any}
 use Rattle.std.specs.Str.{bytes_eq}
 use Rattle.std.proofs.lemmas.Slice.Eq.{bytes_eq-Decides}
 use Rattle.std.proofs.lemmas.Bool.{and_parts, false≢true}
-use Rattle.rr_syntax.specs.Tree.{Identifier, Range, PortDeclaration, ModuleItem, Ports, Nets, Variables, Integers, Parameters, Assigns, Always, Instances, ModuleDeclaration}
+use Rattle.rr_syntax.specs.Tree.{Identifier, Range, PortDeclaration, ModuleItem, Ports, Nets, Variables, Integers, Parameters, Assigns, Always, Initial, Instances, ModuleDeclaration}
 use Rattle.rr_lex.specs.Patch.{IsNameText}
 use Rattle.rr_expr.specs.Scopes.{Names}
 use Rattle.rr_flat.proofs.Lists.{all_index}
@@ -16,7 +16,7 @@ use Rattle.rr_choice.specs.Sites.{Site}
 use Rattle.rr_spots.specs.Spots.{Spot, Body, Test, Value, is_clocked, spots_of_item}
 use Rattle.rr_literal.specs.Literals.{is_known, literal_at}
 use Rattle.rr_guard.specs.Guards.{guard_of}
-use Rattle.rr_guard.specs.Names.{scalars_if, port_scalars, item_scalars, scalars, firsts, guard_names, may_guard, is_before, first_names, texts_of, names_at}
+use Rattle.rr_guard.specs.Names.{net_name, scalars_if, port_scalars, item_scalars, scalars, firsts, guard_names, may_guard, is_before, first_names, texts_of, names_at}
 use Rattle.rr_overwrite.specs.Overwrites.{is_in, is_reg, port_sets, item_sets, is_variable, may_overwrite, targets_of, overwrite_of, overwrites_of}
 use Rattle.rr_listing.specs.Listing.{module_at, scope_of, sites_at, item_sites, module_sites, place_sites, sites_of, no_module}
 use Rattle.rr_respell.specs.Laws.{IsNamed}
@@ -32,13 +32,14 @@ if_scalars (Some r) names h = tt
 
 item_scalars_written : (x : ModuleItem) → ItemWritten x → AllByRecursion IsWritten (item_scalars x)
 unfolding item_scalars
-item_scalars_written (Ports p) h = if_scalars p.range p.names h
+item_scalars_written (Ports p) h = if_scalars p.range _ h
 item_scalars_written (Nets signed range list) h = if_scalars range _ h
-item_scalars_written (Variables signed range list) h = if_scalars range list h
+item_scalars_written (Variables signed range list) h = if_scalars range _ h
 item_scalars_written (Integers list) h = tt
 item_scalars_written (Parameters p) h = tt
 item_scalars_written (Assigns pairs) h = tt
 item_scalars_written (Always events body token) h = tt
+item_scalars_written (Initial body token) h = tt
 item_scalars_written (Instances m token overrides list) h = tt
 
 module _ (m : ModuleDeclaration) (h : ModuleWritten m) where
@@ -46,7 +47,7 @@ module _ (m : ModuleDeclaration) (h : ModuleWritten m) where
   unfolding scalars
   scalars_written =
       both IsWritten (flat_map port_scalars m.groups) (flat_map item_scalars m.items)
-      (all_flat IsWritten port_scalars m.groups (all_weaker PortWritten (λ p. AllByRecursion IsWritten (port_scalars p)) m.groups (λ p q. if_scalars p.range p.names q) h.groups))
+      (all_flat IsWritten port_scalars m.groups (all_weaker PortWritten (λ p. AllByRecursion IsWritten (port_scalars p)) m.groups (λ p q. if_scalars p.range (map net_name p.names) q) h.groups))
       (all_flat IsWritten item_scalars m.items (all_weaker ItemWritten (λ x. AllByRecursion IsWritten (item_scalars x)) m.items item_scalars_written h.items))
 
   guards_written : (clocks : List Text) (clocked : Bool) → AllByRecursion IsWritten (guard_names m clocks clocked)
@@ -76,17 +77,18 @@ module _ (m : ModuleDeclaration) (h : ModuleWritten m) where
   in_written name list w e = any_of IsWritten (λ (x : Identifier). bytes_eq name x.text) list w (λ x p t. subst IsNameText (sym ((bytes_eq-Decides name x.text).0 t)) p) e
 
   port_set_written : (name : Text) (p : PortDeclaration) → PortWritten p → port_sets name p ≡ true → IsNameText name
-  port_set_written name p w e = in_written name p.names w (and_parts (is_reg p.dir) (is_in name p.names) e).1
+  port_set_written name p w e = in_written name (map net_name p.names) w (and_parts (is_reg p.dir) (is_in name (map net_name p.names)) e).1
 
   item_set_written : (name : Text) (x : ModuleItem) → ItemWritten x → item_sets name x ≡ true → IsNameText name
   unfolding item_sets
   item_set_written name (Ports p) w e = port_set_written name p w e
   item_set_written name (Nets signed range list) w e = absurd (false≢true e)
-  item_set_written name (Variables signed range list) w e = in_written name list w e
+  item_set_written name (Variables signed range list) w e = in_written name (map net_name list) w e
   item_set_written name (Integers list) w e = absurd (false≢true e)
   item_set_written name (Parameters p) w e = absurd (false≢true e)
   item_set_written name (Assigns pairs) w e = absurd (false≢true e)
   item_set_written name (Always events body token) w e = absurd (false≢true e)
+  item_set_written name (Initial body token) w e = absurd (false≢true e)
   item_set_written name (Instances n token overrides list) w e = absurd (false≢true e)
 
   variable_written : (name : Text) → is_variable m name ≡ true → IsNameText name

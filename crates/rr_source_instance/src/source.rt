@@ -2,15 +2,15 @@
 
 ghost use Rattle.std.specs.Prelude.{◌≡◌, ◌<◌, ◌^◌, length, map, IfOk, IfSome};
 ghost use Rattle.rr_syntax.specs.Expressions.{spell};
-ghost use Rattle.rr_syntax.specs.Items.{spell_all, spell_connection, spell_connections, spell_each, spell_instance, spell_item, spell_module, spell_net, spell_pair, spell_source};
-ghost use Rattle.rr_syntax.specs.View.{plain, plain_connection, plain_connections, plain_instance, plain_item, plain_module, plain_net, plain_pair, plain_source, plain_value};
+ghost use Rattle.rr_syntax.specs.Items.{spell_all, spell_connection, spell_connections, spell_each, spell_instance, spell_item, spell_module, spell_declarator, spell_pair, spell_source};
+ghost use Rattle.rr_syntax.specs.View.{plain, plain_connection, plain_connections, plain_instance, plain_item, plain_module, plain_declarator, plain_pair, plain_source, plain_value};
 ghost use Rattle.rr_instance.specs.Instances.{instance_child, instance_connection, instance_connections, instance_item, instance_module, instance_net, instance_pair, instance_source, instance_value};
 
 use bumpalo::Bump;
 use bumpalo::collections::into_bump_slice;
 use rr_choice::{Choice, SiteList};
 use rr_instance::{body_instance, expression_instance, expression_instances};
-use rr_syntax::{Connection, Conns, Expr, Instance, Item, Module, NetName, Pair, Source, Stmt};
+use rr_syntax::{Connection, Conns, Declarator, Expr, Instance, Item, Module, Pair, Source, Stmt};
 use std::alloc::AllocError;
 
 /// A value where there is one.
@@ -35,18 +35,18 @@ fn new_value<'a>(
 }
 
 /// A declared net.
-#[tactic(auto, using(crate::proofs::Items::net_fits), unfolding(rr_syntax::specs::View::plain_net, rr_instance::specs::Instances::instance_net))]
+#[tactic(auto, using(crate::proofs::Items::net_fits), unfolding(rr_syntax::specs::View::plain_declarator, rr_instance::specs::Instances::instance_net))]
 fn new_net<'a>(
-    net: &NetName<'a>,
+    net: &Declarator<'a>,
     sites: &SiteList<'a>,
     choice: &Choice,
     arena: &'a Bump,
-) -> Result<NetName<'a>, AllocError>
-    requires fits { length (spell_net (plain_net net.now)) < 2 ^ 64 }
-    ensures { IfOk result (λ r. plain_net r ≡ instance_net sites.now choice.now.picks.items (plain_net net.now)) }
+) -> Result<Declarator<'a>, AllocError>
+    requires fits { length (spell_declarator (plain_declarator net.now)) < 2 ^ 64 }
+    ensures { IfOk result (λ r. plain_declarator r ≡ instance_net sites.now choice.now.picks.items (plain_declarator net.now)) }
 {
     let value = new_value(net.value, sites, choice, arena)?;
-    Ok(NetName {
+    Ok(Declarator {
         token: net.token,
         name: net.name,
         value,
@@ -93,13 +93,13 @@ fn new_connection<'a>(
 
 /// The nets of a declaration.
 fn new_nets<'a>(
-    old: &[NetName<'a>],
+    old: &[Declarator<'a>],
     sites: &SiteList<'a>,
     choice: &Choice,
     arena: &'a Bump,
-) -> Result<&'a [NetName<'a>], AllocError>
-    requires fits { length (spell_each spell_net (map plain_net old.now)) < 2 ^ 63 }
-    ensures { IfOk result (λ r. map plain_net r.now ≡ map (instance_net sites.now choice.now.picks.items) (map plain_net old.now)) }
+) -> Result<&'a [Declarator<'a>], AllocError>
+    requires fits { length (spell_each spell_declarator (map plain_declarator old.now)) < 2 ^ 63 }
+    ensures { IfOk result (λ r. map plain_declarator r.now ≡ map (instance_net sites.now choice.now.picks.items) (map plain_declarator old.now)) }
 {
     let mut list = Vec::new(arena);
     for one in old.iter() {
@@ -217,9 +217,11 @@ fn new_item<'a>(
     ensures { IfOk result (λ r. plain_item r ≡ instance_item sites.now choice.now.picks.items (plain_item item.now)) }
 {
     match item {
-        Item::Ports(_) | Item::Variables { .. } | Item::Integers { .. } | Item::Parameters(_) => Ok(
-            *item,
-        ),
+        Item::Ports(_)
+        | Item::Variables { .. }
+        | Item::Integers { .. }
+        | Item::Parameters(_)
+        | Item::Initial { .. } => Ok(*item),
         Item::Nets {
             signed,
             range,

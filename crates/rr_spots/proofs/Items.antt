@@ -13,11 +13,11 @@ use Rattle.rr_syntax.specs.declared.tree.Group.{Group}
 use Rattle.rr_syntax.specs.declared.tree.Instance.{Instance}
 use Rattle.rr_syntax.specs.declared.tree.Item.TheVariants as item
 use Rattle.rr_syntax.specs.declared.tree.Named.{Named}
-use Rattle.rr_syntax.specs.declared.tree.NetName.{NetName}
+use Rattle.rr_syntax.specs.declared.tree.Declarator.{Declarator}
 use Rattle.rr_syntax.specs.declared.tree.Pair.{Pair}
 use Rattle.rr_syntax.specs.declared.tree.Params.{Params}
 use Rattle.rr_syntax.specs.declared.tree.Stmt.{Stmt}
-use Rattle.rr_syntax.specs.View.{plain, plain_list, plain_statement, plain_value, plain_net, plain_pair, plain_connection, plain_connections, plain_instance, plain_events, plain_item}
+use Rattle.rr_syntax.specs.View.{plain, plain_list, plain_statement, plain_value, plain_declarator, plain_pair, plain_connection, plain_connections, plain_instance, plain_events, plain_item}
 use Rattle.rr_spots.specs.Spots.{Spot, Body, spots, spots_of_parts, spots_of, spots_of_value, spots_of_net, spots_of_pair, spots_of_connection, spots_of_connections, spots_of_instance, spots_of_item, is_clocked}
 use denote.Ref.{Bor}
 
@@ -31,8 +31,8 @@ value-Some acc t = refl
 
 pub ruleset value_nodes = (value-None, value-Some)
 
-pub net_spots : (n : NetName) → spots_of_net (plain_net n) ≡ spots_of_value (plain_value n.value)
-unfolding plain_net
+pub net_spots : (n : Declarator) → spots_of_net (plain_declarator n) ≡ spots_of_value (plain_value n.value)
+unfolding plain_declarator
 net_spots n = refl
 
 pub pair_spots : (p : Pair) → spots_of_pair (plain_pair p) ≡ spots (plain p.value.now)
@@ -61,11 +61,11 @@ pub item-Ports : (acc : List Spot) (g : Group) → acc ++ spots_of_item (plain_i
 unfolding plain_item spots_of_item
 item-Ports acc g = append-nil acc
 
-pub item-Nets : (acc : List Spot) (signed : Bool) (range : Option Bounds) (names : Bor (List NetName)) → acc ++ spots_of_item (plain_item (item.Nets signed range names)) ≡ acc ++ flat_map spots_of_net (map plain_net names.now)
+pub item-Nets : (acc : List Spot) (signed : Bool) (range : Option Bounds) (names : Bor (List Declarator)) → acc ++ spots_of_item (plain_item (item.Nets signed range names)) ≡ acc ++ flat_map spots_of_net (map plain_declarator names.now)
 unfolding plain_item spots_of_item
 item-Nets acc signed range names = refl
 
-pub item-Variables : (acc : List Spot) (signed : Bool) (range : Option Bounds) (names : Bor (List Named)) → acc ++ spots_of_item (plain_item (item.Variables signed range names)) ≡ acc
+pub item-Variables : (acc : List Spot) (signed : Bool) (range : Option Bounds) (names : Bor (List Declarator)) → acc ++ spots_of_item (plain_item (item.Variables signed range names)) ≡ acc
 unfolding plain_item spots_of_item
 item-Variables acc signed range names = append-nil acc
 
@@ -85,11 +85,15 @@ pub item-Always : (acc : List Spot) (events : Events) (body : Bor Stmt) (token :
 unfolding plain_item spots_of_item
 item-Always acc events body token = sym (append_assoc acc (Body (plain_statement body.now) ∷ []) (spots_of (plain_statement body.now)))
 
+pub item-Initial : (acc : List Spot) (s : Bor Stmt) (token : ℕ) → acc ++ spots_of_item (plain_item (item.Initial s token)) ≡ acc
+unfolding plain_item spots_of_item
+item-Initial acc s token = append-nil acc
+
 pub item-Instances : (acc : List Spot) (m : Bor (List ℕ)) (token : ℕ) (overrides : Option Conns) (list : Bor (List Instance)) → acc ++ spots_of_item (plain_item (item.Instances m token overrides list)) ≡ acc ++ flat_map spots_of_instance (map plain_instance list.now)
 unfolding plain_item spots_of_item
 item-Instances acc m token overrides list = refl
 
-pub ruleset item_nodes = (item-Ports, item-Nets, item-Variables, item-Integers, item-Parameters, item-Assigns, item-Always, item-Instances)
+pub ruleset item_nodes = (item-Ports, item-Nets, item-Variables, item-Integers, item-Parameters, item-Assigns, item-Always, item-Initial, item-Instances)
 
 -- whether an item of the arena is clocked
 
@@ -109,11 +113,11 @@ pub clocked-Ports : (g : Group) → is_clocked (plain_item (item.Ports g)) ≡ f
 unfolding plain_item
 clocked-Ports g = refl
 
-pub clocked-Nets : (signed : Bool) (range : Option Bounds) (names : Bor (List NetName)) → is_clocked (plain_item (item.Nets signed range names)) ≡ false
+pub clocked-Nets : (signed : Bool) (range : Option Bounds) (names : Bor (List Declarator)) → is_clocked (plain_item (item.Nets signed range names)) ≡ false
 unfolding plain_item
 clocked-Nets signed range names = refl
 
-pub clocked-Variables : (signed : Bool) (range : Option Bounds) (names : Bor (List Named)) → is_clocked (plain_item (item.Variables signed range names)) ≡ false
+pub clocked-Variables : (signed : Bool) (range : Option Bounds) (names : Bor (List Declarator)) → is_clocked (plain_item (item.Variables signed range names)) ≡ false
 unfolding plain_item
 clocked-Variables signed range names = refl
 
@@ -129,9 +133,13 @@ pub clocked-Assigns : (pairs : Bor (List Pair)) → is_clocked (plain_item (item
 unfolding plain_item
 clocked-Assigns pairs = refl
 
+pub clocked-Initial : (s : Bor Stmt) (token : ℕ) → is_clocked (plain_item (item.Initial s token)) ≡ false
+unfolding plain_item
+clocked-Initial s token = refl
+
 pub clocked-Instances : (m : Bor (List ℕ)) (token : ℕ) (overrides : Option Conns) (list : Bor (List Instance)) → is_clocked (plain_item (item.Instances m token overrides list)) ≡ false
 unfolding plain_item
 clocked-Instances m token overrides list = refl
 
 pub ruleset clocked_nodes =
-    (clocked-Edges, clocked-Star, clocked-Levels, clocked-Ports, clocked-Nets, clocked-Variables, clocked-Integers, clocked-Parameters, clocked-Assigns, clocked-Instances)
+    (clocked-Edges, clocked-Star, clocked-Levels, clocked-Ports, clocked-Nets, clocked-Variables, clocked-Integers, clocked-Parameters, clocked-Assigns, clocked-Initial, clocked-Instances)

@@ -3,7 +3,7 @@ use Rattle.std.specs.Prelude.{ℕ, ◌<◌, ◌^◌, Bool, true, false, List, []
 use Rattle.std.specs.List.{AllByRecursion}
 use Rattle.rr_syntax.specs.declared.token.Number.{Number}
 use Rattle.rr_syntax.specs.Expressions.{spell}
-use Rattle.rr_syntax.specs.Tree.{Tree, Trees, Name, Literal, Bit, Part, Indexed, Unary, Binary, Cond, Concat, Repeat, Cast, Paren, End, More, Statement, Statements, Arm, Arms, Null, Block, If, IfElse, Case, Assign, Done, Then, CaseItem, NoArms, MoreArms, NetIdentifier, NetAssignment, NamedConnection, EventControl, Star, Edges, Levels, Connections, Positions, Names, ModuleInstance, ModuleItem, Ports, Nets, Variables, Integers, Parameters, Assigns, Always, Instances, ModuleDeclaration}
+use Rattle.rr_syntax.specs.Tree.{Tree, Trees, Name, Literal, Bit, Part, Indexed, Unary, Binary, Cond, Concat, Repeat, Cast, Paren, End, More, Statement, Statements, Arm, Arms, Null, Block, If, IfElse, Case, Assign, Done, Then, CaseItem, NoArms, MoreArms, DeclaredName, NetAssignment, NamedConnection, EventControl, Star, Edges, Levels, Connections, Positions, Names, ModuleInstance, ModuleItem, Ports, Nets, Variables, Integers, Parameters, Assigns, Always, Initial, Instances, ModuleDeclaration}
 use Rattle.rr_expr.specs.declared.operators.Infix.TheVariants.{Either}
 use Rattle.rr_expr.specs.Faults.{takes_constants}
 use Rattle.rr_expr.specs.Operators.{infixes}
@@ -59,7 +59,7 @@ unfoldable pub spots_of_value : Option Tree → List Spot
 spots_of_value None = []
 spots_of_value (Some t) = spots t
 
-abbrev pub spots_of_net : NetIdentifier → List Spot
+abbrev pub spots_of_net : DeclaredName → List Spot
 spots_of_net n = spots_of_value n.value
 
 abbrev pub spots_of_pair : NetAssignment → List Spot
@@ -75,7 +75,7 @@ spots_of_connections (Names list) = flat_map spots_of_connection list
 abbrev pub spots_of_instance : ModuleInstance → List Spot
 spots_of_instance i = spots_of_connections i.connections
 
--- in an item; ranges, parameters, overrides and event lists have none
+-- in an item; ranges, parameters, overrides, event lists, starting values and `initial` items have none
 unfoldable pub spots_of_item : ModuleItem → List Spot
 spots_of_item (Ports p) = []
 spots_of_item (Nets signed range list) = flat_map spots_of_net list
@@ -84,6 +84,7 @@ spots_of_item (Integers list) = []
 spots_of_item (Parameters p) = []
 spots_of_item (Assigns pairs) = flat_map spots_of_pair pairs
 spots_of_item (Always events body token) = Body body ∷ spots_of body
+spots_of_item (Initial s token) = []
 spots_of_item (Instances m token overrides list) = flat_map spots_of_instance list
 
 -- in a module
@@ -104,6 +105,7 @@ is_clocked (Integers list) = false
 is_clocked (Parameters p) = false
 is_clocked (Assigns pairs) = false
 is_clocked (Always events body token) = has_edges events
+is_clocked (Initial s token) = false
 is_clocked (Instances m token overrides list) = false
 
 -- the tokens of each condition can be counted in 32 bits

@@ -1,13 +1,13 @@
 //! The walk over an item, in the order of the text.
 
 ghost use Rattle.std.specs.Prelude.{◌≡◌, ◌++◌, ◌∷◌, [], IfOk, OnOk, flat_map, map};
-ghost use Rattle.rr_syntax.specs.View.{plain, plain_arms, plain_connection, plain_connections, plain_instance, plain_item, plain_list, plain_net, plain_pair, plain_statement, plain_statements, plain_value};
+ghost use Rattle.rr_syntax.specs.View.{plain, plain_arms, plain_connection, plain_connections, plain_instance, plain_item, plain_list, plain_declarator, plain_pair, plain_statement, plain_statements, plain_value};
 ghost use Rattle.rr_spots.specs.Spots.{spots, spots_of, spots_of_all, spots_of_arms, spots_of_connection, spots_of_connections, spots_of_instance, spots_of_item as spots_in_item, is_clocked as is_clocked_item, spots_of_net, spots_of_pair, spots_of_parts, spots_of_value};
 ghost use Rattle.rr_spots.specs.View.{plain_spot, plain_spots};
 
 use crate::spot::Spot;
 use rr_expr::{infix_of, takes_constants};
-use rr_syntax::{Arm, Connection, Conns, Events, Expr, Instance, Item, NetName, Pair, Stmt};
+use rr_syntax::{Arm, Connection, Conns, Declarator, Events, Expr, Instance, Item, Pair, Stmt};
 use std::alloc::{AllocError, Global};
 
 /// One spot more.
@@ -134,9 +134,9 @@ fn add_spots_of_value<'a>(
 
 fn add_spots_of_nets<'a>(
     list: &mut Vec<Spot<'a>>,
-    nets: &'a [NetName<'a>],
+    nets: &'a [Declarator<'a>],
 ) -> Result<(), AllocError>
-    ensures { OnOk result (plain_spots list.new.items ≡ plain_spots list.old.items ++ flat_map spots_of_net (map plain_net nets.now)) }
+    ensures { OnOk result (plain_spots list.new.items ≡ plain_spots list.old.items ++ flat_map spots_of_net (map plain_declarator nets.now)) }
 {
     for net in nets.iter() {
         add_spots_of_value(list, net.value)?;
@@ -197,9 +197,11 @@ fn add_spots_of_item<'a>(list: &mut Vec<Spot<'a>>, item: &'a Item<'a>) -> Result
     ensures { OnOk result (plain_spots list.new.items ≡ plain_spots list.old.items ++ spots_in_item (plain_item item.now)) }
 {
     match item {
-        Item::Ports(_) | Item::Variables { .. } | Item::Integers { .. } | Item::Parameters(_) => Ok(
-            (),
-        ),
+        Item::Ports(_)
+        | Item::Variables { .. }
+        | Item::Integers { .. }
+        | Item::Parameters(_)
+        | Item::Initial { .. } => Ok(()),
         Item::Nets { names, .. } => add_spots_of_nets(list, names),
         Item::Assigns { pairs } => add_spots_of_pairs(list, pairs),
         Item::Always { body, .. } => {
@@ -246,6 +248,7 @@ pub fn is_clocked(item: &Item) -> bool
         | Item::Integers { .. }
         | Item::Parameters(_)
         | Item::Assigns { .. }
+        | Item::Initial { .. }
         | Item::Instances { .. } => false,
     }
 }

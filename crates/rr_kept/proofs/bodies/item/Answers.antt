@@ -1,6 +1,6 @@
 use Rattle.std.proofs.Common.{nat_eq, arith}
 use Rattle.indexmap.specs.IndexMap.{get}
-use Rattle.rr_kept.proofs.BodyTable.{Ports_none, Nets_none, Variables_none, Integers_none, Parameters_none, Assigns_none, Instances_none, Always_found}
+use Rattle.rr_kept.proofs.BodyTable.{Ports_none, Nets_none, Variables_none, Integers_none, Parameters_none, Assigns_none, Initial_none, Instances_none, Always_found}
 use Rattle.rr_kept.proofs.bodies.item.Goals as goal
 
 pub returns-in-Ports : goal.returns-in-Ports
@@ -20,6 +20,9 @@ returns-in-Parameters c = Parameters_none (get nat_eq c.args.bodies.now) c.args.
 
 pub returns-in-Assigns : goal.returns-in-Assigns
 returns-in-Assigns c = Assigns_none (get nat_eq c.args.bodies.now) c.args.item.now c.in-Assigns.pairs c.in-Assigns.is
+
+pub returns-in-Initial : goal.returns-in-Initial
+returns-in-Initial c = Initial_none (get nat_eq c.args.bodies.now) c.args.item.now c.in-Initial.body c.in-Initial.token c.in-Initial.is
 
 pub returns-in-Instances : goal.returns-in-Instances
 returns-in-Instances c = Instances_none (get nat_eq c.args.bodies.now) c.args.item.now c.in-Instances.module c.in-Instances.token c.in-Instances.overrides c.in-Instances.list c.in-Instances.is

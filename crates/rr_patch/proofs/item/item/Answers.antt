@@ -1,6 +1,6 @@
 use Rattle.std.proofs.Common.{◌+◌, arith}
 use Rattle.rr_patch.specs.Changes.{plain_changes}
-use Rattle.rr_patch.proofs.ItemWalks.{Ports_adds, Variables_adds, Integers_adds, Parameters_adds, Nets_adds, Assigns_adds, Always_adds, Instances_adds}
+use Rattle.rr_patch.proofs.ItemWalks.{Ports_adds, Variables_adds, Integers_adds, Parameters_adds, Initial_adds, Nets_adds, Assigns_adds, Always_adds, Instances_adds}
 use Rattle.rr_patch.proofs.item.item.Goals as goal
 
 pub returns-in-Ports : goal.returns-in-Ports
@@ -14,6 +14,9 @@ returns-in-Integers c = Integers_adds c.args.list.now c.args.choice.now.picks.it
 
 pub returns-in-Parameters : goal.returns-in-Parameters
 returns-in-Parameters c = Parameters_adds c.args.list.now c.args.choice.now.picks.items (plain_changes c.args.out.now.items) c.args.item.now c.in-Parameters.field-0 c.in-Parameters.is
+
+pub returns-in-Initial : goal.returns-in-Initial
+returns-in-Initial c = Initial_adds c.args.list.now c.args.choice.now.picks.items (plain_changes c.args.out.now.items) c.args.item.now c.in-Initial.body c.in-Initial.token c.in-Initial.is
 
 pub returns-in_ok-nets-in-Nets : goal.returns-in_ok-nets-in-Nets
 returns-in_ok-nets-in-Nets c = Nets_adds c.args.list.now c.args.choice.now.picks.items (plain_changes c.args.out.now.items) (plain_changes c.nets.new.out.items) c.args.item.now c.in-Nets.signed c.in-Nets.range c.in-Nets.names c.in-Nets.is c.in_ok-nets-in-Nets.ensures

@@ -1,5 +1,5 @@
-use Rattle.rr_syntax.specs.Items.{spell_net, NumberedNet}
-use Rattle.rr_syntax.specs.View.{plain_net}
+use Rattle.rr_syntax.specs.Items.{spell_declarator, NumberedDeclarator}
+use Rattle.rr_syntax.specs.View.{plain_declarator}
 use Rattle.rr_respell.specs.Printing.{net_pieces}
 use Rattle.rr_patch.specs.Changes.{plain_changes}
 use Rattle.rr_patch.proofs.ListWalks.{EachTo}
@@ -8,5 +8,5 @@ use Rattle.rr_patch.proofs.item.nets.Given as goal
 
 abbrev pub invariant-loop-one : goal.invariant-loop-one
 invariant-loop-one l = record {
-  done : EachTo (net_pieces l.list l.choice.picks.items) spell_net plain_net (net_size l.list l.choice.picks.items) NumberedNet (plain_changes l.initial.out.items) (plain_changes l.out.items) l.entries l.one-index;
+  done : EachTo (net_pieces l.list l.choice.picks.items) spell_declarator plain_declarator (net_size l.list l.choice.picks.items) NumberedDeclarator (plain_changes l.initial.out.items) (plain_changes l.out.items) l.entries l.one-index;
 }

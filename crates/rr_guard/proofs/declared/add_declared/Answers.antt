@@ -1,0 +1,17 @@
+use Rattle.std.proofs.Common.{◌∙◌, ap, ◌∷◌, [], ◌++◌, map}
+use Rattle.rr_syntax.specs.View.{plain_identifier}
+use Rattle.rr_syntax.specs.View.{plain_declarator}
+use Rattle.rr_guard.specs.Names.{net_name}
+use Rattle.std.proofs.lemmas.List.Concat.{flat_map_single}
+use Rattle.rr_guard.proofs.Lists.{map_twice}
+use Rattle.rr_spots.proofs.Walks.{one_more_at, all_done}
+use Rattle.rr_guard.proofs.declared.add_declared.Goals as goal
+
+pub loop-name-preserved : goal.loop-name-preserved
+loop-name-preserved c =
+    one_more_at (λ x. net_name (plain_declarator x) ∷ []) (map plain_identifier c.loop-name.list.items) _ _ c.args.names.now c.loop-name.name-index _ c.loop-name-test.true c.in_ok-push_declared.ensures c.loop-name.invariant
+
+pub returns : goal.returns
+returns c =
+    all_done (λ x. net_name (plain_declarator x) ∷ []) (map plain_identifier c.loop-name.list.items) _ c.args.names.now c.loop-name.name-index c.loop-name-test.false c.loop-name.invariant
+    ∙ ap (λ z. map plain_identifier c.args.list.now.items ++ z) (flat_map_single (λ x. net_name (plain_declarator x)) c.args.names.now ∙ map_twice net_name plain_declarator c.args.names.now)
