@@ -1,7 +1,7 @@
 -- The walk of a module and that of the module with other bodies.
 use Rattle.std.proofs.Common.{◌≡◌, ◌∙◌, sym, ap, subst, ℕ, zero, suc, ◌+◌, ◌<◌, Bool, true, false, not, nat_lt, nat_eq, is_some, List, [], ◌∷◌, ◌++◌, length, Option, Some, None, Result, Ok, refl, fold, arith}
 use Rattle.std.specs.List.{list_any}
-use Rattle.rr_syntax.specs.Tree.{ModuleInstance, Connections, Positions, ModuleItem, Ports, Nets, Variables, Integers, Parameters, Assigns, Always, Instances, ModuleDeclaration}
+use Rattle.rr_syntax.specs.Tree.{ModuleInstance, Connections, Positions, ModuleItem, Ports, Nets, Variables, Integers, Parameters, Assigns, Always, Initial, Instances, ModuleDeclaration}
 use Rattle.rr_syntax.specs.Tree.{Names as Named}
 use Rattle.rr_expr.specs.Scopes.{Names, lookup}
 use Rattle.rr_flat.specs.declared.fault.FlatFault.{FlatFault}
@@ -18,7 +18,7 @@ use Rattle.rr_flat_instance.proofs.Grown.{Grows, grows-trans, each_grows, assign
 use Rattle.rr_body_laws.specs.Bodies.{Bodies, KeepsShapes, item_with, module_with, modules_with, flat_with}
 use Rattle.rr_body_laws.proofs.Heads.{head_with}
 use Rattle.rr_body_laws.proofs.Tables.{either_with, open_names_with, parameter_table_with, port_names_with, module_either, module_changed, stands_among}
-use Rattle.rr_body_laws.proofs.Walks.{walked_with, each_of_map, each_with, always_with, assign_with, net_step_with, joined_with}
+use Rattle.rr_body_laws.proofs.Walks.{walked_with, each_of_map, each_with, always_with, initial_with, assign_with, net_step_with, joined_with}
 
 -- settings and connections see nothing of a body
 
@@ -93,6 +93,7 @@ module _ (f : Bodies) (keeps : KeepsShapes f) (numbers : List ℕ) (source : Lis
   step_with above i sub other grows commutes table (Parameters p) w v g e = same_walked w v e
   step_with above i sub other grows commutes table (Assigns pairs) w v g e = each_with f final (assign i) (assign i) (assign_grows i) (λ x w v g. assign_with f i x w v) pairs w v g e
   step_with above i sub other grows commutes table (Always events s at) w v g e = always_with f keeps i events s at w v e
+  step_with above i sub other grows commutes table (Initial s at) w v g e = initial_with f i s at w v e
   step_with above i sub other grows commutes table (Instances m at over list) w v g e =
       each_with f final (instance_of source above i sub at over (place_of (lookup m table))) (instance_of changed above i other at over (place_of (lookup m table)))
       (instance_grows source above i sub at over (place_of (lookup m table)) grows) (child_with above i sub other grows commutes at over (place_of (lookup m table))) list w v g e

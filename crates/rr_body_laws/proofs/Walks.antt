@@ -1,7 +1,7 @@
 -- A step of the walk and the same step of a walk over other bodies.
 use Rattle.std.proofs.Common.{◌≡◌, ◌∙◌, sym, ap, ap₂, ℕ, List, [], ◌∷◌, ◌++◌, map, Bool, Option, Some, None, Result, Ok, refl, fold}
 use Rattle.std.proofs.lemmas.List.{map-append, length-map}
-use Rattle.rr_syntax.specs.Tree.{Tree, Trees, End, More, Statement, EventControl, Star, Edges, Levels, NetIdentifier, NetAssignment, NamedConnection, Connections, Positions, ModuleDeclaration}
+use Rattle.rr_syntax.specs.Tree.{Tree, Trees, End, More, Statement, EventControl, Star, Edges, Levels, DeclaredName, NetAssignment, NamedConnection, Connections, Positions, ModuleDeclaration}
 use Rattle.rr_syntax.specs.Tree.{Names as Named}
 use Rattle.rr_expr.specs.Faults.{first}
 use Rattle.rr_expr.specs.Scopes.{Names, lookup}
@@ -14,8 +14,9 @@ use Rattle.rr_flat.specs.Plain.{Side, Written, Whole}
 use Rattle.rr_flat.specs.Plain as plain_design
 use Rattle.rr_flat.specs.Shapes.{shape_faults, statement_faults}
 use Rattle.rr_flat.specs.Signals.{Text, signal_at}
+use Rattle.rr_starts.specs.Starts.{initial_faults}
 use Rattle.rr_walk.specs.Tables.{place_of, port_names}
-use Rattle.rr_walk.specs.Walk.{Walked, scope_at, with_driver, with_block, combined, assign, net_driver, net_value, net_with, net, event_faults, always, join_port, join_at, join, join_value, join_named, join_positions, joined}
+use Rattle.rr_walk.specs.Walk.{Walked, scope_at, with_driver, with_block, combined, assign, net_driver, net_value, net_with, net, event_faults, always, with_initial, initial, join_port, join_at, join, join_value, join_named, join_positions, joined}
 use Rattle.rr_flat_instance.proofs.Grown.{Grows, grows-trans, each_grows}
 use Rattle.rr_flat_instance.proofs.Lists.{stepped, and_then_ok, and_then_same}
 use Rattle.rr_flat_instance.proofs.Shapes.{settled, settle_none, nil_left, nil_right, nil_both}
@@ -72,6 +73,13 @@ module _ (f : Bodies) where
       (body_keeps keeps (scope_at w i) events s at (nil_right (event_faults (scope_at w i) events) (statement_faults (scope_at w i) s) r.none)))
       ∙ ap (λ (x : Walked). Ok x) (block_more i events s at w ∙ ap (walked_with f) r.is)
 
+  -- an `initial` item, which stays as it is
+  pub initial_with : (i : ℕ) (s : Statement) (at : ℕ) (w v : Walked) → initial i s at w ≡ Ok v → initial i s at (walked_with f w) ≡ Ok (walked_with f v)
+  unfolding initial flat_with
+  initial_with i s at w v e =
+      let r = settled (initial_faults (scope_at w i) s) (with_initial i s at w) v e in
+      settle_none (initial_faults (scope_at w i) s) (with_initial i s at (walked_with f w)) r.none ∙ ap (λ (x : Walked). Ok (walked_with f x)) r.is
+
   -- assignments and nets
 
   pub assign_with : (i : ℕ) (p : NetAssignment) (w v : Walked) → assign i p w ≡ Ok v → assign i p (walked_with f w) ≡ Ok (walked_with f v)
@@ -95,7 +103,7 @@ module _ (f : Bodies) where
   net_option_with i at name None w v e = let q : w ≡ v = cc in ap (λ (x : Walked). Ok (walked_with f x)) q
   net_option_with i at name (Some t) w v e = net_value_with i at name t w v e
 
-  pub net_step_with : (i : ℕ) (x : NetIdentifier) (w v : Walked) → net i x w ≡ Ok v → net i x (walked_with f w) ≡ Ok (walked_with f v)
+  pub net_step_with : (i : ℕ) (x : DeclaredName) (w v : Walked) → net i x w ≡ Ok v → net i x (walked_with f w) ≡ Ok (walked_with f v)
   unfolding net
   net_step_with i x w v e = net_option_with i x.token x.text x.value w v e
 

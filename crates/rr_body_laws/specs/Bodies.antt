@@ -1,7 +1,7 @@
 -- A source in which some modules have other bodies in each `always` without edges, and its flat design.
 use Rattle.std.specs.Prelude.{ℕ, ◌+◌, ◌≡◌, List, [], ◌∷◌, map, nat_eq, if◌then◌else◌}
 use Rattle.std.specs.List.{list_any}
-use Rattle.rr_syntax.specs.Tree.{Statement, EventControl, Star, Edges, Levels, ModuleItem, Ports, Nets, Variables, Integers, Parameters, Assigns, Always, Instances, ModuleDeclaration, SourceText}
+use Rattle.rr_syntax.specs.Tree.{Statement, EventControl, Star, Edges, Levels, ModuleItem, Ports, Nets, Variables, Integers, Parameters, Assigns, Always, Initial, Instances, ModuleDeclaration, SourceText}
 use Rattle.rr_expr.specs.Scopes.{Names}
 use Rattle.rr_flat.specs.Plain.{Block, Flat}
 use Rattle.rr_flat.specs.Shapes.{statement_faults}
@@ -24,6 +24,7 @@ item_with f (Integers list) = Integers list
 item_with f (Parameters p) = Parameters p
 item_with f (Assigns pairs) = Assigns pairs
 item_with f (Always events body token) = Always events (body_with f events body token) token
+item_with f (Initial body token) = Initial body token
 item_with f (Instances m token overrides list) = Instances m token overrides list
 
 unfoldable pub module_with : Bodies → ModuleDeclaration → ModuleDeclaration

@@ -6,14 +6,13 @@ use denote.Ref.{Bor}
 use Rattle.rr_syntax.specs.declared.tree.Bounds.{Bounds}
 use Rattle.rr_syntax.specs.declared.tree.Conns.{Conns}
 use Rattle.rr_syntax.specs.declared.tree.Events.{Events}
-use Rattle.rr_syntax.specs.declared.tree.Events.TheVariants as events
 use Rattle.rr_syntax.specs.declared.tree.Group.{Group}
 use Rattle.rr_syntax.specs.declared.tree.Instance.{Instance}
 use Rattle.rr_syntax.specs.declared.tree.Item.{Item}
 use Rattle.rr_syntax.specs.declared.tree.Item.TheVariants as item
 use Rattle.rr_syntax.specs.declared.tree.Module.{Module}
 use Rattle.rr_syntax.specs.declared.tree.Named.{Named}
-use Rattle.rr_syntax.specs.declared.tree.NetName.{NetName}
+use Rattle.rr_syntax.specs.declared.tree.Declarator.{Declarator}
 use Rattle.rr_syntax.specs.declared.tree.Pair.{Pair}
 use Rattle.rr_syntax.specs.declared.tree.Params.{Params}
 use Rattle.rr_syntax.specs.declared.tree.Source.{Source}
@@ -42,22 +41,10 @@ use Rattle.rr_patch.proofs.TreeWalks.{kept_last}
 use Rattle.rr_patch.proofs.Walks.{changes_join, puts_after, puts_first, no_puts}
 use Rattle.rr_lint_laws.specs.Mended.{Marks}
 use Rattle.rr_lint_print.specs.Pieces.{immediate_pieces, cleared_news, defaulted_pieces, mended_pieces, body_pieces, item_pieces, module_pieces, modules_pieces, source_pieces}
-use Rattle.rr_lint.specs.Walks.{numbered_pieces, waits_for_edges}
+use Rattle.rr_lint_names.specs.Edges.{waits_for_edges}
+use Rattle.rr_lint.specs.Walks.{numbered_pieces}
 use Rattle.rr_lint.proofs.Making.{size, statement_has, item_has, modules_have, source_has}
 use Rattle.rr_lint.proofs.Walking.{stays}
-
--- whether an `always` waits for edges
-pub waits-Edges : (e : Events) (list : _) (commas : _) → e ≡ events.Edges list commas → true ≡ waits_for_edges (plain_events e)
-unfolding plain_events
-waits-Edges e list commas q = ap (λ (x : Events). waits_for_edges (plain_events x)) (sym q)
-
-pub waits-Star : (e : Events) (brackets : Bool) → e ≡ events.Star brackets → false ≡ waits_for_edges (plain_events e)
-unfolding plain_events
-waits-Star e brackets q = ap (λ (x : Events). waits_for_edges (plain_events x)) (sym q)
-
-pub waits-Levels : (e : Events) (list : _) (commas : _) → e ≡ events.Levels list commas → false ≡ waits_for_edges (plain_events e)
-unfolding plain_events
-waits-Levels e list commas q = ap (λ (x : Events). waits_for_edges (plain_events x)) (sym q)
 
 -- new tokens `v = 0;`
 abbrev pub clearing : List ℕ → List New
@@ -114,11 +101,11 @@ module _ (marks : Marks) where
   unfolding item_pieces plain_item
   Ports_adds o i g q = with_item o o i (item.Ports g) q (λ at w. stays o at (spell_item (plain_item (item.Ports g))))
 
-  pub Nets_adds : (o : List Change) (i : Item) (signed : Bool) (range : Option Bounds) (names : Bor (List NetName)) → i ≡ item.Nets signed range names → AddsItem o o i
+  pub Nets_adds : (o : List Change) (i : Item) (signed : Bool) (range : Option Bounds) (names : Bor (List Declarator)) → i ≡ item.Nets signed range names → AddsItem o o i
   unfolding item_pieces plain_item
   Nets_adds o i signed range names q = with_item o o i (item.Nets signed range names) q (λ at w. stays o at (spell_item (plain_item (item.Nets signed range names))))
 
-  pub Variables_adds : (o : List Change) (i : Item) (signed : Bool) (range : Option Bounds) (names : Bor (List Named)) → i ≡ item.Variables signed range names → AddsItem o o i
+  pub Variables_adds : (o : List Change) (i : Item) (signed : Bool) (range : Option Bounds) (names : Bor (List Declarator)) → i ≡ item.Variables signed range names → AddsItem o o i
   unfolding item_pieces plain_item
   Variables_adds o i signed range names q = with_item o o i (item.Variables signed range names) q (λ at w. stays o at (spell_item (plain_item (item.Variables signed range names))))
 
@@ -133,6 +120,10 @@ module _ (marks : Marks) where
   pub Assigns_adds : (o : List Change) (i : Item) (pairs : Bor (List Pair)) → i ≡ item.Assigns pairs → AddsItem o o i
   unfolding item_pieces plain_item
   Assigns_adds o i pairs q = with_item o o i (item.Assigns pairs) q (λ at w. stays o at (spell_item (plain_item (item.Assigns pairs))))
+
+  pub Initial_adds : (o : List Change) (i : Item) (t : Bor Stmt) (token : ℕ) → i ≡ item.Initial t token → AddsItem o o i
+  unfolding item_pieces plain_item
+  Initial_adds o i t token q = with_item o o i (item.Initial t token) q (λ at w. stays o at (spell_item (plain_item (item.Initial t token))))
 
   pub Instances_adds : (o : List Change) (i : Item) (m : Bor (List ℕ)) (token : ℕ) (u : Option Conns) (list : Bor (List Instance)) → i ≡ item.Instances m token u list → AddsItem o o i
   unfolding item_pieces plain_item

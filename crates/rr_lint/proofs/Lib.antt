@@ -1,9 +1,3 @@
-pub mod Lists
-pub mod Noting
-pub mod Latching
-pub mod Once
 pub mod Making
 pub mod Walking
 pub mod Items
-pub mod Trees
-pub mod ImmediateArms

@@ -4,7 +4,7 @@ use Rattle.std.specs.List.{list_any}
 use Rattle.std.proofs.lemmas.List.{append_assoc}
 use Rattle.std.proofs.lemmas.Nat.{pow_pos}
 use Rattle.rr_syntax.specs.Words.{Word, Named, Reserved, Marked, keyword_always, keyword_begin, keyword_else, keyword_end, keyword_endcase, keyword_endmodule, keyword_if, keyword_module, mark_open_parenthesis, mark_close_parenthesis, mark_at, mark_semicolon, mark_equals, mark_less_or_equal}
-use Rattle.rr_syntax.specs.Tree.{Statement, Statements, Arm, Arms, Null, Block, If, IfElse, Case, Assign, Done, Then, CaseItem, NoArms, MoreArms, EventControl, Star, Edges, Levels, ModuleItem, Ports, Nets, Variables, Integers, Parameters, Assigns, Always, Instances, ModuleDeclaration, SourceText}
+use Rattle.rr_syntax.specs.Tree.{Statement, Statements, Arm, Arms, Null, Block, If, IfElse, Case, Assign, Done, Then, CaseItem, NoArms, MoreArms, EventControl, Star, Edges, Levels, ModuleItem, Ports, Nets, Variables, Integers, Parameters, Assigns, Always, Initial, Instances, ModuleDeclaration, SourceText}
 use Rattle.rr_syntax.specs.Expressions.{spell}
 use Rattle.rr_syntax.specs.Statements.{spell_label, spell_labels, spell_statement, spell_statements, spell_arm, spell_arms}
 use Rattle.rr_syntax.specs.Items.{spell_all, spell_events, spell_item, spell_module, spell_parameters, spell_ports, spell_source}
@@ -129,6 +129,7 @@ module _ (marks : Marks) where
   item_has (Always events body token) =
       has_join (kept (Reserved keyword_always ∷ (Marked mark_at ∷ spell_events events))) (body_pieces marks events body token) (Reserved keyword_always ∷ (Marked mark_at ∷ spell_events events)) (spell_statement body)
       (has_words (Reserved keyword_always ∷ (Marked mark_at ∷ spell_events events))) (body_has events body token)
+  item_has (Initial body token) = has_words (spell_item (Initial body token))
   item_has (Instances m token overrides list) = has_words (spell_item (Instances m token overrides list))
 
   items_have : (is : List ModuleItem) → Has (all_pieces (item_pieces marks) is) (spell_all spell_item is)

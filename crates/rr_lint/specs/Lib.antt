@@ -1,4 +1,2 @@
-pub mod Faults
 pub mod Edited
-pub mod Latched
 pub mod Walks

@@ -2,7 +2,7 @@
 use Rattle.std.specs.Prelude.{ℕ, Bool, true, false, nat_eq, List, [], ◌∷◌, if◌then◌else◌}
 use Rattle.std.specs.List.{list_any}
 use Rattle.rr_syntax.specs.Words.{Marked, mark_equals, mark_less_or_equal}
-use Rattle.rr_syntax.specs.Tree.{EventControl, Star, Edges, Levels, ModuleDeclaration}
+use Rattle.rr_syntax.specs.Tree.{ModuleDeclaration}
 use Rattle.rr_syntax.specs.Items.{spell_module}
 use Rattle.rr_lex.specs.Patch.{new_mark}
 use Rattle.rr_respell.specs.Pieces.{Piece, Kept, Replaced, kept}
@@ -17,9 +17,3 @@ mark_pieces false = Replaced (Marked mark_less_or_equal) (new_mark mark_equals) 
 -- a module, which is mended where its number is among some
 abbrev pub numbered_pieces : List ℕ → Marks → ℕ → ModuleDeclaration → List Piece
 numbered_pieces numbers marks k m = if list_any (nat_eq k) numbers then module_pieces marks m else kept (spell_module m)
-
--- whether an `always` waits for edges (IEEE 1364-2005 section 9.7.2)
-abbrev pub waits_for_edges : EventControl → Bool
-waits_for_edges (Star brackets) = false
-waits_for_edges (Edges list commas) = true
-waits_for_edges (Levels list commas) = false

@@ -5,22 +5,20 @@ ghost use Rattle.std.specs.List.{list_any};
 ghost use Rattle.indexmap.specs.IndexSet.{contains};
 ghost use Rattle.rr_syntax.specs.Items.{spell_all, spell_item, spell_module, NumberedAll};
 ghost use Rattle.rr_syntax.specs.Statements.{spell_statement};
-ghost use Rattle.rr_syntax.specs.View.{plain_events, plain_item, plain_module, plain_statement, texts};
+ghost use Rattle.rr_syntax.specs.View.{plain_item, plain_module, plain_statement, texts};
 ghost use Rattle.rr_respell.specs.Pieces.{puts};
 ghost use Rattle.rr_respell.specs.Printing.{all_pieces};
 ghost use Rattle.rr_patch.specs.Changes.{changes, plain_changes};
 ghost use Rattle.rr_patch.specs.Walks.{Adds, ItemAt, ModuleAt};
-ghost use Rattle.rr_lint.specs.Latched.{marks};
-ghost use Rattle.rr_lint.specs.Walks.{numbered_pieces, waits_for_edges};
+ghost use Rattle.rr_lint_names.specs.Latched.{marks};
+ghost use Rattle.rr_lint.specs.Walks.{numbered_pieces};
 ghost use Rattle.rr_lint_print.specs.Pieces.{cleared_news, defaulted_pieces, immediate_pieces, item_pieces, mended_pieces, module_pieces, modules_pieces};
 
-use crate::cleared::cleared_names;
-use crate::noted::Noted;
-use crate::reached::has;
 use crate::walk::statement;
 use indexmap::IndexSet;
+use rr_lint_names::{Noted, cleared_names, has_edges, has_number};
 use rr_patch::{Added, Change, Fixed, put_all};
-use rr_syntax::{Events, Item, Module, Stmt, events_len};
+use rr_syntax::{Item, Module, Stmt, events_len};
 use std::alloc::{AllocError, Global};
 
 /// The new tokens `v = 0;` for each of some names.
@@ -80,17 +78,6 @@ fn mended<'a>(
     Ok(())
 }
 
-/// Whether an `always` waits for edges.
-pub(crate) fn has_edges(events: &Events) -> bool
-    ensures { result ≡ waits_for_edges (plain_events events.now) }
-{
-    match events {
-        Events::Edges { .. } => true,
-        Events::Star { .. } => false,
-        Events::Levels { .. } => false,
-    }
-}
-
 /// The changes of an item: those of the body of an `always` without edges.
 #[tactic(auto, using(rr_patch::proofs::ItemWalks::item_walks))]
 fn item<'a>(
@@ -109,6 +96,7 @@ fn item<'a>(
         Item::Integers { .. } => Ok(()),
         Item::Parameters(_) => Ok(()),
         Item::Assigns { .. } => Ok(()),
+        Item::Initial { .. } => Ok(()),
         Item::Instances { .. } => Ok(()),
         Item::Always {
             events,
@@ -168,7 +156,7 @@ fn numbered<'a>(
     requires fits { length (spell_module (plain_module one.now)) < 2 ^ 61 }
     ensures { IfOk result (λ _. (numbers : List ℕ) → ((k : ℕ) → contains nat_eq reached.now k ≡ list_any (nat_eq k) numbers) → Adds (plain_changes out.old.items) (plain_changes out.new.items) (ModuleAt (plain_module one.now)) (numbered_pieces numbers (marks noted.now) number (plain_module one.now))) }
 {
-    if has(reached, number) {
+    if has_number(reached, number) {
         declaration(alloc, noted, one, out)?;
     }
     Ok(())

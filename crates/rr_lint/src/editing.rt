@@ -11,14 +11,12 @@ ghost use Rattle.rr_grammar.specs.Trees.{Spells};
 ghost use Rattle.rr_lex.specs.Tokens.{lexemes, words_of, AreTokens};
 ghost use Rattle.rr_walk.specs.Walk.{flat_of};
 ghost use Rattle.rr_lint.specs.Edited.{AreLintEdits};
-ghost use Rattle.rr_lint.specs.Faults.{IsMemory};
+ghost use Rattle.rr_lint_names.specs.Faults.{IsMemory};
 
 use crate::changes::declarations;
-use crate::fault::LintFault;
-use crate::latched_names::latched;
-use crate::reached::set_of;
 use rr_edit::Edit;
 use rr_flat::Flat;
+use rr_lint_names::{LintFault, latched, number_set};
 use rr_patch::edits_at;
 use rr_syntax::{Source, Token};
 use std::alloc::Global;
@@ -46,7 +44,7 @@ pub fn edits(
     ensures placed { IfOk result (λ es. All (IsPlaced bytes.now) (plain_edits es.items)) }
 {
     let noted = latched(alloc, flat)?;
-    let reached = set_of(alloc, flat.reached.as_slice())?;
+    let reached = number_set(alloc, flat.reached.as_slice())?;
     let mut changes = Vec::new(alloc);
     declarations(alloc, &noted, &reached, source.modules, &mut changes)?;
     let out = edits_at(alloc, tokens, &changes)?;

@@ -1,21 +1,11 @@
-//! The source in which two faults of combinational blocks are mended, and the edits of its text that do
-//! so. They are right where they are those of `rr_lint_laws` and `rr_lint_print`, for the variables of which
-//! the blocks keep a bit. It stands on `rr_latch` for these bits.
+//! The edits of the text of a source that mend two faults of its combinational blocks. They are right where
+//! they are those of `rr_lint_print`, for the variables of which the blocks keep a bit. It stands on
+//! `rr_lint_names` for these.
 #![tactic(auto)]
 
 mod changes;
-mod cleared;
 mod editing;
-mod fault;
-mod latched_names;
 mod lengths;
-mod lows;
-mod mending;
-mod noted;
-mod reached;
-mod statement;
 mod walk;
 
 pub use editing::edits;
-pub use fault::LintFault;
-pub use mending::lint;

@@ -2,7 +2,7 @@
 use Rattle.std.proofs.Common.{◌≡◌, ◌∙◌, ℕ, ◌+◌, Bool, true, false, List, [], ◌∷◌, ◌++◌, refl, sym, ap, ap₂, nat_eq, filter, if◌then◌else◌}
 use Rattle.std.specs.List.{list_any}
 use Rattle.rr_syntax.specs.Words.{Reserved, Marked, keyword_always, mark_at}
-use Rattle.rr_syntax.specs.Tree.{Statement, EventControl, Star, Edges, Levels, ModuleItem, Ports, Nets, Variables, Integers, Parameters, Assigns, Always, Instances, ModuleDeclaration, SourceText}
+use Rattle.rr_syntax.specs.Tree.{Statement, EventControl, Star, Edges, Levels, ModuleItem, Ports, Nets, Variables, Integers, Parameters, Assigns, Always, Initial, Instances, ModuleDeclaration, SourceText}
 use Rattle.rr_syntax.specs.Items.{spell_events, spell_module}
 use Rattle.rr_lex.specs.Patch.{Edit as TokenEdit}
 use Rattle.rr_lex.specs.Tokens.{Lexeme}
@@ -40,6 +40,7 @@ module _ (m n : Marks) (h : (token : ℕ) (name : List ℕ) → m token name ≡
   item_same (Parameters p) = refl
   item_same (Assigns pairs) = refl
   item_same (Always events body token) = ap (λ (ps : List Piece). kept (Reserved keyword_always ∷ (Marked mark_at ∷ spell_events events)) ++ ps) (body_same events body token)
+  item_same (Initial body token) = refl
   item_same (Instances i token overrides list) = refl
 
   items_same : (xs : List ModuleItem) → all_pieces (item_pieces m) xs ≡ all_pieces (item_pieces n) xs

@@ -1,7 +1,7 @@
 -- Sources without the two faults of combinational blocks.
 use Rattle.std.specs.Prelude.{◌≡◌, ◌<◌, ℕ, true, List, length, nat_eq, Option, Ok, All}
 use Rattle.std.specs.List.{AllByRecursion, list_any}
-use Rattle.rr_syntax.specs.Tree.{Statement, EventControl, Star, Edges, Levels, ModuleItem, Ports, Nets, Variables, Integers, Parameters, Assigns, Always, Instances, SourceText}
+use Rattle.rr_syntax.specs.Tree.{Statement, EventControl, Star, Edges, Levels, ModuleItem, Ports, Nets, Variables, Integers, Parameters, Assigns, Always, Initial, Instances, SourceText}
 use Rattle.rr_flat.specs.Lawful.{NoLatches}
 use Rattle.rr_flat.specs.Plain.{Flat}
 use Rattle.rr_flat.specs.Reads.{assigned_by}
@@ -26,6 +26,7 @@ HasImmediate (Integers list) = Unit {0}
 HasImmediate (Parameters p) = Unit {0}
 HasImmediate (Assigns pairs) = Unit {0}
 HasImmediate (Always events body token) = IsImmediateAt events body
+HasImmediate (Initial body token) = Unit {0}
 HasImmediate (Instances m token overrides list) = Unit {0}
 
 -- each `always` without edges of the modules with these numbers

@@ -5,7 +5,7 @@ use Rattle.std.proofs.lemmas.Bool.{false≢true}
 use Rattle.rr_syntax.specs.declared.tree.Dir.{Dir}
 use Rattle.rr_syntax.specs.declared.tree.Dir.TheVariants as dir
 use Rattle.rr_syntax.specs.Words.{Word, Named, Reserved, Marked, keyword_always, keyword_begin, keyword_end, keyword_endmodule, keyword_module, mark_at, mark_semicolon, mark_equals}
-use Rattle.rr_syntax.specs.Tree.{Tree, Name, Literal, Bit, Part, Indexed, Unary, Binary, Cond, Concat, Repeat, Cast, Paren, Statement, Null, Block, If, IfElse, Case, Assign, EventControl, Star, Edges, Levels, ModuleItem, Ports, Nets, Variables, Integers, Parameters, Assigns, Always, Instances, ModuleDeclaration, SourceText}
+use Rattle.rr_syntax.specs.Tree.{Tree, Name, Literal, Bit, Part, Indexed, Unary, Binary, Cond, Concat, Repeat, Cast, Paren, Statement, Null, Block, If, IfElse, Case, Assign, EventControl, Star, Edges, Levels, ModuleItem, Ports, Nets, Variables, Integers, Parameters, Assigns, Always, Initial, Instances, ModuleDeclaration, SourceText}
 use Rattle.rr_syntax.specs.Expressions.{spell, is_target}
 use Rattle.rr_syntax.specs.Statements.{spell_statement, WellFormedStatement}
 use Rattle.rr_syntax.specs.Items.{spell_all, spell_dir, spell_events, spell_item, spell_module, spell_parameter, spell_parameters, spell_port, spell_ports, spell_source, WellFormedItem, WellFormedModule, WellFormedSource}
@@ -138,6 +138,7 @@ item_opens (Integers list) more = refl
 item_opens (Parameters p) more = refl
 item_opens (Assigns pairs) more = refl
 item_opens (Always events body token) more = refl
+item_opens (Initial body token) more = refl
 item_opens (Instances m token overrides list) more = refl
 
 -- of pieces with these words
@@ -183,6 +184,7 @@ module _ (marks : Marks) where
       let opening : List Word = Reserved keyword_always ∷ (Marked mark_at ∷ spell_events events) in
       subst Fits (sym (append_assoc (kept opening) (body_pieces marks events body token) rest))
       (kept_fits opening (body_pieces marks events body token ++ rest) (body_fits events body token rest (back (spell_events events) (spell_statement body) h.1.1) w.1 o f))
+  item_fits (Initial body token) rest h w o f = kept_fits (spell_item (Initial body token)) rest f
   item_fits (Instances m token overrides list) rest h w o f = kept_fits (spell_item (Instances m token overrides list)) rest f
 
   items_fit : (is : List ModuleItem) (rest : List Piece) → Each (spell_all spell_item is) → AllByRecursion WellFormedItem is → Opens (source_words rest) → Fits rest →

@@ -3,7 +3,7 @@
 use Rattle.std.specs.Prelude.{ℕ, ◌+◌, true, false, nat_eq, List, [], ◌∷◌, ◌++◌, if◌then◌else◌}
 use Rattle.std.specs.List.{list_any}
 use Rattle.rr_syntax.specs.Words.{Named, Reserved, Marked, keyword_always, keyword_begin, keyword_else, keyword_end, keyword_endcase, keyword_endmodule, keyword_if, keyword_module, mark_open_parenthesis, mark_close_parenthesis, mark_at, mark_semicolon, mark_equals, mark_less_or_equal}
-use Rattle.rr_syntax.specs.Tree.{Statement, Statements, Arm, Arms, Null, Block, If, IfElse, Case, Assign, Done, Then, CaseItem, NoArms, MoreArms, EventControl, Star, Edges, Levels, ModuleItem, Ports, Nets, Variables, Integers, Parameters, Assigns, Always, Instances, ModuleDeclaration, SourceText}
+use Rattle.rr_syntax.specs.Tree.{Statement, Statements, Arm, Arms, Null, Block, If, IfElse, Case, Assign, Done, Then, CaseItem, NoArms, MoreArms, EventControl, Star, Edges, Levels, ModuleItem, Ports, Nets, Variables, Integers, Parameters, Assigns, Always, Initial, Instances, ModuleDeclaration, SourceText}
 use Rattle.rr_syntax.specs.Expressions.{spell}
 use Rattle.rr_syntax.specs.Statements.{spell_label, spell_labels, spell_statement}
 use Rattle.rr_syntax.specs.Items.{spell_events, spell_item, spell_module, spell_parameters, spell_ports}
@@ -68,6 +68,7 @@ item_pieces marks (Integers list) = kept (spell_item (Integers list))
 item_pieces marks (Parameters p) = kept (spell_item (Parameters p))
 item_pieces marks (Assigns pairs) = kept (spell_item (Assigns pairs))
 item_pieces marks (Always events body token) = kept (Reserved keyword_always ∷ (Marked mark_at ∷ spell_events events)) ++ body_pieces marks events body token
+item_pieces marks (Initial body token) = kept (spell_item (Initial body token))
 item_pieces marks (Instances m token overrides list) = kept (spell_item (Instances m token overrides list))
 
 unfoldable pub module_pieces : Marks → ModuleDeclaration → List Piece

@@ -2,7 +2,8 @@
 use bumpalo::Bump;
 use rr_edit::Edit;
 use rr_elaborate::elaborate;
-use rr_lint::{edits, lint};
+use rr_lint::edits;
+use rr_lint_tree::lint;
 use std::alloc::{AllocError, Global};
 use std::test::Fail;
 

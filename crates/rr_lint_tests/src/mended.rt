@@ -7,7 +7,7 @@ use std::test::Fail;
 /// A design, and the same mended.
 type Case = (&'static str, &'static str);
 
-const MENDED: [Case; 15] = [
+const MENDED: [Case; 16] = [
     // A `case` that leaves two values out.
     (
         "module m(input [1:0] s, output reg y);\n  always @*\n    case (s)\n      2'd0: y = 1'b0;\n      2'd1: y = 1'b1;\n    endcase\nendmodule\n",
@@ -76,6 +76,11 @@ const MENDED: [Case; 15] = [
     (
         "module m(input e, input a, output reg y); always @* if (e) y = a; always @* y <= a; endmodule\n",
         "module m(input e, input a, output reg y); always @* begin y = 0 ;  if (e) y = a; end  always @* y  =  a; endmodule\n",
+    ),
+    // Starting values and `initial` items stay.
+    (
+        "module m(input e, input a, output reg q = 1'b1, output reg y);\n  reg [1:0] s = (2'd1 <= 2'd2);\n  initial begin y = 1'b1; s = 2'd2; end\n  always @* if (e) q <= a;\n  always @* y = s[1];\nendmodule\n",
+        "module m(input e, input a, output reg q = 1'b1, output reg y);\n  reg [1:0] s = (2'd1 <= 2'd2);\n  initial begin y = 1'b1; s = 2'd2; end\n  always @* begin q = 0 ;  if (e) q  =  a; end \n  always @* y = s[1];\nendmodule\n",
     ),
     // No `always` at all.
     (

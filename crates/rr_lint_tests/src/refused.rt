@@ -12,7 +12,7 @@ type Case = (
     &'static Refusal<'static>,
 );
 
-const REFUSED: [Case; 12] = [
+const REFUSED: [Case; 14] = [
     // An edit that a macro hides, at the backtick of its use; one before it lifts.
     (
         "`define N <=\nmodule m(input a, output reg y, output reg z); always @* z <= a; always @* y `N a; endmodule\n",
@@ -37,9 +37,20 @@ const REFUSED: [Case; 12] = [
         &Refusal::At(Fault::BadNumber, 48),
     ),
     (
-        "module m(input a, output reg y); initial y = a; endmodule\n",
+        "module m(input a, output reg y); function y; endmodule\n",
         &None,
         &Refusal::At(Fault::Unsupported, 33),
+    ),
+    // A starting value that is no constant, and a net that an `initial` item sets.
+    (
+        "module m(input a, output reg y); initial y = a; endmodule\n",
+        &None,
+        &Refusal::At(Fault::NotConstant, 45),
+    ),
+    (
+        "module m(input a, output y); initial y = 1'b0; always @* y <= a; endmodule\n",
+        &None,
+        &Refusal::At(Fault::BadTarget, 37),
     ),
     (
         "module m(input a, output reg y); always @* y <= b; endmodule\n",

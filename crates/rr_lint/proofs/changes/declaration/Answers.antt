@@ -1,5 +1,5 @@
 use Rattle.rr_patch.specs.Changes.{plain_changes}
-use Rattle.rr_lint.specs.Latched.{marks}
+use Rattle.rr_lint_names.specs.Latched.{marks}
 use Rattle.rr_lint.proofs.Items.{module_adds}
 use Rattle.rr_lint.proofs.changes.declaration.Goals as goal
 

@@ -4,7 +4,7 @@ use Rattle.rr_syntax.specs.Items.{spell_module}
 use Rattle.rr_syntax.specs.View.{plain_module}
 use Rattle.rr_patch.specs.Changes.{plain_changes}
 use Rattle.rr_patch.proofs.ListWalks.{all_short}
-use Rattle.rr_lint.specs.Latched.{marks}
+use Rattle.rr_lint_names.specs.Latched.{marks}
 use Rattle.rr_lint.proofs.Items.{modules_none, modules_more, modules_full}
 use Rattle.rr_lint.proofs.changes.declarations.Goals as goal
 

@@ -2,7 +2,7 @@ use Rattle.std.proofs.Common.{◌≡◌, ℕ, List, nat_eq}
 use Rattle.std.specs.List.{list_any}
 use Rattle.indexmap.specs.IndexSet.{contains}
 use Rattle.rr_patch.specs.Changes.{plain_changes}
-use Rattle.rr_lint.specs.Latched.{marks}
+use Rattle.rr_lint_names.specs.Latched.{marks}
 use Rattle.rr_lint.proofs.Items.{ModulesTo}
 use Rattle.rr_lint.proofs.changes.declarations.Given as goal
 

@@ -1,7 +1,7 @@
 use Rattle.std.proofs.Common.{◌+◌, ◌∙◌, arith, sym}
 use Rattle.rr_patch.specs.Changes.{plain_changes}
-use Rattle.rr_lint.specs.Latched.{marks}
-use Rattle.rr_lint.proofs.Items.{Ports_adds, Nets_adds, Variables_adds, Integers_adds, Parameters_adds, Assigns_adds, Instances_adds, Always_stays, Always_adds}
+use Rattle.rr_lint_names.specs.Latched.{marks}
+use Rattle.rr_lint.proofs.Items.{Ports_adds, Nets_adds, Variables_adds, Integers_adds, Parameters_adds, Assigns_adds, Initial_adds, Instances_adds, Always_stays, Always_adds}
 use Rattle.rr_lint.proofs.changes.item.Goals as goal
 
 pub returns-in-Ports : goal.returns-in-Ports
@@ -21,6 +21,9 @@ returns-in-Parameters c = Parameters_adds (marks c.args.noted.now) (plain_change
 
 pub returns-in-Assigns : goal.returns-in-Assigns
 returns-in-Assigns c = Assigns_adds (marks c.args.noted.now) (plain_changes c.args.out.now.items) c.args.item.now c.in-Assigns.pairs c.in-Assigns.is
+
+pub returns-in-Initial : goal.returns-in-Initial
+returns-in-Initial c = Initial_adds (marks c.args.noted.now) (plain_changes c.args.out.now.items) c.args.item.now c.in-Initial.body c.in-Initial.token c.in-Initial.is
 
 pub returns-in-Instances : goal.returns-in-Instances
 returns-in-Instances c = Instances_adds (marks c.args.noted.now) (plain_changes c.args.out.now.items) c.args.item.now c.in-Instances.module c.in-Instances.token c.in-Instances.overrides c.in-Instances.list c.in-Instances.is

@@ -6,7 +6,7 @@ use Rattle.rr_patch.specs.Changes.{plain_changes}
 use Rattle.rr_patch.specs.Walks.{ItemAt, Adds}
 use Rattle.rr_patch.proofs.ListWalks.{all_none, all_more, all_full, all_short}
 use Rattle.rr_lint_print.specs.Pieces.{item_pieces}
-use Rattle.rr_lint.specs.Latched.{marks}
+use Rattle.rr_lint_names.specs.Latched.{marks}
 use Rattle.rr_lint.proofs.Items.{item_size}
 use Rattle.rr_lint.proofs.changes.items.Goals as goal
 

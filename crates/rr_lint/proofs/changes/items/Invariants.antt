@@ -4,7 +4,7 @@ use Rattle.rr_patch.specs.Changes.{plain_changes}
 use Rattle.rr_patch.specs.Walks.{ItemAt}
 use Rattle.rr_patch.proofs.ListWalks.{AllTo}
 use Rattle.rr_lint_print.specs.Pieces.{item_pieces}
-use Rattle.rr_lint.specs.Latched.{marks}
+use Rattle.rr_lint_names.specs.Latched.{marks}
 use Rattle.rr_lint.proofs.Items.{item_size}
 use Rattle.rr_lint.proofs.changes.items.Given as goal
 

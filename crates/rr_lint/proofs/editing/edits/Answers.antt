@@ -9,7 +9,7 @@ use Rattle.rr_patch.specs.Changes.{plain_changes}
 use Rattle.rr_patch.proofs.Printed.{source_room}
 use Rattle.rr_patch.proofs.Stood.{edits_order, edits_placed}
 use Rattle.rr_lint_print.specs.Pieces.{lint_edits}
-use Rattle.rr_lint.specs.Latched.{marks}
+use Rattle.rr_lint_names.specs.Latched.{marks}
 use Rattle.rr_lint.proofs.Items.{of_source, made_fit, made_are}
 use Rattle.rr_lint.proofs.editing.edits.Goals as goal
 

@@ -1,0 +1,5 @@
+pub mod Lists
+pub mod Noting
+pub mod Latching
+pub mod Once
+pub mod Waiting

@@ -1,0 +1,19 @@
+use Rattle.std.proofs.Common.{ap, nat_eq, map, sym, ◌∙◌, ◌++◌, List}
+use Rattle.indexmap.specs.IndexMap.{get}
+use Rattle.rr_syntax.specs.View.{plain_statement}
+use Rattle.rr_expr.specs.declared.types.Bit.{Bit}
+use Rattle.rr_flat.specs.Reads.{assigned_by}
+use Rattle.rr_latch.specs.Paths.{listed}
+use Rattle.rr_parts.specs.View.{plain_target}
+use Rattle.rr_lint_names.specs.Latched.{marks}
+use Rattle.rr_lint_names.proofs.Latching.{notes_kept}
+use Rattle.rr_lint_names.proofs.latched_names.note_block.Goals as goal
+
+pub returns-clause-noted : goal.returns-clause-noted
+returns-clause-noted c =
+    let v = c.as_slice.ensures.value in
+    notes_kept c.args.names.now (plain_statement c.args.block.now.body.now) (get nat_eq c.in_ok-lows.lows) c.as_slice.result.now c.in_ok-lows.ensures
+    (λ b h. c.in_ok-bits.ensures.kept b (sym (ap (λ (l : List Bit). listed l b) v) ∙ h)) (λ b k. ap (λ (l : List Bit). listed l b) v ∙ c.in_ok-bits.ensures.all b k)
+    c.args.block.now.token (marks c.args.noted.now) (marks c.note_targets.new.noted) (map plain_target c.as_slice-2.result.now)
+    (ap (map plain_target) c.as_slice-2.ensures.value ∙ c.in_ok-add_assigned_targets.ensures ∙ ap (λ l. map plain_target l ++ assigned_by (plain_statement c.args.block.now.body.now)) c.new-targets.ensures.items)
+    c.in_ok-note_targets.ensures
