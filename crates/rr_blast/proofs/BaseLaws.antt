@@ -2,7 +2,7 @@
 use Rattle.std.proofs.Common.{◌≡◌, ◌∙◌, sym, ap, ap₂, refl, ℕ, zero, suc, ◌+◌, ◌-◌, ◌<◌, ◌≤◌, Bool, true, false, cond, not, ◌&&◌, ◌||◌, List, [], ◌∷◌, ◌++◌, length, map, take, drop, get_or, nat_eq, nat_lt, arith, Option, ◌⊎◌, inl, inr, All}
 use Rattle.std.specs.List.{range_with_len}
 use mathlib.Core.Path.{fun_ext}
-use Rattle.std.proofs.lemmas.Bool.{both_ways, cases_Bool, cases_eq, cases_lt, eq-eqb, ne_eqb, lt-ltb, le-ltb}
+use Rattle.std.proofs.lemmas.Bool.{cases_eq, cases_lt, eq-eqb, ne_eqb, lt-ltb, le-ltb}
 use Rattle.std.proofs.lemmas.List.{get_or_past, get_or-take, length-map}
 use Rattle.std.proofs.lemmas.List.Elements.{All-append, All-head, All-tail, All-map}
 use Rattle.std.proofs.lemmas.List.FromFn.{get_or-range_with_len, length-range_with_len}
@@ -15,8 +15,8 @@ use Rattle.rr_flat.specs.View.{plain_signal}
 use Rattle.rr_flat.specs.Plain.{Flat}
 use Rattle.rr_flat.specs.Targets.{same_bit}
 use Rattle.rr_flat.specs.View.{Design, plain_flat}
-use Rattle.rr_cycle.specs.Cycles.{given, tail, zeros}
-use Rattle.rr_flat.specs.Inputs.{is_clock, row_inputs}
+use Rattle.rr_cycle.specs.Cycles.{beginning, given, zeros}
+use Rattle.rr_flat.specs.Inputs.{row_inputs}
 use Rattle.rr_cycle.specs.Exec.{Environment, first, rest}
 use Rattle.rr_cycle.specs.Performing.{any_is, base}
 use Rattle.rr_blast_steps.specs.Designs.{signal_widths}
@@ -25,7 +25,10 @@ use Rattle.rr_transition.specs.Placed.{any_bit, placed, row_of}
 use Rattle.rr_registers.specs.Registers.{bits_of_signal}
 use Rattle.rr_machine.specs.Words.{IsThere}
 use Rattle.rr_blast_steps.proofs.BitLaws.{whole_there}
+use Rattle.rr_meaning.specs.Work.{NoneAbove, inner_beginning}
+use Rattle.rr_meaning.proofs.Rows.{all_inputs, row_over_beginning}
 use Rattle.rr_meaning.proofs.Scoping.{IsSound, wide}
+use Rattle.rr_flat.proofs.Bits.{or_left, or_right}
 
 -- a bit is one of those that are given values, or has its old one
 
@@ -107,24 +110,27 @@ number_place xs i = elim (cases_lt i (length xs)) [
 row_place : (vs : List Bool) (w p : ℕ) → w ≤ 128 → p < w → get_or vs p false ≡ get_or (word 128 (number (take w vs))) p false
 row_place vs w p l m = sym (get_word 128 (number (take w vs)) p false (omega (arith, l, m)) ∙ number_place (take w vs) p ∙ get_or-take w vs p false m)
 
-pub row_is : (signals : List Signal) → AreNarrow signals → (ids : List ℕ) (vs : List Bool) (b : Bit) →
-    placed (bits_of_row signals ids) vs zeros b ≡ cond (nat_lt b.place (signal_at signals b.signal).width) (given ids (row_of signals ids vs) b) false
-unfolding placed bits_of_row row_of given
-row_is signals narrow [] vs b = by (nat_lt b.place (signal_at signals b.signal).width)
-  where
-    by : (x : Bool) → false ≡ cond x false false
-    by true = refl
-    by false = refl
-row_is signals narrow (id ∷ ids) vs b =
-    run_placed id 0 w (bits_of_row signals ids) vs zeros b ∙ by (cases_eq id b.signal) (cases_lt b.place w) (row_is signals narrow ids (drop w vs) b)
+-- a row over an environment in which its signals are 0
+pub row_is : (signals : List Signal) → AreNarrow signals → (e : Environment) (ids : List ℕ) (vs : List Bool) (b : Bit) → (any_is ids b.signal ≡ true → e b ≡ false) →
+    placed (bits_of_row signals ids) vs e b ≡ cond (any_is ids b.signal) (nat_lt b.place (signal_at signals b.signal).width && given ids (row_of signals ids vs) b) (e b)
+unfolding placed bits_of_row row_of given any_is
+row_is signals narrow e [] vs b z = refl
+row_is signals narrow e (id ∷ ids) vs b z =
+    run_placed id 0 w (bits_of_row signals ids) vs e b
+    ∙ by (cases_eq id b.signal) (cases_lt b.place w) (row_is signals narrow e ids (drop w vs) b (λ h. z (or_right (nat_eq id b.signal) (any_is ids b.signal) h)))
   where
     w : ℕ
     w = (signal_at signals id).width
 
+    both_false : (x y : Bool) → y ≡ false → cond x false y ≡ false
+    both_false true y h = refl
+    both_false false y h = h
+
     by : ((id ≡ b.signal) ⊎ (id ≡ b.signal → ⊥)) → ((b.place < w) ⊎ (w ≤ b.place)) →
-        placed (bits_of_row signals ids) (drop w vs) zeros b ≡ cond (nat_lt b.place (signal_at signals b.signal).width) (given ids (row_of signals ids (drop w vs)) b) false →
-        cond (nat_eq id b.signal && (not (nat_lt b.place 0) && nat_lt b.place (0 + w))) (get_or vs (b.place - 0) false) (placed (bits_of_row signals ids) (drop w vs) zeros b)
-        ≡ cond (nat_lt b.place (signal_at signals b.signal).width) (cond (nat_eq id b.signal) (get_or (word 128 (number (take w vs))) b.place false) (given ids (row_of signals ids (drop w vs)) b)) false
+        placed (bits_of_row signals ids) (drop w vs) e b ≡ cond (any_is ids b.signal) (nat_lt b.place (signal_at signals b.signal).width && given ids (row_of signals ids (drop w vs)) b) (e b) →
+        cond (nat_eq id b.signal && (not (nat_lt b.place 0) && nat_lt b.place (0 + w))) (get_or vs (b.place - 0) false) (placed (bits_of_row signals ids) (drop w vs) e b)
+        ≡ cond (nat_eq id b.signal || any_is ids b.signal)
+        (nat_lt b.place (signal_at signals b.signal).width && cond (nat_eq id b.signal) (get_or (word 128 (number (take w vs))) b.place false) (given ids (row_of signals ids (drop w vs)) b)) (e b)
     by (inr s) u h = rw (ne_eqb id b.signal s) h
     by (inl s) (inl u) h =
         let x : (signal_at signals b.signal).width ≡ w = ap (λ (i : ℕ). (signal_at signals i).width) (sym s) in
@@ -133,46 +139,22 @@ row_is signals narrow (id ∷ ids) vs b =
     by (inl s) (inr u) h =
         let x : (signal_at signals b.signal).width ≡ w = ap (λ (i : ℕ). (signal_at signals i).width) (sym s) in
         let y : nat_lt b.place (signal_at signals b.signal).width ≡ false = ap (λ (n : ℕ). nat_lt b.place n) x ∙ le-ltb b.place w u in
-        let k : placed (bits_of_row signals ids) (drop w vs) zeros b ≡ false = h ∙ ap (λ (c : Bool). cond c (given ids (row_of signals ids (drop w vs)) b) false) y in
-        rw (y, le-ltb b.place (0 + w) (omega (arith, u)), and_false (not (nat_lt b.place 0)), and_false (nat_eq id b.signal)) k
-
--- inputs that a design does not have
-
-none_left : (clock : Option ℕ) (ids : List ℕ) (n : ℕ) → any_is ids n ≡ false → any_is (row_inputs clock ids) n ≡ false
-unfolding any_is
-none_left clock [] n h = refl
-none_left clock (id ∷ ids) n h = by (is_clock clock id) (nat_eq id n) refl (none_left clock ids n)
-  where
-    by : (c x : Bool) → nat_eq id n ≡ x → (any_is ids n ≡ false → any_is (row_inputs clock ids) n ≡ false) → any_is (cond (not c) (id ∷ row_inputs clock ids) (row_inputs clock ids)) n ≡ false
-    by c true e r = absurd (both_ways true (rw e at h) refl)
-    by true false e r = r (rw e at h)
-    by false false e r = rw e (r (rw e at h))
-
-not_given : (ids row : List ℕ) (b : Bit) → any_is ids b.signal ≡ false → given ids row b ≡ false
-unfolding given any_is
-not_given [] row b h = refl
-not_given (id ∷ ids) row b h = elim (cases_Bool (nat_eq id b.signal)) [
-  | inl t ↦ absurd (both_ways true (rw t at h) refl)
-  | inr t ↦ rw t (not_given ids (tail row) b (rw t at h))
-]
+        let here : e b ≡ false = z (or_left (nat_eq id b.signal) (any_is ids b.signal) (eq-eqb id b.signal s)) in
+        let k : placed (bits_of_row signals ids) (drop w vs) e b ≡ false =
+        h ∙ ap (λ (c : Bool). cond (any_is ids b.signal) (c && given ids (row_of signals ids (drop w vs)) b) (e b)) y ∙ both_false (any_is ids b.signal) (e b) here in
+        rw (eq-eqb id b.signal s, y, le-ltb b.place (0 + w) (omega (arith, u)), and_false (not (nat_lt b.place 0))) k
 
 -- the whole
 
-pub base_is : (flat : Flat) (clock : Option ℕ) (registers : List Bit) (s r : List Bool) → AreNarrow flat.signals → AreRegisters flat registers →
-    placed registers s (placed (bits_of_row flat.signals (row_inputs clock flat.inputs)) r zeros) ≡ base flat clock (placed registers s zeros) (row_of flat.signals (row_inputs clock flat.inputs) r)
+pub base_is : (flat : Flat) (clock : Option ℕ) (registers : List Bit) (s r : List Bool) → AreNarrow flat.signals → NoneAbove flat → AreRegisters flat registers →
+    placed registers s (placed (bits_of_row flat.signals (row_inputs clock flat.inputs)) r (inner_beginning flat)) ≡ base flat clock (placed registers s zeros) (row_of flat.signals (row_inputs clock flat.inputs) r)
 unfolding base
-base_is flat clock registers s r narrow are = fun_ext (λ (b : Bit).
-    placed_cases registers s (placed (bits_of_row flat.signals (row_inputs clock flat.inputs)) r zeros) b
+base_is flat clock registers s r narrow above are = fun_ext (λ (b : Bit).
+    placed_cases registers s (placed (bits_of_row flat.signals (row_inputs clock flat.inputs)) r (inner_beginning flat)) b
     ∙ ap₂ (λ (x y : Bool). cond x (placed registers s zeros b) y) (are b)
-    (row_is flat.signals narrow (row_inputs clock flat.inputs) r b ∙ by b (any_is flat.inputs b.signal) refl (nat_lt b.place (signal_at flat.signals b.signal).width)))
-  where
-    G : Bit → Bool
-    G b = given (row_inputs clock flat.inputs) (row_of flat.signals (row_inputs clock flat.inputs) r) b
-
-    by : (b : Bit) (i : Bool) → any_is flat.inputs b.signal ≡ i → (x : Bool) → cond x (G b) false ≡ cond (any_is flat.inputs b.signal && x) (G b) false
-    by b true h x = rw h refl
-    by b false h true = rw (h, not_given (row_inputs clock flat.inputs) (row_of flat.signals (row_inputs clock flat.inputs) r) b (none_left clock flat.inputs b.signal h)) refl
-    by b false h false = rw h refl
+    (row_is flat.signals narrow (inner_beginning flat) (row_inputs clock flat.inputs) r b
+    (λ h. ap (λ (x : Bool). cond x false (beginning flat b)) (all_inputs clock flat.inputs b.signal h))
+    ∙ row_over_beginning flat clock (row_of flat.signals (row_inputs clock flat.inputs) r) above b))
 
 -- signals of a design
 

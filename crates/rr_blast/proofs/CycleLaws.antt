@@ -26,6 +26,7 @@ use Rattle.rr_transition.specs.Placed.{settled_of}
 use Rattle.rr_transition.specs.Cycles.{output_bits}
 use Rattle.rr_blast.specs.Circuits.{answers_of}
 use Rattle.rr_blast.proofs.BaseLaws.{base_is}
+use Rattle.rr_meaning.specs.Work.{NoneAbove, inner_beginning}
 use Rattle.rr_meaning.proofs.Scoping.{signal_read}
 
 -- lists of bits
@@ -110,13 +111,13 @@ unfolding instance_flat
 settled_parts F ss ps clock steps registers s r = refl
 
 pub answers_are : (F : Flat) (clock : Option ℕ) (ss : List Site) (ps qs : List Pick) (steps : List Step) (registers inputs : List Bit) (s r : List Bool) (e0 e1 e2 en : Environment) (xs ys zs : List Bool) →
-    AreNarrow F.signals → AreRegisters F registers → BasesStay F clock ss → inputs ≡ bits_of_row F.signals (row_inputs clock F.inputs) →
-    e0 ≡ placed registers s (placed inputs r zeros) → e1 ≡ performed (instance_flat ss ps F) steps e0 → qs ≡ ps → en ≡ next_after (instance_flat ss qs F) e1 → e2 ≡ e1 →
+    AreNarrow F.signals → NoneAbove F → AreRegisters F registers → BasesStay F clock ss → inputs ≡ bits_of_row F.signals (row_inputs clock F.inputs) →
+    e0 ≡ placed registers s (placed inputs r (inner_beginning F)) → e1 ≡ performed (instance_flat ss ps F) steps e0 → qs ≡ ps → en ≡ next_after (instance_flat ss qs F) e1 → e2 ≡ e1 →
     xs ≡ map en registers → ys ≡ output_bits F e2 → zs ≡ xs ++ ys →
     zs ≡ answers_of (instance_flat ss ps F) registers (settled_of (instance_flat ss ps F) clock steps registers s r)
-answers_are F clock ss ps qs steps registers inputs s r e0 e1 e2 en xs ys zs narrow are bases row h0 h1 p hn h2 hx hy hz =
+answers_are F clock ss ps qs steps registers inputs s r e0 e1 e2 en xs ys zs narrow above are bases row h0 h1 p hn h2 hx hy hz =
     let b : e0 ≡ base (instance_flat ss ps F) clock (placed registers s zeros) (row_of F.signals (row_inputs clock F.inputs) r) =
-    h0 ∙ ap (λ (bs : List Bit). placed registers s (placed bs r zeros)) row ∙ base_is F clock registers s r narrow are
+    h0 ∙ ap (λ (bs : List Bit). placed registers s (placed bs r (inner_beginning F))) row ∙ base_is F clock registers s r narrow above are
     ∙ sym (bases ps (placed registers s zeros) (row_of F.signals (row_inputs clock F.inputs) r)) in
     let e : e1 ≡ settled_of (instance_flat ss ps F) clock steps registers s r = h1 ∙ ap (performed (instance_flat ss ps F) steps) b ∙ settled_parts F ss ps clock steps registers s r in
     hz ∙ ap₂ (λ (us vs : List Bool). us ++ vs)

@@ -18,7 +18,7 @@ use Rattle.rr_flat.specs.Signals.{Signal, Text, signal_at}
 use Rattle.rr_flat.specs.Writers.{Clocked, Writes, block_at, writes_at_all}
 use Rattle.rr_flat.proofs.Bits.{or_left, or_right}
 use Rattle.rr_flat_instance.specs.Flats.{instance_flat}
-use Rattle.rr_cycle.specs.Cycles.{signal_value}
+use Rattle.rr_cycle.specs.Cycles.{beginning, signal_value}
 use Rattle.rr_cycle.specs.Exec.{Environment}
 use Rattle.rr_cycle.specs.Performing.{any_writes}
 use Rattle.rr_cycle.proofs.Wiring.{length_there}
@@ -129,6 +129,7 @@ module _ (F : Flat) (clock : Option ℕ) (rising : Bool) (steps : List Step) (ss
     pub kept : AreRegisters F registers
     pub choice_bits : t.choice_bits ≡ total_bits ss
     pub state_bits : t.state_bits ≡ length registers
+    pub start : t.start ≡ map (beginning F) registers
     pub switches : t.switches ≡ switch_places 0 ss
     pub input_widths : t.input_widths ≡ widths_of F (row_inputs clock F.inputs)
     pub output_widths : t.output_widths ≡ widths_of F F.outputs
@@ -166,6 +167,7 @@ module _ (F : Flat) (clock : Option ℕ) (rising : Bool) (steps : List Step) (ss
             ordered = law.2;
             input_widths = m.input_widths;
             output_widths = m.output_widths;
+            start = m.start;
             narrow = m.narrow;
             written = λ k b w. written_stays m j f ps k b w;
             bits = bits_are m choice lc;

@@ -11,7 +11,7 @@ ghost use Rattle.rr_blast.specs.Circuits.{FitsArguments, StaysLawful, bit_count}
 use crate::cycle::{cycle_circuit, row_bits};
 use rr_choice::{SiteList, site_bits};
 use rr_flat::{Flat, Order};
-use rr_registers::register_bits;
+use rr_registers::{register_bits, start_bits};
 use rr_transition::Transition;
 use std::alloc::{AllocError, Global};
 
@@ -52,7 +52,7 @@ fn widths(alloc: Global, flat: &Flat, ids: &[u32]) -> Result<Vec<u32>, AllocErro
 /// The circuit of one cycle of a flat design, for every choice among the changes of the sites of a
 /// list. The design is lawful, and its steps stand in that order; the bits of a choice, of a state and
 /// of a row of inputs together are below 2^32. The registers are the bits that clocked blocks write,
-/// signal after signal, each lowest bit first. The circuit has no gate that no bit of the next state and of
+/// signal after signal, each lowest bit first; a run starts in what they begin with. The circuit has no gate that no bit of the next state and of
 /// the outputs stands on. Every instance is lawful, with the signals, the clock, the registers and the
 /// order of the design.
 pub fn transition(
@@ -96,6 +96,7 @@ fn swept_cycle(
         registers.as_slice(),
         row.as_slice(),
     )?;
+    let start = start_bits(alloc, flat, registers.as_slice())?;
     let switches = switches(alloc, list)?;
     let input_widths = widths(alloc, flat, ids.as_slice())?;
     let output_widths = widths(alloc, flat, flat.outputs.as_slice())?;
@@ -104,6 +105,7 @@ fn swept_cycle(
         choice_bits: list.bits(),
         state_bits: registers.len() as u32,
         input_bits: row.len() as u32,
+        start,
         switches,
         input_widths,
         output_widths,

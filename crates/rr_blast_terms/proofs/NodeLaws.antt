@@ -13,7 +13,7 @@ use Rattle.rr_expr.specs.Scopes.{Names, meant, entity_range}
 use Rattle.rr_expr.specs.Selects.{place, lowest_place, integer_with}
 use Rattle.rr_expr.specs.Values.{form, value, nowhere}
 use Rattle.rr_flat.specs.Targets.{bit_there, bits_there, is_constant, target_bits, targets_bits}
-use Rattle.rr_target.proofs.Nodes.{none_parts}
+use Rattle.rr_flat.proofs.Relaxing.{none_parts}
 use Rattle.rr_cycle.specs.Exec.{Environment, write}
 use Rattle.rr_cycle.proofs.TargetBits.{index_fixed}
 use Rattle.rr_cycle.proofs.Wiring.{length_there}

@@ -186,3 +186,26 @@ fn wired_concatenations(rt: HostRuntime) -> Result<(), Fail> {
     assert!(rt; gives(alloc, WIRES, &comes, &[true, true, true, false, false])?);
     Ok(())
 }
+
+/// Whether a run of the transition of a text starts in this state.
+fn starts(alloc: Global, text: &str, state: &[bool]) -> Result<bool, AllocError> {
+    match transition_of(alloc, text)? {
+        Some(cycle) => Ok(cycle.start.as_slice() == state),
+        None => Ok(false),
+    }
+}
+
+const DECLARED: &str =
+    "module m(input clk, output [1:0] q); reg [1:0] r = 2'd2; always @(posedge clk) r <= r + 1; assign q = r; endmodule";
+
+const INITIAL: &str =
+    "module m(input clk, output [1:0] q); reg [1:0] r = 2'd2; initial r = 2'd1; always @(posedge clk) r <= r + 1; assign q = r; endmodule";
+
+#[test]
+fn registers_begin_with_their_starting_values(rt: HostRuntime) -> Result<(), Fail> {
+    let alloc = rt.alloc();
+    assert!(rt; starts(alloc, RESET, &[false, false])?);
+    assert!(rt; starts(alloc, DECLARED, &[false, true])?);
+    assert!(rt; starts(alloc, INITIAL, &[true, false])?);
+    Ok(())
+}

@@ -55,33 +55,50 @@ fn cycle(
     choice: &[bool],
     state: &[bool],
     row: &[u128],
-) -> Result<Vec<bool>, AllocError> {
+) -> Result<Vec<bool>, AllocError>
+    ensures { IfOk result (λ r. length r.items ≡ length transition.now.circuit.outputs) }
+{
     let bits = row_bits(alloc, transition.input_widths.as_slice(), row)?;
     let inputs = cycle_inputs(alloc, transition, choice, state, bits.as_slice())?;
     let out = transition.circuit.eval(alloc, inputs.as_slice())?;
     Ok(out)
 }
 
-/// The first bits, as many as the state has.
-fn next_state(
-    alloc: Global,
-    transition: &Transition,
-    out: &[bool],
-) -> Result<Vec<bool>, AllocError> {
-    let count = (transition.state_bits as usize).min(out.len());
-    let mut state = Vec::new(alloc);
-    state.extend_from_slice(&out[..count])?;
+fn copied(alloc: Global, bits: &[bool]) -> Result<Vec<bool>, AllocError>
+    ensures { IfOk result (λ r. r.items ≡ bits.now) }
+{
+    let mut copy = Vec::new(alloc);
+    copy.extend_from_slice(bits)?;
+    Ok(copy)
+}
+
+/// The state that a run starts in.
+fn first_state(alloc: Global, transition: &Transition) -> Result<Vec<bool>, AllocError>
+    ensures { IfOk result (λ r. length r.items ≡ transition.now.state_bits) }
+{
+    let state = copied(alloc, transition.start.as_slice())?;
     Ok(state)
 }
 
-/// The state before a row, from the state 0 on, with all switches off.
+/// The first bits of what a cycle gives, as many as the state has.
+fn next_state(alloc: Global, transition: &Transition, out: &[bool]) -> Result<Vec<bool>, AllocError>
+    requires { length out.now ≡ length transition.now.circuit.outputs }
+    ensures { IfOk result (λ r. length r.items ≡ transition.now.state_bits) }
+{
+    let state = copied(alloc, &out[..transition.state_bits as usize])?;
+    Ok(state)
+}
+
+/// The state before a row of the run of the design as it is.
 pub fn state_before(
     alloc: Global,
     transition: &Transition,
     table: &Table,
     row: usize,
-) -> Result<Vec<bool>, AllocError> {
-    let mut state = Vec::new(alloc);
+) -> Result<Vec<bool>, AllocError>
+    ensures { IfOk result (λ r. length r.items ≡ transition.now.state_bits) }
+{
+    let mut state = first_state(alloc, transition)?;
     for inputs in table.inputs.iter().take(row) {
         let out = cycle(alloc, transition, &[], state.as_slice(), inputs.as_slice())?;
         state = next_state(alloc, transition, out.as_slice())?;
@@ -125,7 +142,7 @@ pub fn first_miss(
     choice: &[bool],
     table: &Table,
 ) -> Result<Option<usize>, AllocError> {
-    let mut state = Vec::new(alloc);
+    let mut state = first_state(alloc, transition)?;
     for (row, inputs) in table.inputs.iter().enumerate() {
         let out = cycle(
             alloc,

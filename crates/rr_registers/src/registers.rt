@@ -5,6 +5,7 @@ ghost use Rattle.rr_bits.specs.Words.{word};
 ghost use Rattle.rr_expr.specs.declared.types.Bit.{Bit as FlatBit};
 ghost use Rattle.rr_flat.specs.Signals.{signal_at};
 ghost use Rattle.rr_flat.specs.View.{plain_flat};
+ghost use Rattle.rr_cycle.specs.Cycles.{beginning};
 ghost use Rattle.rr_cycle.specs.Performing.{any_writes};
 ghost use Rattle.rr_transition.specs.Placed.{any_bit};
 ghost use Rattle.rr_registers.specs.Registers.{registers_of};
@@ -50,4 +51,25 @@ pub fn register_bits(alloc: Global, flat: &Flat) -> Result<Vec<Bit>, AllocError>
         add_marked(&mut bits, signal, width, masks[signal as usize])?;
     }
     Ok(bits)
+}
+
+/// What a bit begins with.
+fn start_bit(flat: &Flat, bit: Bit) -> bool
+    ensures { result ≡ beginning (plain_flat flat.now) bit }
+{
+    match flat.start_list().get(bit.signal as usize) {
+        Some(start) => Bits::from_u128(128, *start).get(bit.place),
+        None => false,
+    }
+}
+
+/// What these bits begin with, in their order.
+pub fn start_bits(alloc: Global, flat: &Flat, bits: &[Bit]) -> Result<Vec<bool>, AllocError>
+    ensures { IfOk result (λ r. r.items ≡ map (beginning (plain_flat flat.now)) bits.now) }
+{
+    let mut starts = Vec::new(alloc);
+    for bit in bits.iter() {
+        starts.push(start_bit(flat, *bit))?;
+    }
+    Ok(starts)
 }

@@ -1,5 +1,5 @@
 -- from a question to the choices that mend a design
-use Rattle.std.proofs.Common.{◌≡◌, ◌⊎◌, inl, inr, ℕ, ◌+◌, ◌<◌, ◌≤◌, ◌↔◌, Bool, true, false, not, nat_lt, List, [], ◌∷◌, ◌++◌, length, get_or, take, drop, replicate, sym, subst, ◌∙◌, ap, arith, length-take, length-drop}
+use Rattle.std.proofs.Common.{◌≡◌, ◌⊎◌, inl, inr, ℕ, ◌+◌, ◌<◌, ◌≤◌, ◌↔◌, Bool, true, false, not, nat_lt, List, [], ◌∷◌, ◌++◌, length, get_or, take, drop, sym, subst, ◌∙◌, ap, arith, length-take, length-drop}
 use Rattle.std.specs.Prelude.{nat_le}
 use Rattle.std.proofs.lemmas.Bool.{cases_lt, lt-ltb, le-leb}
 use Rattle.std.proofs.lemmas.List.{get_or-take, get_or-drop}
@@ -81,7 +81,7 @@ given_first n values i l = get_or-take n (drop 1 values) i false l ∙ get_or-dr
 
 module _ (t : Task) (w : IsTask t) (bound : ℕ) (circuit : OutputNetlist) (inputs : circuit.netlist.inputs ≡ t.transition.choice_bits)
     (asked : (bits : List Bool) → length bits ≡ t.transition.choice_bits → output_values circuit (given bits)
-    ≡ judged t.transition bits (replicate t.transition.state_bits false) t.table.inputs t.table.expected ++ is_at_most bound (switched t.transition.switches bits) ∷ [])
+    ≡ judged t.transition bits t.transition.start t.table.inputs t.table.expected ++ is_at_most bound (switched t.transition.switches bits) ∷ [])
     (faithful : (j : Design) (sites : List Site) → Cycle j sites t.transition → Faithful circuit j sites t.table bound) where
   -- the variables of a question have room for the bits of a choice
   pub room_for : (values : List Bool) → IsModel (formula_of circuit) values → total_bits t.sites < length values
@@ -90,7 +90,7 @@ module _ (t : Task) (w : IsTask t) (bound : ℕ) (circuit : OutputNetlist) (inpu
   -- where every output is true, no more switches are on than the bound
   cheap_there : (bits : List Bool) → length bits ≡ total_bits t.sites → AllTrue (output_values circuit (given bits)) → cost (decode t.sites bits) ≤ bound
   cheap_there bits l h =
-      let verdicts : List Bool = judged t.transition bits (replicate t.transition.state_bits false) t.table.inputs t.table.expected in
+      let verdicts : List Bool = judged t.transition bits t.transition.start t.table.inputs t.table.expected in
       let last : List Bool = is_at_most bound (switched t.transition.switches bits) ∷ [] in
       let all = split verdicts last (subst AllTrue (asked bits (l ∙ sym w.bits)) h) in
       let few : is_at_most bound (switched t.transition.switches bits) ≡ true = all.1 0 true (omega arith) in

@@ -37,6 +37,7 @@ no_bits = record {
   choice_bits = 0;
   state_bits = 0;
   input_bits = 0;
+  start = [];
   switches = [];
   input_widths = [];
   output_widths = [];
@@ -54,6 +55,7 @@ performs choice = record {
   ordered = ordered;
   input_widths = refl;
   output_widths = refl;
+  start = refl;
   narrow = λ id. omega arith;
   written = λ k b w. absurd (nothing_written (Clocked k) b w);
   bits = λ state row l m. refl;
@@ -75,6 +77,7 @@ lawful_transition = record {
   outputs = refl;
   few = omega arith;
   input_bits = refl;
+  start = refl;
   switches = λ k d l. absurd (omega arith);
 }
 

@@ -102,6 +102,7 @@ cycles_from_steps j clock rising steps t registers choice h = record {
   design = record { design = h.design; lawful = h.lawful; rising = rising; one_clock = h.ordered.one_clock };
   input_widths = h.input_widths;
   output_widths = h.output_widths;
+  start = h.start;
   cycles = cycles_from_bits h.flat clock t registers choice (record {
     widths = h.input_widths;
     narrow = h.narrow;

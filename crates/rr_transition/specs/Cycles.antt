@@ -10,7 +10,7 @@ use Rattle.rr_flat.specs.Lawful.{Lawful}
 use Rattle.rr_flat.specs.Plain.{Flat}
 use Rattle.rr_walk.specs.Walk.{flat_of}
 use Rattle.rr_flat.specs.Inputs.{row_inputs}
-use Rattle.rr_cycle.specs.Cycles.{IsNext, Settled, signal_value}
+use Rattle.rr_cycle.specs.Cycles.{IsNext, Settled, beginning, signal_value}
 use Rattle.rr_cycle.specs.Exec.{Environment}
 use Rattle.rr_choice.specs.declared.pick.Pick.{Pick}
 use Rattle.rr_choice.specs.Choices.{decode, site_bits, total_bits}
@@ -51,13 +51,14 @@ pub record IsCycle (flat : Flat) (clock : Option ℕ) (t : Transition) (register
   pub edge : IsNext flat env next
   pub bits : cycle_bits t choice (map state registers) row ≡ map next registers ++ output_bits flat env
 
--- with these bits of a choice the transition gives each cycle of a design
+-- with these bits of a choice the transition gives each cycle of a design; a run starts in what the registers begin with
 pub record HasCycles (j : Design) (t : Transition) (registers : List Bit) (choice : List Bool) : Type 0 where
   pub flat : Flat
   pub clock : Option ℕ
   pub design : IsLawfulFlat j flat clock
   pub input_widths : t.input_widths ≡ widths_of flat (row_inputs clock flat.inputs)
   pub output_widths : t.output_widths ≡ widths_of flat flat.outputs
+  pub start : t.start ≡ map (beginning flat) registers
   pub cycles : (state : Environment) (row : List ℕ) → IsCycle flat clock t registers choice state row
 
 -- where the switches of sites stand among the bits of a choice, from a place on

@@ -14,7 +14,7 @@ use Rattle.rr_flat.specs.Targets.{same_bit}
 use Rattle.rr_walk.specs.Walk.{flat_of}
 use Rattle.rr_flat.specs.Writers.{Clocked, Writes}
 use Rattle.rr_flat.specs.Inputs.{row_inputs}
-use Rattle.rr_cycle.specs.Cycles.{IsNext, Settled, zeros}
+use Rattle.rr_cycle.specs.Cycles.{IsNext, Settled, beginning, zeros}
 use Rattle.rr_cycle.specs.Exec.{Environment, first, put, rest}
 use Rattle.rr_cycle.specs.Performing.{next_after, settled_by}
 use Rattle.rr_transition.specs.Cycles.{Design, output_bits, widths_of}
@@ -54,7 +54,7 @@ abbrev pub settled_of : Flat → Option ℕ → List Step → List Bit → List 
 settled_of flat clock steps registers state row = settled_by flat clock steps (placed registers state zeros) (row_of flat.signals (row_inputs clock flat.inputs) row)
 
 -- with these bits of a choice the transition gives what the steps and then the clocked blocks of a design make, which is
--- lawful and in order
+-- lawful and in order; a run starts in what the registers begin with
 pub record PerformsSteps (j : Design) (clock : Option ℕ) (rising : Bool) (steps : List Step) (t : Transition) (registers : List Bit) (choice : List Bool) : Type 0 where
   pub flat : Flat
   pub design : flat_of j.source j.top ≡ Ok flat
@@ -62,6 +62,7 @@ pub record PerformsSteps (j : Design) (clock : Option ℕ) (rising : Bool) (step
   pub ordered : Ordered flat j.word clock rising steps
   pub input_widths : t.input_widths ≡ widths_of flat (row_inputs clock flat.inputs)
   pub output_widths : t.output_widths ≡ widths_of flat flat.outputs
+  pub start : t.start ≡ map (beginning flat) registers
   pub narrow : (id : ℕ) → (signal_at flat.signals id).width ≤ 128
   pub written : (k : ℕ) (b : Bit) → Writes flat (Clocked k) b → any_bit registers b ≡ true
   pub bits : (state row : List Bool) → length state ≡ length registers → length row ≡ sum t.input_widths →

@@ -6,12 +6,14 @@ use Rattle.rr_bits.specs.Words.{word}
 use Rattle.rr_circuit.specs.Values.{OutputNetlist, output_values, given}
 
 -- its inputs are a choice, a state and a row of inputs; its outputs are the next state and the outputs of the design. The
--- switches are their places among the bits of a choice; the widths are those of a row's inputs and of the outputs.
+-- switches are their places among the bits of a choice; the widths are those of a row's inputs and of the outputs. A run
+-- starts in the state `start`.
 pub record Transition : Type 0 where
   pub circuit : OutputNetlist
   pub choice_bits : ℕ
   pub state_bits : ℕ
   pub input_bits : ℕ
+  pub start : List Bool
   pub switches : List ℕ
   pub input_widths : List ℕ
   pub output_widths : List ℕ
@@ -22,6 +24,7 @@ pub record IsTransition (t : Transition) : Type 0 where
   pub outputs : length t.circuit.outputs ≡ t.state_bits + sum t.output_widths
   pub few : t.choice_bits + t.state_bits + t.input_bits < 2 ^ 32
   pub input_bits : t.input_bits ≡ sum t.input_widths
+  pub start : length t.start ≡ t.state_bits
   pub switches : All (λ k. k < t.choice_bits) t.switches
 
 -- the words of numbers, each in its width, one after the other, lowest bits first; a number that is not there is 0

@@ -1,5 +1,5 @@
 -- from the transition's outputs to the runs of instances
-use Rattle.std.proofs.Common.{◌≡◌, ◌⊎◌, inl, inr, ℕ, ◌+◌, ◌<◌, ◌≤◌, Bool, false, not, cond, nat_lt, List, [], ◌∷◌, ◌++◌, length, get_or, take, drop, map, replicate, refl, sym, ◌∙◌, ap, ap₂}
+use Rattle.std.proofs.Common.{◌≡◌, ◌⊎◌, inl, inr, ℕ, ◌+◌, ◌<◌, ◌≤◌, Bool, false, not, cond, nat_lt, List, [], ◌∷◌, ◌++◌, length, get_or, take, drop, map, refl, sym, ◌∙◌, ap, ap₂}
 use Rattle.std.specs.Prelude.{Option, nat_le, flat_map}
 use Rattle.std.proofs.lemmas.Bool.{cases_lt, lt-ltb, le-ltb, le-leb, lt-leb}
 use Rattle.std.proofs.lemmas.List.{length-map, drop_at, take_at, drop-drop}
@@ -12,7 +12,7 @@ use Rattle.rr_expr.specs.declared.types.Bit.{Bit}
 use Rattle.rr_flat.specs.Signals.{signal_at}
 use Rattle.rr_flat.specs.Plain.{Flat}
 use Rattle.rr_flat.specs.Writers.{entity_of_signal, signal_bits}
-use Rattle.rr_cycle.specs.Cycles.{Runs, ended, cycle, bit_value, outputs_of, signal_value, zeros}
+use Rattle.rr_cycle.specs.Cycles.{Runs, ended, cycle, bit_value, outputs_of, signal_value, beginning}
 use Rattle.rr_cycle.specs.Exec.{Environment}
 use Rattle.rr_cycle.proofs.Wiring.{length_there}
 use Rattle.rr_choice.specs.Choices.{cost, decode, read_pick, site_bits, total_bits}
@@ -88,20 +88,15 @@ at_most_cost bound n = by_cases (cases_lt bound n)
     by_cases (inl l) = rw (lt-ltb bound n l) (sym (lt-leb n bound l))
     by_cases (inr l) = rw (le-ltb bound n l) (sym (le-leb n bound l))
 
--- no state is on
-zero_state : (registers : List Bit) → map zeros registers ≡ replicate (length registers) false
-zero_state [] = refl
-zero_state (b ∷ bs) = ap (λ xs. false ∷ xs) (zero_state bs)
-
 -- the verdicts of the transition are those of the choice's instance
 pub record Judged (t : Transition) (table : Table) (j : Design) (bits : List Bool) : Type 0 where
-  pub judged : IsJudged j table (judged t bits (replicate t.state_bits false) table.inputs table.expected)
+  pub judged : IsJudged j table (judged t bits t.start table.inputs table.expected)
   pub widths : t.output_widths ≡ widths_of judged.flat judged.flat.outputs
 
 pub instance_judged : (t : Transition) (table : Table) (j : Design) (sites : List Site) → Cycle j sites t → (bits : List Bool) → length bits ≡ total_bits sites → Judged t table (instance_design sites (decode sites bits) j) bits
 instance_judged t table j sites stands bits l =
     let h = stands.instances bits l in
-    let r = ran h.flat h.clock t stands.registers bits stands.state_bits h.output_widths h.cycles zeros table.inputs table.expected in
+    let r = ran h.flat h.clock t stands.registers bits stands.state_bits h.output_widths h.cycles (beginning h.flat) table.inputs table.expected in
     record {
       judged = record {
         flat = h.flat;
@@ -110,7 +105,7 @@ instance_judged t table j sites stands bits l =
         outputs = r.outputs;
         run = (r.last, r.run);
         verdicts =
-            ap (λ xs. judged t bits xs table.inputs table.expected) (ap (λ n. replicate n false) stands.state_bits ∙ sym (zero_state stands.registers))
+            ap (λ xs. judged t bits xs table.inputs table.expected) h.start
             ∙ r.same ∙ ap (λ ws. agreed ws table.expected r.outputs) h.output_widths;
       };
       widths = h.output_widths;
@@ -118,12 +113,12 @@ instance_judged t table j sites stands bits l =
 
 pub faithful : (t : Transition) (circuit : OutputNetlist) (table : Table) (bound : ℕ) → circuit.netlist.inputs ≡ t.choice_bits →
     ((bits : List Bool) → length bits ≡ t.choice_bits → output_values circuit (given bits)
-    ≡ judged t bits (replicate t.state_bits false) table.inputs table.expected ++ is_at_most bound (switched t.switches bits) ∷ []) →
+    ≡ judged t bits t.start table.inputs table.expected ++ is_at_most bound (switched t.switches bits) ∷ []) →
     (j : Design) (sites : List Site) → Cycle j sites t → Faithful circuit j sites table bound
 faithful t circuit table bound inputs outputs j sites stands = record {
   inputs = inputs ∙ stands.choice_bits;
   answers = λ bits l.
-      let verdicts : List Bool = judged t bits (replicate t.state_bits false) table.inputs table.expected in
+      let verdicts : List Bool = judged t bits t.start table.inputs table.expected in
       record {
         verdicts = verdicts;
         judged = (instance_judged t table j sites stands bits l).judged;

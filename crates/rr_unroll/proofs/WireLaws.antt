@@ -1,7 +1,7 @@
 -- the turns of lists of wires
-use Rattle.std.proofs.Common.{◌≡◌, ℕ, ◌+◌, ◌<◌, ◌≤◌, Bool, false, List, [], ◌∷◌, ◌++◌, length, get_or, take, drop, map, replicate, sym, ◌∙◌, ap, ap₂, arith, append_assoc, append-nil, length-append}
+use Rattle.std.proofs.Common.{◌≡◌, ℕ, ◌+◌, ◌<◌, ◌≤◌, Bool, false, List, [], ◌∷◌, ◌++◌, length, get_or, take, drop, map, sym, ◌∙◌, ap, ap₂, arith, append_assoc, append-nil, length-append}
 use Rattle.std.specs.List.{range_with_len}
-use Rattle.std.proofs.lemmas.List.{take_more, take_all, map_push, map_more, map-append, length-map, get_or-map, replicate_more}
+use Rattle.std.proofs.lemmas.List.{take_more, take_all, map_push, map_more, map-append, length-map, get_or-map}
 use Rattle.std.proofs.lemmas.List.FromFn.{map-range_with_len_more}
 use Rattle.rr_circuit.specs.declared.Wire.{Wire}
 use Rattle.rr_circuit.specs.Values.{Netlist, wire_value, wire_values, given}
@@ -11,9 +11,6 @@ use Rattle.rr_transition.specs.Transitions.{switched}
 module _ (n : Netlist) (env : ℕ → Bool) where
   pub inputs_more : (out : List Wire) (w : Wire) (k : ℕ) → wire_values n env out ≡ map env (range_with_len 0 k) → wire_value n env w ≡ env k → wire_values n env (out ++ w ∷ []) ≡ map env (range_with_len 0 (k + 1))
   inputs_more out w k h v = map_push (wire_value n env) out w ∙ ap₂ (λ xs x. xs ++ x ∷ []) h v ∙ sym (map-range_with_len_more env 0 k k (omega arith))
-
-  pub zeros_more : (out : List Wire) (w : Wire) (k : ℕ) → wire_values n env out ≡ replicate k false → wire_value n env w ≡ false → wire_values n env (out ++ w ∷ []) ≡ replicate (k + 1) false
-  zeros_more out w k h v = map_push (wire_value n env) out w ∙ ap₂ (λ xs x. xs ++ x ∷ []) h v ∙ replicate_more k false
 
   pub switched_more : (out choice : List Wire) (places : List ℕ) (i : ℕ) (d : Wire) → i < length places → get_or places i 0 < length choice → wire_values n env out ≡ switched (take i places) (wire_values n env choice) →
       wire_values n env (out ++ get_or choice (get_or places i 0) d ∷ []) ≡ switched (take (i + 1) places) (wire_values n env choice)

@@ -1,6 +1,6 @@
 //! The question.
 
-ghost use Rattle.std.specs.Prelude.{◌≡◌, ℕ, ◌≤◌, [], ◌∷◌, ◌++◌, Bool, false, List, IfOk, length, replicate};
+ghost use Rattle.std.specs.Prelude.{◌≡◌, ℕ, ◌≤◌, [], ◌∷◌, ◌++◌, Bool, List, IfOk, length};
 ghost use Rattle.rr_circuit.specs.Sweeps.{AreUsed};
 ghost use Rattle.rr_circuit.specs.Values.{output_values, given};
 ghost use Rattle.rr_count.specs.Counts.{is_at_most};
@@ -22,10 +22,10 @@ use std::alloc::{AllocError, Global};
 use std::thread::Threads;
 
 /// The circuit over the bits of a choice that asks whether its instance runs as a table expects, from
-/// the state 0 on, and whether its cost is at most a bound. It has one output for each known expected
-/// bit, row by row, output by output and lowest bit first, and one output more. The circuits of its rows
-/// are made at once, in a part for each worker, of which there are from 1 to 64; it is the same for
-/// every number of workers. It has no gate that no output needs.
+/// the state on that a run starts in, and whether its cost is at most a bound. It has one output for
+/// each known expected bit, row by row, output by output and lowest bit first, and one output more. The
+/// circuits of its rows are made at once, in a part for each worker, of which there are from 1 to 64; it
+/// is the same for every number of workers. It has no gate that no output needs.
 pub fn question<R: Threads + Sync>(
     rt: &R,
     alloc: Global,
@@ -38,7 +38,7 @@ pub fn question<R: Threads + Sync>(
     requires few_workers { workers ≤ 64 }
     ensures inputs { IfOk result (λ c. c.netlist.inputs ≡ transition.now.choice_bits) }
     ensures outputs { IfOk result (λ c. (bits : List Bool) → length bits ≡ transition.now.choice_bits → output_values c (given bits)
-        ≡ judged_of transition.now bits (replicate transition.now.state_bits false) (plain_table table.now).inputs (plain_table table.now).expected
+        ≡ judged_of transition.now bits transition.now.start (plain_table table.now).inputs (plain_table table.now).expected
         ++ is_at_most bound (switched_of transition.now.switches bits) ∷ []) }
     ensures faithful { IfOk result (λ c. (j : Design) (sites : List Site) → Cycle j sites transition.now → Faithful c j sites (plain_table table.now) bound) }
     ensures used { IfOk result AreUsed }

@@ -1,6 +1,6 @@
 //! Whether the instance of one choice runs as a table expects, by evaluation.
 
-ghost use Rattle.std.specs.Prelude.{◌≡◌, ◌↔◌, ◌+◌, ◌&&◌, Bool, not, true, false, All, IfOk, OnOk, IsTrue, List, length, drop, replicate, take};
+ghost use Rattle.std.specs.Prelude.{◌≡◌, ◌↔◌, ◌+◌, ◌&&◌, Bool, not, true, All, IfOk, OnOk, IsTrue, List, length, drop, take};
 ghost use Rattle.std.specs.List.{list_all, sum};
 ghost use Rattle.rr_choice.specs.Choices.{decode};
 ghost use Rattle.rr_choice.specs.Sites.{Site};
@@ -100,7 +100,7 @@ fn row_turn(
     Ok(agrees)
 }
 
-// Whether all rows agree, from the state 0 on.
+// Whether all rows agree, from the state on that a run starts in.
 fn all_agree(
     alloc: Global,
     transition: &Transition,
@@ -109,9 +109,10 @@ fn all_agree(
 ) -> Result<bool, AllocError>
     requires { length choice.now ≡ transition.now.choice_bits }
     ensures { IfOk result (λ r. r ≡ list_all (λ b. b)
-        (judged_of transition.now choice.now (replicate transition.now.state_bits false) (plain_table table.now).inputs (plain_table table.now).expected)) }
+        (judged_of transition.now choice.now transition.now.start (plain_table table.now).inputs (plain_table table.now).expected)) }
 {
-    let mut state: Vec<bool> = vec![in alloc; false; transition.state_bits as usize]?;
+    let mut state = Vec::new(alloc);
+    state.extend_from_slice(transition.start.as_slice())?;
     for r in 0..table.inputs.len() {
         let row = numbers_at(table.inputs.as_slice(), r);
         let cells = cells_at(table.expected.as_slice(), r);
@@ -123,9 +124,9 @@ fn all_agree(
     Ok(true)
 }
 
-/// Whether the instance of a choice's bits runs as a table expects, from the state 0 on: row by row by
-/// evaluation, up to the first row that differs. It makes no gate, so it is the cheap test of the
-/// source itself, whose switches are all off, and of a proposal.
+/// Whether the instance of a choice's bits runs as a table expects, from the state on that a run starts
+/// in: row by row by evaluation, up to the first row that differs. It makes no gate, so it is the cheap
+/// test of the source itself, whose switches are all off, and of a proposal.
 pub fn judges(
     alloc: Global,
     transition: &Transition,
@@ -134,7 +135,7 @@ pub fn judges(
 ) -> Result<bool, AllocError>
     requires { length choice.now ≡ transition.now.choice_bits }
     ensures judged { IfOk result (λ r. IsTrue r ↔ All (λ (b : Bool). b ≡ true)
-        (judged_of transition.now choice.now (replicate transition.now.state_bits false) (plain_table table.now).inputs (plain_table table.now).expected)) }
+        (judged_of transition.now choice.now transition.now.start (plain_table table.now).inputs (plain_table table.now).expected)) }
     ensures matches { IfOk result (λ r. (j : Design) (sites : List Site) → Cycle j sites transition.now → FitsOutputs transition.now.output_widths (plain_table table.now) →
         (IsTrue r ↔ Matches (instance_design sites (decode sites choice.now) j) (plain_table table.now))) }
 {

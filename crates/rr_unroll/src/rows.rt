@@ -1,6 +1,6 @@
 //! The copies of the transition, row after row.
 
-ghost use Rattle.std.specs.Prelude.{◌≡◌, ℕ, ◌+◌, [], ◌∷◌, ◌++◌, Bool, cond, false, IfOk, OnOk, length, map, take, drop, get_or, replicate};
+ghost use Rattle.std.specs.Prelude.{◌≡◌, ℕ, ◌+◌, [], ◌∷◌, ◌++◌, Bool, cond, IfOk, OnOk, length, map, take, drop, get_or};
 ghost use Rattle.std.specs.List.{sum};
 ghost use Rattle.rr_circuit.specs.Values.{IsWire, AreWires, wire_value, wire_values, output_values, given, Extends};
 ghost use Rattle.rr_trace.specs.View.{plain_table};
@@ -8,7 +8,7 @@ ghost use Rattle.rr_trace.specs.declared.cell.Cell.{Cell};
 ghost use Rattle.rr_unroll.specs.Questions.{is_same, agree, agree_row, judged as judged_of};
 ghost use Rattle.rr_unroll.specs.Fixed.{AreFixed};
 
-use crate::wires::zeros;
+use crate::wires::followed;
 use crate::words::words;
 use rr_circuit::{Builder, Circuit, Wire};
 use rr_trace::{Cell, Table};
@@ -177,8 +177,8 @@ pub(crate) fn cells_at(rows: &[Vec<Cell>], row: usize) -> &[Cell]
     }
 }
 
-/// For each known expected bit of a table, whether the transition's outputs have it, from the state 0
-/// on: copies of the circuits of its rows, one after the other.
+/// For each known expected bit of a table, whether the transition's outputs have it, from the state on
+/// that a run starts in: copies of the circuits of its rows, one after the other.
 pub(crate) fn judged(
     alloc: Global,
     b: &mut Builder,
@@ -193,10 +193,10 @@ pub(crate) fn judged(
     ensures extends { Extends b.old b.new }
     ensures wires { IfOk result (λ r. AreWires b.new r.items) }
     ensures value { IfOk result (λ r. (env : ℕ → Bool) → wire_values b.new env r.items
-        ≡ judged_of transition.now (wire_values b.old env choice.now) (replicate transition.now.state_bits false) (plain_table table.now).inputs (plain_table table.now).expected) }
+        ≡ judged_of transition.now (wire_values b.old env choice.now) transition.now.start (plain_table table.now).inputs (plain_table table.now).expected) }
 {
     let mut out = Vec::new(alloc);
-    let mut state = zeros(alloc, b, transition.state_bits)?;
+    let mut state = followed(alloc, b, &[], transition.start.as_slice())?;
     for r in 0..circuits.len() {
         let cells = cells_at(table.expected.as_slice(), r);
         state = push_row(

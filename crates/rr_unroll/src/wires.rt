@@ -1,6 +1,6 @@
 //! Lists of wires: the bits of a choice, of a state, of a row and of switches.
 
-ghost use Rattle.std.specs.Prelude.{◌≡◌, ℕ, ◌+◌, ◌++◌, ◌<◌, ◌≤◌, Bool, false, All, IfOk, length, map, replicate};
+ghost use Rattle.std.specs.Prelude.{◌≡◌, ℕ, ◌+◌, ◌++◌, ◌<◌, ◌≤◌, Bool, All, IfOk, length, map};
 ghost use Rattle.std.specs.List.{range_with_len};
 ghost use Rattle.rr_circuit.specs.Values.{AreWires, wire_values};
 ghost use Rattle.rr_transition.specs.Transitions.{switched as switched_of};
@@ -18,19 +18,6 @@ pub(crate) fn inputs(alloc: Global, b: &Builder, count: u32) -> Result<Vec<Wire>
     let mut out = Vec::new(alloc);
     for k in 0..count {
         out.push(b.input(k))?;
-    }
-    Ok(out)
-}
-
-/// So many wires that are false.
-pub(crate) fn zeros(alloc: Global, b: &Builder, count: u32) -> Result<Vec<Wire>, AllocError>
-    ensures wires { IfOk result (λ r. AreWires b.now r.items) }
-    ensures value { IfOk result (λ r. (env : ℕ → Bool) → wire_values b.now env r.items ≡ replicate count false) }
-    ensures width { IfOk result (λ r. length r.items ≡ count) }
-{
-    let mut out = Vec::new(alloc);
-    for k in 0..count {
-        out.push(b.constant(false))?;
     }
     Ok(out)
 }

@@ -1,5 +1,5 @@
 //! Questions, and whether one choice matches.
-use crate::transitions::{inverted_reset, values, wires};
+use crate::transitions::{inverted_reset, inverted_reset_from, values, wires};
 use rr_circuit::{Circuit, write_aag};
 use rr_trace::{Cell, Table};
 use rr_transition::Transition;
@@ -169,6 +169,19 @@ fn unknown_rows_move_the_state(rt: HostRuntime) -> Result<(), Fail> {
     let circuit = question(&rt, alloc, &transition, &rows, 0, 2)?;
     assert!(rt; values(alloc, &circuit, &[F, F, F])?.as_slice() == [T, T, T].as_slice());
     assert!(rt; matches(alloc, &transition, &rows, &[F, F, F])?);
+    Ok(())
+}
+
+// The register toggles from 1 on.
+#[test]
+fn a_run_starts_with_the_starting_values(rt: HostRuntime) -> Result<(), Fail> {
+    let alloc = rt.alloc();
+    let transition = inverted_reset_from(alloc, true)?;
+    let rows = table(alloc, &[(1, bit(1)), (1, bit(0)), (1, bit(1))])?;
+    let circuit = question(&rt, alloc, &transition, &rows, 0, 2)?;
+    assert!(rt; values(alloc, &circuit, &[F, F, F])?.as_slice() == [T, T, T, T].as_slice());
+    assert!(rt; matches(alloc, &transition, &rows, &[F, F, F])?);
+    assert!(rt; !matches(alloc, &inverted_reset(alloc)?, &rows, &[F, F, F])?);
     Ok(())
 }
 

@@ -7,6 +7,11 @@ use std::test::Fail;
 /// `always @(posedge clk) if (!rst) q <= 1'b0; else q <= ~q;` with two sites: the switch of a negation
 /// of the condition; the switch of the literal, and its new value.
 pub(crate) fn inverted_reset(alloc: Global) -> Result<Transition, Fail> {
+    inverted_reset_from(alloc, false)
+}
+
+/// The same, where `q` begins with a value.
+pub(crate) fn inverted_reset_from(alloc: Global, q_start: bool) -> Result<Transition, Fail> {
     let mut b = Builder::new(alloc, 5)?;
     let (negated, changed, value) = (b.input(0), b.input(1), b.input(2));
     let (q, rst) = (b.input(3), b.input(4));
@@ -24,6 +29,7 @@ pub(crate) fn inverted_reset(alloc: Global) -> Result<Transition, Fail> {
         choice_bits: 3,
         state_bits: 1,
         input_bits: 1,
+        start: vec![in alloc; q_start]?,
         switches: vec![in alloc; 0, 1]?,
         input_widths: vec![in alloc; 1]?,
         output_widths: vec![in alloc; 1]?,
@@ -43,6 +49,7 @@ pub(crate) fn wires(alloc: Global) -> Result<Transition, Fail> {
         choice_bits: 0,
         state_bits: 0,
         input_bits: 4,
+        start: Vec::new(alloc),
         switches: Vec::new(alloc),
         input_widths: vec![in alloc; 4]?,
         output_widths: vec![in alloc; 4]?,

@@ -67,7 +67,7 @@ fn find<R: Threads + Sync>(
     ensures { IfOk result (λ r. IfSome r (AreOf list.now)) }
 {
     let start = state_before(alloc, transition, table, from)?;
-    let there = begun(alloc, transition, start.as_slice())?;
+    let there = begun(alloc, transition, start)?;
     let rows = cut(alloc, table, from, len)?;
     for bound in below..MOST {
         match ask(rt, alloc, &there, &rows, list, near, bound + 1, budget)? {

@@ -35,7 +35,7 @@ returns-clause-value c = λ env.
     answers_are (plain_flat d) c.args.clock ss (picks_of c.args.b.now env c.args.choice.now) (picks_of n1 env c.args.choice.now) c.args.steps.now c.args.registers.now c.args.inputs.now _ _
     (carried c.args.b.now env c.in_ok-now.now.items) (carried n1 env ws) (carried n2 env ws) (carried n2 env c.in_ok-next.next.items)
     (wire_values n2 env c.in_ok-answers.answers.items) (wire_values n2 env c.in_ok-outputs.outputs.items) _
-    c.in_ok-later.ensures.narrow c.requires.registers c.requires.bases c.requires.inputs
+    c.in_ok-later.ensures.narrow c.in_ok-now.ensures.above c.requires.registers c.requires.bases c.requires.inputs
     (c.in_ok-now.ensures.value env) (x.env env) (picks-extends c.args.b.now n1 env c.args.choice.now x.extends c.requires.choice)
     (y.value env ∙ ap (λ (vs : List (Vec Wire Global)). next_after (instance_flat ss (picks_of n1 env c.args.choice.now) (plain_flat d)) (carried n1 env vs)) c.as_slice.ensures.value)
     (carried-extends n1 n2 env ws y.extends x.machine.now)

@@ -1,4 +1,4 @@
-use Rattle.std.proofs.Common.{◌++◌, [], ◌∷◌, false, length, replicate, sym, ◌∙◌, ap, ap₂}
+use Rattle.std.proofs.Common.{◌++◌, [], ◌∷◌, length, sym, ◌∙◌, ap, ap₂}
 use Rattle.std.proofs.lemmas.List.{map_push}
 use Rattle.std.proofs.lemmas.List.Elements.{All-push}
 use Rattle.rr_circuit.specs.Values.{IsWire, output_values, wire_value, wire_values, given}
@@ -43,7 +43,7 @@ returns-clause-outputs g c = λ bits l.
     let asked =
     wire_values-extends asking last outputs env c.in_ok-cheap.ensures.extends e.wires
     ∙ e.value env
-    ∙ ap (λ xs. judged t xs (replicate t.state_bits false) (plain_table c.args.table.now).inputs (plain_table c.args.table.now).expected)
+    ∙ ap (λ xs. judged t xs t.start (plain_table c.args.table.now).inputs (plain_table c.args.table.now).expected)
     (ap (wire_values first env) c.as_slice-3.ensures.value ∙ choice) in
     let switches =
     ap (wire_values asking env) c.as_slice-6.ensures.value

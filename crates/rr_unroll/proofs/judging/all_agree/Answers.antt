@@ -12,8 +12,8 @@ returns-then-not-agrees c =
     let t = c.args.transition.now in
     let choice : List Bool = c.args.choice.now in
     let state : List Bool = c.loop-r.state.items in
-    let row = c.numbers_at-row.ensures ∙ ap (λ xs. get_or (map (λ v. v.items) xs) c.loop-r.r []) c.as_slice.ensures.value in
-    let cells = c.cells_at-cells.ensures ∙ ap (λ xs. get_or (map (λ v. v.items) xs) c.loop-r.r []) c.as_slice-in-loop-r.ensures.value in
+    let row = c.numbers_at-row.ensures ∙ ap (λ xs. get_or (map (λ v. v.items) xs) c.loop-r.r []) c.as_slice-in-loop-r.ensures.value in
+    let cells = c.cells_at-cells.ensures ∙ ap (λ xs. get_or (map (λ v. v.items) xs) c.loop-r.r []) c.as_slice-in-loop-r-2.ensures.value in
     let l = length-map c.args.table.now.inputs.items (λ v. v.items) in
     judged_stops t choice state (plain_table c.args.table.now).inputs (plain_table c.args.table.now).expected c.loop-r.r c.in_ok-agrees.agrees _ (omega arith)
     (c.in_ok-agrees.ensures.agrees ∙ ap₂ (λ cs r. all_true (agree_row t.output_widths cs (drop t.state_bits (cycle_bits t choice state r)))) cells row)
@@ -24,8 +24,8 @@ loop-r-preserved c =
     let t = c.args.transition.now in
     let choice : List Bool = c.args.choice.now in
     let state : List Bool = c.loop-r.state.items in
-    let row = c.numbers_at-row.ensures ∙ ap (λ xs. get_or (map (λ v. v.items) xs) c.loop-r.r []) c.as_slice.ensures.value in
-    let cells = c.cells_at-cells.ensures ∙ ap (λ xs. get_or (map (λ v. v.items) xs) c.loop-r.r []) c.as_slice-in-loop-r.ensures.value in
+    let row = c.numbers_at-row.ensures ∙ ap (λ xs. get_or (map (λ v. v.items) xs) c.loop-r.r []) c.as_slice-in-loop-r.ensures.value in
+    let cells = c.cells_at-cells.ensures ∙ ap (λ xs. get_or (map (λ v. v.items) xs) c.loop-r.r []) c.as_slice-in-loop-r-2.ensures.value in
     let l = length-map c.args.table.now.inputs.items (λ v. v.items) in
     let rows : List (List ℕ) = (plain_table c.args.table.now).inputs in
     let expected : List (List Cell) = (plain_table c.args.table.now).expected in

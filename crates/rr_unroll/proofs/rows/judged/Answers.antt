@@ -1,4 +1,4 @@
-use Rattle.std.proofs.Common.{◌≡◌, ℕ, ◌++◌, [], Bool, List, false, ◌+◌, ◌<◌, length, get_or, map, take, drop, replicate, sym, subst, ◌∙◌, ap, ap₂, arith, rules}
+use Rattle.std.proofs.Common.{◌≡◌, ℕ, ◌++◌, [], Bool, List, ◌+◌, ◌<◌, length, get_or, map, take, drop, sym, subst, ◌∙◌, ap, ap₂, arith, rules}
 use Rattle.std.specs.List.{sum}
 use Rattle.std.proofs.lemmas.List.{length-map}
 use Rattle.rr_circuit.specs.Values.{OutputNetlist, wire_value, wire_values, output_values, given}
@@ -15,15 +15,17 @@ use Rattle.rr_unroll.proofs.rows.judged.Goals as goal
 pub loop-r-init : goal.loop-r-init
 loop-r-init c =
     let none = c.new-out.ensures.items in
-    let s : c.transition.inside.state_bits ≡ c.args.transition.now.state_bits = ap (λ x. x.state_bits) c.transition.view_is in
+    let t = c.args.transition.now in
+    let s : c.as_slice.result.now ≡ t.start = c.as_slice.ensures.value ∙ ap (λ (x : Transition). x.start) c.transition.view_is in
+    let l : length t.start ≡ t.state_bits = subst (λ (x : Transition). length x.start ≡ x.state_bits) c.transition.view_is c.transition.invariant.start in
     record {
       extends = Extends-refl c.args.b.now;
       wires = rw none (search rules);
       state = c.in_ok-state.ensures.wires;
-      width = c.in_ok-state.ensures.width ∙ s;
+      width = omega (arith, c.in_ok-state.ensures.width, ap length s, l);
       value = λ env. rw none
           (ap (λ xs. judged c.args.transition.now (wire_values c.args.b.now env c.args.choice.now) xs (plain_table c.args.table.now).inputs (plain_table c.args.table.now).expected)
-          (c.in_ok-state.ensures.value env ∙ ap (λ k. replicate k false) s));
+          (c.in_ok-state.ensures.value env ∙ s));
     }
 
 pub loop-r-preserved : goal.loop-r-preserved
@@ -45,11 +47,11 @@ loop-r-preserved c =
           let choice : List Bool = wire_values c.args.b.now env c.args.choice.now in
           let state : List Bool = wire_values c.loop-r.b env c.loop-r.state.items in
           let out : List Bool = wire_values c.loop-r.b env c.loop-r.out.items in
-          let cells = c.cells_at-cells.ensures ∙ ap (λ xs. get_or (map (λ v. v.items) xs) c.loop-r.r []) c.as_slice.ensures.value in
+          let cells = c.cells_at-cells.ensures ∙ ap (λ xs. get_or (map (λ v. v.items) xs) c.loop-r.r []) c.as_slice-in-loop-r.ensures.value in
           let same =
           ap₂ (λ xs ys. output_values c.index-circuits-r.result (given (xs ++ ys)))
           (wire_values-extends c.args.b.now c.loop-r.b c.args.choice.now env h.extends c.requires.choice)
-          (ap (wire_values c.loop-r.b env) c.as_slice-in-loop-r.ensures.value)
+          (ap (wire_values c.loop-r.b env) c.as_slice-in-loop-r-2.ensures.value)
           ∙ is.values choice state (length-map c.args.choice.now (wire_value c.args.b.now env) ∙ c.requires.width) (length-map c.loop-r.state.items (wire_value c.loop-r.b env) ∙ h.width) in
           judged_more t choice state (wire_values c.push_row.new.b env c.in_ok-state-2.state.items) out (wire_values c.push_row.new.b env c.push_row.new.out.items) _ rows expected c.loop-r.r
           few
@@ -68,7 +70,7 @@ returns-clause-value c = λ env.
 pub push_row-requires-clause-inputs : goal.push_row-requires-clause-inputs
 push_row-requires-clause-inputs c =
     let is = fixed_at c.args.transition.now (plain_table c.args.table.now).inputs c.args.circuits.now c.loop-r.r c.index-circuits-r.result c.requires.circuits c.loop-r-test.true in
-    let state = ap length c.as_slice-in-loop-r.ensures.value ∙ c.loop-r.invariant.width in
+    let state = ap length c.as_slice-in-loop-r-2.ensures.value ∙ c.loop-r.invariant.width in
     ap₂ (λ x y. x + y) c.requires.width state ∙ sym is.inputs ∙ sym (ap (λ (x : OutputNetlist). x.netlist.inputs) c.index-circuits-r.is)
 
 pub push_row-requires-clause-outputs : goal.push_row-requires-clause-outputs

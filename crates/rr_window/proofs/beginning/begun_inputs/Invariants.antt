@@ -1,9 +1,0 @@
-use Rattle.std.proofs.Common.{◌≡◌, length}
-use Rattle.rr_circuit.specs.Values.{AreWires}
-use Rattle.rr_window.proofs.beginning.begun_inputs.Given as goal
-
-abbrev pub invariant-loop-k : goal.invariant-loop-k
-invariant-loop-k l = record {
-  wires : AreWires l.b l.wires.items;
-  count : length l.wires.items ≡ l.k;
-}
