@@ -35,4 +35,6 @@ mod runs;
 #[cfg(test)]
 mod shelves;
 #[cfg(test)]
+mod starts;
+#[cfg(test)]
 mod words;

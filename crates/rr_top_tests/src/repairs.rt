@@ -311,7 +311,7 @@ fn words_and_texts_are_refused(rt: HostRuntime) {
     no_tree(
         &rt,
         "module m(output y);assign y = ; // $x\ninitial $display;endmodule",
-        "refused 5 Unsupported at 38\n",
+        "refused 5 Unsupported at 46\n",
     );
     no_tree(
         &rt,
