@@ -3,12 +3,12 @@
 
 usage: tools/plain.py DESIGN                    prints the design with these bytes as blanks, so that every other byte keeps its place:
                                                 delays of nets, of continuous assignments and behind `<=`; tasks that only print ($display,
-                                                $write, $strobe, $monitor and their kin); `initial` items that print, name a dump or set
-                                                variables to 0 alone; `specify` blocks; attributes that hold comment marks
+                                                $write, $strobe, $monitor and their kin), also in `initial` items, and these whole where
+                                                they do nothing else; `specify` blocks; attributes that hold comment marks
        tools/plain.py --back DESIGN REPAIRED    prints the repaired source of what the first call printed, with the blanked bytes as they were
 
 What cannot be blanked without a change of what a cycle does is told on standard error with its line, and nothing is printed (status 1): a delay
-before a statement or behind `=` in an `always` (what is read after it is read later), and an `initial` item that does more.
+before a statement or behind `=` in an `always` (what is read after it is read later).
 """
 import re, sys
 
@@ -20,7 +20,6 @@ TOKEN = re.compile(
 )
 PRINTS = re.compile(r"\$f?(display|write|strobe|monitor)[bho]?$|\$(monitoron|monitoroff|dumpfile|dumpvars|dumpon|dumpoff|timeformat|info|warning|error)$")
 NETS = {"wire", "tri", "assign", "signed", "wand", "wor", "]"}
-ZERO = re.compile(r"(\d+)?('[sS]?[bodhBODH])?\s*[0_]+$")
 
 
 class Refused(Exception):
@@ -73,15 +72,18 @@ class Source:
 
 
 def blank_initial(source, at):
-    """Blanks an `initial` item that prints, or sets variables to 0, and nothing else."""
+    """Blanks what an `initial` item prints, and the whole item where it sets nothing."""
     end = source.statement(at + 1)
-    words = [it for it in source.words[at + 1 : end] if it not in ("begin", "end")]
-    for part in " ".join(words).split(";"):
-        part = part.strip()
-        assigned = re.fullmatch(r"[\w$\\]+ = (.*)", part)
-        if part and not PRINTS.match(part.split(" ")[0]) and not (assigned and ZERO.match(assigned[1])):
-            source.refuse(at, "an `initial` item that does more than print or set variables to 0")
-    source.cut(at, end - 1)
+    prints, sets, place = [], False, at + 1
+    while place < end:
+        if PRINTS.match(source.words[place]):
+            stop = source.to(place, ";")
+            prints.append((place, stop))
+            place = stop
+        sets = sets or source.words[place] in ("=", "<=")
+        place += 1
+    for first, last in prints if sets else [(at, end - 1)]:
+        source.cut(first, last)
     return end
 
 

@@ -1,0 +1,316 @@
+#!/usr/bin/env python3
+"""Compares runs of random designs with starting values with runs of Icarus Verilog, row by row. It is no part of the gate, and nothing of it is proved.
+
+usage: tools/starts.py [PROGRAM] [--count N] [--seed N] [--unproved]
+
+PROGRAM is crates/rtl_repair/out/rtl_repair where it is not given, N 500 designs and seed 1. With --unproved the program is compiled once without
+its proofs, as by tools/preview, and run on all designs. A design has a module with up to three instances of another, which give its parameters
+other values. Variables get starting values in the header, by `output reg` and `reg` among the items, by `initial` items, by two of these and
+by none; the values are constant expressions of every operator, wider and narrower than the variable. Some variables are registers, some are
+those of combinational blocks, whole or in part, and some are never assigned. All are outputs or drive one, so each row tells all values.
+
+Icarus reads the same text but for two things: a variable without a starting value gets 0, for that is the value of the two states that the program has,
+and each combinational block also waits for a signal of the bench, as `always @*` runs at no event of time 0. The program has to print the bench's table,
+byte for byte. Each finding is printed and kept in a folder; the last line counts, and the status is 0 where there is none.
+"""
+import argparse, os, random, re, shutil, subprocess, sys, tempfile
+
+from program import built
+
+top = os.path.dirname(os.path.dirname(os.path.abspath(__file__)))
+ROWS = 12
+INPUTS = (("a", "[3:0]"), ("b", "signed [3:0]"), ("e", ""))
+draw = random.Random()
+
+
+# ---- expressions
+
+def literal():
+    width = draw.choice((1, 2, 3, 4, 4, 5, 8, 13))
+    value = draw.randrange(1 << width)
+    sign = draw.choice(("", "", "s"))
+    return draw.choice((f"{width}'{sign}d{value}", f"{width}'{sign}b{value:b}", f"{width}'{sign}h{value:x}", f"{draw.randrange(9)}"))
+
+
+def sized(names):
+    """A part of a concatenation, which has at most 128 bits: no wide variable."""
+    return draw.choice((f"4'd{draw.randrange(16)}", f"3'sb{draw.randrange(8):b}", *[it for it in names if not it.startswith("wide")]))
+
+
+def expression(depth, names, is_constant):
+    """An expression over names; where it is constant, also with the operators that take constants alone."""
+    if depth == 0 or draw.random() < 0.2:
+        return draw.choice((literal(), literal(), *names, *names))
+    inner = lambda: expression(depth - 1, names, is_constant)
+    form = draw.randrange(9 if is_constant else 8)
+    if form <= 1:
+        return f"({inner()} {draw.choice('+ + - - * & | ^ ~^ == != < <= > >= && ||'.split())} {inner()})"
+    if form == 2:
+        return f"({inner()} {draw.choice('<< >> <<< >>>'.split())} {draw.randrange(5)})"
+    if form == 3:
+        return f"{draw.choice('~ - + ! & | ^ ~& ~| ~^'.split())}({inner()})"
+    if form == 4:
+        return f"({inner()} ? {inner()} : {inner()})"
+    if form == 5:
+        return "{" + ", ".join(sized(names) for _ in range(draw.randrange(1, 4))) + "}"
+    if form == 6:
+        return f"{{{draw.randrange(1, 4)}{{{sized(names)}}}}}"
+    if form == 7:
+        return f"${draw.choice(('signed', 'unsigned'))}({inner()})"
+    return draw.choice((f"({inner()} / 4'd{draw.randrange(1, 16)})", f"({inner()} % {draw.randrange(1, 9)})", f"({inner()} ** {draw.randrange(4)})"))
+
+
+# ---- variables
+
+class Variable:
+    """A variable: its type, where it is declared, who assigns it, its starting value and those by `initial`."""
+
+    def __init__(self, at, role, is_plain, constants):
+        self.kind = draw.choice(("", "[3:0]", "[3:0]", "[0:3]", "[7:0]", "[W-1:0]", "signed [4:0]", "signed", "[39:0]", "[100:0]", "integer"))
+        self.name, self.role = ("wide" if self.kind == "[100:0]" else "v") + str(at), role
+        self.place = draw.choice(("inner", "inner", "header", "again" if is_plain else "header")) if self.kind != "integer" else "inner"
+        value = lambda: expression(draw.randrange(4), constants, True)
+        form = draw.choice(("value", "value", "value", "initial", "initial", "both", "none"))
+        self.start = value() if form in ("value", "both") and self.kind != "integer" else None
+        self.initials = [value() for _ in range(draw.choice((1, 1, 2)))] if form in ("initial", "both") else []
+
+    def width(self, of_w):
+        """The number of bits, where that is the value of the parameter W."""
+        if self.kind == "integer":
+            return 32
+        found = re.search(r"\[(.*):(.*)\]", self.kind.replace("W-1", str(of_w - 1)))
+        return abs(int(found[1]) - int(found[2])) + 1 if found else 1
+
+    def declared(self, is_zeroed):
+        """The name with the starting value."""
+        zero = "0" if is_zeroed and not self.initials else None
+        value = self.start or zero
+        return self.name + (f" = {value}" if value else "")
+
+    def has_parts(self):
+        return self.kind in ("[3:0]", "[7:0]", "[39:0]", "signed [4:0]")
+
+
+def typed(kind):
+    return f"{kind} " if kind else ""
+
+
+def initial_items(variables):
+    """The `initial` items of a module, in their order."""
+    pairs = [(it, value) for it in variables for value in it.initials]
+    draw.shuffle(pairs)
+    items = []
+    while pairs:
+        count = draw.randrange(1, 4)
+        some, pairs = pairs[:count], pairs[count:]
+        texts = [f"{it.name} = {value};" for it, value in some]
+        if len(texts) > 1 or draw.random() < 0.3:
+            cut = draw.randrange(len(texts) + 1)
+            inner = f"begin {' '.join(texts[cut:])} end" if draw.random() < 0.3 else " ".join(texts[cut:])
+            texts = ["begin", *texts[:cut], draw.choice(("", ";")), inner, "end"]
+        items.append("initial " + " ".join(it for it in texts if it))
+    return items
+
+
+# ---- blocks
+
+def clocked_statement(it, seen):
+    value = lambda: expression(draw.randrange(3), seen, False)
+    form = draw.randrange(6)
+    if form == 0:
+        return f"{it.name} <= {value()};"
+    if form == 1:
+        return f"if ({value()}) {it.name} <= {value()};"
+    if form == 2:
+        return f"if ({value()}) {it.name} <= {it.name} + 4'd1; else {it.name} <= {value()};"
+    if form == 3 and it.has_parts():
+        return f"{it.name}[{draw.choice(('0', '2:1', '3', '1 +: 2'))}] <= {value()};"
+    labels = [draw.randrange(16) for _ in range(3)]
+    arms = " ".join(f"4'd{label}: {it.name} <= {value()};" for label in labels)
+    return f"case ({it.name}) {arms} {draw.choice(('', f'default: {it.name} <= {value()};'))} endcase"
+
+
+def combinational_body(it, seen):
+    value = lambda: expression(draw.randrange(3), seen, False)
+    if it.has_parts() and draw.random() < 0.4:
+        return f"{it.name}[{draw.choice(('1', '2:1', '0 +: 3'))}] = {value()};"
+    return f"{it.name} = {value()}; if ({value()}) {it.name} = {value()};"
+
+
+def blocks(variables, edge):
+    """The `always` blocks of a module, each with whether it is combinational."""
+    clocked = [it for it in variables if it.role == "clocked"]
+    fixed = [it.name for it in variables if it.role != "combinational"]
+    found, cut = [], draw.randrange(len(clocked) + 1)
+    for some in (clocked[:cut], clocked[cut:]):
+        if some:
+            texts = " ".join(clocked_statement(it, ("a", "b", "e", *[o.name for o in variables])) for it in some)
+            found.append((f"always @({edge} clk) begin {texts} end", False))
+    seen = ["a", "b", "e", *fixed]
+    for it in variables:
+        if it.role == "combinational":
+            found.append((combinational_body(it, seen), True))
+            seen.append(it.name)
+    return found
+
+
+# ---- modules
+
+class Module:
+    """A module: its variables, and its items but for the declarations, in their order."""
+
+    def __init__(self, name, edge, instances):
+        self.name, self.is_plain = name, draw.random() < 0.4
+        self.defaults = (draw.choice(("3", "-2", "4'sd9", "8'd200")), draw.randrange(1, 9))
+        # Without a clocked block there is no clock.
+        roles = ["clocked"] + [draw.choice(("clocked", "clocked", "combinational", "kept")) for _ in range(draw.randrange(6))]
+        self.variables = [Variable(at, role, self.is_plain, ("P", "K", "W")) for at, role in enumerate(roles)]
+        self.instances = instances
+        texts = [(it, False) for it in initial_items(self.variables)]
+        others = blocks(self.variables, edge) + [(f"assign {it.name}_o = {it.name};", False) for it in self.variables if it.place == "inner"]
+        others += [(text, False) for text, _ in instances]
+        for it in others:
+            texts.insert(draw.randrange(len(texts) + 1), it)
+        self.items = texts
+
+    def outputs(self):
+        """Each output port: its name, its type, and its variable, if it is one."""
+        own = [(it.name, it.kind, it) if it.place != "inner" else (f"{it.name}_o", "[31:0]" if it.kind == "integer" else it.kind.replace("signed", "").strip(), None) for it in self.variables]
+        return own + [port for _, ports in self.instances for port in ports]
+
+    def ports(self, is_zeroed):
+        """The text up to the first item, with the port declarations."""
+        head = f"module {self.name} #(parameter P = {self.defaults[0]}, parameter W = {self.defaults[1]})("
+        inputs = [f"input {typed(kind)}{name}" for name, kind in (("clk", ""), *INPUTS)]
+        if not self.is_plain:
+            outputs = [f"output reg {typed(kind)}{it.declared(is_zeroed)}" if it else f"output {typed(kind)}{name}" for name, kind, it in self.outputs()]
+            return head + ", ".join(inputs + outputs) + ");\n"
+        names = ["clk", *[name for name, _ in INPUTS], *[name for name, _, _ in self.outputs()]]
+        lines = [f"  {it};\n" for it in inputs]
+        for name, kind, it in self.outputs():
+            again = it and it.place == "again"
+            lines.append(f"  output reg {typed(kind)}{it.declared(is_zeroed)};\n" if it and not again else f"  output {typed(kind)}{name};\n")
+            lines.extend([f"  reg {typed(kind)}{it.declared(is_zeroed)};\n"] if again else [])
+        return head + ", ".join(names) + ");\n" + "".join(lines)
+
+    def text(self, is_zeroed):
+        """The module, as the program or as Icarus reads it."""
+        lines = [self.ports(is_zeroed), "  localparam K = P + 3;\n"]
+        for it in self.variables:
+            if it.place == "inner":
+                lines.append(f"  {'integer' if it.kind == 'integer' else 'reg ' + it.kind} {it.declared(is_zeroed)};\n")
+        for text, is_combinational in self.items:
+            wait = "if (bench.tick) ; " if is_zeroed else ""
+            lines.append(f"  always @* begin {wait}{text} end\n" if is_combinational else f"  {text}\n")
+        return "".join(lines) + "endmodule\n"
+
+
+def instance(inner, at):
+    """The text of an instance of a module, and the ports of the outer one for its outputs."""
+    p, w = draw.choice(("5", "-1", "4'sd12", "6'd33")), draw.randrange(1, 9)
+    form = draw.randrange(4)
+    settings = ("", f"#({p}) ", f"#(.P({p}), .W({w})) ", f"#(.W({w})) ")[form]
+    of_w = w if form >= 2 else inner.defaults[1]
+    ports, pairs = [], [f".{name}({name})" for name in ("clk", *[name for name, _ in INPUTS])]
+    for (name, _, _), it in zip(inner.outputs(), inner.variables):
+        width = it.width(of_w)
+        ports.append((f"u{at}_{name}", f"[{width - 1}:0]" if width > 1 else "", None))
+        pairs.append(f".{name}(u{at}_{name})")
+    return f"n {settings}u{at}({', '.join(pairs)});", ports
+
+
+def random_design():
+    """The modules of a design, the inner one first, and the edge of its clock."""
+    edge = draw.choice(("posedge", "posedge", "negedge"))
+    inner = Module("n", edge, [])
+    return [inner, Module("m", edge, [instance(inner, at) for at in range(draw.randrange(4))])], edge
+
+
+# ---- runs
+
+def random_table():
+    """Rows of inputs."""
+    return [(draw.randrange(16), draw.randrange(16), draw.randrange(2)) for _ in range(ROWS)]
+
+
+def table_text(rows):
+    return "".join(",".join(str(it) for it in row) + "\n" for row in [("a", "b", "e"), *rows])
+
+
+def bench(outer, edge, rows):
+    """A bench that prints the table of a run: the values before each clock edge."""
+    outputs = outer.outputs()
+    width = {it.name if it.place != "inner" else f"{it.name}_o": it.width(outer.defaults[1]) for it in outer.variables}
+    wires = "".join(f"  wire [{width[name] - 1}:0] {name};\n" if name in width else f"  wire {typed(kind)}{name};\n" for name, kind, _ in outputs)
+    ports = ["clk", *[name for name, _ in INPUTS], *[name for name, _, _ in outputs]]
+    shown = [name for name in ports if name != "clk"]
+    before = 0 if edge == "posedge" else 1
+    lines = [f"    a = {a}; b = {b}; e = {e}; tick = 1;\n    #1 $display(\"{','.join(['%0d'] * len(shown))}\", {', '.join('{' + it + '}' for it in shown)});\n    clk = {1 - before}; #1 clk = {before}; #1 ;\n" for a, b, e in rows]
+    return (f"module bench;\n  reg clk = {before}, tick = 0, e;\n  reg [3:0] a, b;\n{wires}  m dut({', '.join(f'.{it}({it})' for it in ports)});\n"
+            f"  initial begin\n    $display(\"{','.join(shown)}\");\n    #1 ;\n{''.join(lines)}    $finish;\n  end\nendmodule\n")
+
+
+def icarus(folder, modules, edge, rows):
+    """The table that Icarus makes of a design."""
+    with open(f"{folder}/bench.v", "w") as file:
+        file.write("".join(it.text(True) for it in modules) + bench(modules[-1], edge, rows))
+    for words in (["iverilog", "-g2005", "-gstrict-expr-width", "-s", "bench", "-o", "bench.vvp", "bench.v"], ["vvp", "-n", "bench.vvp"]):
+        done = subprocess.run(words, cwd=folder, capture_output=True, text=True)
+        if done.returncode:
+            raise RuntimeError(f"{words[0]}: {done.stdout[-200:]}{done.stderr[-400:]}")
+    return done.stdout
+
+
+def made(folder, count):
+    """Designs in a folder, each in a file beside the table that is due, and the table of their inputs."""
+    rows, room = random_table(), tempfile.mkdtemp()
+    for number in range(count):
+        modules, edge = random_design()
+        with open(f"{folder}/d{number}.v", "w") as file:
+            file.write("".join(it.text(False) for it in modules))
+        with open(f"{folder}/d{number}.v.stdout", "w") as file:
+            file.write(icarus(room, modules, edge, rows))
+    shutil.rmtree(room)
+    return table_text(rows)
+
+
+def unproved(folder, table):
+    """The runs of the program without its proofs, which prints its own findings."""
+    call = ["rt", "try", "--seconds", "60", "--data", f"t.csv={table}", "--cases", folder, "--", "run", "{}", "t.csv"]
+    return subprocess.run(call, cwd=f"{top}/crates/rtl_repair").returncode
+
+
+def main():
+    words = argparse.ArgumentParser(usage="tools/starts.py [PROGRAM] [--count N] [--seed N] [--unproved]")
+    words.add_argument("program", nargs="?")
+    words.add_argument("--count", type=int, default=500)
+    words.add_argument("--seed", type=int, default=1)
+    words.add_argument("--unproved", action="store_true")
+    told = words.parse_args()
+    absent = [it for it in ("iverilog", "vvp") if not shutil.which(it)]
+    if absent:
+        print(f"absent: {', '.join(absent)}")
+        return 1
+    draw.seed(told.seed)
+    folder, room, failed = tempfile.mkdtemp(prefix="starts-"), tempfile.mkdtemp(prefix="starts-table-"), 0
+    with open(f"{room}/t.csv", "w") as file:
+        file.write(made(folder, told.count))
+    if told.unproved:
+        return unproved(folder, f"{room}/t.csv")
+    program = os.path.abspath(told.program) if told.program else built()
+    for number in range(told.count):
+        with open(f"{folder}/d{number}.v.stdout") as file:
+            due = file.read()
+        done = subprocess.run([program, "run", f"d{number}.v", f"{room}/t.csv"], cwd=folder, capture_output=True, text=True)
+        if (done.returncode, done.stdout, done.stderr) != (0, due, ""):
+            failed += 1
+            print(f"design {number}: status {done.returncode} {done.stderr.strip()} (kept as {folder}/d{number}.v)", flush=True)
+    if not failed:
+        shutil.rmtree(folder)
+        shutil.rmtree(room)
+    print(f"{told.count - failed} passed, {failed} failed")
+    return 1 if failed else 0
+
+
+if __name__ == "__main__":
+    sys.exit(main())
