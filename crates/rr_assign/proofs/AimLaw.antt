@@ -16,9 +16,9 @@ use Rattle.rr_flat.specs.Reads.{assigned_by}
 use Rattle.rr_flat.specs.Targets.{target_parts, part_name, is_fixed}
 use Rattle.rr_flat.specs.Writers.{scope_at, driver_at, block_at, initial_at, entity_of_signal, no_block, no_initial}
 use Rattle.rr_assign.specs.Aims.{may_drive, may_assign, unless, bad_driven, bad_assigned, bad_declared, bad_side, bad_of_driver, bad_of_statement, bad_of_block, bad_of_initial, bad_of_part, bad_targets}
-use Rattle.rr_parts.specs.Names.{signal_of, signal_named, part_token, is_input}
-use Rattle.rr_parts.proofs.Covering.{HasWalk, none_at, at_none, all_of_empty, empty_of_all}
-use Rattle.rr_parts.proofs.Walks.{left_empty, right_empty}
+use Rattle.rr_text_names.specs.Names.{signal_of, signal_named, part_token, is_input}
+use Rattle.rr_text_names.proofs.Covering.{HasWalk, none_at, at_none, all_of_empty, empty_of_all}
+use Rattle.rr_text_names.proofs.Walks.{left_empty, right_empty}
 
 unless_yes : (ok : Bool) (token : ℕ) → unless ok token ≡ [] → ok ≡ true
 unless_yes true token h = refl

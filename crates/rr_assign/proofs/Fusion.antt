@@ -6,10 +6,10 @@ use Rattle.rr_flat.specs.Reads.{Assigned, assigned_parts}
 use Rattle.rr_flat.specs.Writers.{no_block}
 use Rattle.rr_flat.specs.Plain.{Flat}
 use Rattle.rr_assign.specs.Aims.{bad_of_block, unless}
-use Rattle.rr_parts.specs.Firsts.{earliest}
-use Rattle.rr_parts.specs.View.{plain_target}
-use Rattle.rr_parts.specs.declared.lists.Target.{Target}
-use Rattle.rr_parts.proofs.Walks.{flat_map_map}
+use Rattle.rr_text_names.specs.Firsts.{earliest}
+use Rattle.rr_text_names.specs.View.{plain_target}
+use Rattle.rr_text_names.specs.declared.lists.Target.{Target}
+use Rattle.rr_text_names.proofs.Walks.{flat_map_map}
 
 parts_same : (f : Tree → List ℕ) (now : Bool) (ts : List Tree) → flat_map (λ a. f a.part) (assigned_parts now ts) ≡ flat_map f ts
 unfolding assigned_parts

@@ -16,10 +16,10 @@ use Rattle.rr_flat.specs.Targets.{part_name}
 use Rattle.rr_flat.specs.Writers.{scope_at, block_at}
 use Rattle.rr_assign.specs.Kinds.{Aim, aim_of, is_combinational, aims_of_part, aims, same_signal, differs, clashes, wrong_after, wrong_kinds}
 use Rattle.rr_flat.specs.Parts.{block_of}
-use Rattle.rr_parts.specs.Names.{signal_of}
-use Rattle.rr_parts.proofs.Covering.{HasWalk, Member, all_member, clocked_member, combinational_member}
+use Rattle.rr_text_names.specs.Names.{signal_of}
+use Rattle.rr_text_names.proofs.Covering.{HasWalk, Member, all_member, clocked_member, combinational_member}
 use Rattle.rr_assign.proofs.Same.{some_same}
-use Rattle.rr_parts.proofs.Walks.{left_empty, right_empty}
+use Rattle.rr_text_names.proofs.Walks.{left_empty, right_empty}
 
 -- members of lists
 

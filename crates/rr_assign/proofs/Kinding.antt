@@ -10,18 +10,18 @@ use Rattle.rr_flat.specs.declared.design.Part as design
 use Rattle.rr_flat.specs.Plain.{Block, Flat}
 use Rattle.rr_flat.specs.Reads.{Assigned, assigned_by}
 use Rattle.rr_flat.specs.Writers.{no_block}
-use Rattle.rr_parts.specs.View.{plain_target}
-use Rattle.rr_parts.specs.declared.lists.Target.{Target}
+use Rattle.rr_text_names.specs.View.{plain_target}
+use Rattle.rr_text_names.specs.declared.lists.Target.{Target}
 use Rattle.rr_assign.specs.View.{plain_aim}
 use Rattle.rr_assign.specs.declared.kinds.Assignment.{Assignment}
 use Rattle.rr_flat.specs.Parts.{block_of}
-use Rattle.rr_parts.specs.Names.{entry}
-use Rattle.rr_parts.specs.Firsts.{earliest}
+use Rattle.rr_text_names.specs.Names.{entry}
+use Rattle.rr_text_names.specs.Firsts.{earliest}
 use Rattle.rr_assign.specs.Kinds.{Aim, aim_of, aims_of_part, is_combinational, same_signal, differs, clashes, wrong_after, kind_fault, kind_of, HoldsKinds, AreNoted}
-use Rattle.rr_parts.proofs.Covering.{Member}
+use Rattle.rr_text_names.proofs.Covering.{Member}
 use Rattle.rr_assign.proofs.KindLaw.{AreFine, fine_nothing, fine_all, any_none}
 use Rattle.rr_assign.proofs.Same.{entry_same, entry_other, some_same}
-use Rattle.rr_parts.proofs.Walks.{earliest_append, none_of, right_empty}
+use Rattle.rr_text_names.proofs.Walks.{earliest_append, none_of, right_empty}
 
 -- lists of targets, piece by piece
 

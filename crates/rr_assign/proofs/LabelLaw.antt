@@ -8,7 +8,7 @@ use Rattle.rr_flat.specs.Plain.{Flat}
 use Rattle.rr_flat.specs.Reads.{LiteralToken, literals_in}
 use Rattle.rr_flat.specs.Writers.{block_at}
 use Rattle.rr_assign.specs.Labels.{wild, wild_literal, wild_label, wild_labels, wild_in, wild_in_all, wild_in_arm, wild_in_arms, wild_of_part, all_wild}
-use Rattle.rr_parts.proofs.Covering.{HasWalk, none_at, at_none}
+use Rattle.rr_text_names.proofs.Covering.{HasWalk, none_at, at_none}
 
 pub is_empty : List ℕ → Bool
 is_empty [] = true

@@ -10,12 +10,12 @@ use Rattle.rr_flat.specs.Plain.{Block, Flat}
 use Rattle.rr_flat.specs.Reads.{Assigned, assigned_by, names_read}
 use Rattle.rr_flat.specs.Targets.{part_name}
 use Rattle.rr_flat.specs.Writers.{scope_at, block_at}
-use Rattle.rr_parts.specs.Names.{is_the, signal_of, signal_named}
+use Rattle.rr_text_names.specs.Names.{is_the, signal_of, signal_named}
 use Rattle.rr_assign.specs.Races.{writer_of, writers_of, writers_from, is_other, raced, race_of, races_from, races}
 use Rattle.rr_assign.proofs.Same.{is_the_yes}
-use Rattle.rr_parts.proofs.Covering.{Member, empty_member, member_empty}
+use Rattle.rr_text_names.proofs.Covering.{Member, empty_member, member_empty}
 use Rattle.rr_assign.proofs.KindLaw.{member_at, at_member, member_left, member_right, member_cases, member_map, map_member, signal_is}
-use Rattle.rr_parts.proofs.Walks.{left_empty, right_empty}
+use Rattle.rr_text_names.proofs.Walks.{left_empty, right_empty}
 
 -- the writers
 

@@ -13,9 +13,9 @@ use Rattle.rr_flat.specs.Reads.{names_read}
 use Rattle.rr_flat.specs.View.{plain_block}
 use Rattle.rr_flat.specs.Writers.{block_at, no_block}
 use Rattle.rr_flat.specs.declared.design.Block.{Block as DeclaredBlock}
-use Rattle.rr_parts.specs.Firsts.{earliest}
-use Rattle.rr_parts.proofs.Walks.{earliest_hit, earliest_skip}
-use Rattle.rr_parts.specs.Names.{signal_named}
+use Rattle.rr_text_names.specs.Firsts.{earliest}
+use Rattle.rr_text_names.proofs.Walks.{earliest_hit, earliest_skip}
+use Rattle.rr_text_names.specs.Names.{signal_named}
 use Rattle.rr_assign.specs.Races.{is_other, race_by, race_of, raced, raced_by, races_from, writer_table, writers_from, writers_of, HoldsWriters}
 use Rattle.rr_assign.specs.declared.races.Writers.{Writers}
 use Rattle.rr_assign.specs.declared.races.Writers.TheVariants.{Nobody, One, Several}

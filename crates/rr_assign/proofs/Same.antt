@@ -2,7 +2,7 @@
 use Rattle.std.proofs.Common.{◌≡◌, ap, ℕ, ◌<◌, true, List, length, set, Option, None, Some, unwrap_or}
 use Rattle.std.proofs.lemmas.Bool.{eqb-true}
 use Rattle.std.proofs.lemmas.List.{get_or-set_same, get_or-set_other}
-use Rattle.rr_parts.specs.Names.{entry, is_the}
+use Rattle.rr_text_names.specs.Names.{entry, is_the}
 
 pub some_same : (a b : ℕ) → Some a ≡ Some b → a ≡ b
 some_same a b h = ap (λ o. unwrap_or o 0) h

@@ -15,9 +15,9 @@ use Rattle.rr_syntax.specs.View.{plain, plain_list, plain_statement, plain_state
 use Rattle.rr_syntax.proofs.Rows.{plain_concat, plain_repeat, plain_block, plain_case}
 use Rattle.rr_flat.specs.Lawful.{has_wild}
 use Rattle.rr_flat.specs.Reads.{LiteralToken, literals_in, literals_in_parts}
-use Rattle.rr_parts.specs.Firsts.{earliest}
+use Rattle.rr_text_names.specs.Firsts.{earliest}
 use Rattle.rr_assign.specs.Labels.{wild, wild_literal, wild_label, wild_labels, wild_in, wild_in_all, wild_in_arms}
-use Rattle.rr_parts.proofs.Walks.{earliest_append}
+use Rattle.rr_text_names.proofs.Walks.{earliest_append}
 use denote.Ref.{Bor}
 
 wild_cons : (l : LiteralToken) (xs ys : List LiteralToken) → wild (xs ++ ys) ≡ wild xs ++ wild ys → (b : Bool) → has_wild l.number ≡ b

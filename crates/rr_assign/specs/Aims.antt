@@ -9,9 +9,9 @@ use Rattle.rr_flat.specs.Plain.{Side, Written, Whole, Driver, Block, Initial, Fl
 use Rattle.rr_flat.specs.Reads.{Assigned, assigned_by}
 use Rattle.rr_flat.specs.Targets.{target_parts, part_name, is_fixed}
 use Rattle.rr_flat.specs.Writers.{scope_at}
-use Rattle.rr_parts.specs.Firsts.{walked}
+use Rattle.rr_text_names.specs.Firsts.{walked}
 use Rattle.rr_flat.specs.Parts.{driver_of, block_of, initial_of}
-use Rattle.rr_parts.specs.Names.{signal_named, part_token, is_input}
+use Rattle.rr_text_names.specs.Names.{signal_named, part_token, is_input}
 
 -- a continuous assignment drives a net that is no input, by constant indices
 abbrev pub may_drive : Flat → Option ℕ → Bool → Bool

@@ -6,9 +6,9 @@ use Rattle.rr_flat.specs.declared.design.Part.TheVariants as part
 use Rattle.rr_flat.specs.Plain.{Flat}
 use Rattle.rr_flat.specs.Reads.{Assigned, assigned_by}
 use Rattle.rr_flat.specs.Targets.{part_name}
-use Rattle.rr_parts.specs.Firsts.{earliest}
+use Rattle.rr_text_names.specs.Firsts.{earliest}
 use Rattle.rr_flat.specs.Parts.{block_of}
-use Rattle.rr_parts.specs.Names.{signal_named, part_token}
+use Rattle.rr_text_names.specs.Names.{signal_named, part_token}
 
 -- a target of a block: the token of its name, the variable, whether it is assigned by `=`, and by a combinational block
 pub record Aim : Type 0 where

@@ -8,7 +8,7 @@ use Rattle.rr_flat.specs.declared.design.Part as design
 use Rattle.rr_flat.specs.Lawful.{has_wild}
 use Rattle.rr_flat.specs.Plain.{Flat}
 use Rattle.rr_flat.specs.Reads.{LiteralToken, literals_in}
-use Rattle.rr_parts.specs.Firsts.{walked}
+use Rattle.rr_text_names.specs.Firsts.{walked}
 use Rattle.rr_flat.specs.Parts.{block_of}
 
 -- of literals that are no label of their own: all with such digits

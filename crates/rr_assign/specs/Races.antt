@@ -5,7 +5,7 @@ use Rattle.rr_syntax.specs.Tree.{Identifier}
 use Rattle.rr_flat.specs.Plain.{Block, Flat}
 use Rattle.rr_flat.specs.Reads.{Assigned, assigned_by, names_read}
 use Rattle.rr_flat.specs.Targets.{part_name}
-use Rattle.rr_parts.specs.Names.{is_the, signal_named}
+use Rattle.rr_text_names.specs.Names.{is_the, signal_named}
 use Rattle.rr_assign.specs.declared.races.Writers.{Writers}
 use Rattle.rr_assign.specs.declared.races.Writers.TheVariants.{Nobody, One, Several}
 

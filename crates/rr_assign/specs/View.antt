@@ -1,6 +1,6 @@
 -- What the targets of blocks stand for.
 use Rattle.rr_flat.specs.Plain.{Flat}
-use Rattle.rr_parts.specs.View.{plain_target}
+use Rattle.rr_text_names.specs.View.{plain_target}
 use Rattle.rr_assign.specs.Kinds.{Aim, aim_of}
 use Rattle.rr_assign.specs.declared.kinds.Assignment.{Assignment}
 

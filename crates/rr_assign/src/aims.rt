@@ -6,18 +6,18 @@ ghost use Rattle.rr_expr.specs.Scopes.{meant};
 ghost use Rattle.rr_flat.specs.Targets.{is_fixed as is_fixed_in, target_parts};
 ghost use Rattle.rr_flat.specs.Writers.{scope_at};
 ghost use Rattle.rr_flat.specs.Parts.{block_of as block_of_part, driver_of as driver_of_part, initial_of as initial_of_part};
-ghost use Rattle.rr_parts.specs.Names.{signal_of as signal_of_entity};
+ghost use Rattle.rr_text_names.specs.Names.{signal_of as signal_of_entity};
 ghost use Rattle.rr_flat.specs.View.{plain_driver, plain_flat, plain_side};
 ghost use Rattle.rr_assign.specs.Aims.{may_drive as may_drive_in, may_assign as may_assign_in, bad_driven, bad_assigned, bad_declared as bad_declared_in, bad_of_driver as bad_of_driver_in, bad_of_statement as bad_of_statement_in, bad_of_block as bad_of_block_in, bad_of_initial as bad_of_initial_in, bad_of_part as bad_of_part_in, bad_targets};
-ghost use Rattle.rr_parts.specs.Firsts.{earliest};
-ghost use Rattle.rr_parts.specs.View.{plain_target};
+ghost use Rattle.rr_text_names.specs.Firsts.{earliest};
+ghost use Rattle.rr_text_names.specs.View.{plain_target};
 
 use rr_flat::{Driver, Flat, Part, Side};
-use rr_parts::{
+use rr_syntax::{Expr, Stmt, is_target};
+use rr_text_names::{
     Target, add_assigned_targets, add_parts, identifier_of, instance_of, is_fixed, is_input,
     is_variable, signal_named, signal_of,
 };
-use rr_syntax::{Expr, Stmt, is_target};
 use std::alloc::{AllocError, Global};
 
 fn may_drive(flat: &Flat, id: Option<u32>, fixed: bool) -> bool
@@ -96,7 +96,7 @@ fn first_bad_assigned(flat: &Flat, scope: u32, targets: &[Target]) -> Option<u32
     None
 }
 
-#[tactic(auto, unfolding(rr_parts::specs::Firsts::earliest))]
+#[tactic(auto, unfolding(rr_text_names::specs::Firsts::earliest))]
 fn bad_declared(flat: &Flat, id: u32, value: &Side, token: u32) -> Option<u32>
     ensures { result ≡ earliest (bad_declared_in (plain_flat flat.now) id (plain_side value.now) token) }
 {
@@ -125,7 +125,7 @@ fn bad_written<'a>(
     Ok(first_bad_part(flat, scope, targets.as_slice()))
 }
 
-#[tactic(auto, unfolding(rr_parts::specs::Firsts::earliest))]
+#[tactic(auto, unfolding(rr_text_names::specs::Firsts::earliest))]
 fn bad_of_driver<'a>(
     alloc: Global,
     flat: &Flat<'a>,
@@ -158,7 +158,7 @@ fn bad_of_statement<'a>(
     Ok(first_bad_assigned(flat, scope, targets.as_slice()))
 }
 
-#[tactic(auto, unfolding(rr_parts::specs::Firsts::earliest))]
+#[tactic(auto, unfolding(rr_text_names::specs::Firsts::earliest))]
 fn bad_driver<'a>(alloc: Global, flat: &Flat<'a>, part: Part) -> Result<Option<u32>, AllocError>
     ensures { IfOk result (λ r. r ≡ earliest (bad_of_driver_in (plain_flat flat.now) (driver_of_part (plain_flat flat.now) part))) }
 {
@@ -168,7 +168,7 @@ fn bad_driver<'a>(alloc: Global, flat: &Flat<'a>, part: Part) -> Result<Option<u
     }
 }
 
-#[tactic(auto, unfolding(rr_flat::specs::Reads::assigned_by, rr_parts::specs::Firsts::earliest))]
+#[tactic(auto, unfolding(rr_flat::specs::Reads::assigned_by, rr_text_names::specs::Firsts::earliest))]
 fn bad_block<'a>(alloc: Global, flat: &Flat<'a>, part: Part) -> Result<Option<u32>, AllocError>
     ensures { IfOk result (λ r. r ≡ earliest (bad_of_block_in (plain_flat flat.now) (block_of_part (plain_flat flat.now) part))) }
 {
@@ -178,7 +178,7 @@ fn bad_block<'a>(alloc: Global, flat: &Flat<'a>, part: Part) -> Result<Option<u3
     }
 }
 
-#[tactic(auto, unfolding(rr_flat::specs::Reads::assigned_by, rr_parts::specs::Firsts::earliest))]
+#[tactic(auto, unfolding(rr_flat::specs::Reads::assigned_by, rr_text_names::specs::Firsts::earliest))]
 fn bad_initial<'a>(alloc: Global, flat: &Flat<'a>, part: Part) -> Result<Option<u32>, AllocError>
     ensures { IfOk result (λ r. r ≡ earliest (bad_of_initial_in (plain_flat flat.now) (initial_of_part (plain_flat flat.now) part))) }
 {
@@ -189,7 +189,7 @@ fn bad_initial<'a>(alloc: Global, flat: &Flat<'a>, part: Part) -> Result<Option<
 }
 
 /// Of a block or of an `initial` item.
-#[tactic(auto, using(rr_parts::proofs::Walks::earliest_hit, rr_parts::proofs::Walks::earliest_skip))]
+#[tactic(auto, using(rr_text_names::proofs::Walks::earliest_hit, rr_text_names::proofs::Walks::earliest_skip))]
 fn bad_body<'a>(alloc: Global, flat: &Flat<'a>, part: Part) -> Result<Option<u32>, AllocError>
     ensures { IfOk result (λ r. r ≡ earliest (bad_of_block_in (plain_flat flat.now) (block_of_part (plain_flat flat.now) part) ++ bad_of_initial_in (plain_flat flat.now) (initial_of_part (plain_flat flat.now) part))) }
 {
@@ -200,7 +200,7 @@ fn bad_body<'a>(alloc: Global, flat: &Flat<'a>, part: Part) -> Result<Option<u32
     bad_initial(alloc, flat, part)
 }
 
-#[tactic(auto, using(rr_parts::proofs::Walks::earliest_hit, rr_parts::proofs::Walks::earliest_skip))]
+#[tactic(auto, using(rr_text_names::proofs::Walks::earliest_hit, rr_text_names::proofs::Walks::earliest_skip))]
 fn bad_of_part<'a>(alloc: Global, flat: &Flat<'a>, part: Part) -> Result<Option<u32>, AllocError>
     ensures { IfOk result (λ r. r ≡ earliest (bad_of_part_in (plain_flat flat.now) part)) }
 {

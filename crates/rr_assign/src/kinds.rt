@@ -3,14 +3,14 @@ ghost use Rattle.std.specs.Prelude.{◌≡◌, ◌≤◌, ◌<◌, ◌&&◌, ◌
 ghost use Rattle.rr_flat.specs.Lawful.{RightKinds};
 ghost use Rattle.rr_flat.specs.Sound.{IsWalk};
 ghost use Rattle.rr_flat.specs.View.{plain_flat};
-ghost use Rattle.rr_parts.specs.Firsts.{earliest};
-ghost use Rattle.rr_parts.specs.Names.{entry};
-ghost use Rattle.rr_parts.specs.View.{plain_target};
+ghost use Rattle.rr_text_names.specs.Firsts.{earliest};
+ghost use Rattle.rr_text_names.specs.Names.{entry};
+ghost use Rattle.rr_text_names.specs.View.{plain_target};
 ghost use Rattle.rr_assign.specs.Kinds.{Aim, AreNoted, HoldsKinds, aim_of, aims, aims_of_part, is_combinational as is_combinational_part, kind_fault, wrong_after, wrong_kinds};
 ghost use Rattle.rr_assign.specs.View.{plain_aim};
 
 use rr_flat::{Flat, Part};
-use rr_parts::{Target, add_assigned_targets, identifier_of, signal_named};
+use rr_text_names::{Target, add_assigned_targets, identifier_of, signal_named};
 use std::alloc::{AllocError, Global};
 
 /// A target of a block, with the number of the block's scope.

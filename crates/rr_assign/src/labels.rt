@@ -4,7 +4,7 @@ ghost use Rattle.rr_syntax.specs.View.{plain, plain_arms, plain_list, plain_stat
 ghost use Rattle.rr_flat.specs.Lawful.{RightLabels, has_wild as is_wild_number};
 ghost use Rattle.rr_flat.specs.Reads.{literals_in, literals_in_parts};
 ghost use Rattle.rr_flat.specs.View.{plain_flat};
-ghost use Rattle.rr_parts.specs.Firsts.{earliest};
+ghost use Rattle.rr_text_names.specs.Firsts.{earliest};
 ghost use Rattle.rr_assign.specs.Labels.{all_wild, wild, wild_label, wild_labels, wild_in, wild_in_all, wild_in_arms, wild_literal as wild_literal_tokens, wild_of_part};
 
 use rr_flat::{Flat, Part};
@@ -50,7 +50,7 @@ fn first_wild_of_all(list: &[Expr]) -> Option<u32>
 }
 
 /// The same of a literal that is a label.
-#[tactic(auto, unfolding(rr_parts::specs::Firsts::earliest))]
+#[tactic(auto, unfolding(rr_text_names::specs::Firsts::earliest))]
 fn wild_literal(kind: Keyword, token: u32, number: &Number) -> Option<u32>
     ensures { result ≡ earliest (wild_literal_tokens kind.0 token number.now) }
 {
@@ -158,7 +158,7 @@ pub fn first_wild_label(flat: &Flat) -> Option<u32>
     None
 }
 
-#[tactic(auto, unfolding(crate::specs::Labels::wild_in, rr_parts::specs::Firsts::earliest))]
+#[tactic(auto, unfolding(crate::specs::Labels::wild_in, rr_text_names::specs::Firsts::earliest))]
 fn wild_in_part(flat: &Flat, part: Part) -> Option<u32>
     ensures { result ≡ earliest (wild_of_part (plain_flat flat.now) part) }
 {

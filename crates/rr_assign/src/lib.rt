@@ -2,7 +2,7 @@
 //! one block assigns at once and another reads, and the labels of `case` (IEEE 1364-2005 sections
 //! 6.1, 9.2, 9.5 and 11). It is right where each call answers the first fault of its law in the order
 //! of the text, and none exactly where the law of `rr_flat`'s `Lawful` holds. It stands on
-//! `rr_parts`'s lists of targets and names.
+//! `rr_text_names`'s lists of targets and names.
 #![tactic(auto)]
 
 mod aims;

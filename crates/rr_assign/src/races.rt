@@ -4,13 +4,13 @@ ghost use Rattle.rr_syntax.specs.View.{plain_identifier};
 ghost use Rattle.rr_flat.specs.Lawful.{NoRace};
 ghost use Rattle.rr_flat.specs.Reads.{names_read};
 ghost use Rattle.rr_flat.specs.View.{plain_block, plain_flat};
-ghost use Rattle.rr_parts.specs.Firsts.{earliest};
+ghost use Rattle.rr_text_names.specs.Firsts.{earliest};
 ghost use Rattle.rr_assign.specs.Races.{HoldsWriters, race_of as race_in, raced_by, races, writer_of, writer_table, writers_from, writers_of as writers_by, written_by};
-ghost use Rattle.rr_parts.specs.View.{plain_target};
+ghost use Rattle.rr_text_names.specs.View.{plain_target};
 
 use rr_flat::{Block, Flat};
-use rr_parts::{Target, add_assigned_targets, add_read_names, identifier_of, signal_named};
 use rr_syntax::Named;
+use rr_text_names::{Target, add_assigned_targets, add_read_names, identifier_of, signal_named};
 use std::alloc::{AllocError, Global};
 
 /// The clocked blocks that write a variable by `=`.
@@ -132,7 +132,7 @@ fn writers_of(alloc: Global, flat: &Flat) -> Result<Vec<Writers>, AllocError>
     Ok(writers)
 }
 
-#[tactic(auto, unfolding(rr_parts::specs::Firsts::earliest, rr_syntax::specs::View::plain_identifier))]
+#[tactic(auto, unfolding(rr_text_names::specs::Firsts::earliest, rr_syntax::specs::View::plain_identifier))]
 fn race_of(flat: &Flat, writers: &[Writers], block: usize, scope: u32, named: &Named) -> Option<u32>
     requires size { length flat.now.signals ≤ length writers.now }
     ensures { (ws : List (ℕ × Option ℕ)) → HoldsWriters ws (writer_table writers.now) → result ≡ earliest (race_in (plain_flat flat.now) ws block scope (plain_identifier named.now)) }

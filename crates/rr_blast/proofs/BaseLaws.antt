@@ -23,7 +23,7 @@ use Rattle.rr_blast_steps.specs.Designs.{signal_widths}
 use Rattle.rr_blast.specs.Rows.{AreNarrow, AreRegisters, bits_of_row}
 use Rattle.rr_transition.specs.Placed.{any_bit, placed, row_of}
 use Rattle.rr_registers.specs.Registers.{bits_of_signal}
-use Rattle.rr_machine.specs.Words.{IsThere}
+use Rattle.rr_signal_wires.specs.Words.{IsThere}
 use Rattle.rr_blast_steps.proofs.BitLaws.{whole_there}
 use Rattle.rr_meaning.specs.Work.{NoneAbove, inner_beginning}
 use Rattle.rr_meaning.proofs.Rows.{all_inputs, row_over_beginning}

@@ -26,7 +26,7 @@ use Rattle.rr_choice.specs.declared.pick.Pick.{Pick}
 use Rattle.rr_choice.specs.Choices.{decode, site_bits, total_bits}
 use Rattle.rr_choice.specs.Sites.{Site}
 use Rattle.rr_choice.specs.View.{plain_site, plain_sites}
-use Rattle.rr_walk.specs.Walk.{flat_of}
+use Rattle.rr_flatten.specs.Walk.{flat_of}
 use Rattle.rr_lawful_instance.specs.Laws.{IsRepairable}
 use Rattle.rr_lawful_instance.specs.Listed.{AreRight}
 use Rattle.rr_lawful_instance.proofs.Cycles.{bases_stay, stays_lawful}
@@ -38,7 +38,7 @@ use Rattle.rr_transition.specs.Transitions.{Transition}
 use Rattle.rr_transition.proofs.PlacedLaws.{cycles_from_steps}
 use Rattle.rr_registers.specs.Registers.{bits_of_signal}
 use Rattle.rr_flat.specs.View.{Design as View, plain_signal}
-use Rattle.rr_machine.specs.Words.{IsThere}
+use Rattle.rr_signal_wires.specs.Words.{IsThere}
 use Rattle.rr_blast_steps.specs.Designs.{signal_widths}
 use Rattle.rr_blast_steps.proofs.BitLaws.{whole_there}
 use Rattle.rr_blast.specs.Circuits.{FitsArguments, PerformsCycles, answers_of}

@@ -24,8 +24,8 @@ use Rattle.rr_meaning.proofs.Rows.{past_values}
 use Rattle.rr_meaning.proofs.Scoping.{IsSound}
 use Rattle.rr_blast_steps.specs.Designs.{signal_widths}
 use Rattle.rr_blast_steps.proofs.DesignLaws.{narrow_widths, width_there}
-use Rattle.rr_machine.specs.Words.{carried, widths_of, word_values}
-use Rattle.rr_machine.proofs.WordLaws.{values_at}
+use Rattle.rr_signal_wires.specs.Words.{carried, widths_of, word_values}
+use Rattle.rr_signal_wires.proofs.WordLaws.{values_at}
 
 -- bits and values one after the other, the last first
 

@@ -8,7 +8,7 @@ use Rattle.rr_flat.specs.Clocks.{OneClock}
 use Rattle.rr_flat.specs.Lawful.{Lawful}
 use Rattle.rr_flat.specs.Ordered.{Ordered}
 use Rattle.rr_flat.specs.Plain.{Flat}
-use Rattle.rr_walk.specs.Walk.{flat_of}
+use Rattle.rr_flatten.specs.Walk.{flat_of}
 use Rattle.rr_flat_instance.specs.Flats.{instance_flat}
 use Rattle.rr_lawful_instance.specs.Listed.{AreRight}
 use Rattle.rr_choice.specs.declared.pick.Pick.{Pick}

@@ -9,14 +9,14 @@ ghost use Rattle.rr_meaning.specs.Work.{NoneAbove, inner_beginning};
 ghost use Rattle.rr_blast_steps.specs.Designs.{signal_widths};
 ghost use Rattle.rr_blast.specs.Rows.{AreNarrow};
 ghost use Rattle.rr_transition.specs.Placed.{placed};
-ghost use Rattle.rr_machine.specs.Words.{AreWords, IsThere, carried, widths_of};
+ghost use Rattle.rr_signal_wires.specs.Words.{AreWords, IsThere, carried, widths_of};
 
 use rr_bits::Bits;
 use rr_circuit::{Builder, Wire};
 use rr_expr::Bit;
 use rr_flat::Flat;
-use rr_machine::set_wire;
 use rr_meaning::starts_inside;
+use rr_signal_wires::set_wire;
 use rr_word_gates::constants;
 use std::alloc::{AllocError, Global};
 
@@ -65,7 +65,7 @@ fn start_words(alloc: Global, b: &Builder, flat: &Flat) -> Result<Vec<Vec<Wire>>
 }
 
 /// Each signal's bits are 0.
-#[tactic(auto, unfolding(rr_machine::specs::Words::widths_of))]
+#[tactic(auto, unfolding(rr_signal_wires::specs::Words::widths_of))]
 pub(crate) fn zero_words(
     alloc: Global,
     b: &Builder,

@@ -14,7 +14,7 @@ ghost use Rattle.rr_blast.specs.Rows.{AreRegisters, BasesStay, bits_of_row};
 ghost use Rattle.rr_transition.specs.Placed.{settled_of};
 ghost use Rattle.rr_transition.specs.Cycles.{output_bits, widths_of as flat_widths};
 ghost use Rattle.rr_blast.specs.Circuits.{answers_of, PerformsCycles};
-ghost use Rattle.rr_machine.specs.Words.{AreWords, IsThere, carried, widths_of};
+ghost use Rattle.rr_signal_wires.specs.Words.{AreWords, IsThere, carried, widths_of};
 ghost use Rattle.rr_blast_terms.specs.Choosing.{IsReady, picks_of};
 
 use crate::beginning::{base_words, zero_words};
@@ -25,7 +25,7 @@ use rr_choice::SiteList;
 use rr_circuit::{Builder, Circuit, Wire};
 use rr_expr::Bit;
 use rr_flat::{Flat, Step};
-use rr_machine::wire_at;
+use rr_signal_wires::wire_at;
 use std::alloc::{AllocError, Global};
 
 fn push_bit(list: &mut Vec<Bit>, bit: Bit) -> Result<(), AllocError>

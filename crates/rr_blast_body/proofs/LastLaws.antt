@@ -35,7 +35,7 @@ use Rattle.rr_blast_sites.specs.declared.inputs.Inputs.{Inputs}
 use Rattle.rr_blast_sites.specs.Finding.{name_place}
 use Rattle.rr_blast_sites.specs.Instances.{World, place_of, env_in}
 use Rattle.rr_cycle.specs.Exec.{Environment, assigned, is_true, write}
-use Rattle.rr_machine.proofs.GuardedPieceLaws.{none_of_constant, none_of_instance}
+use Rattle.rr_signal_wires.proofs.GuardedPieceLaws.{none_of_constant, none_of_instance}
 use Rattle.rr_blast_stmt.specs.Running.{Values, ran, stored}
 use Rattle.rr_blast_stmt.proofs.RanLaws.{made, ran_assign}
 use Rattle.rr_blast_body.specs.declared.lasts.Last.{Last}

@@ -7,7 +7,7 @@ ghost use Rattle.rr_instance.specs.Firsts.{first_token as first_token_of};
 ghost use Rattle.rr_choice.specs.Choices.{site_bits as site_bits_of};
 ghost use Rattle.rr_choice.specs.Sites.{IsSite};
 ghost use Rattle.rr_choice.specs.View.{plain_site};
-ghost use Rattle.rr_machine.specs.Words.{Holds, widths_of};
+ghost use Rattle.rr_signal_wires.specs.Words.{Holds, widths_of};
 ghost use Rattle.rr_blast_terms.specs.Choosing.{IsReady, picks_of};
 ghost use Rattle.rr_blast_stmt.specs.Running.{IsMachine, held, ran};
 ghost use Rattle.rr_blast_body.specs.Overwrites.{body_instance, sites_ran};

@@ -18,10 +18,10 @@ use Rattle.rr_cycle.specs.Exec.{Environment}
 use Rattle.rr_cycle.proofs.Wiring.{length_there, there_at}
 use Rattle.rr_exec.proofs.Fitting.{target_named}
 use Rattle.rr_blast_steps.specs.Designs.{signal_widths}
-use Rattle.rr_machine.specs.Words.{Holds, IsThere}
+use Rattle.rr_signal_wires.specs.Words.{Holds, IsThere}
 use Rattle.rr_meaning.proofs.Scoping.{IsSound, wide}
 use Rattle.rr_blast_steps.proofs.DesignLaws.{width_there}
-use Rattle.rr_machine.proofs.NameLaws.{name_there}
+use Rattle.rr_signal_wires.proofs.NameLaws.{name_there}
 
 -- a bit that a target names has a wire
 pub named_there : (s : Names) (widths : List ℕ) (e : Environment) (t : Tree) (i : ℕ) (b : Bit) → Holds s widths → get_or (target_bits s e t) i None ≡ Some b → IsThere widths b

@@ -12,7 +12,7 @@ use Rattle.rr_flat.specs.Plain.{Flat}
 use Rattle.rr_flat_instance.specs.Flats.{instance_flat}
 use Rattle.rr_choice.specs.declared.pick.Pick.{Pick}
 use Rattle.rr_choice.specs.Sites.{Site}
-use Rattle.rr_machine.specs.Words.{AreWords, carried, widths_of, word_values}
+use Rattle.rr_signal_wires.specs.Words.{AreWords, carried, widths_of, word_values}
 use Rattle.rr_cycle.specs.Performing.{next_after}
 use Rattle.rr_blast_stmt.specs.Running.{Values}
 use Rattle.rr_blast_steps.specs.Designs.{ran_blocks}

@@ -29,7 +29,7 @@ use Rattle.rr_blast_steps.specs.Designs.{ran_blocks, signal_widths}
 use Rattle.rr_flat_instance.specs.Flats.{instance_block, instance_flat}
 use Rattle.rr_blast_body.specs.Overwrites.{body_instance}
 use Rattle.rr_blast_stmt.specs.Running.{Values, ran}
-use Rattle.rr_machine.specs.Words.{Holds}
+use Rattle.rr_signal_wires.specs.Words.{Holds}
 use Rattle.rr_meaning.proofs.Scoping.{IsSound, number_of, wide}
 use Rattle.rr_blast_stmt.proofs.RanLaws.{made}
 

@@ -22,18 +22,18 @@ use Rattle.rr_flat.specs.View.{Design, plain_flat}
 use Rattle.rr_flat.specs.Writers.{signal_bits}
 use Rattle.rr_choice.specs.declared.pick.Pick.{Pick}
 use Rattle.rr_choice.specs.Sites.{Site}
-use Rattle.rr_target.specs.Pieces.{bits_of}
+use Rattle.rr_named_bits.specs.Pieces.{bits_of}
 use Rattle.rr_cycle.specs.Cycles.{bit_value, side_shape, side_value, signal_value}
 use Rattle.rr_cycle.specs.Exec.{Environment}
 use Rattle.rr_blast_steps.specs.Designs.{signal_widths}
 use Rattle.rr_flat_instance.specs.Flats.{instance_side}
-use Rattle.rr_machine.specs.Words.{IsThere, carried, widths_of}
+use Rattle.rr_signal_wires.specs.Words.{IsThere, carried, widths_of}
 use Rattle.rr_meaning.proofs.Placing.{there_is}
 use Rattle.rr_meaning.proofs.Scoping.{IsSound, wide}
 use Rattle.rr_blast_steps.proofs.DesignLaws.{width_there}
 use Rattle.rr_instance_laws.proofs.FormLaws.{form_instance}
-use Rattle.rr_machine.proofs.GuardedPieceLaws.{signal_piece}
-use Rattle.rr_machine.proofs.WordLaws.{count_of, value_there, width_at}
+use Rattle.rr_signal_wires.proofs.GuardedPieceLaws.{signal_piece}
+use Rattle.rr_signal_wires.proofs.WordLaws.{count_of, value_there, width_at}
 
 -- whole signals
 

@@ -6,7 +6,7 @@ ghost use Rattle.rr_blast_steps.specs.Designs.{ran_blocks, signal_widths};
 ghost use Rattle.rr_flat_instance.specs.Flats.{instance_flat};
 ghost use Rattle.rr_blast_stmt.specs.Running.{IsMachine, held};
 ghost use Rattle.rr_cycle.specs.Performing.{next_after};
-ghost use Rattle.rr_machine.specs.Words.{AreWords, carried, widths_of};
+ghost use Rattle.rr_signal_wires.specs.Words.{AreWords, carried, widths_of};
 ghost use Rattle.rr_blast_terms.specs.Choosing.{IsReady, picks_of};
 
 use crate::steps::run_clocked;

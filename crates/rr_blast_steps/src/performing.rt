@@ -7,7 +7,7 @@ ghost use Rattle.rr_cycle.specs.Performing.{act, performed};
 ghost use Rattle.rr_blast_steps.specs.Designs.{signal_widths};
 ghost use Rattle.rr_flat_instance.specs.Flats.{instance_flat};
 ghost use Rattle.rr_blast_stmt.specs.Running.{IsMachine};
-ghost use Rattle.rr_machine.specs.Words.{carried};
+ghost use Rattle.rr_signal_wires.specs.Words.{carried};
 ghost use Rattle.rr_blast_terms.specs.Choosing.{IsReady, picks_of};
 
 use crate::steps::{drive, perform_block};

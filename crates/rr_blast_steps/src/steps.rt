@@ -13,8 +13,8 @@ ghost use Rattle.rr_blast_steps.specs.Designs.{driver_value_of, ran_blocks, sign
 ghost use Rattle.rr_flat_instance.specs.Flats.{instance_driver, instance_flat, instance_side};
 ghost use Rattle.rr_blast_body.specs.Overwrites.{body_instance};
 ghost use Rattle.rr_blast_stmt.specs.Running.{IsMachine, held, ran};
-ghost use Rattle.rr_machine.specs.GuardedPieces.{AreGuardedPieces, put_guarded_pieces};
-ghost use Rattle.rr_machine.specs.Words.{AreWords, carried, widths_of};
+ghost use Rattle.rr_signal_wires.specs.GuardedPieces.{AreGuardedPieces, put_guarded_pieces};
+ghost use Rattle.rr_signal_wires.specs.Words.{AreWords, carried, widths_of};
 ghost use Rattle.rr_blast_terms.specs.Choosing.{IsReady, picks_of};
 
 use rr_blast_body::execute_body;
@@ -23,8 +23,8 @@ use rr_blast_terms::{ChoiceWires, wires};
 use rr_circuit::{Builder, Wire};
 use rr_expr::{Shape, shape_of};
 use rr_flat::{Block, Driver, Flat, Side};
-use rr_machine::{GuardedPiece, add_fixed, push_guarded_piece, put_all};
-use rr_target::Piece;
+use rr_named_bits::Piece;
+use rr_signal_wires::{GuardedPiece, add_fixed, push_guarded_piece, put_all};
 use rr_word_gates::extended;
 use std::alloc::{AllocError, Global};
 

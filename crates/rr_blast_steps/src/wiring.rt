@@ -7,12 +7,12 @@ ghost use Rattle.rr_expr.specs.Values.{own};
 ghost use Rattle.rr_flat.specs.Sound.{IsDriver, IsSide};
 ghost use Rattle.rr_flat.specs.View.{plain_driver, plain_flat, plain_side};
 ghost use Rattle.rr_flat.specs.Writers.{driven_by};
-ghost use Rattle.rr_target.specs.Pieces.{all_bits, bit_in};
+ghost use Rattle.rr_named_bits.specs.Pieces.{all_bits, bit_in};
 ghost use Rattle.rr_cycle.specs.Exec.{write};
 ghost use Rattle.rr_blast_steps.specs.Designs.{driver_value_of, signal_widths};
 ghost use Rattle.rr_flat_instance.specs.Flats.{instance_driver};
 ghost use Rattle.rr_instance.specs.Instances.{instance_tree};
-ghost use Rattle.rr_machine.specs.Words.{AreWords, IsThere, carried, widths_of};
+ghost use Rattle.rr_signal_wires.specs.Words.{AreWords, IsThere, carried, widths_of};
 ghost use Rattle.rr_blast_terms.specs.Choosing.{IsReady, picks_of};
 
 use crate::steps::driver_wires;
@@ -20,9 +20,9 @@ use rr_blast_terms::{ChoiceWires, wires};
 use rr_circuit::{Builder, Wire};
 use rr_expr::{Bit, Scope, shape_of};
 use rr_flat::{Driver, Flat, Side};
-use rr_machine::{bit_at, set_wire};
+use rr_named_bits::{add_pieces, named_bit, no_values};
+use rr_signal_wires::{bit_at, set_wire};
 use rr_syntax::Expr;
-use rr_target::{add_pieces, named_bit, no_values};
 use rr_wiring::{is_concatenation, part_at};
 use std::alloc::{AllocError, Global};
 

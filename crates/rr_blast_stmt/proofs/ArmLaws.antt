@@ -22,11 +22,11 @@ use Rattle.rr_cycle.specs.Exec.{applied, case_shape, executed, is_true, updates}
 use Rattle.rr_blast_terms.specs.declared.choice.ChoiceWires.{ChoiceWires}
 use Rattle.rr_blast_stmt.specs.declared.statements.Machine.{Machine}
 use Rattle.rr_blast_stmt.specs.Running.{IsMachine, Values, held, ran, ran_all, ran_arms}
-use Rattle.rr_machine.specs.Words.{Holds, widths_of}
+use Rattle.rr_signal_wires.specs.Words.{Holds, widths_of}
 use Rattle.rr_blast_terms.specs.Choosing.{IsReady, picks_of}
 use Rattle.rr_blast_stmt.proofs.RanLaws.{made, ran_if, ran_if_else}
 use Rattle.rr_blast_stmt.proofs.ShapeLaws.{case_shape_same}
-use Rattle.rr_machine.proofs.WordLaws.{AreWords-extends, carried-extends}
+use Rattle.rr_signal_wires.proofs.WordLaws.{AreWords-extends, carried-extends}
 use Rattle.rr_blast_terms.proofs.ChoiceLaws.{picks-extends}
 use denote.Ref.{Bor}
 

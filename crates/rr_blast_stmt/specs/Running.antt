@@ -7,7 +7,7 @@ use Rattle.rr_expr.specs.declared.types.Shape.{Shape}
 use Rattle.rr_expr.specs.Scopes.{Names}
 use Rattle.rr_cycle.specs.Exec.{Environment, executed, executed_all, executed_case, executed_default, updates, updates_of_all, updates_of_case, updates_of_default, applied, write}
 use Rattle.rr_blast_stmt.specs.declared.statements.Machine.{Machine}
-use Rattle.rr_machine.specs.Words.{AreWords, carried, widths_of}
+use Rattle.rr_signal_wires.specs.Words.{AreWords, carried, widths_of}
 
 -- the values now, and later
 pub record Values : Type 0 where

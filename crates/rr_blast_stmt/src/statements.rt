@@ -9,10 +9,10 @@ ghost use Rattle.rr_flat.specs.Shapes.{arms_faults, list_faults, statement_fault
 ghost use Rattle.rr_instance.specs.Instances.{instance_arms, instance_parts, instance_statement, instance_statements, instance_tree};
 ghost use Rattle.rr_exec.specs.Work.{AreNarrow, ArmsNarrow};
 ghost use Rattle.rr_expr.specs.declared.types.Bit.{Bit};
-ghost use Rattle.rr_machine.specs.GuardedPieces.{AreGuardedPieces, put_guarded_pieces};
+ghost use Rattle.rr_signal_wires.specs.GuardedPieces.{AreGuardedPieces, put_guarded_pieces};
 ghost use Rattle.rr_cycle.specs.Exec.{Environment, assigned, is_matched as matches, write};
 ghost use Rattle.rr_blast_stmt.specs.Running.{IsMachine, held, ran, ran_all, ran_arms, ran_default, stored};
-ghost use Rattle.rr_machine.specs.Words.{AreWords, Holds, carried, widths_of};
+ghost use Rattle.rr_signal_wires.specs.Words.{AreWords, Holds, carried, widths_of};
 ghost use Rattle.rr_blast_terms.specs.Choosing.{IsReady, picks_of};
 
 use rr_blast_terms::{
@@ -21,7 +21,7 @@ use rr_blast_terms::{
 use rr_circuit::{Builder, Wire};
 use rr_exec::case_shape;
 use rr_expr::{Scope, shape_of};
-use rr_machine::{GuardedPiece, put_all};
+use rr_signal_wires::{GuardedPiece, put_all};
 use rr_syntax::{Arm, Expr, Stmt};
 use std::alloc::{AllocError, Global};
 

@@ -18,7 +18,7 @@ use Rattle.rr_cycle.specs.Exec.{Environment, write}
 use Rattle.rr_cycle.proofs.TargetBits.{index_fixed}
 use Rattle.rr_cycle.proofs.Wiring.{length_there}
 use Rattle.rr_exec.proofs.Pieces.{write_append}
-use Rattle.rr_machine.proofs.NameLaws.{drop_drop, same_sizes}
+use Rattle.rr_signal_wires.proofs.NameLaws.{drop_drop, same_sizes}
 use denote.Ref.{Bor}
 
 -- the bits that they name

@@ -21,7 +21,7 @@ use Rattle.rr_expr.specs.Faults.{fault, takes_constants}
 use Rattle.rr_expr.specs.Operators.{infixes}
 use Rattle.rr_expr.specs.Scopes.{Names, env_of_lists}
 use Rattle.rr_expr.specs.Values.{form}
-use Rattle.rr_target.proofs.Nodes.{shaped_small, shaped_positive}
+use Rattle.rr_named_bits.proofs.Nodes.{shaped_small, shaped_positive}
 use Rattle.rr_cycle.specs.Exec.{wild, wild_digits}
 use Rattle.rr_choice.specs.declared.pick.Pick.{Pick}
 use Rattle.rr_choice.specs.Places.{find_pick, is_literal_at}
@@ -30,7 +30,7 @@ use Rattle.rr_choice.specs.Sites.{Site}
 use Rattle.rr_blast_sites.specs.Signals.{signal_values}
 use Rattle.rr_blast_sites.specs.Finding.{is_on}
 use Rattle.rr_blast_terms.specs.Wild.{changes}
-use Rattle.rr_machine.specs.Words.{carried, word_values}
+use Rattle.rr_signal_wires.specs.Words.{carried, word_values}
 
 -- a word of zeros is one in each width
 zeros : (w n : ℕ) → 1 ≤ n → n ≤ 128 → extend w false (word n 0) ≡ word w 0

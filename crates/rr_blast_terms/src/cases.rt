@@ -8,7 +8,7 @@ ghost use Rattle.rr_flat.specs.Shapes.{list_faults};
 ghost use Rattle.rr_instance.specs.Instances.{instance_parts, instance_tree};
 ghost use Rattle.rr_cycle.specs.Exec.{is_equal, is_matched as matches, wild};
 ghost use Rattle.rr_exec.specs.Work.{AreNarrow};
-ghost use Rattle.rr_machine.specs.Words.{AreWords, Holds, carried, widths_of};
+ghost use Rattle.rr_signal_wires.specs.Words.{AreWords, Holds, carried, widths_of};
 ghost use Rattle.rr_blast_terms.specs.Choosing.{IsReady, picks_of};
 
 use crate::choice::ChoiceWires;

@@ -9,7 +9,7 @@ ghost use Rattle.rr_expr.specs.Values.{form, own, value};
 ghost use Rattle.rr_instance.specs.Instances.{instance_tree, instance_test};
 ghost use Rattle.rr_cycle.specs.Exec.{is_true, wild as wild_of};
 ghost use Rattle.rr_blast_terms.specs.Wild.{changes as changes_of};
-ghost use Rattle.rr_machine.specs.Words.{AreWords, carried};
+ghost use Rattle.rr_signal_wires.specs.Words.{AreWords, carried};
 ghost use Rattle.rr_blast_terms.specs.Choosing.{IsReady, picks_of};
 
 use crate::choice::ChoiceWires;

@@ -2,7 +2,7 @@
 //! labels of `case`, and the bits that targets name (IEEE 1364-2005 sections 5.2.1, 9.4 and 9.5). It is
 //! right where, for every input, the wires carry what `rr_cycle`'s `Exec` says of the instance in the
 //! environment that the wires of the signals carry. It stands on `rr_blast_expr`'s expressions and
-//! `rr_machine`'s words and guarded pieces.
+//! `rr_signal_wires`'s words and guarded pieces.
 #![tactic(auto)]
 
 mod cases;

@@ -8,13 +8,13 @@ ghost use Rattle.rr_expr.specs.Selects.{integer_with, lowest_place};
 ghost use Rattle.rr_expr.specs.Values.{form, nowhere, value};
 ghost use Rattle.rr_flat.specs.Targets.{bits_there, is_constant as is_constant_in, target_bits, targets_bits};
 ghost use Rattle.rr_cycle.specs.Exec.{Environment, write};
-ghost use Rattle.rr_machine.specs.GuardedPieces.{AreGuardedPieces, put_guarded_pieces};
-ghost use Rattle.rr_machine.specs.Words.{AreWords, Holds, carried, widths_of};
+ghost use Rattle.rr_signal_wires.specs.GuardedPieces.{AreGuardedPieces, put_guarded_pieces};
+ghost use Rattle.rr_signal_wires.specs.Words.{AreWords, Holds, carried, widths_of};
 
 use crate::expression::own_wires;
 use rr_circuit::{Builder, Wire};
 use rr_expr::{Entity, Scope, constant, shape_of};
-use rr_machine::{GuardedPiece, Moving, add_fixed, add_moving};
+use rr_signal_wires::{GuardedPiece, Moving, add_fixed, add_moving};
 use rr_syntax::Expr;
 use std::alloc::{AllocError, Global};
 

@@ -9,9 +9,9 @@ use Rattle.rr_flat.specs.declared.fault.FlatFault.TheVariants.{NameTwice, SelfIn
 use Rattle.rr_flat.specs.declared.fault.Limit.TheVariants.{Instances as InstanceCount}
 use Rattle.rr_flat.specs.Faults.{and_then, each, first_fault_or, fault_if, fault_or}
 use Rattle.rr_flat.specs.Signals.{Text}
-use Rattle.rr_head.specs.Heads.{Head, head}
-use Rattle.rr_walk.specs.Tables.{place_of, name_set}
-use Rattle.rr_walk.specs.Walk.{Walked, Enter, Checked, scope_at, module_at, noted, nothing_checked, fold_trees, check_override, check_position, check_connection, check_port, overrides, connections, assign, net, checked, with_instance, joined, instance_of, item, opened, begin, enter_by, enter}
+use Rattle.rr_declarations.specs.Heads.{Head, head}
+use Rattle.rr_flatten.specs.Tables.{place_of, name_set}
+use Rattle.rr_flatten.specs.Walk.{Walked, Enter, Checked, scope_at, module_at, noted, nothing_checked, fold_trees, check_override, check_position, check_connection, check_port, overrides, connections, assign, net, checked, with_instance, joined, instance_of, item, opened, begin, enter_by, enter}
 use Rattle.rr_flat_instance.proofs.Lists.{Begins, and_then_ok}
 use Rattle.rr_flat_instance.proofs.Shapes.{settle_none}
 use Rattle.rr_flat_instance.proofs.Grown.{Grows, grows-trans, each_grows, assign_grows, net_grows, joined_grows, began, EnterGrows, inside, instance_grows, item_grows, entered, enter_grows}

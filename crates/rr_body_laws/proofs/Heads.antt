@@ -3,10 +3,10 @@ use Rattle.std.proofs.Common.{◌≡◌, ◌∙◌, ap, ℕ, [], map, Ok, refl, 
 use Rattle.rr_syntax.specs.Tree.{ModuleItem, Always, ModuleDeclaration}
 use Rattle.rr_expr.specs.Scopes.{Names}
 use Rattle.rr_flat.specs.Faults.{and_then, each}
-use Rattle.rr_head.specs.Parameters.{add_parameters, add_item_parameters, parameters}
-use Rattle.rr_head.specs.Declarations.{Declarations, know_ports, know_item, known, know_port_item, add_plain_name, plain_names, brackets, declare_ports, declare_item, declarations}
-use Rattle.rr_head.specs.Heads.{signals_in_order, declared, numbered, head}
-use Rattle.rr_flat_bare.proofs.Folds.{fold_mapped}
+use Rattle.rr_declarations.specs.Parameters.{add_parameters, add_item_parameters, parameters}
+use Rattle.rr_declarations.specs.Declarations.{Declarations, know_ports, know_item, known, know_port_item, add_plain_name, plain_names, brackets, declare_ports, declare_item, declarations}
+use Rattle.rr_declarations.specs.Heads.{signals_in_order, declared, numbered, head}
+use Rattle.rr_token_numbers.proofs.Folds.{fold_mapped}
 use Rattle.rr_flat_instance.proofs.Lists.{and_then_same, each_mapped}
 use Rattle.rr_body_laws.specs.Bodies.{Bodies, item_with, module_with}
 

@@ -6,9 +6,9 @@ use Rattle.rr_syntax.specs.Tree.{ModuleItem, Always, ModuleDeclaration}
 use Rattle.rr_expr.specs.Scopes.{Names, lookup}
 use Rattle.rr_flat.specs.Faults.{each}
 use Rattle.rr_flat.specs.Signals.{Text}
-use Rattle.rr_walk.specs.Tables.{add_module, instantiated_by_item, instantiated_by, last_free, add_parameter_names, add_item_parameter_names, parameter_table, add_open_names, add_item_open_names, open_names, port_names}
-use Rattle.rr_walk.specs.Walk.{module_at, top_place, reached_from}
-use Rattle.rr_flat_bare.proofs.Folds.{fold_mapped}
+use Rattle.rr_flatten.specs.Tables.{add_module, instantiated_by_item, instantiated_by, last_free, add_parameter_names, add_item_parameter_names, parameter_table, add_open_names, add_item_open_names, open_names, port_names}
+use Rattle.rr_flatten.specs.Walk.{module_at, top_place, reached_from}
+use Rattle.rr_token_numbers.proofs.Folds.{fold_mapped}
 use Rattle.rr_flat_instance.proofs.Lists.{and_then_same}
 use Rattle.rr_body_laws.specs.Bodies.{Bodies, item_with, module_with, modules_with}
 

@@ -15,8 +15,8 @@ use Rattle.rr_flat.specs.Plain as plain_design
 use Rattle.rr_flat.specs.Shapes.{shape_faults, statement_faults}
 use Rattle.rr_flat.specs.Signals.{Text, signal_at}
 use Rattle.rr_starts.specs.Starts.{initial_faults}
-use Rattle.rr_walk.specs.Tables.{place_of, port_names}
-use Rattle.rr_walk.specs.Walk.{Walked, scope_at, with_driver, with_block, combined, assign, net_driver, net_value, net_with, net, event_faults, always, with_initial, initial, join_port, join_at, join, join_value, join_named, join_positions, joined}
+use Rattle.rr_flatten.specs.Tables.{place_of, port_names}
+use Rattle.rr_flatten.specs.Walk.{Walked, scope_at, with_driver, with_block, combined, assign, net_driver, net_value, net_with, net, event_faults, always, with_initial, initial, join_port, join_at, join, join_value, join_named, join_positions, joined}
 use Rattle.rr_flat_instance.proofs.Grown.{Grows, grows-trans, each_grows}
 use Rattle.rr_flat_instance.proofs.Lists.{stepped, and_then_ok, and_then_same}
 use Rattle.rr_flat_instance.proofs.Shapes.{settled, settle_none, nil_left, nil_right, nil_both}

@@ -6,8 +6,8 @@ use Rattle.rr_expr.specs.Scopes.{Names}
 use Rattle.rr_flat.specs.Faults.{each}
 use Rattle.rr_flat.specs.Signals.{Text}
 use Rattle.rr_flat.specs.Plain.{Flat}
-use Rattle.rr_walk.specs.Tables.{add_module}
-use Rattle.rr_walk.specs.Walk.{Walked, module_at, nothing, finished, reached_from, top_place, enter_top, enter, flat_of}
+use Rattle.rr_flatten.specs.Tables.{add_module}
+use Rattle.rr_flatten.specs.Walk.{Walked, module_at, nothing, finished, reached_from, top_place, enter_top, enter, flat_of}
 use Rattle.rr_flat_instance.proofs.Lists.{stepped, and_then_ok}
 use Rattle.rr_flat_instance.proofs.Grown.{grows_here}
 use Rattle.rr_body_laws.specs.Bodies.{Bodies, KeepsShapes, flat_with, modules_with, source_with}

@@ -8,7 +8,7 @@ use Rattle.rr_syntax.specs.View.{plain}
 use Rattle.rr_syntax.proofs.Rows.{plain_concat, plain_repeat}
 use Rattle.rr_flat.specs.Plain.{Flat, Written}
 use Rattle.rr_clock.specs.Clock.{bare_scalar}
-use Rattle.rr_parts.specs.Names.{scalar_named}
+use Rattle.rr_text_names.specs.Names.{scalar_named}
 use denote.Ref.{Bor}
 
 pub bare-Name : (flat : Flat) (scope : ℕ) (token : ℕ) (name : Bor (List ℕ)) → bare_scalar flat (Written (plain (expr.Name token name)) scope) ≡ scalar_named flat scope name.now

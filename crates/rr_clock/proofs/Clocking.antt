@@ -12,9 +12,9 @@ use Rattle.rr_flat.specs.Plain.{Block, Flat}
 use Rattle.rr_flat.specs.Reads.{names_of}
 use Rattle.rr_flat.specs.Writers.{scope_at, block_at, no_block}
 use Rattle.rr_clock.specs.Clock.{AreSources, ClockFails, undecided, unclocked, IsNamed, IsOne, IsFirst, IsClockInput, HasInput, TellsLeads, source_named}
-use Rattle.rr_parts.specs.Firsts.{earliest}
+use Rattle.rr_text_names.specs.Firsts.{earliest}
 use Rattle.rr_clock.specs.Found.{any_runs, by_all, by_clock, by_direction, deciding_source, first_rising, found, free_among, leads_by, or_deciding, or_free, runs_by, same_direction, unclocked_block}
-use Rattle.rr_parts.specs.Names.{is_the, scalar_of, scalar_named}
+use Rattle.rr_text_names.specs.Names.{is_the, scalar_of, scalar_named}
 use Rattle.rr_clock.specs.declared.clock.Found.{Found}
 use Rattle.rr_clock.specs.declared.clock.Found.TheVariants.{Clock, Nowhere}
 use Rattle.rr_clock.proofs.Leading.{some_same, same_number, none_is, scalar_is, is_scalar_of, one_source, source_leads, leads_source}

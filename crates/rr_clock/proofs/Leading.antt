@@ -13,7 +13,7 @@ use Rattle.rr_flat.specs.Clocks.{IsScalarInput, IsBareName, Connects, Leads, its
 use Rattle.rr_flat.specs.Plain.{Side, Written, Whole, Flat}
 use Rattle.rr_flat.specs.Writers.{scope_at, driver_at}
 use Rattle.rr_clock.specs.Clock.{AreSources, told, source_named, bare_scalar, TellsLeads}
-use Rattle.rr_parts.specs.Names.{scalar_of, scalar_named, is_input}
+use Rattle.rr_text_names.specs.Names.{scalar_of, scalar_named, is_input}
 use Rattle.rr_clock.specs.Spread.{AreFirstDrivers, bare_value, feeder}
 
 pub some_same : (a b : ℕ) → Some a ≡ Some b → a ≡ b

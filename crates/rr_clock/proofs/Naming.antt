@@ -14,7 +14,7 @@ use Rattle.rr_flat.specs.Signals.{Text, Signal, signal_at}
 use Rattle.rr_flat.proofs.Lists.{rest}
 use Rattle.rr_flat.specs.Clocks.{NameLeads}
 use Rattle.rr_flat.specs.Plain.{Flat}
-use Rattle.rr_parts.specs.Names.{scalar_named}
+use Rattle.rr_text_names.specs.Names.{scalar_named}
 use Rattle.rr_clock.specs.Clock.{TellsLeads, has}
 use Rattle.rr_clock.specs.Places.{IsClockName, Place, IsPlace, ArePlaces, ClockName, AreNames, clock_name, clock_names, owner_at, with_clock, clock_set, names_in, place_of}
 use Rattle.rr_clock.specs.View.{plain_name, plain_place}

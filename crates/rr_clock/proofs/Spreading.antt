@@ -10,7 +10,7 @@ use Rattle.rr_flat.specs.View.{plain_driver, plain_side}
 use Rattle.rr_flat.specs.declared.design.Driver.{Driver as DeclaredDriver}
 use Rattle.rr_flat.specs.Signals.{signal_at}
 use Rattle.rr_clock.specs.Clock.{AreSources, told}
-use Rattle.rr_parts.specs.Names.{entry}
+use Rattle.rr_text_names.specs.Names.{entry}
 use Rattle.rr_clock.specs.Spread.{AreFirstDrivers, AreSound, IsSpread, feeder, input_noted, next_source, missing, noted}
 use Rattle.rr_clock.proofs.Leading.{feeder_connects, connects_feeder, one_source, there, some_same, none_is}
 

@@ -13,11 +13,11 @@ use Rattle.rr_flat.specs.Plain.{Side, Written, Whole, Driver, Block, Flat}
 use Rattle.rr_flat.specs.Reads.{names_in, names_of}
 use Rattle.rr_flat.specs.Writers.{scope_at, driver_at, block_at, no_driver, no_block}
 use Rattle.rr_clock.specs.Clock.{FirstUse, TellsLeads, has, use_of, uses, side_uses, bare_scalar, is_scalar_port, hands_on, uses_of_driver, uses_of_block, uses_of_part, all_uses}
-use Rattle.rr_parts.specs.Names.{scalar_named, is_input}
-use Rattle.rr_parts.proofs.Covering.{HasWalk, NoneAt, none_at, at_none, all_of_empty, empty_of_all}
+use Rattle.rr_text_names.specs.Names.{scalar_named, is_input}
+use Rattle.rr_text_names.proofs.Covering.{HasWalk, NoneAt, none_at, at_none, all_of_empty, empty_of_all}
 use Rattle.rr_clock.proofs.Leading.{scalar_is, is_scalar_of, bare_is, is_bare, input_is, none_is}
-use Rattle.rr_parts.specs.Firsts.{earliest}
-use Rattle.rr_parts.proofs.Walks.{left_empty, right_empty, first_none, first_some}
+use Rattle.rr_text_names.specs.Firsts.{earliest}
+use Rattle.rr_text_names.proofs.Walks.{left_empty, right_empty, first_none, first_some}
 
 pub has_leads : (flat : Flat) (clock : ℕ) (set : ℕ → Bool) (i : ℕ) (name : Text) → TellsLeads flat clock set → has set (scalar_named flat i name) ≡ true → NameLeads flat clock i name
 has_leads flat clock set i name t h = go (scalar_named flat i name) refl h

@@ -9,9 +9,9 @@ use Rattle.rr_flat.specs.Reads.{names_in, names_of}
 use Rattle.rr_flat.specs.Writers.{block_at}
 use Rattle.rr_clock.specs.declared.clock.Found.{Found}
 use Rattle.rr_clock.specs.declared.clock.Found.TheVariants.{Clock, Nowhere}
-use Rattle.rr_parts.specs.Firsts.{earliest, walked}
+use Rattle.rr_text_names.specs.Firsts.{earliest, walked}
 use Rattle.rr_flat.specs.Parts.{driver_of, block_of}
-use Rattle.rr_parts.specs.Names.{scalar_named, is_input}
+use Rattle.rr_text_names.specs.Names.{scalar_named, is_input}
 
 -- a table by signal has the top input to which each leads, if any
 pub record AreSources (flat : Flat) (table : ℕ → Option ℕ) : Type 0 where

@@ -6,8 +6,8 @@ use Rattle.rr_flat.specs.Signals.{Text}
 use Rattle.rr_flat.specs.Clocks.{deciding_edge}
 use Rattle.rr_flat.specs.Plain.{Block, Flat}
 use Rattle.rr_clock.specs.Clock.{source_named}
-use Rattle.rr_parts.specs.Names.{is_the}
-use Rattle.rr_parts.specs.Firsts.{earliest}
+use Rattle.rr_text_names.specs.Names.{is_the}
+use Rattle.rr_text_names.specs.Firsts.{earliest}
 use Rattle.rr_clock.specs.declared.clock.Found.{Found}
 use Rattle.rr_clock.specs.declared.clock.Found.TheVariants.{Clock, Nowhere}
 

@@ -8,7 +8,7 @@ use Rattle.rr_flat.specs.Signals.{Text, Signal, signal_at}
 use Rattle.rr_flat.specs.Clocks.{NameLeads}
 use Rattle.rr_flat.specs.Plain.{Flat}
 use Rattle.rr_clock.specs.Clock.{has}
-use Rattle.rr_parts.specs.Names.{scalar_named}
+use Rattle.rr_text_names.specs.Names.{scalar_named}
 
 -- the module of an instance
 abbrev pub owner_at : Flat → ℕ → ℕ

@@ -4,7 +4,7 @@ use Rattle.rr_flat.specs.Signals.{signal_at}
 use Rattle.rr_flat.specs.Clocks.{IsScalarInput, Leads}
 use Rattle.rr_flat.specs.Plain.{Side, Written, Whole, Flat}
 use Rattle.rr_flat.specs.Writers.{driver_at}
-use Rattle.rr_parts.specs.Names.{entry, is_input}
+use Rattle.rr_text_names.specs.Names.{entry, is_input}
 use Rattle.rr_clock.specs.Clock.{told, bare_scalar}
 
 -- the first driver of each signal that has it as its target, as a whole

@@ -9,15 +9,15 @@ ghost use Rattle.rr_flat.specs.Lawful.{ClockNamed};
 ghost use Rattle.rr_flat.specs.Reads.{names_of};
 ghost use Rattle.rr_flat.specs.View.{plain_block, plain_flat};
 ghost use Rattle.rr_clock.specs.Clock.{IsNamed, IsOne, IsFirst, HasInput, source_named as source_named_in};
-ghost use Rattle.rr_parts.specs.Names.{entry, is_the as is_the_clock};
-ghost use Rattle.rr_parts.specs.Firsts.{earliest};
+ghost use Rattle.rr_text_names.specs.Names.{entry, is_the as is_the_clock};
+ghost use Rattle.rr_text_names.specs.Firsts.{earliest};
 ghost use Rattle.rr_clock.specs.Found.{any_runs, by_clock, by_direction, deciding_source as deciding_source_in, first_rising, found as found_in, free_among, leads_by, or_deciding, or_free, runs_by, by_all, unclocked_block};
 
 use crate::sources::{sources, told_by};
 use rr_expr::{Entity, Scope};
 use rr_flat::{Block, Flat};
-use rr_parts::{add_statement_names, is_scalar, scalar_named};
 use rr_syntax::{Event, Named, Stmt};
+use rr_text_names::{add_statement_names, is_scalar, scalar_named};
 use std::alloc::{AllocError, Global};
 
 /// The clock by the number of its signal, if there is one, and whether its rising edge counts; or the
@@ -168,7 +168,7 @@ fn runs_on(
 }
 
 /// The token of a block without such an edge.
-#[tactic(auto, unfolding(rr_parts::specs::Firsts::earliest))]
+#[tactic(auto, unfolding(rr_text_names::specs::Firsts::earliest))]
 fn unclocked(
     flat: &Flat,
     table: &[Option<u32>],

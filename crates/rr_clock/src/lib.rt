@@ -1,7 +1,7 @@
 //! The one clock of a flat design: which input it is, on which edge all clocked blocks run, and where
 //! it is used otherwise than as a clock (IEEE 1364-2005 sections 9.7 and 12.3.9.2). It is right where
 //! its answers are those of `rr_flat`'s `Clocks`, or the first fault in the order of the text. It
-//! stands on `rr_flat`'s designs and `rr_parts`'s lists.
+//! stands on `rr_flat`'s designs and `rr_text_names`'s lists.
 #![tactic(auto)]
 
 mod clock;

@@ -5,7 +5,7 @@ ghost use Rattle.rr_flat.specs.Signals.{with_name};
 ghost use Rattle.rr_flat.specs.View.{plain_signal};
 ghost use Rattle.rr_flat.specs.View.{plain_flat};
 ghost use Rattle.rr_syntax.specs.View.{texts};
-ghost use Rattle.rr_parts.specs.Names.{entry, is_the as is_the_clock, scalar_named as scalar_named_in};
+ghost use Rattle.rr_text_names.specs.Names.{entry, is_the as is_the_clock, scalar_named as scalar_named_in};
 ghost use Rattle.rr_clock.specs.Clock.{IsClockInput, has};
 ghost use Rattle.rr_clock.specs.Places.{AreNames, ArePlaces, clock_name, clock_names, clock_set, names_in, owner_at, place_of as place_in, with_clock};
 ghost use Rattle.rr_clock.specs.View.{plain_name, plain_place};
@@ -15,8 +15,8 @@ use crate::sources::{sources, told_by};
 use bumpalo::Bump;
 use rr_expr::{Entity, Scope};
 use rr_flat::{Flat, Signal};
-use rr_parts::scalar_named;
 use rr_syntax::ModulePlace;
+use rr_text_names::scalar_named;
 use std::alloc::{AllocError, Global};
 
 /// A name of a module that is the clock in one of its instances.

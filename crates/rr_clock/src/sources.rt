@@ -4,12 +4,12 @@ ghost use Rattle.rr_syntax.specs.View.{plain};
 ghost use Rattle.rr_flat.specs.Plain.{Written};
 ghost use Rattle.rr_flat.specs.View.{plain_flat, plain_side};
 ghost use Rattle.rr_clock.specs.Clock.{AreSources, told, bare_scalar as bare_scalar_of};
-ghost use Rattle.rr_parts.specs.Names.{entry};
+ghost use Rattle.rr_text_names.specs.Names.{entry};
 ghost use Rattle.rr_clock.specs.Spread.{bare_value as bare_value_of, AreFirstDrivers, AreSound, IsSpread, feeder as feeder_of, input_noted, next_source as next_source_of, noted};
 
 use rr_flat::{Flat, Side};
-use rr_parts::{is_input, is_scalar, scalar_named};
 use rr_syntax::Expr;
+use rr_text_names::{is_input, is_scalar, scalar_named};
 use std::alloc::{AllocError, Global};
 
 #[tactic(auto, using(crate::proofs::BareNodes::bare_nodes))]

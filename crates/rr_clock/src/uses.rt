@@ -7,18 +7,18 @@ ghost use Rattle.rr_flat.specs.Sound.{IsWalk};
 ghost use Rattle.rr_flat.specs.View.{plain_block, plain_driver, plain_flat, plain_side};
 ghost use Rattle.rr_clock.specs.Clock.{FirstUse, IsClockInput, IsFirstUse, hands_on as hands_on_in, is_scalar_port as is_scalar_port_in, side_uses, all_uses, use_of, uses, uses_of_block, uses_of_driver, uses_of_part, value_uses};
 ghost use Rattle.rr_flat.specs.Parts.{block_of as block_of_part, driver_of as driver_of_part};
-ghost use Rattle.rr_parts.specs.Names.{entry, is_the as is_the_clock};
-ghost use Rattle.rr_parts.specs.Firsts.{earliest};
+ghost use Rattle.rr_text_names.specs.Names.{entry, is_the as is_the_clock};
+ghost use Rattle.rr_text_names.specs.Firsts.{earliest};
 
 use crate::clock::is_the;
 use crate::sources::{bare_scalar, sources, told_by};
 use rr_flat::{Block, Driver, Flat, Part, Side};
-use rr_parts::{add_names, add_statement_names, is_input, is_scalar, scalar_named};
 use rr_syntax::Named;
+use rr_text_names::{add_names, add_statement_names, is_input, is_scalar, scalar_named};
 use std::alloc::{AllocError, Global};
 
 /// The token of a name, where it leads to the clock.
-#[tactic(auto, unfolding(rr_parts::specs::Firsts::earliest, rr_syntax::specs::View::plain_identifier))]
+#[tactic(auto, unfolding(rr_text_names::specs::Firsts::earliest, rr_syntax::specs::View::plain_identifier))]
 fn clock_use(
     flat: &Flat,
     table: &[Option<u32>],
@@ -54,7 +54,7 @@ fn first_use(
     None
 }
 
-#[tactic(auto, unfolding(rr_parts::specs::Firsts::earliest))]
+#[tactic(auto, unfolding(rr_text_names::specs::Firsts::earliest))]
 fn use_in_side<'a>(
     alloc: Global,
     flat: &Flat<'a>,
@@ -90,7 +90,7 @@ fn hands_on(flat: &Flat, driver: &Driver) -> bool
     is_scalar_port(flat, &driver.target) && bare_scalar(flat, &driver.value).is_some()
 }
 
-#[tactic(auto, unfolding(rr_parts::specs::Firsts::earliest))]
+#[tactic(auto, unfolding(rr_text_names::specs::Firsts::earliest))]
 fn use_in_value<'a>(
     alloc: Global,
     flat: &Flat<'a>,
@@ -107,7 +107,7 @@ fn use_in_value<'a>(
     }
 }
 
-#[tactic(auto, using(rr_parts::proofs::Walks::earliest_hit, rr_parts::proofs::Walks::earliest_skip))]
+#[tactic(auto, using(rr_text_names::proofs::Walks::earliest_hit, rr_text_names::proofs::Walks::earliest_skip))]
 fn use_in_driver<'a>(
     alloc: Global,
     flat: &Flat<'a>,
@@ -153,7 +153,7 @@ fn use_by_driver(
     }
 }
 
-#[tactic(auto, unfolding(rr_flat::specs::Reads::names_of, rr_parts::specs::Firsts::earliest))]
+#[tactic(auto, unfolding(rr_flat::specs::Reads::names_of, rr_text_names::specs::Firsts::earliest))]
 fn use_by_block(
     alloc: Global,
     flat: &Flat,
@@ -169,7 +169,7 @@ fn use_by_block(
     }
 }
 
-#[tactic(auto, using(rr_parts::proofs::Walks::earliest_hit, rr_parts::proofs::Walks::earliest_skip))]
+#[tactic(auto, using(rr_text_names::proofs::Walks::earliest_hit, rr_text_names::proofs::Walks::earliest_skip))]
 fn use_in_part(
     alloc: Global,
     flat: &Flat,

@@ -3,11 +3,11 @@ use Rattle.std.proofs.Common.{◌≡◌, ℕ, ◌<◌, List, length, take, refl,
 use Rattle.rr_edge.specs.Faults.{Faulted}
 use Rattle.rr_edge.specs.Held.{Held}
 use Rattle.rr_edge.specs.Sink.{AppendsFront}
-use Rattle.rr_report.specs.declared.ending.Ending.TheVariants.{NoMemory, WriteFault, OutFault}
-use Rattle.rr_report.specs.declared.ending.Report.{Report}
-use Rattle.rr_report.specs.Found.{Answer}
-use Rattle.rr_report.specs.Texts.{memory_text, out_fault_text, write_fault_text}
-use Rattle.rr_report.specs.Views.{Says, report_text}
+use Rattle.rr_endings.specs.declared.ending.Ending.TheVariants.{NoMemory, WriteFault, OutFault}
+use Rattle.rr_endings.specs.declared.ending.Report.{Report}
+use Rattle.rr_endings.specs.Found.{Answer}
+use Rattle.rr_endings.specs.Texts.{memory_text, out_fault_text, write_fault_text}
+use Rattle.rr_endings.specs.Views.{Says, report_text}
 use Rattle.rr_effects.specs.Outside.{outside}
 use Rattle.rr_effects.specs.Delivery.{Delivers, StopsAtWrite, file_at, with_files}
 

@@ -3,10 +3,10 @@ use Rattle.std.proofs.Common.{◌≡◌, ◌∙◌, ◌⊎◌, inl, inr, ℕ, �
 use Rattle.std.specs.Option.{option_map}
 use Rattle.std.proofs.lemmas.List.{get_or-map, length-map}
 use Rattle.rr_edge.specs.Held.{Held, put}
-use Rattle.rr_report.specs.declared.file.File.{File as RustFile}
-use Rattle.rr_report.specs.Found.{File}
-use Rattle.rr_report.specs.Texts.{write_fault_text}
-use Rattle.rr_report.specs.Views.{file_of}
+use Rattle.rr_endings.specs.declared.file.File.{File as RustFile}
+use Rattle.rr_endings.specs.Found.{File}
+use Rattle.rr_endings.specs.Texts.{write_fault_text}
+use Rattle.rr_endings.specs.Views.{file_of}
 use Rattle.rr_effects.specs.Delivery.{with_file, with_files, file_at, no_file, StopsAtWrite}
 
 one_more : (files : List File) (k : ℕ) (told : Option Held) → k < length files → with_files told (take (suc k) files) ≡ with_file (with_files told (take k files)) (file_at files k)

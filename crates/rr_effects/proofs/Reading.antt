@@ -6,13 +6,13 @@ use Rattle.std.specs.declared.alloc.Global.{Global}
 use Rattle.std.specs.Borrow.{Bor}
 use Rattle.rr_edge.specs.Faults.{Faulted}
 use Rattle.rr_edge.specs.Held.{Held}
-use Rattle.rr_report.specs.declared.ending.Ending.{Ending}
-use Rattle.rr_report.specs.declared.ending.Ending.TheVariants.{Usage, NoMemory, Absent, ReadFault, WriteFault, OutFault, Refused, Done}
-use Rattle.rr_report.specs.declared.ending.Report.{Report}
-use Rattle.rr_report.specs.declared.refusal.Refusal.{Refusal as RustRefusal}
-use Rattle.rr_report.specs.Refusals.{Refusal, TooManyBytes, Input, Flawed, plain_refusal}
-use Rattle.rr_report.specs.Texts.{absent_text, memory_text, read_fault_text}
-use Rattle.rr_report.specs.Views.{IsRefusedOrNoMemory, Says, report_text}
+use Rattle.rr_endings.specs.declared.ending.Ending.{Ending}
+use Rattle.rr_endings.specs.declared.ending.Ending.TheVariants.{Usage, NoMemory, Absent, ReadFault, WriteFault, OutFault, Refused, Done}
+use Rattle.rr_endings.specs.declared.ending.Report.{Report}
+use Rattle.rr_endings.specs.declared.refusal.Refusal.{Refusal as RustRefusal}
+use Rattle.rr_endings.specs.Refusals.{Refusal, TooManyBytes, Input, Flawed, plain_refusal}
+use Rattle.rr_endings.specs.Texts.{absent_text, memory_text, read_fault_text}
+use Rattle.rr_endings.specs.Views.{IsRefusedOrNoMemory, Says, report_text}
 use Rattle.rr_effects.specs.declared.reads.Read.{Read}
 use Rattle.rr_effects.specs.Reads.{AbsentAt, FaultAt, Gave, Given, RefusesReads, StopsReading, TooLongAt}
 use Rattle.rr_effects.specs.Views.{IsTooLong, StopsRead, contents, read_of}

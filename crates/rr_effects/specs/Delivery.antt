@@ -5,10 +5,10 @@ use Rattle.std.specs.Io.KnownBytes.{Appends}
 use Rattle.rr_edge.specs.Faults.{Faulted}
 use Rattle.rr_edge.specs.Held.{Held, put}
 use Rattle.rr_edge.specs.Sink.{AppendsFront}
-use Rattle.rr_report.specs.declared.ending.Ending.{Ending}
-use Rattle.rr_report.specs.declared.ending.Ending.TheVariants.{Usage, NoMemory, Absent, ReadFault, WriteFault, OutFault, Refused, Done}
-use Rattle.rr_report.specs.Found.{File, Answer}
-use Rattle.rr_report.specs.Texts.{memory_text, out_fault_text, write_fault_text}
+use Rattle.rr_endings.specs.declared.ending.Ending.{Ending}
+use Rattle.rr_endings.specs.declared.ending.Ending.TheVariants.{Usage, NoMemory, Absent, ReadFault, WriteFault, OutFault, Refused, Done}
+use Rattle.rr_endings.specs.Found.{File, Answer}
+use Rattle.rr_endings.specs.Texts.{memory_text, out_fault_text, write_fault_text}
 use Rattle.rr_effects.specs.Outside.{Outside, KeepsOut}
 
 -- the map with one file more: its name has its bytes, and each other name what it had

@@ -2,10 +2,10 @@
 use Rattle.std.specs.Prelude.{◌≡◌, ◌⊎◌, ⊤, ℕ, ◌<◌, ◌≤◌, List, [], ◌∷◌, Option, Some, None, length, IfSome, IsSomeAnd}
 use Rattle.rr_edge.specs.Faults.{Faulted}
 use Rattle.rr_edge.specs.Held.{Held}
-use Rattle.rr_report.specs.declared.ending.Ending.{Ending}
-use Rattle.rr_report.specs.declared.ending.Ending.TheVariants.{Usage, NoMemory, Absent, ReadFault, WriteFault, OutFault, Refused, Done}
-use Rattle.rr_report.specs.Refusals.{Refusal, TooManyBytes, Input, Flawed, plain_refusal}
-use Rattle.rr_report.specs.Texts.{absent_text, read_fault_text, memory_text, refused_text}
+use Rattle.rr_endings.specs.declared.ending.Ending.{Ending}
+use Rattle.rr_endings.specs.declared.ending.Ending.TheVariants.{Usage, NoMemory, Absent, ReadFault, WriteFault, OutFault, Refused, Done}
+use Rattle.rr_endings.specs.Refusals.{Refusal, TooManyBytes, Input, Flawed, plain_refusal}
+use Rattle.rr_endings.specs.Texts.{absent_text, read_fault_text, memory_text, refused_text}
 
 -- a read of the name gave these bytes
 pub record Gave (told : Option Held) (name : List ℕ) (limit : ℕ) (bytes : List ℕ) : Type 0 where

@@ -3,13 +3,13 @@ use Rattle.std.specs.Prelude.{◌≡◌, ℕ, ◌<◌, List, Option, Some, None,
 use Rattle.std.specs.declared.alloc.Global.{Global}
 use Rattle.rr_edge.specs.Faults.{Faulted}
 use Rattle.rr_edge.specs.Held.{Held}
-use Rattle.rr_report.specs.declared.ending.Ending.{Ending}
-use Rattle.rr_report.specs.declared.ending.Ending.TheVariants.{Usage, NoMemory, Absent, ReadFault, WriteFault, OutFault, Refused, Done}
-use Rattle.rr_report.specs.declared.ending.Report.{Report}
-use Rattle.rr_report.specs.Found.{File}
-use Rattle.rr_report.specs.Refusals.{Refusal, TooManyBytes, Input, Flawed, plain_refusal}
-use Rattle.rr_report.specs.Texts.{absent_text, read_fault_text, memory_text, refused_text}
-use Rattle.rr_report.specs.Views.{report_text}
+use Rattle.rr_endings.specs.declared.ending.Ending.{Ending}
+use Rattle.rr_endings.specs.declared.ending.Ending.TheVariants.{Usage, NoMemory, Absent, ReadFault, WriteFault, OutFault, Refused, Done}
+use Rattle.rr_endings.specs.declared.ending.Report.{Report}
+use Rattle.rr_endings.specs.Found.{File}
+use Rattle.rr_endings.specs.Refusals.{Refusal, TooManyBytes, Input, Flawed, plain_refusal}
+use Rattle.rr_endings.specs.Texts.{absent_text, read_fault_text, memory_text, refused_text}
+use Rattle.rr_endings.specs.Views.{report_text}
 use Rattle.rr_effects.specs.declared.reads.Read.{Read}
 use Rattle.rr_effects.specs.declared.delivery.WriteStop.{WriteStop}
 use Rattle.rr_effects.specs.declared.delivery.WriteStop.TheVariants as stop

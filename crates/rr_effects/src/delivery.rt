@@ -2,15 +2,15 @@
 ghost use Rattle.std.specs.Prelude.{◌≡◌, ◌≢◌, ◌<◌, IsOk, length, map};
 ghost use Rattle.rr_edge.specs.Shelf.{Counts, Writes};
 ghost use Rattle.rr_edge.specs.Sink.{Puts, CountsPut};
-ghost use Rattle.rr_report.specs.Endings.{status_of};
-ghost use Rattle.rr_report.specs.Views.{Says, file_of, plain_answer, report_text};
-ghost use Rattle.rr_report.specs.Texts.{write_fault_text};
+ghost use Rattle.rr_endings.specs.Endings.{status_of};
+ghost use Rattle.rr_endings.specs.Views.{Says, file_of, plain_answer, report_text};
+ghost use Rattle.rr_endings.specs.Texts.{write_fault_text};
 ghost use Rattle.rr_effects.specs.Delivery.{Delivers, Reports, file_at};
 ghost use Rattle.rr_effects.specs.Outside.{outside};
 ghost use Rattle.rr_effects.specs.Views.{Written};
 
 use rr_edge::{Shelf, ShelfFault, Sink, SinkFault};
-use rr_report::{Ending, File, Found, Report, out_fault, out_of_memory, status};
+use rr_endings::{Ending, File, Found, Report, out_fault, out_of_memory, status};
 
 /// At which file, counted from 0, writes stop.
 #[derive(Clone, Copy)]

@@ -1,7 +1,7 @@
 //! The effects of a command: its files are fetched from a shelf in order, and its answer is carried
 //! out, which writes files, puts one piece on standard output, and then the report on standard error.
 //! It is right where shelf and sinks hold what the answer says, after each success and each fault. It
-//! stands on `rr_edge` and `rr_report`.
+//! stands on `rr_edge` and `rr_endings`.
 #![tactic(auto)]
 
 mod delivery;

@@ -3,7 +3,7 @@ ghost use Rattle.std.specs.Prelude.{◌≡◌, map};
 ghost use Rattle.rr_effects.specs.Views.{Fetches, FetchesOne, read_of};
 
 use rr_edge::{Shelf, ShelfFault};
-use rr_report::{Refusal, Report, absent, out_of_memory, read_fault, refused};
+use rr_endings::{Refusal, Report, absent, out_of_memory, read_fault, refused};
 use std::alloc::Global;
 
 /// A name that is read, and the most bytes that it may have.

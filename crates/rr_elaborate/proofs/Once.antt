@@ -8,7 +8,7 @@ use Rattle.rr_grammar.specs.Trees.{SpellsShallow, IsNumberedTree}
 use Rattle.rr_grammar.proofs.OneSource.{unique_source}
 use Rattle.rr_flat.specs.Signals.{Text}
 use Rattle.rr_flat.specs.Plain.{Flat}
-use Rattle.rr_walk.specs.Walk.{flat_of}
+use Rattle.rr_flatten.specs.Walk.{flat_of}
 use Rattle.rr_flat.specs.declared.fault.FlatFault.{FlatFault}
 use Rattle.rr_elaborate.specs.declared.design.DesignFault.{DesignFault}
 use Rattle.rr_elaborate.specs.declared.design.DesignFault.TheVariants as fault

@@ -9,7 +9,7 @@ use Rattle.rr_syntax.specs.Words.{Word, words}
 use Rattle.rr_lex.specs.Tokens.{lexeme, lexemes, words_of, AreTokens}
 use Rattle.rr_lex.proofs.Sound.{words_sound}
 use Rattle.rr_lex.proofs.Steps.{token_words}
-use Rattle.rr_profile.specs.Profile.{is_outside, NoneOutside, IsFirstOutside}
+use Rattle.rr_outside_words.specs.Profile.{is_outside, NoneOutside, IsFirstOutside}
 use Rattle.rr_grammar.specs.Trees.{NoneSpells, IsNumberedTree}
 use Rattle.rr_parse.specs.Exact.{IsParsed}
 use Rattle.rr_elaborate.proofs.Fitting.{few_modules, fit_source}

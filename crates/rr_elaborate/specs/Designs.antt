@@ -3,13 +3,13 @@ use Rattle.std.specs.Prelude.{ℕ, ◌≡◌, ◌<◌, List, length, drop, get_o
 use Rattle.rr_syntax.specs.Tree.{SourceText}
 use Rattle.rr_syntax.specs.Words.{Marked}
 use Rattle.rr_lex.specs.Tokens.{Lexeme, AreTokens, IsFirstFault, words_of}
-use Rattle.rr_profile.specs.Profile.{is_outside}
+use Rattle.rr_outside_words.specs.Profile.{is_outside}
 use Rattle.rr_grammar.specs.Trees.{IsNumberedTree, NoneSpells}
 use Rattle.rr_flat.specs.Signals.{Text}
 use Rattle.rr_flat.specs.declared.fault.FlatFault.{FlatFault}
 use Rattle.rr_flat.specs.declared.fault.FlatFault.TheVariants as flat
 use Rattle.rr_flat.specs.Plain.{Flat}
-use Rattle.rr_walk.specs.Walk.{flat_of}
+use Rattle.rr_flatten.specs.Walk.{flat_of}
 use Rattle.rr_elaborate.specs.declared.design.DesignFault.{DesignFault}
 use Rattle.rr_elaborate.specs.declared.design.DesignFault.TheVariants as fault
 

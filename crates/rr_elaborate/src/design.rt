@@ -7,17 +7,17 @@ ghost use Rattle.rr_lex.specs.Tokens.{AreTokens, IsTextFault, lexemes};
 ghost use Rattle.rr_flat.specs.Elaborated.{IsSound};
 ghost use Rattle.rr_flat.specs.Faults.{Refuses as RefusesFlat};
 ghost use Rattle.rr_flat.specs.View.{plain_flat};
-ghost use Rattle.rr_walk.specs.Walk.{flat_of};
+ghost use Rattle.rr_flatten.specs.Walk.{flat_of};
 ghost use Rattle.rr_parse.specs.Exact.{IsRefusal};
 ghost use Rattle.rr_elaborate.specs.Designs.{IsDesign, IsDesignOf, IsText, Refuses, placed as placed_by, start_of as start_in};
 
 use bumpalo::Bump;
 use rr_flat::{Flat, FlatFault};
+use rr_flatten::flatten;
 use rr_lex::{TextFault, Wrong, lex};
 use rr_parse::parse;
 use rr_parse_expr::ParseFault;
 use rr_syntax::{Source, Token};
-use rr_walk::flatten;
 use std::alloc::Global;
 
 /// A flat design with the tokens of its text, which its numbers of tokens name, and with its tree.

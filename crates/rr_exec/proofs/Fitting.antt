@@ -14,10 +14,10 @@ use Rattle.rr_expr.specs.Values.{form, value, nowhere}
 use Rattle.rr_flat.specs.Targets.{has_bit, is_bit_of, target_bits, targets_bits}
 use Rattle.rr_flat.specs.Shapes.{shape_faults}
 use Rattle.rr_flat.proofs.Shaping.{clear}
-use Rattle.rr_target.specs.declared.piece.Piece.{Piece}
-use Rattle.rr_target.specs.Pieces.{all_bits, bits_of}
-use Rattle.rr_target.proofs.Nodes.{shaped_small}
-use Rattle.rr_target.proofs.Runs.{covers_in}
+use Rattle.rr_named_bits.specs.declared.piece.Piece.{Piece}
+use Rattle.rr_named_bits.specs.Pieces.{all_bits, bits_of}
+use Rattle.rr_named_bits.proofs.Nodes.{shaped_small}
+use Rattle.rr_named_bits.proofs.Runs.{covers_in}
 use Rattle.rr_cycle.specs.Exec.{Environment}
 use Rattle.rr_flat.proofs.Bits.{has_append, or_left, or_right, one_of_name, bits_of_name}
 use Rattle.rr_exec.specs.Work.{Fits, Holds}

@@ -12,7 +12,7 @@ use Rattle.rr_syntax.proofs.Rows.{plain_concat, plain_repeat}
 use Rattle.rr_expr.specs.Faults.{fault}
 use Rattle.rr_expr.specs.Scopes.{Names}
 use Rattle.rr_expr.specs.Values.{form}
-use Rattle.rr_target.proofs.Nodes.{shaped_small, shaped_positive, shaped-Paren}
+use Rattle.rr_named_bits.proofs.Nodes.{shaped_small, shaped_positive, shaped-Paren}
 use Rattle.rr_cycle.specs.Exec.{wild, wild_digits}
 use Rattle.rr_exec.proofs.Widths.{length_extend}
 use denote.Ref.{Bor}

@@ -13,10 +13,10 @@ use Rattle.rr_bits.proofs.Numbers.{number-lt, word_number, word_mod}
 use Rattle.rr_bits.proofs.Places.{has, get_tabulate, length_tabulate, has_above, has_shr, has_shl, has_xor_true, has_xor_false, get_word, get_past}
 use Rattle.rr_expr.specs.declared.types.Bit.{Bit}
 use Rattle.rr_expr.specs.Scopes.{env_of}
-use Rattle.rr_target.specs.declared.piece.Piece.{Piece}
-use Rattle.rr_target.specs.Pieces.{bit_in, bits_of, all_bits, covers}
-use Rattle.rr_target.proofs.Runs.{bit_is, covers_in, has_in, IsIn}
-use Rattle.rr_target.proofs.Places.{all_bits_at, at_run, piece_length}
+use Rattle.rr_named_bits.specs.declared.piece.Piece.{Piece}
+use Rattle.rr_named_bits.specs.Pieces.{bit_in, bits_of, all_bits, covers}
+use Rattle.rr_named_bits.proofs.Runs.{bit_is, covers_in, has_in, IsIn}
+use Rattle.rr_named_bits.proofs.Places.{all_bits_at, at_run, piece_length}
 use Rattle.rr_cycle.proofs.Applied.{applied_append}
 use Rattle.rr_cycle.specs.Exec.{Environment, put, write, Update, applied}
 use Rattle.rr_cycle.proofs.Writes.{write_outside, write_there}

@@ -5,8 +5,8 @@ use Rattle.rr_expr.specs.declared.types.Bit.{Bit}
 use Rattle.rr_expr.specs.declared.types.Entity.TheVariants.{Signal}
 use Rattle.rr_expr.specs.Scopes.{Names, meant, range_width}
 use Rattle.rr_expr.specs.Values.{form}
-use Rattle.rr_target.specs.declared.piece.Piece.{Piece}
-use Rattle.rr_target.specs.Pieces.{bits_of, covers}
+use Rattle.rr_named_bits.specs.declared.piece.Piece.{Piece}
+use Rattle.rr_named_bits.specs.Pieces.{bits_of, covers}
 use Rattle.rr_cycle.specs.Exec.{Update, labels_of}
 use Rattle.rr_exec.specs.declared.writes.Later.{Later}
 

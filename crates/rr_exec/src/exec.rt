@@ -4,7 +4,7 @@ ghost use Rattle.rr_syntax.specs.View.{plain, plain_arms, plain_statement, plain
 ghost use Rattle.rr_expr.specs.Scopes.{env_of};
 ghost use Rattle.rr_flat.specs.Targets.{target_bits};
 ghost use Rattle.rr_flat.specs.Shapes.{shape_faults, statement_faults, statements_faults, arms_faults};
-ghost use Rattle.rr_target.specs.Pieces.{all_bits};
+ghost use Rattle.rr_named_bits.specs.Pieces.{all_bits};
 ghost use Rattle.rr_cycle.specs.Exec.{Environment, applied, assigned, executed, executed_all, executed_case, executed_default, updates, updates_of_all, updates_of_case, updates_of_default, write as write_of};
 ghost use Rattle.rr_exec.specs.Work.{ArmsNarrow, Fits, Holds, IsLater, updates_in};
 
@@ -12,8 +12,8 @@ use crate::cases::{Selector, is_matched, is_true, own_shape, selector_of};
 use crate::writes::{Later, postpone, write_pieces};
 use rr_bits::Bits;
 use rr_expr::{Env, Scope, value};
+use rr_named_bits::{Piece, add_pieces};
 use rr_syntax::{Arm, Expr, Stmt};
-use rr_target::{Piece, add_pieces};
 use std::alloc::AllocError;
 
 /// The values of all signals, the updates that wait, and room for the pieces of one target, which is

@@ -2,12 +2,12 @@
 ghost use Rattle.std.specs.Prelude.{◌≡◌, ◌≤◌, ◌<◌, ◌+◌, ◌-◌, ◌∷◌, ◌++◌, [], ℕ, All, OnOk, cond, false, get_or, length, nat_lt, not, ◌&&◌, drop};
 ghost use Rattle.rr_bits.specs.Words.{word as word_of};
 ghost use Rattle.rr_expr.specs.Scopes.{env_of};
-ghost use Rattle.rr_target.specs.Pieces.{all_bits, bits_of};
+ghost use Rattle.rr_named_bits.specs.Pieces.{all_bits, bits_of};
 ghost use Rattle.rr_cycle.specs.Exec.{Environment, applied, write};
 ghost use Rattle.rr_exec.specs.Work.{Fits, IsLater, updates_in};
 
 use rr_bits::Bits;
-use rr_target::Piece;
+use rr_named_bits::Piece;
 use std::alloc::AllocError;
 
 /// A run of places that a nonblocking assignment named when it ran, and the word whose bits from a

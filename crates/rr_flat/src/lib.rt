@@ -1,6 +1,6 @@
 //! Flat designs as data (IEEE 1364-2005 section 12): signals, drivers, blocks and scopes of all
 //! instances, the faults for want of one, and what is said of them: their reading and writing of
-//! bits, the laws, and the order of steps. It stands on `rr_expr` alone; `rr_walk` makes flat
+//! bits, the laws, and the order of steps. It stands on `rr_expr` alone; `rr_flatten` makes flat
 //! designs of sources, and the crates of laws and cycles read them.
 #![tactic(auto)]
 

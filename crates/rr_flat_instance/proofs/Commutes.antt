@@ -12,8 +12,8 @@ use Rattle.rr_flat.specs.Signals.{Text}
 use Rattle.rr_flat.specs.declared.design.Part.TheVariants as part
 use Rattle.rr_flat.specs.Plain.{Side, Written, Whole, Driver, Flat}
 use Rattle.rr_flat.specs.Plain as plain_design
-use Rattle.rr_walk.specs.Tables.{place_of}
-use Rattle.rr_walk.specs.Walk.{Walked, scope_at, with_driver, with_block, combined, clocked, assign, net_driver, net_value, net_with, net, event_faults, always, with_initial, initial}
+use Rattle.rr_flatten.specs.Tables.{place_of}
+use Rattle.rr_flatten.specs.Walk.{Walked, scope_at, with_driver, with_block, combined, clocked, assign, net_driver, net_value, net_with, net, event_faults, always, with_initial, initial}
 use Rattle.rr_flat.specs.Shapes.{shape_faults, statement_faults}
 use Rattle.rr_starts.specs.Starts.{initial_faults}
 use Rattle.rr_flat.proofs.Alike.{Alike}

@@ -14,8 +14,8 @@ use Rattle.rr_flat.specs.declared.signal.Port.TheVariants.{Inner, Input, Output}
 use Rattle.rr_flat.specs.Faults.{fault_if, fault_or}
 use Rattle.rr_flat.specs.Signals.{Text, signal_at}
 use Rattle.rr_flat.specs.Plain.{Written, Whole, Driver}
-use Rattle.rr_walk.specs.Tables.{place_of, port_names, name_set, at_place}
-use Rattle.rr_walk.specs.Walk.{Walked, scope_at, with_driver, noted, Checked, check_override, fold_trees, check_position, nothing_checked, overrides, twice_faults, value_faults, Connected, check_connection, Joining, place_port, check_port, connections, join_port, join_at, join, join_value, join_named, join_positions, joined, checked}
+use Rattle.rr_flatten.specs.Tables.{place_of, port_names, name_set, at_place}
+use Rattle.rr_flatten.specs.Walk.{Walked, scope_at, with_driver, noted, Checked, check_override, fold_trees, check_position, nothing_checked, overrides, twice_faults, value_faults, Connected, check_connection, Joining, place_port, check_port, connections, join_port, join_at, join, join_value, join_named, join_positions, joined, checked}
 use Rattle.rr_flat.specs.Shapes.{shape_faults}
 use Rattle.rr_flat.specs.Writers.{no_driver}
 use Rattle.rr_choice.specs.declared.pick.Pick.{Pick}

@@ -8,9 +8,9 @@ use Rattle.rr_flat.specs.declared.fault.FlatFault.{FlatFault}
 use Rattle.rr_flat.specs.declared.fault.FlatFault.TheVariants.{TooMany}
 use Rattle.rr_flat.specs.declared.fault.Limit.TheVariants.{Instances as InstanceCount}
 use Rattle.rr_flat.specs.Faults.{and_then, each, first_fault_or, fault_if}
-use Rattle.rr_head.specs.Heads.{Head, head}
-use Rattle.rr_walk.specs.Tables.{place_of}
-use Rattle.rr_walk.specs.Walk.{Walked, Enter, scope_at, module_at, assign, net, checked, with_instance, joined, instance_of, item, opened, begin, enter_by, enter}
+use Rattle.rr_declarations.specs.Heads.{Head, head}
+use Rattle.rr_flatten.specs.Tables.{place_of}
+use Rattle.rr_flatten.specs.Walk.{Walked, Enter, scope_at, module_at, assign, net, checked, with_instance, joined, instance_of, item, opened, begin, enter_by, enter}
 use Rattle.rr_flat.specs.Writers.{no_driver}
 use Rattle.rr_choice.specs.declared.pick.Pick.{Pick}
 use Rattle.rr_choice.specs.Sites.{Site}

@@ -12,11 +12,11 @@ use Rattle.rr_flat.specs.declared.fault.Limit.TheVariants.{Instances as Instance
 use Rattle.rr_flat.specs.declared.signal.Port.{Port}
 use Rattle.rr_flat.specs.declared.signal.Port.TheVariants.{Inner, Input, Output}
 use Rattle.rr_flat.specs.Faults.{and_then, each, first_fault_or, fault_if}
-use Rattle.rr_head.specs.Heads.{Head, head}
+use Rattle.rr_declarations.specs.Heads.{Head, head}
 use Rattle.rr_flat.specs.Signals.{with_name, Text, signal_at}
 use Rattle.rr_flat.specs.Plain.{Side, Written, Whole}
-use Rattle.rr_walk.specs.Tables.{place_of, port_names}
-use Rattle.rr_walk.specs.Walk.{Walked, Enter, scope_at, module_at, with_driver, with_block, assign, net_driver, net_value, net_with, net, event_faults, always, with_initial, initial, checked, with_instance, join_port, join_at, join, join_value, join_named, join_positions, joined, instance_of, item, opened, begin, enter_by, enter}
+use Rattle.rr_flatten.specs.Tables.{place_of, port_names}
+use Rattle.rr_flatten.specs.Walk.{Walked, Enter, scope_at, module_at, with_driver, with_block, assign, net_driver, net_value, net_with, net, event_faults, always, with_initial, initial, checked, with_instance, join_port, join_at, join, join_value, join_named, join_positions, joined, instance_of, item, opened, begin, enter_by, enter}
 use Rattle.rr_flat.specs.Shapes.{shape_faults, statement_faults}
 use Rattle.rr_starts.specs.Starts.{initial_faults}
 use Rattle.rr_flat.proofs.Alike.{Alike, alike_named}

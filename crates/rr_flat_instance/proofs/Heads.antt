@@ -3,14 +3,14 @@ use Rattle.std.proofs.Common.{◌≡◌, ◌∙◌, ap, ℕ, Bool, true, false, 
 use Rattle.rr_syntax.specs.Tree.{DeclaredName, Range, ModuleItem, Ports, Nets, Variables, Integers, Parameters, Assigns, Always, Initial, Instances, ModuleDeclaration}
 use Rattle.rr_expr.specs.Scopes.{Names, lookup}
 use Rattle.rr_flat.specs.Faults.{and_then, each}
-use Rattle.rr_head.specs.Values.{range_in}
-use Rattle.rr_head.specs.Parameters.{add_parameters, add_item_parameters, parameters}
-use Rattle.rr_head.specs.Declarations.{Declarations, know_declarator, know_ports, know_item, known, know_port_item, add_plain_name, plain_names, brackets, inner_declaration, again_place, repeated_place, declare_new, declare_again, declare_at, declare, declare_nets, declare_ports, declare_item, declarations}
-use Rattle.rr_head.specs.Heads.{signals_in_order, declared, numbered, head}
+use Rattle.rr_declarations.specs.Values.{range_in}
+use Rattle.rr_declarations.specs.Parameters.{add_parameters, add_item_parameters, parameters}
+use Rattle.rr_declarations.specs.Declarations.{Declarations, know_declarator, know_ports, know_item, known, know_port_item, add_plain_name, plain_names, brackets, inner_declaration, again_place, repeated_place, declare_new, declare_again, declare_at, declare, declare_nets, declare_ports, declare_item, declarations}
+use Rattle.rr_declarations.specs.Heads.{signals_in_order, declared, numbered, head}
 use Rattle.rr_choice.specs.declared.pick.Pick.{Pick}
 use Rattle.rr_choice.specs.Sites.{Site}
 use Rattle.rr_instance.specs.Instances.{instance_net, instance_item, instance_module}
-use Rattle.rr_flat_bare.proofs.Folds.{fold_mapped}
+use Rattle.rr_token_numbers.proofs.Folds.{fold_mapped}
 use Rattle.rr_flat_instance.proofs.Lists.{and_then_same, each_mapped}
 
 module _ (ss : List Site) (ps : List Pick) where

@@ -8,7 +8,7 @@ use Rattle.rr_expr.specs.Faults.{first}
 use Rattle.rr_expr.specs.Scopes.{Names}
 use Rattle.rr_flat.specs.Lawful.{DriverTarget}
 use Rattle.rr_flat.specs.Plain.{Side, Written, Whole, Flat}
-use Rattle.rr_walk.specs.Walk.{module_at}
+use Rattle.rr_flatten.specs.Walk.{module_at}
 use Rattle.rr_flat.specs.Writers.{scope_at, driver_at}
 use Rattle.rr_choice.specs.Sites as sites
 use Rattle.rr_choice.specs.Sites.{SiteKind, Site, guard_names}

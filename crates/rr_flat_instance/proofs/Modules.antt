@@ -3,7 +3,7 @@ use Rattle.std.proofs.Common.{◌≡◌, ℕ, zero, suc, ◌+◌, ◌<◌, List,
 use Rattle.std.specs.List.{AllByRecursion}
 use Rattle.rr_syntax.specs.Items.{spell_module, WellFormedModule, NumberedAll, NumberedModule}
 use Rattle.rr_syntax.specs.Tree.{ModuleDeclaration}
-use Rattle.rr_walk.specs.Walk.{module_at}
+use Rattle.rr_flatten.specs.Walk.{module_at}
 use Rattle.rr_flat_instance.specs.Owned.{start_of}
 
 pub numbered_module : (ms : List ModuleDeclaration) (at k : ℕ) → AllByRecursion WellFormedModule ms → NumberedAll spell_module NumberedModule ms at → k < length ms →

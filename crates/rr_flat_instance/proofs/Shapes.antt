@@ -22,7 +22,7 @@ use Rattle.rr_instance_laws.specs.Tests.{IsNameAt, IsGuardName, IsGuardNameIn, I
 use Rattle.rr_instance_laws.specs.Truth.{IsScalar}
 use Rattle.rr_instance_laws.proofs.FormLaws.{no_faults_by_scalars, no_faults_in_tests}
 use Rattle.rr_instance_laws.proofs.Rounds.{picked_is_one}
-use Rattle.rr_flat_bare.proofs.Folds.{some_stays}
+use Rattle.rr_token_numbers.proofs.Folds.{some_stays}
 use Rattle.rr_flat_instance.specs.Places.{HasWidth, IsAim, IsAimAt}
 
 -- lists without elements

@@ -5,12 +5,12 @@ use Rattle.rr_syntax.specs.Tree.{ModuleItem, Ports, Nets, Variables, Integers, P
 use Rattle.rr_expr.specs.Scopes.{Names, lookup}
 use Rattle.rr_flat.specs.Faults.{each}
 use Rattle.rr_flat.specs.Signals.{Text}
-use Rattle.rr_walk.specs.Tables.{add_module, instantiated_by_item, instantiated_by, last_free, add_parameter_names, add_item_parameter_names, parameter_table, add_open_names, add_item_open_names, open_names, port_names}
-use Rattle.rr_walk.specs.Walk.{module_at, top_place, reached_from}
+use Rattle.rr_flatten.specs.Tables.{add_module, instantiated_by_item, instantiated_by, last_free, add_parameter_names, add_item_parameter_names, parameter_table, add_open_names, add_item_open_names, open_names, port_names}
+use Rattle.rr_flatten.specs.Walk.{module_at, top_place, reached_from}
 use Rattle.rr_choice.specs.declared.pick.Pick.{Pick}
 use Rattle.rr_choice.specs.Sites.{Site}
 use Rattle.rr_instance.specs.Instances.{instance_item, instance_module}
-use Rattle.rr_flat_bare.proofs.Folds.{fold_mapped}
+use Rattle.rr_token_numbers.proofs.Folds.{fold_mapped}
 use Rattle.rr_flat_instance.proofs.Lists.{each_mapped}
 
 module _ (ss : List Site) (ps : List Pick) where

@@ -3,9 +3,9 @@ use Rattle.std.proofs.Common.{◌≡◌, List, Option, Ok}
 use Rattle.rr_syntax.specs.Tree.{SourceText, IsSameSource}
 use Rattle.rr_flat.specs.Signals.{Text}
 use Rattle.rr_flat.specs.Plain.{Flat}
-use Rattle.rr_walk.specs.Walk.{flat_of}
-use Rattle.rr_flat_bare.specs.Bare.{HasSameFlat}
-use Rattle.rr_flat_bare.proofs.Designs.{same_flat}
+use Rattle.rr_flatten.specs.Walk.{flat_of}
+use Rattle.rr_token_numbers.specs.Bare.{HasSameFlat}
+use Rattle.rr_token_numbers.proofs.Designs.{same_flat}
 use Rattle.rr_choice.specs.declared.pick.Pick.{Pick}
 use Rattle.rr_instance.specs.Instances.{instance_source}
 use Rattle.rr_choice.specs.Sites.{Site}

@@ -5,8 +5,8 @@ use Rattle.rr_expr.specs.Scopes.{Names}
 use Rattle.rr_flat.specs.Faults.{each}
 use Rattle.rr_flat.specs.Signals.{Text}
 use Rattle.rr_flat.specs.Plain.{Flat}
-use Rattle.rr_walk.specs.Tables.{add_module}
-use Rattle.rr_walk.specs.Walk.{Walked, module_at, nothing, finished, top_place, enter_top, enter, flat_of}
+use Rattle.rr_flatten.specs.Tables.{add_module}
+use Rattle.rr_flatten.specs.Walk.{Walked, module_at, nothing, finished, top_place, enter_top, enter, flat_of}
 use Rattle.rr_choice.specs.declared.pick.Pick.{Pick}
 use Rattle.rr_choice.specs.Sites.{Site}
 use Rattle.rr_instance.specs.Instances.{instance_module, instance_source}

@@ -5,12 +5,12 @@ use Rattle.rr_syntax.specs.Tree.{Statement, SourceText, IsSameSource}
 use Rattle.rr_flat.specs.Signals.{Text}
 use Rattle.rr_flat.specs.Plain.{Flat}
 use Rattle.rr_flat.specs.Reads.{assigned_by}
-use Rattle.rr_walk.specs.Walk.{flat_of}
+use Rattle.rr_flatten.specs.Walk.{flat_of}
 use Rattle.rr_choice.specs.declared.pick.Pick.{Pick}
 use Rattle.rr_instance.specs.Firsts.{first_token}
 use Rattle.rr_instance.specs.Instances.{instance_source}
 use Rattle.rr_choice.specs.Sites.{Site}
-use Rattle.rr_flat_bare.specs.Bare.{HasSameFlat}
+use Rattle.rr_token_numbers.specs.Bare.{HasSameFlat}
 use Rattle.rr_flat_instance.specs.Counted.{MayCount, counted_source}
 use Rattle.rr_flat_instance.specs.Flats.{instance_flat}
 use Rattle.rr_flat_instance.specs.Owned.{AreListed}

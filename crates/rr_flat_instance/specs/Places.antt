@@ -6,7 +6,7 @@ use Rattle.rr_syntax.specs.Tree.{Tree, DeclaredName, NetAssignment, NamedConnect
 use Rattle.rr_expr.specs.Faults.{first, is_width}
 use Rattle.rr_expr.specs.Scopes.{Names, meant, entity_shape}
 use Rattle.rr_flat.specs.Plain.{Side, Written, Whole, Flat}
-use Rattle.rr_walk.specs.Walk.{module_at}
+use Rattle.rr_flatten.specs.Walk.{module_at}
 use Rattle.rr_flat.specs.Writers.{scope_at, driver_at}
 use Rattle.rr_instance.specs.Firsts.{first_token}
 use Rattle.rr_choice.specs.Places.{is_overwrite_at}

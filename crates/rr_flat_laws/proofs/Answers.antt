@@ -2,8 +2,8 @@
 use Rattle.std.proofs.Common.{◌≡◌, Bool, true, false, List, [], ◌∷◌, ◌++◌, Option, Some, None, Ok, refl}
 use Rattle.rr_flat.specs.declared.fault.FlatFault.{FlatFault}
 use Rattle.rr_flat.specs.Faults.{fault_or, first_of, first_fault_or, fault_if}
-use Rattle.rr_head.proofs.Firsts.{none_here}
-use Rattle.rr_walk.proofs.HeadOf.{ok_is, not_ok}
+use Rattle.rr_declarations.proofs.Firsts.{none_here}
+use Rattle.rr_flatten.proofs.HeadOf.{ok_is, not_ok}
 
 pub nil_left : {X : Type 0} (xs ys : List X) → xs ++ ys ≡ [] → xs ≡ []
 nil_left [] ys e = refl

@@ -16,10 +16,10 @@ use Rattle.rr_flat.specs.Faults.{each}
 use Rattle.rr_flat.specs.Plain.{Written, Block, Flat}
 use Rattle.rr_flat.specs.Shapes.{shape_faults, statement_faults}
 use Rattle.rr_flat.specs.Signals.{Text, signal_at, with_name}
-use Rattle.rr_walk.specs.Tables.{place_of, port_names}
+use Rattle.rr_flatten.specs.Tables.{place_of, port_names}
 use Rattle.rr_starts.specs.Starts.{initial_faults}
-use Rattle.rr_walk.specs.Walk.{Walked, Enter, scope_at, module_at, with_driver, with_block, assign, net_driver, net_value, net_with, net, event_faults, always, with_initial, initial, with_instance, join_port, join_at, join, join_value, join_named, join_positions, joined, instance_of, item, opened, enter_by, enter, nothing, finished, top_place, enter_top, flat_of}
-use Rattle.rr_walk.proofs.HeadOf.{ok_is, not_ok, first_ok, all_append, all_weaker}
+use Rattle.rr_flatten.specs.Walk.{Walked, Enter, scope_at, module_at, with_driver, with_block, assign, net_driver, net_value, net_with, net, event_faults, always, with_initial, initial, with_instance, join_port, join_at, join, join_value, join_named, join_positions, joined, instance_of, item, opened, enter_by, enter, nothing, finished, top_place, enter_top, flat_of}
+use Rattle.rr_flatten.proofs.HeadOf.{ok_is, not_ok, first_ok, all_append, all_weaker}
 use Rattle.rr_flat_laws.specs.Blocks.{at_edges, at_changes, clocked_by, combinational_by, is_block_of, AreBlocks}
 use Rattle.rr_flat_laws.specs.Names.{module_of}
 use Rattle.rr_flat_laws.proofs.Answers.{settled}

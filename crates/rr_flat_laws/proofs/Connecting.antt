@@ -13,10 +13,10 @@ use Rattle.rr_flat.specs.declared.fault.FlatFault.TheVariants.{PortMismatch}
 use Rattle.rr_flat.specs.Faults.{fault_if}
 use Rattle.rr_flat.specs.Shapes.{shape_faults}
 use Rattle.rr_flat.specs.Signals.{Text}
-use Rattle.rr_head.specs.Declarations.{plain_names}
-use Rattle.rr_walk.specs.Tables.{add_port_name, add_declarator_name, add_port_names, port_names, add_text, name_set}
-use Rattle.rr_walk.specs.Walk.{noted, twice_faults, value_faults, fold_trees, Joining, place_port, check_port, Connected, check_connection, connections}
-use Rattle.rr_head.proofs.Firsts.{none_before, none_here}
+use Rattle.rr_declarations.specs.Declarations.{plain_names}
+use Rattle.rr_flatten.specs.Tables.{add_port_name, add_declarator_name, add_port_names, port_names, add_text, name_set}
+use Rattle.rr_flatten.specs.Walk.{noted, twice_faults, value_faults, fold_trees, Joining, place_port, check_port, Connected, check_connection, connections}
+use Rattle.rr_declarations.proofs.Firsts.{none_before, none_here}
 use Rattle.rr_flat_laws.specs.Declared.{texts_of, names_of, ports_by, ports_of}
 use Rattle.rr_flat_laws.specs.Drivers.{connected_in_order, HavePorts, Fits, connected_value, connected_name, connected}
 use Rattle.rr_flat_laws.proofs.Answers.{not_if}

@@ -18,10 +18,10 @@ use Rattle.rr_flat.specs.declared.fault.Limit.TheVariants.{FlatBits}
 use Rattle.rr_flat.specs.declared.signal.Port.{Port}
 use Rattle.rr_flat.specs.Faults.{fault_if, first_fault_or, each}
 use Rattle.rr_flat.specs.Signals.{Text, with_name}
-use Rattle.rr_head.specs.Declarations.{Declared, Declarations, is_port, signal_of, with_signal, counted, declare_new, no_declared, declared_at, is_same_range, redeclared, declare_again, again_place, repeated_place, declare_at, declare, declare_integer, integer_name, starting, start_faults, start_or, start_again, port_of, port_declaration, inner_declaration, integer_declaration, declare_ports, declare_nets, declare_variables, declare_item}
-use Rattle.rr_head.specs.Parameters.{width_faults}
-use Rattle.rr_head.specs.Values.{range_in}
-use Rattle.rr_walk.proofs.HeadOf.{ok_is, first_ok}
+use Rattle.rr_declarations.specs.Declarations.{Declared, Declarations, is_port, signal_of, with_signal, counted, declare_new, no_declared, declared_at, is_same_range, redeclared, declare_again, again_place, repeated_place, declare_at, declare, declare_integer, integer_name, starting, start_faults, start_or, start_again, port_of, port_declaration, inner_declaration, integer_declaration, declare_ports, declare_nets, declare_variables, declare_item}
+use Rattle.rr_declarations.specs.Parameters.{width_faults}
+use Rattle.rr_declarations.specs.Values.{range_in}
+use Rattle.rr_flatten.proofs.HeadOf.{ok_is, first_ok}
 use Rattle.rr_flat_laws.specs.Declared.{texts_of, names_of, ports_by, declared_by}
 use Rattle.rr_flat_laws.proofs.Answers.{nil_left, nil_right, not_if, settled}
 use Rattle.rr_flat_laws.proofs.Texts.{some_is, none_some, nowhere, there_cases, here, later, Distinct, distinct_append, with_stays, with_new, with_cases, is_none_of, there_of, flat_none, none_of}

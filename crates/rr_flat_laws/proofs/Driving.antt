@@ -21,10 +21,10 @@ use Rattle.rr_flat.specs.Plain.{Written, Whole, Driver, Flat}
 use Rattle.rr_flat.specs.Shapes.{shape_faults}
 use Rattle.rr_flat.specs.Signals.{Text, Signal, signal_at, no_signal, with_name}
 use Rattle.rr_flat.specs.Writers.{scope_at as scope_in}
-use Rattle.rr_walk.specs.Tables.{place_of}
-use Rattle.rr_walk.specs.Walk.{Walked, Enter, scope_at, module_at, with_driver, assign, net_value, net_with, net, always, noted, overrides, connections, checked, with_instance, join_port, join_at, join, join_value, join_named, join_positions, joined, item, opened, enter_by, enter}
-use Rattle.rr_walk.specs.Walk as walk
-use Rattle.rr_walk.proofs.HeadOf.{ok_is, not_ok, first_ok, each_keeps, all_append, all_weaker}
+use Rattle.rr_flatten.specs.Tables.{place_of}
+use Rattle.rr_flatten.specs.Walk.{Walked, Enter, scope_at, module_at, with_driver, assign, net_value, net_with, net, always, noted, overrides, connections, checked, with_instance, join_port, join_at, join, join_value, join_named, join_positions, joined, item, opened, enter_by, enter}
+use Rattle.rr_flatten.specs.Walk as walk
+use Rattle.rr_flatten.proofs.HeadOf.{ok_is, not_ok, first_ok, each_keeps, all_append, all_weaker}
 use Rattle.rr_flat_laws.specs.Declared.{Declares, ports_of}
 use Rattle.rr_flat_laws.specs.Drivers.{signal_instance, number_in, signal_number, driver_of_pair, driver_of_value, driver_of_net, assigned_by, is_assignment, Child, children_by, is_child_of, connected_in_order, connected_value, connected_name, connected, port_driver, driver_of_connection, is_connection}
 use Rattle.rr_flat_laws.specs.Hierarchy.{IsDue}

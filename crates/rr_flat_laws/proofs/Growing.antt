@@ -14,10 +14,10 @@ use Rattle.rr_flat.specs.Plain.{Side, Written, Whole, Flat}
 use Rattle.rr_flat.specs.Shapes.{shape_faults, statement_faults}
 use Rattle.rr_flat.specs.Signals.{Text, signal_at}
 use Rattle.rr_starts.specs.Starts.{initial_faults}
-use Rattle.rr_head.specs.Heads.{Head, head}
-use Rattle.rr_walk.specs.Tables.{place_of, port_names}
-use Rattle.rr_walk.specs.Walk.{Walked, Enter, scope_at, module_at, with_driver, with_block, assign, net_driver, net_value, net_with, net, event_faults, always, with_initial, initial, checked, with_instance, join_port, join_at, join, join_value, join_named, join_positions, joined, instance_of, item, opened, begin, enter_by, enter, finished}
-use Rattle.rr_walk.proofs.HeadOf.{ok_is, not_ok, first_ok, each_keeps}
+use Rattle.rr_declarations.specs.Heads.{Head, head}
+use Rattle.rr_flatten.specs.Tables.{place_of, port_names}
+use Rattle.rr_flatten.specs.Walk.{Walked, Enter, scope_at, module_at, with_driver, with_block, assign, net_driver, net_value, net_with, net, event_faults, always, with_initial, initial, checked, with_instance, join_port, join_at, join, join_value, join_named, join_positions, joined, instance_of, item, opened, begin, enter_by, enter, finished}
+use Rattle.rr_flatten.proofs.HeadOf.{ok_is, not_ok, first_ok, each_keeps}
 use Rattle.rr_flat_laws.proofs.Answers.{settled}
 
 -- the same signals and instances

@@ -14,11 +14,11 @@ use Rattle.rr_flat.specs.Faults.{and_then, each}
 use Rattle.rr_flat.specs.Plain.{Flat}
 use Rattle.rr_flat.specs.Signals.{Text, Signal, signal_at, no_signal, with_name}
 use Rattle.rr_flat.proofs.Lists.{all_index}
-use Rattle.rr_head.specs.Declarations.{is_port}
-use Rattle.rr_head.specs.Heads.{Head}
-use Rattle.rr_walk.specs.Tables.{place_of, add_module}
-use Rattle.rr_walk.specs.Walk.{Walked, Enter, scope_at, module_at, net, assign, with_instance, joined, instance_of, item, opened, enter_by, enter, nothing, finished, top_place, enter_top, flat_of}
-use Rattle.rr_walk.proofs.HeadOf.{ok_is, not_ok, first_ok, each_keeps}
+use Rattle.rr_declarations.specs.Declarations.{is_port}
+use Rattle.rr_declarations.specs.Heads.{Head}
+use Rattle.rr_flatten.specs.Tables.{place_of, add_module}
+use Rattle.rr_flatten.specs.Walk.{Walked, Enter, scope_at, module_at, net, assign, with_instance, joined, instance_of, item, opened, enter_by, enter, nothing, finished, top_place, enter_top, flat_of}
+use Rattle.rr_flatten.proofs.HeadOf.{ok_is, not_ok, first_ok, each_keeps}
 use Rattle.rr_flat_laws.specs.Declared.{ports_by, HasDeclaration, way_of, Declares, ports_of}
 use Rattle.rr_flat_laws.specs.Names.{IsSignalOf, NamesAre}
 use Rattle.rr_flat_laws.proofs.Growing.{Same, each_same, assign_same, net_same, always_same, initial_same, joined_same, began, inside, entered}

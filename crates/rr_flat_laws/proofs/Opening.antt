@@ -20,10 +20,10 @@ use Rattle.rr_flat.specs.declared.signal.Port.{Port}
 use Rattle.rr_flat.specs.Faults.{fault_if, first_fault_or, and_then, each}
 use Rattle.rr_flat.specs.Signals.{Text, Signal, signal_at, no_signal, with_name}
 use Rattle.rr_flat.proofs.Lists.{all_index}
-use Rattle.rr_head.specs.Declarations.{Declared, Declarations, is_port, port_of, know, know_declarator, know_ports, know_port_item, known, plain_names, add_plain_name, brackets, no_declared, declared_at, declare_ports, declare_item, declarations}
-use Rattle.rr_head.specs.Heads.{Head, named_signal, with_port, with_identifier, with_declarator, with_ports, with_inner, signals_in_order, with_signals, numbered, declared, head}
-use Rattle.rr_head.specs.Parameters.{parameters}
-use Rattle.rr_walk.proofs.HeadOf.{ok_is, first_ok, NoSignal, Entries, constants, head_of, all_append}
+use Rattle.rr_declarations.specs.Declarations.{Declared, Declarations, is_port, port_of, know, know_declarator, know_ports, know_port_item, known, plain_names, add_plain_name, brackets, no_declared, declared_at, declare_ports, declare_item, declarations}
+use Rattle.rr_declarations.specs.Heads.{Head, named_signal, with_port, with_identifier, with_declarator, with_ports, with_inner, signals_in_order, with_signals, numbered, declared, head}
+use Rattle.rr_declarations.specs.Parameters.{parameters}
+use Rattle.rr_flatten.proofs.HeadOf.{ok_is, first_ok, NoSignal, Entries, constants, head_of, all_append}
 use Rattle.rr_flat_laws.specs.Declared.{texts_of, names_of, ports_by, HasDeclaration, way_of, declared_by, Declares, plain_ports, ports_of}
 use Rattle.rr_flat_laws.proofs.Answers.{nil_left, nil_right, not_if, settled}
 use Rattle.rr_flat_laws.proofs.Declaring.{Has, HasPort, HasWay, Lists, done_twice, each_done, item_ports, with_way, ways_by, item_ways, done_ports, done_item}

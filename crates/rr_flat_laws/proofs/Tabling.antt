@@ -10,10 +10,10 @@ use Rattle.rr_expr.specs.declared.types.Entity.TheVariants as entity
 use Rattle.rr_flat.specs.declared.fault.FlatFault.TheVariants.{NameTwice}
 use Rattle.rr_flat.specs.Faults.{fault_if, each}
 use Rattle.rr_flat.specs.Signals.{Text, with_name}
-use Rattle.rr_walk.specs.Tables.{place_of, at_place, add_module, instantiated_by_item, instantiated_by, last_free}
-use Rattle.rr_walk.specs.Walk.{module_at, no_module, top_place}
-use Rattle.rr_walk.proofs.HeadOf.{ok_is, first_ok}
-use Rattle.rr_walk.proofs.TableLemmas.{grown_by_one}
+use Rattle.rr_flatten.specs.Tables.{place_of, at_place, add_module, instantiated_by_item, instantiated_by, last_free}
+use Rattle.rr_flatten.specs.Walk.{module_at, no_module, top_place}
+use Rattle.rr_flatten.proofs.HeadOf.{ok_is, first_ok}
+use Rattle.rr_flatten.proofs.TableLemmas.{grown_by_one}
 use Rattle.rr_flat_laws.proofs.Answers.{not_if, settled}
 use Rattle.rr_flat_laws.specs.Drivers.{Child, children_by}
 use Rattle.rr_flat_laws.specs.Hierarchy.{IsTop}

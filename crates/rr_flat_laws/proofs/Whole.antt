@@ -8,8 +8,8 @@ use Rattle.rr_expr.specs.Scopes.{Names, lookup}
 use Rattle.rr_flat.specs.Plain.{Driver, Flat}
 use Rattle.rr_flat.specs.Signals.{Text, signal_at}
 use Rattle.rr_flat.specs.Writers.{scope_at}
-use Rattle.rr_walk.specs.Walk.{Walked, module_at, nothing, finished, top_place, enter_top, flat_of}
-use Rattle.rr_walk.proofs.HeadOf.{not_ok}
+use Rattle.rr_flatten.specs.Walk.{Walked, module_at, nothing, finished, top_place, enter_top, flat_of}
+use Rattle.rr_flatten.proofs.HeadOf.{not_ok}
 use Rattle.rr_flat_laws.specs.Declared.{ports_of}
 use Rattle.rr_flat_laws.specs.Drivers.{signal_instance, signal_number, Child, children_by, is_child_of, assigned_by, is_assignment, connected, driver_of_connection, is_connection}
 use Rattle.rr_flat_laws.specs.Hierarchy.{IsTop, AreAssignments, AreConnections, IsChild, IsDue}

@@ -3,7 +3,7 @@ use Rattle.std.specs.Prelude.{◌≡◌, ℕ, ◌<◌, length, Option, Ok, All}
 use Rattle.rr_syntax.specs.Tree.{SourceText}
 use Rattle.rr_flat.specs.Plain.{Flat}
 use Rattle.rr_flat.specs.Signals.{Text}
-use Rattle.rr_walk.specs.Walk.{flat_of}
+use Rattle.rr_flatten.specs.Walk.{flat_of}
 use Rattle.rr_flat_laws.specs.Blocks.{AreBlocks}
 use Rattle.rr_flat_laws.specs.Hierarchy.{IsTop, AreAssignments, AreConnections, IsDue}
 use Rattle.rr_flat_laws.specs.Names.{module_of, NamesAre}

@@ -8,7 +8,7 @@ use Rattle.rr_flat.specs.declared.signal.Port.TheVariants.{Inner}
 use Rattle.rr_flat.specs.Plain.{Flat}
 use Rattle.rr_flat.specs.Signals.{Text, Signal, signal_at}
 use Rattle.rr_flat.specs.Writers.{scope_at, entity_of_signal}
-use Rattle.rr_walk.specs.Walk.{module_at}
+use Rattle.rr_flatten.specs.Walk.{module_at}
 use Rattle.rr_flat_laws.specs.Declared.{ports_by, HasDeclaration, way_of, Declares, ports_of}
 
 -- the module of an instance

@@ -23,9 +23,9 @@ use Rattle.rr_syntax.proofs.Rows.{plain_concat, plain_repeat}
 use Rattle.rr_flat.specs.Reads.{Assigned, assigned_by}
 use Rattle.rr_flat.specs.Signals.{Text}
 use Rattle.rr_flat.specs.Targets.{part_name}
-use Rattle.rr_parts.specs.Names.{part_identifier}
-use Rattle.rr_parts.specs.View.{plain_target}
-use Rattle.rr_parts.specs.declared.lists.Target.{Target}
+use Rattle.rr_text_names.specs.Names.{part_identifier}
+use Rattle.rr_text_names.specs.View.{plain_target}
+use Rattle.rr_text_names.specs.declared.lists.Target.{Target}
 use Rattle.rr_guard.specs.Names.{assigned_at_edges, is_now, is_later, is_text, whole_name}
 use Rattle.rr_guard.proofs.Sets.{eq_comm}
 use denote.Ref.{Bor}

@@ -8,7 +8,7 @@ use Rattle.rr_expr.specs.Faults.{first}
 use Rattle.rr_flat.specs.Signals.{Text}
 use Rattle.rr_choice.specs.Sites as sites
 use Rattle.rr_choice.specs.Sites.{Site}
-use Rattle.rr_spots.specs.Spots.{Spot, Body, Test, Value, is_clocked, spots_of_item}
+use Rattle.rr_change_places.specs.Spots.{Spot, Body, Test, Value, is_clocked, spots_of_item}
 use Rattle.rr_guard.specs.Guards.{guard_of, guard_at, guard_sites}
 
 pub flat_map_same : {X A : Type 0} (f g : X → List A) → ((x : X) → f x ≡ g x) → (xs : List X) → flat_map f xs ≡ flat_map g xs

@@ -6,7 +6,7 @@ use Rattle.rr_expr.specs.Faults.{first}
 use Rattle.rr_flat.specs.Signals.{Text}
 use Rattle.rr_choice.specs.Sites as sites
 use Rattle.rr_choice.specs.Sites.{Site, SiteKind}
-use Rattle.rr_spots.specs.Spots.{Spot, Body, Test, Value, is_clocked, spots_of_item}
+use Rattle.rr_change_places.specs.Spots.{Spot, Body, Test, Value, is_clocked, spots_of_item}
 use Rattle.rr_guard.specs.Names.{names_at}
 
 -- a site that is a condition

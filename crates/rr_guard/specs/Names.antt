@@ -6,7 +6,7 @@ use Rattle.rr_syntax.specs.Tree.{Tree, Name, Literal, Bit, Part, Indexed, Unary,
 use Rattle.rr_flat.specs.Reads.{Assigned, assigned_by}
 use Rattle.rr_flat.specs.Signals.{Text}
 use Rattle.rr_flat.specs.Targets.{part_name}
-use Rattle.rr_spots.specs.Spots.{has_edges}
+use Rattle.rr_change_places.specs.Spots.{has_edges}
 
 -- Declarations
 

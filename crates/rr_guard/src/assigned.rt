@@ -5,12 +5,12 @@ ghost use Rattle.std.specs.List.{list_any};
 ghost use Rattle.std.specs.Str.{bytes_eq};
 ghost use Rattle.rr_syntax.specs.View.{plain, plain_item, plain_module};
 ghost use Rattle.rr_flat.specs.Signals.{Text};
-ghost use Rattle.rr_parts.specs.View.{plain_target};
+ghost use Rattle.rr_text_names.specs.View.{plain_target};
 ghost use Rattle.rr_guard.specs.Names.{assigned_at_edges as assigned_of, is_later, is_now, whole_name as whole_name_of};
 
 use crate::texts::TextSet;
-use rr_parts::{Target, add_assigned_targets, identifier_of};
 use rr_syntax::{Events, Expr, Item, Module};
+use rr_text_names::{Target, add_assigned_targets, identifier_of};
 use std::alloc::{AllocError, Global};
 
 #[tactic(auto, using(crate::proofs::AssignedNodes::assigned_nodes))]

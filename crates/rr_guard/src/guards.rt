@@ -6,16 +6,16 @@ ghost use Rattle.rr_syntax.specs.Tree.{ModuleDeclaration};
 ghost use Rattle.rr_syntax.specs.View.{plain_identifier, plain_item, plain_module, texts};
 ghost use Rattle.rr_choice.specs.View.{plain_sites};
 ghost use Rattle.rr_flat.specs.Signals.{Text};
-ghost use Rattle.rr_spots.specs.Spots.{AreCountable, HasFewTokens, IsCountable, is_clocked as is_clocked_item, spots_of_item as spots_in_item};
-ghost use Rattle.rr_spots.specs.View.{plain_spot, plain_spots};
+ghost use Rattle.rr_change_places.specs.Spots.{AreCountable, HasFewTokens, IsCountable, is_clocked as is_clocked_item, spots_of_item as spots_in_item};
+ghost use Rattle.rr_change_places.specs.View.{plain_spot, plain_spots};
 ghost use Rattle.rr_guard.specs.Guards.{guard_at, guard_of, guard_sites};
 ghost use Rattle.rr_guard.specs.Candidates.{AreGuardNames};
 ghost use Rattle.rr_guard.specs.Names.{first_names};
 
 use crate::candidates::{GuardNames, guard_names, names_before};
 use bumpalo::Bump;
+use rr_change_places::{Spot, is_clocked, spots_of_item};
 use rr_expr::first_token;
-use rr_spots::{Spot, is_clocked, spots_of_item};
 use rr_syntax::{Item, Module, ModulePlace, Named, Site, SiteKind, expression_len};
 use std::alloc::{AllocError, Global};
 

@@ -1,6 +1,6 @@
 //! The guard sites of a module: its conditions, each with the names that a guard may be there. They
 //! are right where they are those of the definitions on plain trees, in the order of the text. It
-//! stands on `rr_spots`' conditions and `rr_parts`' lists of targets.
+//! stands on `rr_change_places`' conditions and `rr_text_names`' lists of targets.
 #![tactic(auto)]
 
 mod assigned;

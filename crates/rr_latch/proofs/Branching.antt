@@ -20,9 +20,9 @@ use Rattle.rr_flat.specs.Latches.{has_default, has_labels, known, known_all, kno
 use Rattle.rr_flat.specs.Reads.{TargetReads}
 use Rattle.rr_flat.specs.Targets.{assigns_target}
 use Rattle.rr_flat.specs.Shapes.{list_faults, statement_faults, statements_faults, arms_faults}
-use Rattle.rr_target.specs.declared.writes.Write.{Write}
-use Rattle.rr_target.specs.Lists.{must}
-use Rattle.rr_target.proofs.Growing.{rest_is}
+use Rattle.rr_named_bits.specs.declared.writes.Write.{Write}
+use Rattle.rr_named_bits.specs.Lists.{must}
+use Rattle.rr_named_bits.proofs.Growing.{rest_is}
 use Rattle.rr_latch.specs.declared.early.Early.{Early}
 use Rattle.rr_latch.specs.Immediate.{immediate}
 use Rattle.rr_latch.specs.Notes.{Noted, Unassigned}

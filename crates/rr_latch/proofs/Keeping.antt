@@ -8,8 +8,8 @@ use Rattle.rr_expr.specs.declared.types.Bit.{Bit}
 use Rattle.rr_expr.specs.Scopes.{Names}
 use Rattle.rr_flat.specs.Latches.{known, kept, NoLatch}
 use Rattle.rr_flat.specs.Reads.{writes}
-use Rattle.rr_target.specs.declared.writes.Write.{Write}
-use Rattle.rr_target.specs.Lists.{may}
+use Rattle.rr_named_bits.specs.declared.writes.Write.{Write}
+use Rattle.rr_named_bits.specs.Lists.{may}
 use Rattle.rr_writers.specs.Assigned.{assigns}
 use Rattle.rr_latch.specs.declared.early.Early.{Early}
 use Rattle.rr_latch.specs.Notes.{is_noted, Noted, Unassigned}

@@ -8,7 +8,7 @@ use Rattle.rr_expr.specs.Faults.{fault}
 use Rattle.rr_expr.specs.Reading.{NamesBit, NamesBits}
 use Rattle.rr_expr.specs.Scopes.{Names}
 use Rattle.rr_flat.specs.Shapes.{list_faults}
-use Rattle.rr_target.proofs.Growing.{rest_is}
+use Rattle.rr_named_bits.proofs.Growing.{rest_is}
 use Rattle.rr_latch.specs.declared.early.Early.{Early}
 use Rattle.rr_latch.specs.Notes.{Noted, Unassigned}
 use Rattle.rr_latch.proofs.Noting.{NotedBut, but_start, but_next, but_done}

@@ -3,11 +3,11 @@ use Rattle.std.proofs.Common.{◌≡◌, ◌∙◌, sym, ap, subst, ℕ, ◌+◌
 use Rattle.std.proofs.lemmas.Bool.{or_cases, both_ways}
 use Rattle.rr_expr.specs.declared.types.Bit.{Bit}
 use Rattle.rr_flat.specs.Targets.{same_bit}
-use Rattle.rr_target.specs.declared.piece.Piece.{Piece}
-use Rattle.rr_target.specs.declared.writes.Write.{Write}
-use Rattle.rr_target.specs.Lists.{covered, may}
-use Rattle.rr_target.specs.Pieces.{covers}
-use Rattle.rr_target.proofs.Growing.{covered-push, may-push}
+use Rattle.rr_named_bits.specs.declared.piece.Piece.{Piece}
+use Rattle.rr_named_bits.specs.declared.writes.Write.{Write}
+use Rattle.rr_named_bits.specs.Lists.{covered, may}
+use Rattle.rr_named_bits.specs.Pieces.{covers}
+use Rattle.rr_named_bits.proofs.Growing.{covered-push, may-push}
 use Rattle.rr_latch.specs.declared.early.Early.{Early}
 use Rattle.rr_latch.specs.Notes.{is_noted, Noted, Unassigned}
 use Rattle.rr_latch.specs.Paths.{assigned, Logged}

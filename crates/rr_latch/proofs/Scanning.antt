@@ -3,11 +3,11 @@ use Rattle.std.proofs.Common.{◌≡◌, ◌∙◌, sym, ap, ℕ, ◌+◌, ◌<�
 use Rattle.std.proofs.lemmas.List.{take_more, get_or-drop}
 use Rattle.rr_expr.specs.declared.types.Bit.{Bit}
 use Rattle.rr_flat.specs.Targets.{same_bit}
-use Rattle.rr_target.specs.declared.piece.Piece.{Piece}
-use Rattle.rr_target.specs.declared.writes.Write.{Write}
-use Rattle.rr_target.specs.Lists.{covered, Grown, may, must}
-use Rattle.rr_target.specs.Pieces.{covers}
-use Rattle.rr_target.proofs.Growing.{may-push, must-push}
+use Rattle.rr_named_bits.specs.declared.piece.Piece.{Piece}
+use Rattle.rr_named_bits.specs.declared.writes.Write.{Write}
+use Rattle.rr_named_bits.specs.Lists.{covered, Grown, may, must}
+use Rattle.rr_named_bits.specs.Pieces.{covers}
+use Rattle.rr_named_bits.proofs.Growing.{may-push, must-push}
 use Rattle.rr_latch.specs.Paths.{listed, Logged}
 use Rattle.rr_writers.proofs.Marking.{below, below_none, below_next, below_all, Ranged}
 use Rattle.rr_latch.proofs.Logs.{and_true, listed-append, logged_none, logged_both}

@@ -15,8 +15,8 @@ use crate::early::{Early, read, read_labels, read_target};
 use crate::paths::{Path, assign_bits, assign_writes, assigned_of, undo};
 use rr_expr::Scope;
 use rr_flat::Bit;
+use rr_named_bits::add_writes;
 use rr_syntax::{Arm, Expr, Stmt};
-use rr_target::add_writes;
 use std::alloc::{AllocError, Global};
 
 /// Goes through a statement: the bits that it assigns on each path are assigned, and those that it reads

@@ -6,14 +6,14 @@ ghost use Rattle.rr_expr.specs.Reading.{NamesBit, NamesBits};
 ghost use Rattle.rr_flat.specs.Reads.{TargetReads};
 ghost use Rattle.rr_flat.specs.Targets.{same_bit};
 ghost use Rattle.rr_flat.specs.Shapes.{list_faults};
-ghost use Rattle.rr_target.specs.Lists.{covered, may};
-ghost use Rattle.rr_target.specs.Pieces.{covers};
+ghost use Rattle.rr_named_bits.specs.Lists.{covered, may};
+ghost use Rattle.rr_named_bits.specs.Pieces.{covers};
 ghost use Rattle.rr_latch.specs.Notes.{Noted, Unassigned};
 
 use rr_expr::Scope;
 use rr_flat::Bit;
+use rr_named_bits::{Piece, Write, add_named_bits, add_target_reads};
 use rr_syntax::Expr;
-use rr_target::{Piece, Write, add_named_bits, add_target_reads};
 use rr_writers::BitTable;
 use std::alloc::{AllocError, Global};
 

@@ -3,8 +3,8 @@ ghost use Rattle.std.specs.Prelude.{◌≡◌, [], true, false, IfOk, OnOk, ◌&
 ghost use Rattle.rr_syntax.specs.View.{plain_statement};
 ghost use Rattle.rr_expr.specs.declared.types.Bit.{Bit as BitOfSignal};
 ghost use Rattle.rr_flat.specs.Shapes.{statement_faults};
-ghost use Rattle.rr_target.specs.Lists.{may};
-ghost use Rattle.rr_target.specs.Pieces.{covers};
+ghost use Rattle.rr_named_bits.specs.Lists.{may};
+ghost use Rattle.rr_named_bits.specs.Pieces.{covers};
 ghost use Rattle.rr_latch.specs.Immediate.{immediate};
 ghost use Rattle.rr_latch.specs.Notes.{is_noted};
 ghost use Rattle.rr_latch.specs.Paths.{assigned, counted, listed};
@@ -16,8 +16,8 @@ use crate::early::{Early, note_writes};
 use crate::paths::Path;
 use rr_expr::Scope;
 use rr_flat::Bit;
+use rr_named_bits::{Piece, Write};
 use rr_syntax::Stmt;
-use rr_target::{Piece, Write};
 use rr_writers::{BitTable, add_assigned_bits};
 use std::alloc::{AllocError, Global};
 

@@ -2,12 +2,12 @@
 ghost use Rattle.std.specs.Prelude.{◌≡◌, ◌≤◌, ◌&&◌, ◌||◌, not, length, take, drop, IfOk, OnOk};
 ghost use Rattle.rr_expr.specs.declared.types.Bit.{Bit as BitOfSignal};
 ghost use Rattle.rr_flat.specs.Targets.{same_bit};
-ghost use Rattle.rr_target.specs.Lists.{must};
-ghost use Rattle.rr_target.specs.Pieces.{covers};
+ghost use Rattle.rr_named_bits.specs.Lists.{must};
+ghost use Rattle.rr_named_bits.specs.Pieces.{covers};
 ghost use Rattle.rr_latch.specs.Paths.{Logged, assigned, listed};
 
 use rr_flat::Bit;
-use rr_target::{Piece, Write};
+use rr_named_bits::{Piece, Write};
 use rr_writers::BitTable;
 use std::alloc::{AllocError, Global};
 

@@ -15,7 +15,7 @@ use Rattle.rr_flat.specs.Reads.{names_of, names_in, assigned_by}
 use Rattle.rr_flat.specs.Sound.{IsPart, drivers_of, clocked_of, combinational_of, initials_of}
 use Rattle.rr_flat.specs.Writers.{driver_at, no_driver, block_at, no_block, no_initial}
 use Rattle.rr_flat.specs.Parts.{driver_of, block_of, initial_of}
-use Rattle.rr_parts.proofs.Covering.{HasWalk, Member, NoneAt, none_at, member_empty, clocked_member, combinational_member}
+use Rattle.rr_text_names.proofs.Covering.{HasWalk, Member, NoneAt, none_at, member_empty, clocked_member, combinational_member}
 use Rattle.rr_assign.specs.Aims.{bad_of_driver, bad_of_block, bad_of_initial, bad_of_part, bad_targets}
 use Rattle.rr_assign.specs.Kinds.{Aim, aim_of, aims_of_part, aims, wrong_kinds}
 use Rattle.rr_assign.specs.Labels.{wild_in, wild_of_part, all_wild}

@@ -4,7 +4,7 @@ use Rattle.rr_flat.specs.Signals.{Text}
 use Rattle.rr_flat.specs.Clocks.{IsChosen, IsDirection, FirstEdge, RunsOn, OneClock, no_edge}
 use Rattle.rr_flat.specs.Plain.{Block, Flat}
 use Rattle.rr_flat.specs.Writers.{block_at}
-use Rattle.rr_parts.specs.Firsts.{earliest}
+use Rattle.rr_text_names.specs.Firsts.{earliest}
 use Rattle.rr_clock.proofs.Clocking.{chosen_same}
 use Rattle.rr_clock.proofs.Leading.{some_same, same_number}
 use Rattle.rr_clock.specs.Clock.{ClockFails, undecided, unclocked, IsFirstUse, TellsLeads, all_uses}

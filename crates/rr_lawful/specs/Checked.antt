@@ -4,7 +4,7 @@ use Rattle.rr_flat.specs.Signals.{Text}
 use Rattle.rr_flat.specs.Clocks.{OneClock}
 use Rattle.rr_flat.specs.Lawful.{ClockNamed, NoClockRead, NoLatches, NoRace, OneWriter, RightKinds, RightLabels, RightTargets}
 use Rattle.rr_flat.specs.Plain.{Flat}
-use Rattle.rr_parts.specs.Firsts.{earliest}
+use Rattle.rr_text_names.specs.Firsts.{earliest}
 use Rattle.rr_assign.specs.Aims.{bad_targets}
 use Rattle.rr_assign.specs.Kinds.{wrong_kinds}
 use Rattle.rr_assign.specs.Labels.{all_wild}

@@ -11,7 +11,7 @@ use Rattle.rr_flat.specs.Plain.{Block, Flat}
 use Rattle.rr_flat.specs.Writers.{block_at, Writer, Writes}
 use Rattle.rr_flat_instance.specs.Flats.{instance_block, instance_flat}
 use Rattle.rr_flat_instance.proofs.Whole.{instances_flatten}
-use Rattle.rr_walk.proofs.WalkOf.{sound}
+use Rattle.rr_flatten.proofs.WalkOf.{sound}
 use Rattle.rr_cycle.specs.Cycles.{IsInputBit, Settled, IsNext, Runs, ended, cycle, beginning, given}
 use Rattle.rr_flat.specs.Inputs.{row_inputs}
 use Rattle.rr_cycle.specs.Exec.{Environment}

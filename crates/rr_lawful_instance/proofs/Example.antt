@@ -24,10 +24,10 @@ use Rattle.rr_expr.specs.declared.types.Entity.TheVariants as entity
 use Rattle.rr_flat.specs.declared.signal.Port.{Port}
 use Rattle.rr_flat.specs.declared.signal.Port.TheVariants.{Input, Output}
 use Rattle.rr_flat.specs.Signals.{Text, Signal}
-use Rattle.rr_head.specs.Declarations.{brackets, declarations}
+use Rattle.rr_declarations.specs.Declarations.{brackets, declarations}
 use Rattle.rr_flat.specs.Faults.{each}
-use Rattle.rr_head.specs.Heads.{declared, head, numbered, signals_in_order, with_signals}
-use Rattle.rr_head.specs.Parameters.{parameters}
+use Rattle.rr_declarations.specs.Heads.{declared, head, numbered, signals_in_order, with_signals}
+use Rattle.rr_declarations.specs.Parameters.{parameters}
 use Rattle.rr_expr.specs.Reading.{NamesBit}
 use Rattle.rr_flat.specs.declared.design.Step.{Step}
 use Rattle.rr_flat.specs.declared.design.Step.TheVariants as step
@@ -46,18 +46,18 @@ use Rattle.rr_lawful_instance.specs.Laws.{LawsAreMet}
 use Rattle.rr_lawful_instance.proofs.Lists.{holds_of}
 use Rattle.rr_flat.specs.declared.design.Part.TheVariants as part
 use Rattle.rr_flat.specs.Plain.{Written, Whole, Flat}
-use Rattle.rr_walk.specs.Tables.{add_module, instantiated_by, last_free}
-use Rattle.rr_walk.specs.Tables as T
+use Rattle.rr_flatten.specs.Tables.{add_module, instantiated_by, last_free}
+use Rattle.rr_flatten.specs.Tables as T
 use Rattle.rr_flat.specs.Shapes as Sh
-use Rattle.rr_walk.specs.Walk as W
-use Rattle.rr_head.specs.Parameters as P
-use Rattle.rr_head.specs.Declarations as D
-use Rattle.rr_head.specs.Values as V
-use Rattle.rr_head.specs.Heads as H
+use Rattle.rr_flatten.specs.Walk as W
+use Rattle.rr_declarations.specs.Parameters as P
+use Rattle.rr_declarations.specs.Declarations as D
+use Rattle.rr_declarations.specs.Values as V
+use Rattle.rr_declarations.specs.Heads as H
 use Rattle.rr_expr.specs.Faults as F
 use Rattle.rr_expr.specs.Values as X
 use Rattle.rr_bits.specs.Words.{number, tabulate, word}
-use Rattle.rr_walk.specs.Walk.{begin, enter, enter_by, flat_of, reached_from, top_ports}
+use Rattle.rr_flatten.specs.Walk.{begin, enter, enter_by, flat_of, reached_from, top_ports}
 
 abbrev c : Text
 c = 99 ∷ []

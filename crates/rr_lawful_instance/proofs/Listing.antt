@@ -9,7 +9,7 @@ use Rattle.rr_syntax.specs.Statements.{spell_statement}
 use Rattle.rr_syntax.specs.Tree.{Statement, EventControl, ModuleItem, Always, ModuleDeclaration, SourceText}
 use Rattle.rr_flat.specs.Signals.{Text}
 use Rattle.rr_flat.specs.Plain.{Side, Written, Whole, Block, Flat}
-use Rattle.rr_walk.specs.Walk.{module_at, flat_of}
+use Rattle.rr_flatten.specs.Walk.{module_at, flat_of}
 use Rattle.rr_flat.specs.Lawful.{RightTargets}
 use Rattle.rr_flat.specs.Writers.{scope_at, driver_at, block_at, no_driver, no_block}
 use Rattle.rr_flat.proofs.Lists.{all_index}
@@ -24,7 +24,7 @@ use Rattle.rr_choice.specs.Sites as sites
 use Rattle.rr_choice.specs.Sites.{SiteKind, Site, guard_names}
 use Rattle.rr_instance_laws.specs.Truth.{IsScalar}
 use Rattle.rr_lawful_instance.specs.AreSites.{TargetStands, BlockFits, SideFits, AreSitesOf}
-use Rattle.rr_spots.specs.Spots.{has_edges, is_clocked}
+use Rattle.rr_change_places.specs.Spots.{has_edges, is_clocked}
 use Rattle.rr_lawful_instance.specs.Listed.{MayGuardIf, MayGuardIn, items_of, no_item, item_at, items_before, item_start, StandsIn, TargetFits, IsRight, KindIsRight, AreRight}
 use Rattle.rr_lawful_instance.proofs.Placed.{item_right, module_there, item_is}
 use Rattle.rr_lawful_instance.proofs.Origins.{SideFrom, BlockFrom, From, origins}

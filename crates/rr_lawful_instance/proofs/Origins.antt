@@ -11,18 +11,18 @@ use Rattle.rr_flat.specs.declared.fault.FlatFault.{FlatFault}
 use Rattle.rr_flat.specs.declared.signal.Port.{Port}
 use Rattle.rr_flat.specs.declared.signal.Port.TheVariants.{Inner, Input, Output}
 use Rattle.rr_flat.specs.Faults.{and_then, each}
-use Rattle.rr_head.specs.Heads.{Head}
+use Rattle.rr_declarations.specs.Heads.{Head}
 use Rattle.rr_flat.specs.Signals.{with_name, Text, signal_at}
 use Rattle.rr_flat.specs.Plain.{Side, Written, Whole, Driver, Block, Flat}
-use Rattle.rr_walk.specs.Tables.{place_of, add_module, port_names}
-use Rattle.rr_walk.specs.Walk.{Walked, Enter, scope_at, module_at, with_driver, with_block, assign, net_driver, net_value, net_with, net, always, with_initial, initial, with_instance, join_port, join_at, join, join_value, join_named, join_positions, joined, instance_of, item, opened, enter_by, enter, nothing, finished, top_place, enter_top, flat_of}
-use Rattle.rr_walk.proofs.HeadOf.{ok_is, not_ok, settled_is, first_ok, fold_over, all_append, all_weaker}
+use Rattle.rr_flatten.specs.Tables.{place_of, add_module, port_names}
+use Rattle.rr_flatten.specs.Walk.{Walked, Enter, scope_at, module_at, with_driver, with_block, assign, net_driver, net_value, net_with, net, always, with_initial, initial, with_instance, join_port, join_at, join, join_value, join_named, join_positions, joined, instance_of, item, opened, enter_by, enter, nothing, finished, top_place, enter_top, flat_of}
+use Rattle.rr_flatten.proofs.HeadOf.{ok_is, not_ok, settled_is, first_ok, fold_over, all_append, all_weaker}
 use Rattle.rr_flat_instance.specs.Places.{Somewhere, IsNameOfValue, IsNameOfNet, IsNameOfPair, IsNameOfConnection, IsNameOfConnections, IsNameOfInstance, IsNameOfItem}
 use Rattle.rr_flat_instance.proofs.Grown.{EnterGrows, began, inside, entered, enter_grows}
 use Rattle.rr_flat_instance.proofs.Lists.{Begins}
 use Rattle.rr_choice.specs.Sites.{Site}
 use Rattle.rr_instance_laws.specs.Tests.{IsGuardName, IsGuardNameIn}
-use Rattle.rr_spots.specs.Spots.{has_edges, is_clocked}
+use Rattle.rr_change_places.specs.Spots.{has_edges, is_clocked}
 use Rattle.rr_lawful_instance.specs.Listed.{items_of}
 use Rattle.rr_lawful_instance.proofs.Lists.{by_element}
 

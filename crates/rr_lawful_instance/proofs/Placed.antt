@@ -5,7 +5,7 @@ use Rattle.std.specs.List.{AllByRecursion, Contains}
 use Rattle.std.proofs.lemmas.List.{get_or_default}
 use Rattle.rr_syntax.specs.Items.{spell_item, spell_parameters, spell_ports, WellFormedItem, WellFormedModule, WellFormedSource, NumberedAll, NumberedItem, NumberedModule, NumberedSource}
 use Rattle.rr_syntax.specs.Tree.{ModuleItem, ModuleDeclaration, SourceText}
-use Rattle.rr_walk.specs.Walk.{module_at}
+use Rattle.rr_flatten.specs.Walk.{module_at}
 use Rattle.rr_flat_instance.specs.Owned.{start_of}
 use Rattle.rr_flat_instance.proofs.Modules.{numbered_module}
 use Rattle.rr_lawful_instance.specs.Listed.{items_of, no_item, item_at, items_before, item_start}

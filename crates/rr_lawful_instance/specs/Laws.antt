@@ -9,7 +9,7 @@ use Rattle.rr_flat.specs.Clocks.{OneClock}
 use Rattle.rr_flat.specs.Lawful.{RightTargets, RightLabels, NoClockRead, OneWriter, RightKinds, NoRace, NoLatches, HasRanks, Lawful}
 use Rattle.rr_flat.specs.Ordered.{IsStep, Ordered}
 use Rattle.rr_flat.specs.Plain.{Flat}
-use Rattle.rr_walk.specs.Walk.{flat_of}
+use Rattle.rr_flatten.specs.Walk.{flat_of}
 use Rattle.rr_flat.specs.Writers.{driver_at, driven, wires, Writer, Writes}
 use Rattle.rr_cycle.specs.Cycles.{side_shape, side_value, driver_value, outputs_of, Settled, IsNext, Run}
 use Rattle.rr_cycle.specs.Exec.{Environment}

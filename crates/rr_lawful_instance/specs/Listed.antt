@@ -4,10 +4,10 @@ use Rattle.std.specs.Prelude.{ℕ, zero, suc, ◌+◌, ◌<◌, ◌≤◌, ◌�
 use Rattle.std.specs.List.{All, AllByRecursion}
 use Rattle.rr_syntax.specs.Items.{spell_item, spell_parameters, spell_ports, WellFormedSource, NumberedSource}
 use Rattle.rr_syntax.specs.Tree.{ModuleItem, Ports, Nets, Variables, Integers, Parameters, Assigns, Always, Initial, Instances, ModuleDeclaration, SourceText}
-use Rattle.rr_spots.specs.Spots.{is_clocked}
+use Rattle.rr_change_places.specs.Spots.{is_clocked}
 use Rattle.rr_flat.specs.Signals.{Text}
 use Rattle.rr_flat.specs.Plain.{Flat}
-use Rattle.rr_walk.specs.Walk.{module_at}
+use Rattle.rr_flatten.specs.Walk.{module_at}
 use Rattle.rr_flat_instance.specs.Owned.{start_of, InEach}
 use Rattle.rr_flat_instance.specs.Places.{HasWidth, owner_at}
 use Rattle.rr_choice.specs.Sites as sites

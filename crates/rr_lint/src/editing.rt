@@ -9,7 +9,7 @@ ghost use Rattle.rr_edit.specs.Edits.{InOrder, IsPlaced};
 ghost use Rattle.rr_edit.specs.View.{plain_edits};
 ghost use Rattle.rr_grammar.specs.Trees.{Spells};
 ghost use Rattle.rr_lex.specs.Tokens.{lexemes, words_of, AreTokens};
-ghost use Rattle.rr_walk.specs.Walk.{flat_of};
+ghost use Rattle.rr_flatten.specs.Walk.{flat_of};
 ghost use Rattle.rr_lint.specs.Edited.{AreLintEdits};
 ghost use Rattle.rr_lint_names.specs.Faults.{IsMemory};
 

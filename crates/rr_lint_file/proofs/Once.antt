@@ -11,8 +11,8 @@ use Rattle.rr_lex.specs.Tokens.{Lexeme}
 use Rattle.rr_flat.specs.Lawful.{RightLabels, RightTargets}
 use Rattle.rr_flat.specs.Plain.{Flat}
 use Rattle.rr_flat.specs.Signals.{Text}
-use Rattle.rr_walk.specs.Walk.{flat_of}
-use Rattle.rr_walk.proofs.HeadOf.{ok_is}
+use Rattle.rr_flatten.specs.Walk.{flat_of}
+use Rattle.rr_flatten.proofs.HeadOf.{ok_is}
 use Rattle.rr_elaborate.specs.Designs.{IsDesign, IsDesignOf}
 use Rattle.rr_elaborate.proofs.Once.{one_design, one_text as one_tree}
 use Rattle.rr_lawful.specs.Checked.{FailsFirst}

@@ -13,7 +13,7 @@ use Rattle.rr_flat.specs.Targets.{assigns_target, is_bit_of, may_write, must_wri
 use Rattle.rr_instance.specs.Instances.{fresh}
 use Rattle.rr_latch.specs.Unassigned.{ReadEarly, AnyReadEarly, ArmReadEarly, ArmsReadEarly, KeepsBit}
 use Rattle.rr_latch.proofs.Knowing.{early_unknown, keeps_early, known_kept}
-use Rattle.rr_target.proofs.Runs.{whole_has}
+use Rattle.rr_named_bits.proofs.Runs.{whole_has}
 use Rattle.rr_lint_laws.specs.Mended.{all_cleared, cleared, with_defaults}
 
 -- whether a bit is assigned, and whether it is read early, does not depend on other bits

@@ -15,7 +15,7 @@ use Rattle.rr_flat.specs.Targets.{part_name, target_parts, targets_parts}
 use Rattle.rr_flat.proofs.Shaping.{clear}
 use Rattle.rr_instance.specs.Instances.{fresh}
 use Rattle.rr_latch.specs.Immediate.{immediate, immediate_all, immediate_arm, immediate_arms}
-use Rattle.rr_walk.proofs.HeadOf.{all_append}
+use Rattle.rr_flatten.proofs.HeadOf.{all_append}
 use Rattle.rr_flat_instance.proofs.Shapes.{nil_both, nil_left, nil_right}
 use Rattle.rr_body_laws.specs.Bodies.{KeepsShapes}
 use Rattle.rr_lint_laws.specs.Mended.{Marks, all_cleared, cleared_by, each_once, mended_body, target_names, with_defaults}

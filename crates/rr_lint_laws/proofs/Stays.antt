@@ -18,8 +18,8 @@ use Rattle.rr_flat.specs.Writers.{block_at, no_block, scope_at}
 use Rattle.rr_latch.specs.Immediate.{immediate, immediate_all, immediate_arm, immediate_arms}
 use Rattle.rr_latch.specs.Unassigned.{KeepsBit}
 use Rattle.rr_latch.proofs.Knowing.{keeps_latch}
-use Rattle.rr_walk.specs.Walk.{flat_of, module_at}
-use Rattle.rr_walk.proofs.HeadOf.{ok_is}
+use Rattle.rr_flatten.specs.Walk.{flat_of, module_at}
+use Rattle.rr_flatten.proofs.HeadOf.{ok_is}
 use Rattle.rr_body_laws.specs.Bodies.{Bodies, block_with, body_with, flat_with, item_with, module_with, modules_with, source_with}
 use Rattle.rr_body_laws.proofs.Whole.{bodies_elaborate}
 use Rattle.rr_lint_laws.specs.Clean.{AllImmediate, HasImmediate, IsClean, IsImmediateAt}

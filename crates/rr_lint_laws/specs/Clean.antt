@@ -6,7 +6,7 @@ use Rattle.rr_flat.specs.Lawful.{NoLatches}
 use Rattle.rr_flat.specs.Plain.{Flat}
 use Rattle.rr_flat.specs.Reads.{assigned_by}
 use Rattle.rr_flat.specs.Signals.{Text}
-use Rattle.rr_walk.specs.Walk.{flat_of, module_at}
+use Rattle.rr_flatten.specs.Walk.{flat_of, module_at}
 
 -- a body that assigns by `=` alone (IEEE 1364-2005 section 9.2.1)
 abbrev pub IsImmediate : Statement → Type 0

@@ -4,7 +4,7 @@ use Rattle.rr_syntax.specs.Items.{WellFormedSource}
 use Rattle.rr_syntax.specs.Tree.{SourceText}
 use Rattle.rr_flat.specs.Plain.{Flat}
 use Rattle.rr_flat.specs.Signals.{Text}
-use Rattle.rr_walk.specs.Walk.{flat_of}
+use Rattle.rr_flatten.specs.Walk.{flat_of}
 use Rattle.rr_body_laws.specs.Bodies.{source_with}
 use Rattle.rr_lint_laws.specs.Clean.{IsClean}
 use Rattle.rr_lint_laws.specs.Mended.{IsLint, Marks, mended_body}

@@ -7,7 +7,7 @@ use Rattle.std.proofs.lemmas.Slice.Eq.{bytes_eq-Decides}
 use Rattle.rr_syntax.specs.declared.tree.Named.{Named}
 use Rattle.rr_syntax.specs.Tree.{Identifier, Statement, Tree}
 use Rattle.rr_syntax.specs.View.{plain_identifier}
-use Rattle.rr_parts.specs.Names.{part_identifier}
+use Rattle.rr_text_names.specs.Names.{part_identifier}
 use Rattle.rr_expr.specs.declared.types.Bit.{Bit}
 use Rattle.rr_expr.specs.declared.types.Entity.{Entity}
 use Rattle.rr_expr.specs.declared.types.Entity.TheVariants.{Constant, Signal, Instance}

@@ -9,9 +9,9 @@ use Rattle.rr_syntax.specs.declared.tree.Named.{Named}
 use Rattle.rr_syntax.specs.View.{plain, plain_identifier}
 use Rattle.rr_flat.specs.Reads.{Assigned}
 use Rattle.rr_flat.specs.Targets.{part_name}
-use Rattle.rr_parts.specs.declared.lists.Target.{Target}
-use Rattle.rr_parts.specs.Names.{part_identifier}
-use Rattle.rr_parts.specs.View.{plain_target}
+use Rattle.rr_text_names.specs.declared.lists.Target.{Target}
+use Rattle.rr_text_names.specs.Names.{part_identifier}
+use Rattle.rr_text_names.specs.View.{plain_target}
 use Rattle.rr_lint_laws.specs.Mended.{each_once}
 use Rattle.rr_lint_names.proofs.Latching.{name_text}
 

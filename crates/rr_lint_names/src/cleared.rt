@@ -8,8 +8,8 @@ ghost use Rattle.rr_lint_names.specs.Latched.{marks};
 
 use crate::noted::Noted;
 use rr_guard::TextSet;
-use rr_parts::{add_assigned_targets, identifier_of};
 use rr_syntax::Stmt;
+use rr_text_names::{add_assigned_targets, identifier_of};
 use std::alloc::{AllocError, Global};
 
 /// Adds a name to others, where it is noted and has not been seen.

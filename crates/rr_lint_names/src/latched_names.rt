@@ -5,7 +5,7 @@ ghost use Rattle.indexmap.specs.IndexMap.{get};
 ghost use Rattle.rr_syntax.specs.View.{plain_statement};
 ghost use Rattle.rr_flat.specs.Shapes.{statement_faults};
 ghost use Rattle.rr_flat.specs.View.{plain_flat};
-ghost use Rattle.rr_parts.specs.View.{plain_target};
+ghost use Rattle.rr_text_names.specs.View.{plain_target};
 ghost use Rattle.rr_latch.specs.Rooms.{IsBlank};
 ghost use Rattle.rr_lint_laws.specs.Mended.{MarkLatched};
 ghost use Rattle.rr_lint_names.specs.Latched.{is_noted, marks, NotesKept};
@@ -16,7 +16,7 @@ use indexmap::IndexMap;
 use rr_expr::Scope;
 use rr_flat::{Block, Flat};
 use rr_latch::{Room, latched_bits};
-use rr_parts::{Target, add_assigned_targets, identifier_of};
+use rr_text_names::{Target, add_assigned_targets, identifier_of};
 use std::alloc::{AllocError, Global};
 
 /// Notes the name of a target, where a bit of its signal is kept.

@@ -5,7 +5,7 @@ ghost use Rattle.indexmap.specs.IndexSet.{contains};
 ghost use Rattle.rr_syntax.specs.View.{plain_item, plain_module, plain_source, plain_statement, texts};
 ghost use Rattle.rr_flat.specs.Signals.{Text};
 ghost use Rattle.rr_flat.specs.View.{plain_flat};
-ghost use Rattle.rr_walk.specs.Walk.{flat_of};
+ghost use Rattle.rr_flatten.specs.Walk.{flat_of};
 ghost use Rattle.rr_body_laws.specs.Bodies.{item_with, module_with, modules_with, source_with};
 ghost use Rattle.rr_lint_laws.specs.Mended.{cleared as cleared_of, mended_body, with_defaults as with_defaults_of, IsLint};
 ghost use Rattle.rr_lint_names.specs.Faults.{IsMemory};

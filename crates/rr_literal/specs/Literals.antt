@@ -4,7 +4,7 @@ use Rattle.rr_syntax.specs.declared.token.Number.{Number}
 use Rattle.rr_syntax.specs.Tree.{ModuleDeclaration}
 use Rattle.rr_choice.specs.Sites as sites
 use Rattle.rr_choice.specs.Sites.{Site, SiteKind, value_width}
-use Rattle.rr_spots.specs.Spots.{Spot, Body, Test, Value, spots_of_item}
+use Rattle.rr_change_places.specs.Spots.{Spot, Body, Test, Value, spots_of_item}
 
 -- a literal without x or z digits
 abbrev pub is_known : Number → Bool

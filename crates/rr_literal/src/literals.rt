@@ -3,11 +3,11 @@
 ghost use Rattle.std.specs.Prelude.{◌≡◌, ◌++◌, IfOk, OnOk, flat_map};
 ghost use Rattle.rr_syntax.specs.View.{plain_item, plain_module};
 ghost use Rattle.rr_choice.specs.View.{plain_sites};
-ghost use Rattle.rr_spots.specs.Spots.{spots_of_item as spots_in_item};
-ghost use Rattle.rr_spots.specs.View.{plain_spot, plain_spots};
+ghost use Rattle.rr_change_places.specs.Spots.{spots_of_item as spots_in_item};
+ghost use Rattle.rr_change_places.specs.View.{plain_spot, plain_spots};
 ghost use Rattle.rr_literal.specs.Literals.{literal_at, literal_sites};
 
-use rr_spots::{Spot, spots_of_item};
+use rr_change_places::{Spot, spots_of_item};
 use rr_syntax::{Item, Module, ModulePlace, Site, SiteKind};
 use std::alloc::{AllocError, Global};
 

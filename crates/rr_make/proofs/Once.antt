@@ -1,7 +1,7 @@
 -- A seed has one summary, and each answer tells it, or that there is none, or leaves this open.
 use Rattle.std.proofs.Common.{◌∙◌, inl, inr, ℕ, List, sym, ap}
-use Rattle.rr_made.specs.Made.{made_design, made_table}
-use Rattle.rr_report.specs.Found.{Answer}
+use Rattle.rr_made_input.specs.Made.{made_design, made_table}
+use Rattle.rr_endings.specs.Found.{Answer}
 use Rattle.rr_outcomes.proofs.Alike.{count_mends, one_least}
 use Rattle.rr_outcomes.proofs.Once.{mendable_or_not}
 use Rattle.rr_make.specs.Makes.{EachMake, IsNeverMade, IsUnmade, OneSummary, SummaryOrNone, made_request, summary}

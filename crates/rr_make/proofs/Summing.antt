@@ -1,7 +1,7 @@
 -- What is done for a repair of the made input.
 use Rattle.std.proofs.Common.{◌≡◌, ◌∙◌, inl, inr, ℕ, List, [], sym, ap, subst, arith}
-use Rattle.rr_made.specs.Made.{made_design, made_table}
-use Rattle.rr_report.specs.Found.{Answer, File}
+use Rattle.rr_made_input.specs.Made.{made_design, made_table}
+use Rattle.rr_endings.specs.Found.{Answer, File}
 use Rattle.rr_repair.specs.Repairs.{CountsRepair}
 use Rattle.rr_outcomes.specs.Laws.{TellsOutcome}
 use Rattle.rr_outcomes.specs.Outcomes.{IsDespaired}

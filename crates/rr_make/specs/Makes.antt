@@ -1,10 +1,10 @@
 -- What the made input of a seed comes to: the least number of changes with which its design matches its table, told by a
 -- summary, or that no changes do; and what an answer tells of it. No search stands in it.
 use Rattle.std.specs.Prelude.{◌≡◌, ◌⊎◌, ℕ, List, [], ◌++◌, None, codes, decimal}
-use Rattle.rr_made.specs.Made.{made_design, made_table}
+use Rattle.rr_made_input.specs.Made.{made_design, made_table}
 use Rattle.rr_run.specs.declared.rows.TableKind.TheVariants.{Csv}
-use Rattle.rr_report.specs.Found.{Answer}
-use Rattle.rr_report.specs.Refusals.{Refusal}
+use Rattle.rr_endings.specs.Found.{Answer}
+use Rattle.rr_endings.specs.Refusals.{Refusal}
 use Rattle.rr_repair.specs.Repairs.{IsLeastCount, RefusesRepair, PlainRequest}
 use Rattle.rr_outcomes.specs.Outcomes.{IsDespaired, IsLeftOpen, IsMended, IsUnmendable}
 

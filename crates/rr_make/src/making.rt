@@ -1,14 +1,14 @@
 //! The made input, repaired.
 ghost use Rattle.std.specs.Prelude.{◌≡◌, ◌≤◌, ℕ, IfOk, MatchResult, length, string_bytes};
-ghost use Rattle.rr_made.specs.Made.{made_design, made_table};
+ghost use Rattle.rr_made_input.specs.Made.{made_design, made_table};
 ghost use Rattle.rr_repair.specs.Repairs.{CountsRepair};
-ghost use Rattle.rr_report.specs.Views.{plain_answer, StopsWhere};
+ghost use Rattle.rr_endings.specs.Views.{plain_answer, StopsWhere};
 ghost use Rattle.rr_make.specs.Makes.{AnswersMake, RefusesMake, made_request, summary};
 
 use bumpalo::Bump;
-use rr_made::{Input, made};
+use rr_endings::{Found, Piece, Stop, Text};
+use rr_made_input::{Input, made};
 use rr_repair::{Counted, Request, repair_counted};
-use rr_report::{Found, Piece, Stop, Text};
 use rr_run::TableKind;
 use std::alloc::{AllocError, Global};
 use std::thread::Threads;

@@ -14,10 +14,10 @@ use Rattle.rr_flat.specs.Reads.{writes}
 use Rattle.rr_flat.specs.View.{plain_block as block_view}
 use Rattle.rr_flat.specs.Writers.{scope_at}
 use Rattle.rr_cycle.specs.Performing.{any_writes}
-use Rattle.rr_target.specs.declared.piece.Piece.{Piece}
-use Rattle.rr_target.specs.declared.writes.Write.{Write}
-use Rattle.rr_target.specs.Lists.{may}
-use Rattle.rr_target.specs.Pieces.{covers}
+use Rattle.rr_named_bits.specs.declared.piece.Piece.{Piece}
+use Rattle.rr_named_bits.specs.declared.writes.Write.{Write}
+use Rattle.rr_named_bits.specs.Lists.{may}
+use Rattle.rr_named_bits.specs.Pieces.{covers}
 use Rattle.rr_cycle.specs.Cycles.{zeros}
 use Rattle.rr_cycle.specs.Exec.{Environment}
 use Rattle.rr_exec.proofs.Pieces.{env_set}

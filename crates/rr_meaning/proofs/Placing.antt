@@ -16,9 +16,9 @@ use Rattle.rr_flat.specs.View.{plain_signal}
 use Rattle.rr_flat.specs.View.{Design, plain_flat}
 use Rattle.rr_flat.specs.Plain.{Whole}
 use Rattle.rr_flat.specs.Writers.{driven_by, signal_bits}
-use Rattle.rr_target.specs.declared.piece.Piece.{Piece}
-use Rattle.rr_target.specs.Pieces.{all_bits, bit_in, bits_of}
-use Rattle.rr_target.proofs.Runs.{covers_in}
+use Rattle.rr_named_bits.specs.declared.piece.Piece.{Piece}
+use Rattle.rr_named_bits.specs.Pieces.{all_bits, bit_in, bits_of}
+use Rattle.rr_named_bits.proofs.Runs.{covers_in}
 use Rattle.rr_cycle.specs.Cycles.{bit_value, signal_value}
 use Rattle.rr_cycle.specs.Exec.{Environment, put, write}
 use Rattle.rr_cycle.proofs.Wiring.{length_there}

@@ -23,7 +23,7 @@ use rr_bits::Bits;
 use rr_exec::{Machine, apply, execute};
 use rr_expr::Env;
 use rr_flat::{Flat, Order, Step};
-use rr_target::no_values;
+use rr_named_bits::no_values;
 use std::alloc::{AllocError, Global};
 
 /// A machine on an environment, with nothing that waits.

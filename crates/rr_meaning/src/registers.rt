@@ -4,15 +4,15 @@ ghost use Rattle.rr_expr.specs.Scopes.{env_of};
 ghost use Rattle.rr_expr.specs.declared.types.Bit.{Bit as FlatBit};
 ghost use Rattle.rr_flat.specs.Signals.{signal_at};
 ghost use Rattle.rr_flat.specs.View.{plain_flat};
-ghost use Rattle.rr_target.specs.Lists.{may};
-ghost use Rattle.rr_target.specs.Pieces.{covers};
+ghost use Rattle.rr_named_bits.specs.Lists.{may};
+ghost use Rattle.rr_named_bits.specs.Pieces.{covers};
 ghost use Rattle.rr_cycle.specs.Performing.{any_writes};
 ghost use Rattle.rr_exec.specs.Work.{Fits};
 
 use rr_bits::Bits;
 use rr_exec::merged;
 use rr_flat::Flat;
-use rr_target::{Piece, Write};
+use rr_named_bits::{Piece, Write};
 use rr_writers::add_assigned_bits;
 use std::alloc::{AllocError, Global};
 

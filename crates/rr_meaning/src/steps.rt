@@ -5,7 +5,7 @@ ghost use Rattle.rr_flat.specs.Ordered.{IsStep};
 ghost use Rattle.rr_flat.specs.View.{plain_driver, plain_flat, plain_side};
 ghost use Rattle.rr_flat.specs.Sound.{IsDriver, IsSide};
 ghost use Rattle.rr_flat.specs.Writers.{driven_by};
-ghost use Rattle.rr_target.specs.Pieces.{all_bits};
+ghost use Rattle.rr_named_bits.specs.Pieces.{all_bits};
 ghost use Rattle.rr_cycle.specs.Cycles.{side_shape as shape_of_side, side_value as value_of_side, signal_value as value_of_signal};
 ghost use Rattle.rr_cycle.specs.Exec.{put, write as write_of};
 ghost use Rattle.rr_cycle.specs.Performing.{act};
@@ -16,7 +16,7 @@ use rr_bits::Bits;
 use rr_exec::{Machine, execute, merged, own_shape, write_pieces};
 use rr_expr::{Bit, Env, Shape, value};
 use rr_flat::{Driver, Flat, Side, Step};
-use rr_target::{Piece, add_pieces, named_bit, push_piece};
+use rr_named_bits::{Piece, add_pieces, named_bit, push_piece};
 use rr_wiring::{is_concatenation, own_bit};
 use std::alloc::AllocError;
 

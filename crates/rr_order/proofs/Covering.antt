@@ -2,10 +2,10 @@
 use Rattle.std.proofs.Common.{◌≡◌, ℕ, zero, suc, ◌+◌, ◌≤◌, ◌<◌, inl, inr, List, [], ◌∷◌, length, get_or, take, Bool, true, false, not, ◌&&◌, ◌||◌, nat_eq, nat_lt, refl, ap, sym, ◌∙◌, subst, arith}
 use Rattle.std.proofs.lemmas.Bool.{and_parts, and_from, eqb-true, eq-eqb, both_ways, or_cases, ltb-true}
 use Rattle.rr_expr.specs.declared.types.Bit.{Bit}
-use Rattle.rr_target.specs.declared.piece.Piece.{Piece}
-use Rattle.rr_target.specs.declared.writes.Write.{Write}
-use Rattle.rr_target.specs.Lists.{covered, may}
-use Rattle.rr_target.specs.Pieces.{covers}
+use Rattle.rr_named_bits.specs.declared.piece.Piece.{Piece}
+use Rattle.rr_named_bits.specs.declared.writes.Write.{Write}
+use Rattle.rr_named_bits.specs.Lists.{covered, may}
+use Rattle.rr_named_bits.specs.Pieces.{covers}
 use Rattle.rr_order.specs.Nodes.{bit_node, IsRow, IsWritten, Added, Covered, Foreign}
 use Rattle.rr_flat.proofs.Bits.{or_left, or_right}
 use Rattle.rr_order.proofs.Lists.{row_none, row_more, written_none, written_more}

@@ -23,9 +23,9 @@ use Rattle.rr_flat.specs.Reads.{StatementReads}
 use Rattle.rr_flat.specs.Sound.{IsFlat, IsSignal, IsScope, IsDriver, IsSide}
 use Rattle.rr_flat.specs.View.{Design, plain_flat, plain_side, plain_driver, plain_block}
 use Rattle.rr_flat.specs.Writers.{scope_at, driver_at, block_at, no_driver, driven, SideReads, side_taken, side_signed, taken_at, NamesIf, wires, side_is_wiring, Writes, writes_at_all}
-use Rattle.rr_target.specs.declared.piece.Piece.{Piece}
-use Rattle.rr_target.specs.declared.writes.Write.{Write}
-use Rattle.rr_target.specs.Lists.{covered, may, Grown}
+use Rattle.rr_named_bits.specs.declared.piece.Piece.{Piece}
+use Rattle.rr_named_bits.specs.declared.writes.Write.{Write}
+use Rattle.rr_named_bits.specs.Lists.{covered, may, Grown}
 use Rattle.rr_sort.specs.Graphs.{names_of}
 use Rattle.rr_sort.proofs.Sorting.{get_old, get_new, graph_count}
 use Rattle.rr_order.specs.Nodes.{bit_node, widths, In, IsRow, IsWritten, Joined, IsGraphOf, IsNamedBy, IsWrittenBy, IsStepGraph, StepsTo, Foreign, Stamped, IsClosed, IsThere, total}

@@ -21,7 +21,7 @@ use Rattle.rr_flat.specs.Targets.{has_bit, is_bit_of, bits_there, target_bits, t
 use Rattle.rr_flat.specs.Writers.{scope_at, signal_bits, entity_of_signal, taken, all_taken, nothing}
 use Rattle.rr_order.specs.Nodes.{IsBit, IsClosed, widths}
 use Rattle.rr_flat.proofs.Bits.{has_append, one_of_name, bits_of_name}
-use Rattle.rr_target.proofs.Runs.{of_is}
+use Rattle.rr_named_bits.proofs.Runs.{of_is}
 
 -- a bit of what some name stands for
 abbrev pub Of : Names → Bit → Type 0

@@ -15,9 +15,9 @@ use Rattle.rr_expr.specs.Reading.{NamesBit, NamesBits}
 use Rattle.rr_expr.specs.Scopes.{Names}
 use Rattle.rr_flat.specs.Reads.{StatementReads, StatementsRead, ArmsRead, TargetReads}
 use Rattle.rr_flat.specs.Shapes.{list_faults, statement_faults, statements_faults, arms_faults}
-use Rattle.rr_target.specs.declared.piece.Piece.{Piece}
-use Rattle.rr_target.specs.Lists.{Grown}
-use Rattle.rr_target.proofs.Growing.{grown_none, grown_both, grown_same, rest_is}
+use Rattle.rr_named_bits.specs.declared.piece.Piece.{Piece}
+use Rattle.rr_named_bits.specs.Lists.{Grown}
+use Rattle.rr_named_bits.proofs.Growing.{grown_none, grown_both, grown_same, rest_is}
 use Rattle.rr_writers.proofs.Statements.{shaped-If, shaped-IfElse, labels_shaped, statements_shaped, arms_shaped}
 use denote.Ref.{Bor}
 

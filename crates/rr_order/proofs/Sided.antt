@@ -13,15 +13,15 @@ use Rattle.rr_flat.specs.declared.design.Side as declared_side
 use Rattle.rr_flat.specs.declared.design.Side.TheVariants as side
 use Rattle.rr_flat.specs.View.{Design, plain_flat, plain_side}
 use Rattle.rr_flat.specs.Writers.{scope_at, signal_bits, side_taken, taken, SideReads, side_is_wiring, is_wiring, side_signed}
-use Rattle.rr_target.specs.declared.piece.Piece.{Piece}
-use Rattle.rr_target.specs.Lists.{Grown}
-use Rattle.rr_target.specs.Pieces.{bits_of, all_bits, covers}
-use Rattle.rr_target.proofs.Growing.{grown_push}
+use Rattle.rr_named_bits.specs.declared.piece.Piece.{Piece}
+use Rattle.rr_named_bits.specs.Lists.{Grown}
+use Rattle.rr_named_bits.specs.Pieces.{bits_of, all_bits, covers}
+use Rattle.rr_named_bits.proofs.Growing.{grown_push}
 use Rattle.std.proofs.lemmas.Int.{ints}
 use Rattle.rr_expr.specs.declared.types.Shape.{Shape}
 use Rattle.rr_expr.specs.Values.{form}
 use Rattle.rr_flat.specs.Plain.{Whole}
-use Rattle.rr_target.proofs.Runs.{run_of, in_has, covers_in}
+use Rattle.rr_named_bits.proofs.Runs.{run_of, in_has, covers_in}
 use denote.Ref.{Bor}
 
 pub one_piece : (ps : List Piece) (p : Piece) (old bits : List (Option Bit)) → all_bits ps ≡ bits_of p ++ old → old ≡ [] → bits_of p ≡ bits → all_bits ps ≡ bits

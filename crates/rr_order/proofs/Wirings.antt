@@ -14,11 +14,11 @@ use Rattle.rr_expr.specs.Faults.{fault, faults}
 use Rattle.rr_expr.specs.Scopes.{Names, env_of}
 use Rattle.rr_flat.specs.Targets.{is_constant, target_bits, bits_there}
 use Rattle.rr_flat.specs.Writers.{is_wiring, are_wiring, taken, all_taken, nothing}
-use Rattle.rr_target.specs.declared.piece.Piece.{Piece}
-use Rattle.rr_target.specs.Pieces.{bits_of, bits_in, bit_in, all_bits}
-use Rattle.rr_target.proofs.Growing.{rest_is}
+use Rattle.rr_named_bits.specs.declared.piece.Piece.{Piece}
+use Rattle.rr_named_bits.specs.Pieces.{bits_of, bits_in, bit_in, all_bits}
+use Rattle.rr_named_bits.proofs.Growing.{rest_is}
 use Rattle.rr_flat.proofs.Relaxing.{none_parts}
-use Rattle.rr_target.proofs.Runs.{run_of, instance_run}
+use Rattle.rr_named_bits.proofs.Runs.{run_of, instance_run}
 use denote.Ref.{Bor}
 
 pub wiring-Name : (s : Names) (token : ℕ) (name : Bor (List ℕ)) → is_wiring s (plain (expr.Name token name)) ≡ true

@@ -1,6 +1,6 @@
 //! The order of the steps of a flat design, or a combinational loop (IEEE 1364-2005 sections 6.1 and
 //! 9). It is right where each bit is written before a step reads it, or the bits of the answer name
-//! each other in a ring. It stands on `rr_sort`'s graphs and `rr_target`'s pieces.
+//! each other in a ring. It stands on `rr_sort`'s graphs and `rr_named_bits`'s pieces.
 #![tactic(auto)]
 
 ghost use Rattle.std.specs.Prelude.{List};

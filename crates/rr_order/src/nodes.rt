@@ -1,13 +1,13 @@
 //! Lists of nodes.
 ghost use Rattle.std.specs.Prelude.{◌≡◌, ◌≤◌, ◌<◌, ◌++◌, ◌∷◌, [], ℕ, length, get_or, IfOk, OnOk, true, Some};
 ghost use Rattle.rr_flat.specs.View.{plain_flat};
-ghost use Rattle.rr_target.specs.Lists.{may};
+ghost use Rattle.rr_named_bits.specs.Lists.{may};
 ghost use Rattle.rr_order.specs.Nodes.{Added, Foreign, In, IsLayout, IsWritten, Stamped, total, widths};
 
 use crate::layout::{Layout, node_of};
 use rr_expr::Bit;
 use rr_flat::Flat;
-use rr_target::Write;
+use rr_named_bits::Write;
 use std::alloc::{AllocError, Global};
 
 pub(crate) fn push_node(nodes: &mut Vec<usize>, node: usize) -> Result<(), AllocError>

@@ -4,11 +4,11 @@ ghost use Rattle.rr_syntax.specs.View.{plain_arms, plain_list, plain_statement, 
 ghost use Rattle.rr_expr.specs.Reading.{NamesBits};
 ghost use Rattle.rr_flat.specs.Reads.{ArmsRead, StatementReads, StatementsRead};
 ghost use Rattle.rr_flat.specs.Shapes.{arms_faults, list_faults, statement_faults, statements_faults};
-ghost use Rattle.rr_target.specs.Lists.{Grown};
+ghost use Rattle.rr_named_bits.specs.Lists.{Grown};
 
 use rr_expr::Scope;
+use rr_named_bits::{Piece, add_named_bits, add_target_reads};
 use rr_syntax::{Arm, Expr, Stmt};
-use rr_target::{Piece, add_named_bits, add_target_reads};
 use std::alloc::{AllocError, Global};
 
 /// Adds the bits that a statement reads on some path: those that its expressions, and the indices of

@@ -2,14 +2,14 @@
 ghost use Rattle.std.specs.Prelude.{◌≡◌, ◌≤◌, ◌<◌, ◌+◌, ℕ, length, get_or, IfOk, OnOk, true};
 ghost use Rattle.rr_expr.specs.declared.types.Bit.{Bit};
 ghost use Rattle.rr_flat.specs.View.{plain_flat};
-ghost use Rattle.rr_target.specs.Lists.{covered};
-ghost use Rattle.rr_target.specs.Pieces.{covers};
+ghost use Rattle.rr_named_bits.specs.Lists.{covered};
+ghost use Rattle.rr_named_bits.specs.Pieces.{covers};
 ghost use Rattle.rr_order.specs.Nodes.{Covered, Foreign, IsBit, IsLayout, IsRow, total, widths};
 
 use crate::layout::{Layout, signal_count, width_of};
 use crate::nodes::{add_places, push_node};
 use rr_flat::Flat;
-use rr_target::Piece;
+use rr_named_bits::Piece;
 use std::alloc::{AllocError, Global};
 
 /// The nodes of the bits of these pieces without those that have this stamp, with one node for a signal

@@ -4,13 +4,13 @@ ghost use Rattle.rr_flat.specs.Plain.{Whole};
 ghost use Rattle.rr_flat.specs.Sound.{IsSide};
 ghost use Rattle.rr_flat.specs.View.{plain_flat, plain_side};
 ghost use Rattle.rr_flat.specs.Writers.{SideReads, driven_by, side_is_wiring, side_signed, side_taken};
-ghost use Rattle.rr_target.specs.Lists.{Grown};
-ghost use Rattle.rr_target.specs.Pieces.{all_bits};
+ghost use Rattle.rr_named_bits.specs.Lists.{Grown};
+ghost use Rattle.rr_named_bits.specs.Pieces.{all_bits};
 
 use crate::wiring::{add_taken, bits_of_all, is_wiring};
 use rr_expr::{Bit, shape};
 use rr_flat::{Flat, Side};
-use rr_target::{Piece, add_driven, add_named_bits, no_values, push_piece};
+use rr_named_bits::{Piece, add_driven, add_named_bits, no_values, push_piece};
 use std::alloc::{AllocError, Global};
 
 /// The bits of a side as a target, lowest first; its indices are constant.

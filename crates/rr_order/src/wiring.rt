@@ -3,12 +3,12 @@ ghost use Rattle.std.specs.Prelude.{◌≡◌, ◌++◌, [], IfOk, OnOk, None, f
 ghost use Rattle.rr_syntax.specs.View.{plain, plain_list};
 ghost use Rattle.rr_expr.specs.Faults.{fault, faults};
 ghost use Rattle.rr_flat.specs.Writers.{all_taken, are_wiring as are_wiring_in, is_wiring as is_wiring_in, taken, taken_at as taken_at_place};
-ghost use Rattle.rr_target.specs.Pieces.{all_bits, bits_of};
+ghost use Rattle.rr_named_bits.specs.Pieces.{all_bits, bits_of};
 
 use rr_expr::{Bit, Env, Scope};
 use rr_flat::is_constant;
+use rr_named_bits::{Piece, add_pieces, push_piece};
 use rr_syntax::Expr;
-use rr_target::{Piece, add_pieces, push_piece};
 use std::alloc::{AllocError, Global};
 
 /// Whether an expression only takes bits: a name, a select with constant indices, a literal, or a

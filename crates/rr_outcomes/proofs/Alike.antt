@@ -14,7 +14,7 @@ use Rattle.rr_search.specs.Least.{Least}
 use Rattle.rr_kept.specs.Read.{SourceFile}
 use Rattle.rr_run.specs.declared.rows.TableKind.{TableKind}
 use Rattle.rr_run.specs.Rows.{ReadsTable}
-use Rattle.rr_report.specs.Found.{Answer}
+use Rattle.rr_endings.specs.Found.{Answer}
 use Rattle.rr_repair.specs.Repairs.{IsLeastCount, IsSited, IsTaken, PlainRequest, design_of}
 use Rattle.rr_outcomes.specs.Laws.{AreAlike, CountsAgree, IsOneTaking, OneCount, OneVerdict, TellsOutcome}
 use Rattle.rr_outcomes.specs.Outcomes.{IsMendable, IsUnmendable}

@@ -19,9 +19,9 @@ use Rattle.rr_run.specs.Files.{HasNoFileTable, IsFileDesign, placed_tokens}
 use Rattle.rr_kept.specs.Read.{SourceFile}
 use Rattle.rr_run.proofs.Reading.{moved_reading, one_reading, read_or_refused}
 use Rattle.rr_run.proofs.FileOnce.{one_file_design, one_file_refused}
-use Rattle.rr_sites.specs.Lines.{site_lines}
-use Rattle.rr_sites.specs.Lists.{HasFileSites, RefusesSites}
-use Rattle.rr_sites.proofs.Once.{lawful_of as file_of, one_file, text_or_refusal, one_refusal as one_site_refusal}
+use Rattle.rr_sites_command.specs.Lines.{site_lines}
+use Rattle.rr_sites_command.specs.Lists.{HasFileSites, RefusesSites}
+use Rattle.rr_sites_command.proofs.Once.{lawful_of as file_of, one_file, text_or_refusal, one_refusal as one_site_refusal}
 use Rattle.rr_repair.specs.Repairs.{HasMuchWork, HasNoTable, IsSited, IsTaken, Refuses, PlainRequest, design_of, work_of}
 use Rattle.rr_outcomes.specs.Laws.{IsOneTaking, OneTaking, OneRefusal, TakenOrRefused, MendableOrNot, MatchingIsMendable}
 

@@ -5,7 +5,7 @@ use Rattle.rr_choice.specs.Choices.{total_bits}
 use Rattle.rr_choice.specs.Sites.{Site}
 use Rattle.rr_trace.specs.Tables.{Table}
 use Rattle.rr_unroll.specs.Matches.{Matches}
-use Rattle.rr_report.specs.Found.{Answer}
+use Rattle.rr_endings.specs.Found.{Answer}
 use Rattle.rr_repair.specs.Repairs.{IsAnswer, IsBeyond, IsFound, IsNothingFound, IsOpen, IsRepaired, IsTaken, IsUnchanged, PlainRequest, design_of}
 use Rattle.rr_outcomes.specs.Outcomes.{IsAsItWas, IsMatchingSource}
 use Rattle.rr_outcomes.specs.Laws.{AmpleSettles, EachAnswer, MatchingStays, PrintedIsMendable, PrintsFound, TellsOutcome}

@@ -5,7 +5,7 @@ use Rattle.rr_trace.specs.Tables.{Table}
 use Rattle.rr_kept.specs.Read.{SourceFile}
 use Rattle.rr_run.specs.Refusals.{Refusal as RunRefusal}
 use Rattle.rr_run.specs.Runs.{IsSameRefusal}
-use Rattle.rr_report.specs.Found.{Answer}
+use Rattle.rr_endings.specs.Found.{Answer}
 use Rattle.rr_repair.specs.Repairs.{AnswersRepair, CountsRepair, IsLeastCount, IsTaken, Refuses, PlainRequest}
 use Rattle.rr_outcomes.specs.Outcomes.{IsAmple, IsAsItWas, IsDespaired, IsLeftOpen, IsMatching, IsMatchingSource, IsMendable, IsMended, IsUnmendable}
 

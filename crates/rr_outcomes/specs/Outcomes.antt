@@ -10,8 +10,8 @@ use Rattle.rr_trace.specs.Tables.{Table}
 use Rattle.rr_transition.specs.Cycles.{instance_design}
 use Rattle.rr_unroll.specs.Matches.{Matches}
 use Rattle.rr_search.specs.Least.{NoneMatches}
-use Rattle.rr_report.specs.Found.{Answer}
-use Rattle.rr_answers.specs.Texts.{unchanged_text}
+use Rattle.rr_endings.specs.Found.{Answer}
+use Rattle.rr_repair_output.specs.Texts.{unchanged_text}
 use Rattle.rr_repair.specs.Repairs.{IsBeyond, IsOpen, IsRepaired, IsTaken, IsUnchanged, PlainRequest, design_of}
 
 -- ---- of two files

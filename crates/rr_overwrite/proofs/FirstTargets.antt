@@ -6,8 +6,8 @@ use Rattle.std.proofs.lemmas.List.{drop_all}
 use Rattle.rr_syntax.specs.Tree.{Statement}
 use Rattle.rr_flat.specs.Reads.{Assigned, assigned_by}
 use Rattle.rr_flat.specs.Signals.{Text}
-use Rattle.rr_parts.specs.declared.lists.Target.{Target as Part}
-use Rattle.rr_parts.specs.View.{plain_target}
+use Rattle.rr_text_names.specs.declared.lists.Target.{Target as Part}
+use Rattle.rr_text_names.specs.View.{plain_target}
 use Rattle.rr_guard.specs.Candidates.{is_among}
 use Rattle.rr_guard.specs.Names.{whole_name}
 use Rattle.rr_guard.proofs.Lists.{filter_same}

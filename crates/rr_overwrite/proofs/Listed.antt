@@ -9,7 +9,7 @@ use Rattle.rr_expr.specs.Faults.{is_width}
 use Rattle.rr_expr.specs.Scopes.{Names}
 use Rattle.rr_flat.specs.Signals.{Text}
 use Rattle.rr_instance.specs.Firsts.{first_token}
-use Rattle.rr_spots.specs.Spots.{Spot, Body, Test, Value, is_clocked, spots_of_item}
+use Rattle.rr_change_places.specs.Spots.{Spot, Body, Test, Value, is_clocked, spots_of_item}
 use Rattle.rr_guard.specs.Candidates.{is_among}
 use Rattle.rr_guard.proofs.Lists.{filter_same}
 use Rattle.rr_overwrite.specs.declared.variables.Variables.{Variables}

@@ -6,8 +6,8 @@ ghost use Rattle.rr_syntax.specs.View.{plain_identifier, plain_item, plain_modul
 ghost use Rattle.rr_expr.specs.Faults.{is_width};
 ghost use Rattle.rr_flat.specs.Signals.{Text};
 ghost use Rattle.rr_choice.specs.View.{plain_sites};
-ghost use Rattle.rr_spots.specs.Spots.{is_clocked as is_clocked_item, spots_of_item as spots_in_item};
-ghost use Rattle.rr_spots.specs.View.{plain_spot, plain_spots};
+ghost use Rattle.rr_change_places.specs.Spots.{is_clocked as is_clocked_item, spots_of_item as spots_in_item};
+ghost use Rattle.rr_change_places.specs.View.{plain_spot, plain_spots};
 ghost use Rattle.rr_guard.specs.Candidates.{AreGuardNames, is_among};
 ghost use Rattle.rr_guard.specs.Names.{first_names};
 ghost use Rattle.rr_overwrite.specs.Overwrites.{overwrite_of, overwrite_sites, overwrites_at, overwrites_of, width_in};
@@ -16,10 +16,10 @@ ghost use Rattle.rr_overwrite.specs.Variables.{AreFit, AreVariables, may_be, pla
 use crate::targets::{WholeTarget, targets_of};
 use crate::variables::{Variables, variables_of};
 use bumpalo::Bump;
+use rr_change_places::{Spot, is_clocked, spots_of_item};
 use rr_expr::{Scope, entity_shape};
 use rr_guard::{GuardNames, guard_names, names_before};
 use rr_instance::first_token;
-use rr_spots::{Spot, is_clocked, spots_of_item};
 use rr_syntax::{Item, Module, ModulePlace, Named, Site, SiteKind, Stmt};
 use std::alloc::{AllocError, Global};
 

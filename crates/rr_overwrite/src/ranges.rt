@@ -5,8 +5,8 @@ ghost use Rattle.rr_syntax.specs.View.{plain, plain_range};
 ghost use Rattle.rr_flat.specs.Reads.{names_in};
 ghost use Rattle.rr_overwrite.specs.Overwrites.{is_open as is_open_range};
 
-use rr_parts::add_names;
 use rr_syntax::{Bounds, Expr};
+use rr_text_names::add_names;
 use std::alloc::{AllocError, Global};
 
 /// Whether a name stands in one of two expressions.

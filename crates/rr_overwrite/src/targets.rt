@@ -2,13 +2,13 @@
 
 ghost use Rattle.std.specs.Prelude.{◌≡◌, ◌++◌, IfOk, OnOk, filter, flat_map, map};
 ghost use Rattle.rr_syntax.specs.View.{plain_statement};
-ghost use Rattle.rr_parts.specs.View.{plain_target};
+ghost use Rattle.rr_text_names.specs.View.{plain_target};
 ghost use Rattle.rr_overwrite.specs.Overwrites.{first_targets as first_targets_of, targets_of as targets_in, whole_target};
 ghost use Rattle.rr_overwrite.specs.Variables.{new_target, plain_whole};
 
 use rr_guard::{TextSet, whole_name};
-use rr_parts::{Target, add_assigned_targets};
 use rr_syntax::Stmt;
+use rr_text_names::{Target, add_assigned_targets};
 use std::alloc::{AllocError, Global};
 
 /// A variable that is assigned as a whole, by `=` where it is blocking (IEEE 1364-2005 section 9.2).

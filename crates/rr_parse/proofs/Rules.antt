@@ -12,7 +12,7 @@ use Rattle.rr_syntax.specs.Expressions.{spell, spell_parts, spell_more, WellForm
 use Rattle.rr_syntax.specs.Statements.{spell_label, spell_labels, spell_statement, spell_statements, spell_arm, spell_arms, is_case, WellFormedStatement, WellFormedStatements, WellFormedArm, WellFormedArms}
 use Rattle.rr_syntax.specs.Items as items
 use Rattle.rr_syntax.specs.Items.{spell_each, spell_separated, spell_all, spell_where, spell_identifier, spell_range, spell_type, spell_dir, spell_port, spell_assignment, spell_parameter, spell_value, spell_declarator, spell_pair, spell_edge, spell_more_edges, spell_edges, spell_more_levels, spell_levels, spell_events, spell_optional, spell_connection, spell_connections, spell_overrides, spell_instance, spell_item, spell_parameters, spell_ports, spell_module, spell_source, separator, WellFormedRange, WellFormedPort, WellFormedAssignment, WellFormedParameter, WellFormedValue, WellFormedDeclarator, WellFormedPair, WellFormedEvents, WellFormedConnection, WellFormedConnections, WellFormedOverrides, WellFormedInstance, WellFormedItem, WellFormedHead, WellFormedModule, WellFormedSource}
-use Rattle.rr_profile.specs.Profile.{is_used, is_cast, opens, is_outside, has_no_rule, NoneOutside}
+use Rattle.rr_outside_words.specs.Profile.{is_used, is_cast, opens, is_outside, has_no_rule, NoneOutside}
 
 -- each of these words has a rule, whatever stands behind them
 record Ruled (ws : List Word) : Type 0 where

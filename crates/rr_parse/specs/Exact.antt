@@ -6,7 +6,7 @@ use Rattle.rr_syntax.specs.Words.{words}
 use Rattle.rr_syntax.specs.View.{plain_source}
 use Rattle.rr_parse_expr.specs.declared.expression.ParseFault.{ParseFault}
 use Rattle.rr_parse_expr.specs.declared.expression.ParseFault.TheVariants.{Unsupported, Syntax, Memory}
-use Rattle.rr_profile.specs.Profile.{NoneOutside, IsFirstOutside}
+use Rattle.rr_outside_words.specs.Profile.{NoneOutside, IsFirstOutside}
 use Rattle.rr_grammar.specs.Trees.{IsNumberedTree, NoneSpells}
 
 -- the tree is that of the tokens, and each leaf has its token's number

@@ -7,10 +7,10 @@ ghost use Rattle.rr_parse.specs.Exact.{IsParsed, IsRefusal, IsSpelled, NotSpelle
 
 use crate::modules::modules;
 use bumpalo::Bump;
+use rr_outside_words::first_outside;
 use rr_parse_expr::{Input, ParseFault};
-use rr_profile::first_outside;
-use rr_stop::stop;
 use rr_syntax::{Source, Token};
+use rr_syntax_place::stop;
 
 /// The one well-formed source text (IEEE 1364-2005 annex A.1.2) that the tokens spell, of depth at most
 /// 500, with the number of its token at each leaf; it lies in the arena. `Unsupported` comes exactly

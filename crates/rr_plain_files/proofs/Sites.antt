@@ -18,11 +18,11 @@ use Rattle.rr_choice.specs.Sites as sites
 use Rattle.rr_choice.specs.Sites.{Site, SiteKind}
 use Rattle.rr_lawful_instance.specs.Listed.{IsRight, KindIsRight}
 use Rattle.rr_kept.specs.Kept.{body_length_in, is_kept, kind_lifts, place_lifts, round_lifts, token_at, token_lifts}
-use Rattle.rr_place_laws.specs.Kinds.{IsSiteOf, guard, literal, overwrite}
-use Rattle.rr_place_laws.specs.Spelled.{IsSpelled, StandAt}
-use Rattle.rr_place_laws.proofs.Lists.{all_in, every_in}
-use Rattle.rr_sites.proofs.Given.{formed, numbered, right}
-use Rattle.rr_list_laws.proofs.Exactly.{file_lists_are_exact}
+use Rattle.rr_sites_complete.specs.Kinds.{IsSiteOf, guard, literal, overwrite}
+use Rattle.rr_sites_complete.specs.Spelled.{IsSpelled, StandAt}
+use Rattle.rr_sites_complete.proofs.Lists.{all_in, every_in}
+use Rattle.rr_sites_command.proofs.Given.{formed, numbered, right}
+use Rattle.rr_sites_exact.proofs.Exactly.{file_lists_are_exact}
 use Rattle.rr_plain_files.specs.Laws.{PlainKeepsAll}
 use Rattle.rr_plain_files.proofs.Bodies.{source_fits}
 use Rattle.rr_plain_files.proofs.Lifting.{plain_tokens_lift}

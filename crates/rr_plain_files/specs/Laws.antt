@@ -14,7 +14,7 @@ use Rattle.rr_respell.specs.Printing.{printed}
 use Rattle.rr_kept.specs.Kept.{place_lifts, token_at, token_lifts}
 use Rattle.rr_kept.specs.Read.{IsRead, SourceFile}
 use Rattle.rr_map.specs.Printed.{printed_file}
-use Rattle.rr_sites.specs.Lists.{HasFileSites}
+use Rattle.rr_sites_command.specs.Lists.{HasFileSites}
 
 -- neither // nor /* stands in these bytes, and no \ and no backtick
 unfoldable pub is_calm : List ℕ → Bool

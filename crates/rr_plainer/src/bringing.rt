@@ -5,7 +5,7 @@ ghost use Rattle.rr_choice.specs.Choices.{IsChoice};
 use crate::source::Near;
 use crate::walking::first_miss;
 use rr_choice::{Choice, SiteList, decode, form_width, guard_names, site_bits, value_width};
-use rr_encode::encode;
+use rr_choice_bits::encode;
 use rr_syntax::{Site, SiteKind};
 use rr_trace::Table;
 use rr_transition::Transition;

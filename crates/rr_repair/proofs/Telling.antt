@@ -11,7 +11,7 @@ use Rattle.rr_tseitin.specs.Tseitin.{formula_of}
 use Rattle.rr_derive.specs.Derive.{Proof, Refutes}
 use Rattle.rr_derive.specs.Lrat.{AreWritable, lrat}
 use Rattle.rr_check.specs.declared.verdict.Verdict.TheVariants.{Accepted}
-use Rattle.rr_certify.specs.Certificates.{IsJudged}
+use Rattle.rr_check_certificate.specs.Certificates.{IsJudged}
 use Rattle.rr_flat.specs.Inputs.{row_inputs}
 use Rattle.rr_flat.specs.Plain.{Flat}
 use Rattle.rr_flat.specs.declared.fault.Limit.TheVariants as limit
@@ -37,21 +37,21 @@ use Rattle.rr_blast.proofs.FitLaws.{row_length}
 use Rattle.rr_transition.specs.Cycles.{Cycle, Design, widths_of}
 use Rattle.rr_transition.specs.Transitions.{Transition}
 use Rattle.rr_unroll.specs.Matches.{FitsOutputs}
-use Rattle.rr_table_laws.proofs.Standing.{samples_stand, tables_stand}
-use Rattle.rr_site_names.proofs.Written.{names_are_written}
+use Rattle.rr_table_fits.proofs.Standing.{samples_stand, tables_stand}
+use Rattle.rr_sites_written.proofs.Written.{names_are_written}
 use Rattle.rr_respell.specs.Laws.{AreNamed}
 use Rattle.rr_elaborate.specs.Designs.{IsText}
-use Rattle.rr_walk.specs.Walk.{flat_of}
-use Rattle.rr_sites.specs.Lists.{AreSites, HasFileSites}
+use Rattle.rr_flatten.specs.Walk.{flat_of}
+use Rattle.rr_sites_command.specs.Lists.{AreSites, HasFileSites}
 use Rattle.rr_directive.specs.Expand.{IsExpansion}
 use Rattle.rr_kept.specs.Kept.{AreKept}
 use Rattle.rr_kept.specs.Read.{IsRead, SourceFile}
 use Rattle.rr_kept.proofs.Together.{kept_are_named}
 use Rattle.rr_map.specs.Printed.{printed_file, printed_text, ExpandsTo}
 use Rattle.rr_run.specs.Files.{placed_tokens}
-use Rattle.rr_changes.specs.Texts.{report}
-use Rattle.rr_report.specs.Found.{Answer}
-use Rattle.rr_report.specs.Views.{stop_from, StopsWhere}
+use Rattle.rr_repair_report.specs.Texts.{report}
+use Rattle.rr_endings.specs.Found.{Answer}
+use Rattle.rr_endings.specs.Views.{stop_from, StopsWhere}
 use Rattle.rr_search.specs.declared.answer.Answer.{Answer as SearchAnswer}
 use Rattle.rr_search.specs.declared.answer.Answer.TheVariants as found
 use Rattle.rr_search.specs.Answers as search
@@ -59,8 +59,8 @@ use Rattle.rr_search.specs.Answers.{Task, IsOf}
 use Rattle.rr_search.specs.Least.{Least}
 use Rattle.rr_members.specs.Searched.{IsSpent}
 use Rattle.rr_unroll.specs.Faithful.{Faithful}
-use Rattle.rr_answers.specs.Certified.{certificate}
-use Rattle.rr_answers.specs.Texts.{beyond_text, found_text, open_text}
+use Rattle.rr_repair_output.specs.Certified.{certificate}
+use Rattle.rr_repair_output.specs.Texts.{beyond_text, found_text, open_text}
 use Rattle.rr_repair.specs.Repairs.{PlainRequest, AnswersRepair, CountsRepair, IsAnswer, IsCounted, IsFound, IsNothingFound, IsOpen, IsSited, Refuses, RefusesRepair, design_of, work_of}
 use Rattle.rr_repair.specs.Views.{answer_status, changes_of}
 

@@ -16,7 +16,7 @@ use Rattle.rr_circuit.specs.Values.{OutputNetlist}
 use Rattle.rr_derive.specs.Derive.{Proof, Refutes}
 use Rattle.rr_derive.specs.Lrat.{lrat}
 use Rattle.rr_check.specs.declared.verdict.Verdict.TheVariants.{Accepted}
-use Rattle.rr_certify.specs.Certificates.{IsJudged}
+use Rattle.rr_check_certificate.specs.Certificates.{IsJudged}
 use Rattle.rr_trace.specs.Tables.{Table}
 use Rattle.rr_run.specs.Files.{placed_tokens}
 use Rattle.rr_kept.specs.Read.{SourceFile}
@@ -30,17 +30,17 @@ use Rattle.rr_choice.specs.Sites.{Site}
 use Rattle.rr_members.specs.Searched.{IsSpent}
 use Rattle.rr_kept.specs.Kept.{AreKept}
 use Rattle.rr_map.specs.Printed.{printed_file, printed_text, ExpandsTo}
-use Rattle.rr_changes.specs.Texts.{report}
-use Rattle.rr_sites.specs.Lists.{AreSites, RefusesSites}
+use Rattle.rr_repair_report.specs.Texts.{report}
+use Rattle.rr_sites_command.specs.Lists.{AreSites, RefusesSites}
 use Rattle.rr_transition.specs.Cycles.{Design, instance_design}
 use Rattle.rr_tseitin.specs.Tseitin.{formula_of}
 use Rattle.rr_unroll.specs.Faithful.{Faithful}
 use Rattle.rr_unroll.specs.Matches.{Matches}
 use Rattle.rr_search.specs.Least.{Least, NoneMatches}
-use Rattle.rr_report.specs.Found.{Answer}
-use Rattle.rr_report.specs.Refusals.{Refusal, TooManyBytes, Input, Flawed}
-use Rattle.rr_answers.specs.Certified.{certificate}
-use Rattle.rr_answers.specs.Texts.{beyond_text, found_text, open_text, unchanged_text}
+use Rattle.rr_endings.specs.Found.{Answer}
+use Rattle.rr_endings.specs.Refusals.{Refusal, TooManyBytes, Input, Flawed}
+use Rattle.rr_repair_output.specs.Certified.{certificate}
+use Rattle.rr_repair_output.specs.Texts.{beyond_text, found_text, open_text, unchanged_text}
 
 -- what is asked: how the table is read, the top and the clock, each given or not, the name of the certificate's files, and how
 -- many lines each of how many members of a search may learn for one question

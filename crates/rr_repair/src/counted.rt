@@ -2,7 +2,7 @@
 ghost use Rattle.std.specs.Prelude.{◌≡◌};
 ghost use Rattle.rr_repair.specs.Views.{changes_of};
 
-use rr_report::Found;
+use rr_endings::Found;
 use rr_search::Answer;
 
 /// The answer of a repair, with the number of its changes.

@@ -2,8 +2,8 @@
 //! and written, or the first refusal. It is right where the answer prints the source with the fewest
 //! changes whose run matches each known cell, with a certificate that fewer do not; or shows that no
 //! changes do; or says which question was left open, and prints the source with the changes that were found
-//! to match by then. It stands on `rr_sites` for the design and its sites, `rr_blast` for its cycle,
-//! `rr_search` for the search, and `rr_answers` for what is done.
+//! to match by then. It stands on `rr_sites_command` for the design and its sites, `rr_blast` for its cycle,
+//! `rr_search` for the search, and `rr_repair_output` for what is done.
 #![tactic(auto)]
 
 mod counted;

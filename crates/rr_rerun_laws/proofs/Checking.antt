@@ -7,10 +7,10 @@ use Rattle.rr_derive.specs.Derive.{Proof}
 use Rattle.rr_derive.specs.Lrat.{lrat}
 use Rattle.rr_tseitin.specs.Tseitin.{formula_of}
 use Rattle.rr_check.specs.declared.verdict.Verdict.TheVariants.{Accepted}
-use Rattle.rr_certify.specs.Certificates.{IsJudged}
-use Rattle.rr_certify.proofs.Certified.{same_verdict}
-use Rattle.rr_report.specs.Found.{Answer, File}
-use Rattle.rr_answers.specs.Certified.{certificate}
+use Rattle.rr_check_certificate.specs.Certificates.{IsJudged}
+use Rattle.rr_check_certificate.proofs.Certified.{same_verdict}
+use Rattle.rr_endings.specs.Found.{Answer, File}
+use Rattle.rr_repair_output.specs.Certified.{certificate}
 use Rattle.rr_repair.specs.Repairs.{PlainRequest}
 use Rattle.rr_outcomes.specs.Outcomes.{IsDespaired, IsMended}
 use Rattle.rr_rerun_laws.specs.Checks.{AreAccepted}

@@ -3,8 +3,8 @@ use Rattle.std.proofs.Common.{◌≡◌, ◌∙◌, ℕ, List, map, sym, ap, sub
 use Rattle.rr_flat.specs.Inputs.{row_inputs}
 use Rattle.rr_flat.specs.Plain.{Flat}
 use Rattle.rr_flat.specs.Signals.{Signal, signal_at}
-use Rattle.rr_flat_bare.specs.Bare.{IsSameFlat, bare_flat, bare_signal}
-use Rattle.rr_flat_bare.proofs.Tables.{signal_at-bare}
+use Rattle.rr_token_numbers.specs.Bare.{IsSameFlat, bare_flat, bare_signal}
+use Rattle.rr_token_numbers.proofs.Tables.{signal_at-bare}
 use Rattle.rr_choice.specs.declared.pick.Pick.{Pick}
 use Rattle.rr_choice.specs.Sites.{Site}
 use Rattle.rr_flat_instance.specs.Flats.{instance_flat}

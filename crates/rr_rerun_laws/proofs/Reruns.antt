@@ -10,11 +10,11 @@ use Rattle.rr_grammar.proofs.OneSource.{unique_tree}
 use Rattle.rr_flat.specs.Clocks.{OneClock}
 use Rattle.rr_flat.specs.Lawful.{Lawful}
 use Rattle.rr_flat.specs.Plain.{Flat}
-use Rattle.rr_flat_bare.specs.Bare.{HasSameFlat, IsSameFlat}
-use Rattle.rr_bare_meaning.proofs.Clocking.{one_clock as same_clock}
-use Rattle.rr_bare_meaning.proofs.Lawfulness.{same_laws}
-use Rattle.rr_bare_meaning.proofs.Runs.{same_run}
-use Rattle.rr_walk.specs.Walk.{flat_of}
+use Rattle.rr_token_numbers.specs.Bare.{HasSameFlat, IsSameFlat}
+use Rattle.rr_token_number_meaning.proofs.Clocking.{one_clock as same_clock}
+use Rattle.rr_token_number_meaning.proofs.Lawfulness.{same_laws}
+use Rattle.rr_token_number_meaning.proofs.Runs.{same_run}
+use Rattle.rr_flatten.specs.Walk.{flat_of}
 use Rattle.rr_elaborate.specs.Designs.{IsText}
 use Rattle.rr_elaborate.proofs.Once.{one_text}
 use Rattle.rr_lawful.proofs.ClockOnce.{one_clock}
@@ -35,7 +35,7 @@ use Rattle.rr_trace.specs.Tops.{ports_of}
 use Rattle.rr_trace.specs.Written.{table_text}
 use Rattle.rr_cycle.specs.Cycles.{Run}
 use Rattle.rr_unroll.specs.Matches.{Matches}
-use Rattle.rr_sites.proofs.Given.{formed, kept_right, numbered, right}
+use Rattle.rr_sites_command.proofs.Given.{formed, kept_right, numbered, right}
 use Rattle.rr_run.specs.declared.rows.TableKind.{TableKind}
 use Rattle.rr_run.specs.Rows.{ReadsTable}
 use Rattle.rr_run.specs.Runs.{IsRun}
@@ -43,7 +43,7 @@ use Rattle.rr_run.proofs.Once.{one_run}
 use Rattle.rr_run.specs.Files.{IsFileRun}
 use Rattle.rr_kept.specs.Read.{SourceFile}
 use Rattle.rr_map.specs.Printed.{printed_text, ExpandsTo}
-use Rattle.rr_report.specs.Found.{Answer}
+use Rattle.rr_endings.specs.Found.{Answer}
 use Rattle.rr_repair.specs.Repairs.{IsFound, IsNothingFound, IsRepaired, IsTaken, IsUnchanged, PlainRequest, design_of}
 use Rattle.rr_rerun_laws.specs.Reruns.{FileRunAgrees, FileRunsAgain, FoundFileRunAgrees, FoundFileRunsAgain, FoundRunAgrees, FoundRunsAgain, RunsRight, RunsAgain, RunAgrees}
 use Rattle.rr_rerun_laws.proofs.Ports.{instance_reading, same_reading}

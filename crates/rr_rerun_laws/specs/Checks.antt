@@ -2,8 +2,8 @@
 use Rattle.std.specs.Prelude.{◌≡◌, ◌⊎◌, ℕ, List, [], ◌∷◌, ◌++◌, codes}
 use Rattle.rr_check.specs.declared.verdict.Verdict.{Verdict}
 use Rattle.rr_check.specs.declared.verdict.Verdict.TheVariants.{Accepted}
-use Rattle.rr_certify.specs.Certificates.{IsJudged}
-use Rattle.rr_report.specs.Found.{Answer, File}
+use Rattle.rr_check_certificate.specs.Certificates.{IsJudged}
+use Rattle.rr_endings.specs.Found.{Answer, File}
 use Rattle.rr_repair.specs.Repairs.{PlainRequest}
 use Rattle.rr_outcomes.specs.Outcomes.{IsDespaired, IsMended}
 

@@ -15,7 +15,7 @@ use Rattle.rr_run.specs.declared.rows.TableKind.{TableKind}
 use Rattle.rr_run.specs.Rows.{ReadsTable}
 use Rattle.rr_run.specs.Runs.{IsLawfulDesign, IsRun}
 use Rattle.rr_run.specs.Files.{IsFileRun}
-use Rattle.rr_report.specs.Found.{Answer}
+use Rattle.rr_endings.specs.Found.{Answer}
 use Rattle.rr_repair.specs.Repairs.{PlainRequest}
 use Rattle.rr_outcomes.specs.Outcomes.{IsLeftOpen, IsMended}
 

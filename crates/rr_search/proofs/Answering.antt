@@ -5,7 +5,7 @@ use Rattle.std.proofs.lemmas.List.{get_or_default}
 use Rattle.std.proofs.lemmas.List.Sums.{count_by-le-length}
 use Rattle.rr_circuit.specs.Values.{OutputNetlist}
 use Rattle.rr_derive.specs.Derive.{Step}
-use Rattle.rr_encode.proofs.CodeLaws.{free_zeros, length_choice}
+use Rattle.rr_choice_bits.proofs.CodeLaws.{free_zeros, length_choice}
 use Rattle.rr_choice.specs.declared.pick.Choice.{Choice}
 use Rattle.rr_choice.specs.declared.pick.Pick.{Pick}
 use Rattle.rr_choice.specs.Choices.{cost, decode, total_bits, IsChoice}

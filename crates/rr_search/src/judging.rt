@@ -10,7 +10,7 @@ ghost use Rattle.rr_search.specs.Replies.{IsCheapest};
 
 use crate::answer::Job;
 use rr_choice::{Choice, cost};
-use rr_encode::encode;
+use rr_choice_bits::encode;
 use rr_unroll::judges;
 use std::alloc::{AllocError, Global};
 

@@ -14,10 +14,10 @@ use Rattle.rr_flat.specs.Signals.{Text, Signal, no_signal, with_name}
 use Rattle.rr_flat.proofs.Alike.{Alike, alike_named}
 use Rattle.rr_flat.proofs.Lists.{all_index}
 use Rattle.rr_starts.specs.Starts.{initial_faults}
-use Rattle.rr_head.specs.Heads.{Head}
-use Rattle.rr_walk.specs.Tables.{place_of}
-use Rattle.rr_walk.specs.Walk.{Walked, Enter, scope_at, module_at, assign, net, with_initial, initial, with_instance, joined, instance_of, item, opened, enter_by, enter, nothing, top_place, enter_top}
-use Rattle.rr_walk.proofs.HeadOf.{ok_is, not_ok, each_keeps, all_append, all_weaker, all_set, Entries, entries_with, Between, HeadOf, head_of}
+use Rattle.rr_declarations.specs.Heads.{Head}
+use Rattle.rr_flatten.specs.Tables.{place_of}
+use Rattle.rr_flatten.specs.Walk.{Walked, Enter, scope_at, module_at, assign, net, with_initial, initial, with_instance, joined, instance_of, item, opened, enter_by, enter, nothing, top_place, enter_top}
+use Rattle.rr_flatten.proofs.HeadOf.{ok_is, not_ok, each_keeps, all_append, all_weaker, all_set, Entries, entries_with, Between, HeadOf, head_of}
 use Rattle.rr_flat_laws.proofs.Answers.{settled}
 use Rattle.rr_flat_laws.proofs.Growing.{Same, each_same, assign_same, net_same, always_same, joined_same, began, inside, entered}
 use Rattle.rr_flat_laws.proofs.Naming.{walking}

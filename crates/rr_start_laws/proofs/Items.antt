@@ -12,9 +12,9 @@ use Rattle.rr_flat.specs.Faults.{each}
 use Rattle.rr_flat.specs.Plain.{Initial, Flat}
 use Rattle.rr_flat.specs.Signals.{with_name}
 use Rattle.rr_starts.specs.Starts.{initial_faults}
-use Rattle.rr_walk.specs.Tables.{place_of}
-use Rattle.rr_walk.specs.Walk.{Walked, Enter, scope_at, module_at, assign, net, with_initial, initial, with_instance, joined, instance_of, item, enter_by, enter, nothing, finished, top_place, enter_top}
-use Rattle.rr_walk.proofs.HeadOf.{ok_is, not_ok, first_ok, all_append}
+use Rattle.rr_flatten.specs.Tables.{place_of}
+use Rattle.rr_flatten.specs.Walk.{Walked, Enter, scope_at, module_at, assign, net, with_initial, initial, with_instance, joined, instance_of, item, enter_by, enter, nothing, finished, top_place, enter_top}
+use Rattle.rr_flatten.proofs.HeadOf.{ok_is, not_ok, first_ok, all_append}
 use Rattle.rr_flat_laws.specs.Names.{module_of}
 use Rattle.rr_flat_laws.proofs.Answers.{settled}
 use Rattle.rr_flat_laws.proofs.Driving as driving

@@ -19,7 +19,7 @@ use Rattle.rr_flat.specs.Plain.{Initial}
 use Rattle.rr_flat.specs.Signals.{Text}
 use Rattle.rr_flat.proofs.Alike.{Alike}
 use Rattle.rr_starts.specs.Starts.{start_of, variable_of, set_at, set_target, started, all_started}
-use Rattle.rr_walk.proofs.HeadOf.{all_append, all_weaker, Entries, Between}
+use Rattle.rr_flatten.proofs.HeadOf.{all_append, all_weaker, Entries, Between}
 use Rattle.rr_start_laws.specs.Starting.{Setting, whole_variable, setting_of, settings_of, all_settings_of, IsLast}
 
 abbrev pub set_one : List ℕ → Setting → List ℕ

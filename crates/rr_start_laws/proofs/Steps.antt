@@ -11,9 +11,9 @@ use Rattle.rr_flat.specs.Faults.{each}
 use Rattle.rr_flat.specs.Plain.{Written}
 use Rattle.rr_flat.specs.Shapes.{shape_faults, statement_faults}
 use Rattle.rr_flat.specs.Signals.{Text, signal_at}
-use Rattle.rr_walk.specs.Tables.{place_of, port_names}
-use Rattle.rr_walk.specs.Walk.{Walked, scope_at, with_driver, with_block, assign, net_driver, net_value, net_with, net, event_faults, always, join_port, join_at, join, join_value, join_named, join_positions, joined}
-use Rattle.rr_walk.proofs.HeadOf.{ok_is, first_ok}
+use Rattle.rr_flatten.specs.Tables.{place_of, port_names}
+use Rattle.rr_flatten.specs.Walk.{Walked, scope_at, with_driver, with_block, assign, net_driver, net_value, net_with, net, event_faults, always, join_port, join_at, join, join_value, join_named, join_positions, joined}
+use Rattle.rr_flatten.proofs.HeadOf.{ok_is, first_ok}
 use Rattle.rr_flat_laws.proofs.Answers.{settled}
 
 pub record Still (w v : Walked) : Type 0 where

@@ -3,7 +3,7 @@ use Rattle.std.specs.Prelude.{◌≡◌, ℕ, ◌<◌, length, get_or, Option, O
 use Rattle.rr_syntax.specs.Tree.{SourceText}
 use Rattle.rr_flat.specs.Plain.{Flat}
 use Rattle.rr_flat.specs.Signals.{Text}
-use Rattle.rr_walk.specs.Walk.{flat_of}
+use Rattle.rr_flatten.specs.Walk.{flat_of}
 use Rattle.rr_start_laws.specs.Starting.{AreInitials, BeginsWith}
 
 -- the `initial` items of an instance are those of its module, and there are no others

@@ -2,17 +2,17 @@
 use Rattle.std.proofs.Common.{◌≡◌, inl, inr, ℕ, ◌≤◌, List, [], ◌∷◌, length, refl, sym, subst, Option, Result, Ok, Err}
 use Rattle.std.specs.Prelude.{MatchResult}
 use Rattle.rr_edge.specs.Held.{Held}
-use Rattle.rr_report.specs.declared.ending.Ending.{Ending}
-use Rattle.rr_report.specs.declared.ending.Ending.TheVariants.{Usage, NoMemory, Absent, ReadFault, WriteFault, OutFault, Refused, Done}
-use Rattle.rr_report.specs.declared.ending.Report.{Report}
-use Rattle.rr_report.specs.declared.found.Found.{Found}
-use Rattle.rr_report.specs.declared.refusal.Refusal.{Refusal as RustRefusal}
-use Rattle.rr_report.specs.declared.refusal.Stop.{Stop}
-use Rattle.rr_report.specs.declared.refusal.Stop.TheVariants as stop
-use Rattle.rr_report.specs.Found.{Answer}
-use Rattle.rr_report.specs.Refusals.{plain_refusal}
-use Rattle.rr_report.specs.Texts.{memory_text, refused_text}
-use Rattle.rr_report.specs.Views.{plain_answer, report_text, IsRefusedOrNoMemory, Stops, StopsWhere}
+use Rattle.rr_endings.specs.declared.ending.Ending.{Ending}
+use Rattle.rr_endings.specs.declared.ending.Ending.TheVariants.{Usage, NoMemory, Absent, ReadFault, WriteFault, OutFault, Refused, Done}
+use Rattle.rr_endings.specs.declared.ending.Report.{Report}
+use Rattle.rr_endings.specs.declared.found.Found.{Found}
+use Rattle.rr_endings.specs.declared.refusal.Refusal.{Refusal as RustRefusal}
+use Rattle.rr_endings.specs.declared.refusal.Stop.{Stop}
+use Rattle.rr_endings.specs.declared.refusal.Stop.TheVariants as stop
+use Rattle.rr_endings.specs.Found.{Answer}
+use Rattle.rr_endings.specs.Refusals.{plain_refusal}
+use Rattle.rr_endings.specs.Texts.{memory_text, refused_text}
+use Rattle.rr_endings.specs.Views.{plain_answer, report_text, IsRefusedOrNoMemory, Stops, StopsWhere}
 use Rattle.rr_effects.specs.Outside.{Outside, outside, KeepsShelf, KeepsOut}
 use Rattle.rr_effects.specs.Reads.{Given, StopsReading}
 use Rattle.rr_effects.specs.Delivery.{Delivers}

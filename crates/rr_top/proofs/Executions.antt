@@ -12,18 +12,18 @@ use Rattle.rr_words.proofs.PlainCommands.{plain_command}
 use Rattle.rr_run.specs.Refusals.{Refusal as RunRefusal}
 use Rattle.rr_check.specs.declared.verdict.Verdict.{Verdict}
 use Rattle.rr_check.specs.declared.verdict.Verdict.TheVariants as found
-use Rattle.rr_certify.specs.Texts.{verdict_text}
-use Rattle.rr_certify.proofs.Certified.{never_true}
-use Rattle.rr_report.specs.declared.ending.Ending.{Ending}
-use Rattle.rr_report.specs.declared.ending.Ending.TheVariants.{Usage, NoMemory, Absent, ReadFault, WriteFault, OutFault, Refused, Done}
-use Rattle.rr_report.specs.Endings.{status_of}
-use Rattle.rr_report.specs.Found.{Answer}
-use Rattle.rr_report.specs.Refusals.{Refusal, TooManyBytes, Input, Flawed, plain_refusal}
-use Rattle.rr_report.specs.Texts.{memory_text, refused_text}
+use Rattle.rr_check_certificate.specs.Texts.{verdict_text}
+use Rattle.rr_check_certificate.proofs.Certified.{never_true}
+use Rattle.rr_endings.specs.declared.ending.Ending.{Ending}
+use Rattle.rr_endings.specs.declared.ending.Ending.TheVariants.{Usage, NoMemory, Absent, ReadFault, WriteFault, OutFault, Refused, Done}
+use Rattle.rr_endings.specs.Endings.{status_of}
+use Rattle.rr_endings.specs.Found.{Answer}
+use Rattle.rr_endings.specs.Refusals.{Refusal, TooManyBytes, Input, Flawed, plain_refusal}
+use Rattle.rr_endings.specs.Texts.{memory_text, refused_text}
 use Rattle.rr_effects.specs.Outside.{KeepsShelf, KeepsOut}
 use Rattle.rr_effects.specs.Reads.{AbsentAt, Given}
 use Rattle.rr_effects.specs.Delivery.{Delivers, Reports}
-use Rattle.rr_answers.specs.Texts.{unchanged_text}
+use Rattle.rr_repair_output.specs.Texts.{unchanged_text}
 use Rattle.rr_repair.specs.Repairs.{AnswersRepair, PlainRequest}
 use Rattle.rr_outcomes.specs.Laws.{TellsOutcome}
 use Rattle.rr_outcomes.specs.Outcomes.{IsAsItWas, IsMatchingSource}

@@ -3,7 +3,7 @@ use Rattle.std.proofs.Common.{◌≡◌, ◌∙◌, ap, ◌<◌, ℕ, List, [], 
 use Rattle.std.specs.Prelude.{Option}
 use Rattle.rr_edge.specs.Held.{Held}
 use Rattle.rr_words.specs.Plan.{Plan}
-use Rattle.rr_report.specs.Found.{Answer, File}
+use Rattle.rr_endings.specs.Found.{Answer, File}
 use Rattle.rr_effects.specs.Reads.{Gave, Given}
 use Rattle.rr_effects.specs.Delivery.{with_files}
 use Rattle.rr_repair.specs.Repairs.{AnswersRepair, PlainRequest}

@@ -7,8 +7,8 @@ use Rattle.rr_run.specs.declared.rows.TableKind.{TableKind}
 use Rattle.rr_run.specs.declared.fault.RunFault.TheVariants as run_fault
 use Rattle.rr_run.specs.Refusals.{Refusal as RunRefusal, At, TooMany, Expanded, NoHeader, UnknownColumn, ColumnTwice, MissingInput, RowLength, BadCell, CellTooLarge, NotUtf8, BadVcd, NoScope, StopsWhere as RunStops}
 use Rattle.rr_run.specs.Files.{RefusesFile}
-use Rattle.rr_report.specs.Views.{stop_from, StopsWhere}
-use Rattle.rr_sites.specs.Lists.{RefusesSites}
+use Rattle.rr_endings.specs.Views.{stop_from, StopsWhere}
+use Rattle.rr_sites_command.specs.Lists.{RefusesSites}
 use Rattle.rr_lint_file.specs.Files.{RefusesMend}
 use Rattle.rr_top.specs.Commands.{RefusesLint, RefusesSiteList, RefusesTexts}
 use Rattle.rr_top.specs.Expected.{IsSyntax}

@@ -4,8 +4,8 @@ use Rattle.rr_edge.specs.Held.{Held}
 use Rattle.rr_run.specs.declared.fault.Fault.TheVariants as fault
 use Rattle.rr_run.specs.Refusals.{Refusal as RunRefusal, At}
 use Rattle.rr_run.specs.Runs.{IsSameRefusal as IsSameRunRefusal}
-use Rattle.rr_report.specs.Found.{Answer}
-use Rattle.rr_report.specs.Refusals.{Refusal, TooManyBytes, Input, Flawed}
+use Rattle.rr_endings.specs.Found.{Answer}
+use Rattle.rr_endings.specs.Refusals.{Refusal, TooManyBytes, Input, Flawed}
 use Rattle.rr_effects.specs.Reads.{Given, RefusesReads}
 use Rattle.rr_top.specs.Outcomes.{Outcome}
 use Rattle.rr_top.specs.Commands.{Command, HasOneOutcome, IsSameRefusal}

@@ -7,22 +7,22 @@ use Rattle.rr_trace.specs.Tables.{Table}
 use Rattle.rr_run.specs.declared.rows.TableKind.{TableKind}
 use Rattle.rr_run.specs.Files.{IsFileRun}
 use Rattle.rr_run.proofs.FileOnce.{file_run_or_refusal, one_file_refused, one_file_run}
-use Rattle.rr_sites.specs.Lists.{IsSiteText}
-use Rattle.rr_sites.proofs.Once as listing
+use Rattle.rr_sites_command.specs.Lists.{IsSiteText}
+use Rattle.rr_sites_command.proofs.Once as listing
 use Rattle.rr_lint_file.specs.Files.{IsMendedFile}
 use Rattle.rr_lint_file.proofs.Once as mending
-use Rattle.rr_certify.specs.declared.fault.Flaw.{Flaw}
-use Rattle.rr_certify.specs.Certificates.{IsJudged}
-use Rattle.rr_certify.proofs.Certified.{same_verdict, verdict_or_flaw, same_flaw}
+use Rattle.rr_check_certificate.specs.declared.fault.Flaw.{Flaw}
+use Rattle.rr_check_certificate.specs.Certificates.{IsJudged}
+use Rattle.rr_check_certificate.proofs.Certified.{same_verdict, verdict_or_flaw, same_flaw}
 use Rattle.rr_check.specs.declared.verdict.Verdict.{Verdict}
-use Rattle.rr_report.specs.Found.{Answer}
-use Rattle.rr_report.specs.Refusals.{Refusal, TooManyBytes, Input, Flawed}
+use Rattle.rr_endings.specs.Found.{Answer}
+use Rattle.rr_endings.specs.Refusals.{Refusal, TooManyBytes, Input, Flawed}
 use Rattle.rr_repair.specs.Repairs.{AnswersRepair, IsTaken, RefusesRepair, PlainRequest}
 use Rattle.rr_outcomes.specs.Laws.{TellsOutcome}
 use Rattle.rr_outcomes.specs.Outcomes.{IsLeftOpen}
 use Rattle.rr_outcomes.proofs.Once.{mendable_or_not, one_refusal as one_repair_refusal, taken_or_refused}
 use Rattle.rr_outcomes.proofs.Told.{each_answer, printed_is_mendable}
-use Rattle.rr_made.specs.Made.{made_design, made_table}
+use Rattle.rr_made_input.specs.Made.{made_design, made_table}
 use Rattle.rr_make.specs.Makes.{RefusesMake, TellsMake, made_request}
 use Rattle.rr_make.proofs.Once.{each_make, one_summary, summary_or_none}
 use Rattle.rr_top.specs.Outcomes.{Outcome, mended, unmendable, ran, listed, checked, made, linted, IsToldBy}

@@ -9,10 +9,10 @@ use Rattle.std.specs.declared.io.ErrorKind.TheVariants.{OutOfMemory}
 use Rattle.std.specs.declared.string.String.{String}
 use Rattle.std.specs.declared.vec.IntoIter.{IntoIter}
 use Rattle.rr_words.specs.Usage.{usage_text}
-use Rattle.rr_report.specs.declared.ending.Ending.TheVariants.{Usage, NoMemory}
-use Rattle.rr_report.specs.declared.ending.Report.{Report}
-use Rattle.rr_report.specs.Texts.{memory_text}
-use Rattle.rr_report.specs.Views.{Says}
+use Rattle.rr_endings.specs.declared.ending.Ending.TheVariants.{Usage, NoMemory}
+use Rattle.rr_endings.specs.declared.ending.Report.{Report}
+use Rattle.rr_endings.specs.Texts.{memory_text}
+use Rattle.rr_endings.specs.Views.{Says}
 
 -- want of memory; or usage, whatever else it is
 abbrev pub SaysWhyNone : ErrorKind → Report → Type 0

@@ -6,14 +6,14 @@ use Rattle.rr_run.specs.Refusals.{Refusal as RunRefusal}
 use Rattle.rr_run.specs.declared.rows.TableKind.{TableKind}
 use Rattle.rr_run.specs.Files.{IsFileRun, RefusesFile}
 use Rattle.rr_run.specs.Runs.{IsSameRefusal as IsSameRunRefusal}
-use Rattle.rr_sites.specs.Lists.{IsSiteText, RefusesSites}
+use Rattle.rr_sites_command.specs.Lists.{IsSiteText, RefusesSites}
 use Rattle.rr_lint_file.specs.Clean.{IsCleaned}
 use Rattle.rr_lint_file.specs.Files.{IsMendedFile, RefusesMend}
-use Rattle.rr_certify.specs.Certificates.{FlawIs, IsJudged}
-use Rattle.rr_certify.specs.Texts.{verdict_text}
+use Rattle.rr_check_certificate.specs.Certificates.{FlawIs, IsJudged}
+use Rattle.rr_check_certificate.specs.Texts.{verdict_text}
 use Rattle.rr_check.specs.declared.verdict.Verdict.{Verdict}
-use Rattle.rr_report.specs.Found.{Answer}
-use Rattle.rr_report.specs.Refusals.{Refusal, TooManyBytes, Input, Flawed}
+use Rattle.rr_endings.specs.Found.{Answer}
+use Rattle.rr_endings.specs.Refusals.{Refusal, TooManyBytes, Input, Flawed}
 use Rattle.rr_effects.specs.Reads.{Gave, Given, RefusesReads}
 use Rattle.rr_repair.specs.Repairs.{AnswersRepair, RefusesRepair, PlainRequest}
 use Rattle.rr_outcomes.specs.Outcomes.{IsLeftOpen, IsMendable, IsUnmendable}

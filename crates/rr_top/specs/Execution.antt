@@ -10,26 +10,26 @@ use Rattle.rr_run.specs.declared.fault.Fault.TheVariants.{Syntax}
 use Rattle.rr_run.specs.Refusals.{At}
 use Rattle.rr_run.specs.Files.{IsFileRun}
 use Rattle.rr_top.specs.Kinds.{kind_of}
-use Rattle.rr_sites.specs.Lists.{IsSiteText}
+use Rattle.rr_sites_command.specs.Lists.{IsSiteText}
 use Rattle.rr_lint_file.specs.Clean.{IsCleaned}
 use Rattle.rr_lint_file.specs.Files.{IsMendedFile}
 use Rattle.rr_check.specs.declared.verdict.Verdict.{Verdict}
 use Rattle.rr_check.specs.declared.verdict.Verdict.TheVariants as found
-use Rattle.rr_certify.specs.Certificates.{IsNeverTrue}
-use Rattle.rr_certify.specs.Texts.{verdict_text}
-use Rattle.rr_report.specs.declared.ending.Ending.{Ending}
-use Rattle.rr_report.specs.declared.ending.Ending.TheVariants.{Usage, NoMemory}
-use Rattle.rr_report.specs.Endings.{status_of}
-use Rattle.rr_report.specs.Found.{Answer}
-use Rattle.rr_report.specs.Refusals.{Refusal, Input}
-use Rattle.rr_report.specs.Texts.{memory_text, refused_text, absent_text, read_fault_text, write_fault_text, out_fault_text}
+use Rattle.rr_check_certificate.specs.Certificates.{IsNeverTrue}
+use Rattle.rr_check_certificate.specs.Texts.{verdict_text}
+use Rattle.rr_endings.specs.declared.ending.Ending.{Ending}
+use Rattle.rr_endings.specs.declared.ending.Ending.TheVariants.{Usage, NoMemory}
+use Rattle.rr_endings.specs.Endings.{status_of}
+use Rattle.rr_endings.specs.Found.{Answer}
+use Rattle.rr_endings.specs.Refusals.{Refusal, Input}
+use Rattle.rr_endings.specs.Texts.{memory_text, refused_text, absent_text, read_fault_text, write_fault_text, out_fault_text}
 use Rattle.rr_effects.specs.Outside.{Outside, KeepsShelf, KeepsOut}
 use Rattle.rr_effects.specs.Reads.{AbsentAt, FaultAt, Gave}
 use Rattle.rr_effects.specs.Delivery.{Reports, StopsAtWrite, file_at, with_files}
-use Rattle.rr_answers.specs.Texts.{unchanged_text}
+use Rattle.rr_repair_output.specs.Texts.{unchanged_text}
 use Rattle.rr_repair.specs.Repairs.{PlainRequest}
 use Rattle.rr_outcomes.specs.Outcomes.{IsAmple, IsDespaired, IsLeftOpen, IsMatching, IsMatchingSource, IsMended}
-use Rattle.rr_made.specs.Made.{made_design, made_table}
+use Rattle.rr_made_input.specs.Made.{made_design, made_table}
 use Rattle.rr_make.specs.Makes.{IsMadeCount, IsMadeOpen, IsUnmade, made_request, summary}
 use Rattle.rr_top.specs.Outcomes.{Outcome, mended, unmendable, ran, listed, checked, made, linted}
 use Rattle.rr_top.specs.Commands.{AsksRepair, BothGiven, Command, Due, IsOfRepair, Refuses, WhereRepair, WhereRun, WhereSites, WhereCheck, WhereMake, WhereLint, command_of_plan, request}

@@ -3,9 +3,9 @@ use Rattle.std.specs.Prelude.{◌≡◌, ⊤, ℕ, List, Option, Some}
 use Rattle.rr_edge.specs.Held.{Held}
 use Rattle.rr_run.specs.declared.fault.Fault.TheVariants.{Syntax}
 use Rattle.rr_run.specs.Refusals.{Refusal as RunRefusal, At}
-use Rattle.rr_certify.specs.Certificates.{IsJudged}
+use Rattle.rr_check_certificate.specs.Certificates.{IsJudged}
 use Rattle.rr_check.specs.declared.verdict.Verdict.{Verdict}
-use Rattle.rr_report.specs.Refusals.{Refusal, TooManyBytes, Input, Flawed}
+use Rattle.rr_endings.specs.Refusals.{Refusal, TooManyBytes, Input, Flawed}
 use Rattle.rr_effects.specs.Reads.{AbsentAt}
 use Rattle.rr_top.specs.Outcomes.{Outcome, outcome_status}
 use Rattle.rr_top.specs.Commands.{CertificateGiven, ComesTo, Command, Refuses}

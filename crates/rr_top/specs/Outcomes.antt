@@ -1,9 +1,9 @@
 -- What a command comes to that is done: with its status, and with the texts that this decides.
 use Rattle.std.specs.Prelude.{◌≡◌, ⊤, ℕ, List, []}
-use Rattle.rr_certify.specs.Texts.{verdict_text}
+use Rattle.rr_check_certificate.specs.Texts.{verdict_text}
 use Rattle.rr_check.specs.declared.verdict.Verdict.{Verdict}
 use Rattle.rr_check.specs.declared.verdict.Verdict.TheVariants as found
-use Rattle.rr_report.specs.Found.{Answer}
+use Rattle.rr_endings.specs.Found.{Answer}
 
 -- a repair, or that there is none; the text of a run; the lines of a list of sites; the verdict on a certificate; the summary
 -- of a made input; a file with mended blocks

@@ -9,10 +9,10 @@ use Rattle.std.specs.declared.io.ErrorKind.TheVariants.{OutOfMemory}
 use Rattle.std.specs.declared.string.String.{String}
 use Rattle.std.specs.declared.vec.IntoIter.{IntoIter}
 use Rattle.rr_words.specs.Usage.{usage_text}
-use Rattle.rr_report.specs.declared.ending.Ending.{Ending}
-use Rattle.rr_report.specs.declared.ending.Ending.TheVariants.{Usage, NoMemory}
-use Rattle.rr_report.specs.Endings.{status_of}
-use Rattle.rr_report.specs.Texts.{memory_text}
+use Rattle.rr_endings.specs.declared.ending.Ending.{Ending}
+use Rattle.rr_endings.specs.declared.ending.Ending.TheVariants.{Usage, NoMemory}
+use Rattle.rr_endings.specs.Endings.{status_of}
+use Rattle.rr_endings.specs.Texts.{memory_text}
 use Rattle.rr_effects.specs.Delivery.{Reports}
 use Rattle.rr_effects.specs.Outside.{KeepsShelf, KeepsOut}
 use Rattle.rr_top.specs.Execution.{Execution}

@@ -3,12 +3,12 @@ use Rattle.std.specs.Prelude.{◌≡◌, ℕ, List, Result, Ok, Err}
 use Rattle.rr_words.specs.Usage.{usage_text}
 use Rattle.rr_words.specs.declared.read.WordsFault.{WordsFault}
 use Rattle.rr_words.specs.declared.read.WordsFault.TheVariants as words_fault
-use Rattle.rr_report.specs.declared.ending.Ending.{Ending}
-use Rattle.rr_report.specs.declared.ending.Ending.TheVariants.{Usage, NoMemory}
-use Rattle.rr_report.specs.declared.found.Found.{Found}
-use Rattle.rr_report.specs.declared.refusal.Stop.{Stop}
-use Rattle.rr_report.specs.Texts.{memory_text}
-use Rattle.rr_report.specs.Views.{plain_answer, StopsWhere}
+use Rattle.rr_endings.specs.declared.ending.Ending.{Ending}
+use Rattle.rr_endings.specs.declared.ending.Ending.TheVariants.{Usage, NoMemory}
+use Rattle.rr_endings.specs.declared.found.Found.{Found}
+use Rattle.rr_endings.specs.declared.refusal.Stop.{Stop}
+use Rattle.rr_endings.specs.Texts.{memory_text}
+use Rattle.rr_endings.specs.Views.{plain_answer, StopsWhere}
 use Rattle.rr_top.specs.Commands.{Command}
 
 -- what is said of words that name no command, or for which memory ran out

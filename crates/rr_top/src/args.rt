@@ -2,7 +2,7 @@
 ghost use Rattle.std.specs.IoError.{error_kind};
 ghost use Rattle.rr_top.specs.Arguments.{SaysWhyNone, Takes};
 
-use rr_report::{Report, no_usage, out_of_memory};
+use rr_endings::{Report, no_usage, out_of_memory};
 use std::alloc::Global;
 use std::env;
 use std::io::{self, ErrorKind};

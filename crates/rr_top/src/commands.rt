@@ -1,9 +1,9 @@
 //! The commands: the answer of each for the files that it read, or why it has none.
 ghost use Rattle.std.specs.Prelude.{◌≡◌, ◌≤◌, ℕ, List, [], ◌∷◌, IfOk, MatchResult, length};
 ghost use Rattle.rr_words.specs.Plan.{Plan, plan_of, texts_of};
-ghost use Rattle.rr_certify.specs.Certificates.{IsFlawed};
+ghost use Rattle.rr_check_certificate.specs.Certificates.{IsFlawed};
 ghost use Rattle.rr_repair.specs.Views.{plain_request};
-ghost use Rattle.rr_report.specs.Views.{plain_answer, report_text, StopsWhere};
+ghost use Rattle.rr_endings.specs.Views.{plain_answer, report_text, StopsWhere};
 ghost use Rattle.rr_effects.specs.Outside.{outside};
 ghost use Rattle.rr_effects.specs.Reads.{Given};
 ghost use Rattle.rr_effects.specs.Views.{contents};
@@ -13,15 +13,15 @@ ghost use Rattle.rr_top.specs.Views.{Gives};
 
 use crate::kinds::kind_of;
 use bumpalo::Bump;
-use rr_certify::{CertificateFault, Verdict, judge, verdict_text};
+use rr_check_certificate::{CertificateFault, Verdict, judge, verdict_text};
 use rr_edge::{Shelf, Sink};
 use rr_effects::deliver;
+use rr_endings::{Found, Piece, Refusal, Report, Stop, Text, stop_of, stopped};
 use rr_lint_file::mend_file;
 use rr_make::make;
 use rr_repair::{Request, repair};
-use rr_report::{Found, Piece, Refusal, Report, Stop, Text, stop_of, stopped};
 use rr_run::{TableKind, run_files};
-use rr_sites::list_sites;
+use rr_sites_command::list_sites;
 use rr_words::Command;
 use std::alloc::{AllocError, Global};
 use std::thread::Threads;

@@ -1,13 +1,13 @@
 //! The top call: it runs the command of a command line over a shelf of files, an output and a report.
 //! It is right where the status, the bytes put out and the report are those that its files decide,
 //! for each command. It stands on `rr_words` for the arguments, on `rr_effects` for the files, and on
-//! one crate for each command: `rr_repair`, `rr_run`, `rr_sites`, `rr_certify`, `rr_make` and
+//! one crate for each command: `rr_repair`, `rr_run`, `rr_sites_command`, `rr_check_certificate`, `rr_make` and
 //! `rr_lint_file`.
 #![tactic(auto)]
 
 ghost use Rattle.std.specs.Prelude.{map, string_bytes};
 ghost use Rattle.rr_words.specs.Plan.{plan_of};
-ghost use Rattle.rr_report.specs.Views.{report_text};
+ghost use Rattle.rr_endings.specs.Views.{report_text};
 ghost use Rattle.rr_effects.specs.Outside.{outside};
 ghost use Rattle.rr_top.specs.Commands.{InRange, command_of_plan};
 ghost use Rattle.rr_top.specs.Endings.{CommandEnds};
@@ -18,7 +18,7 @@ ghost use Rattle.rr_top.specs.Whole.{IsRightRun};
 use bumpalo::Bump;
 use rr_edge::{Shelf, Sink};
 use rr_effects::put_report;
-use rr_report::{Report, no_usage, out_of_memory};
+use rr_endings::{Report, no_usage, out_of_memory};
 use rr_words::{Command, WordsFault, read_words};
 use std::alloc::Global;
 use std::thread::Threads;

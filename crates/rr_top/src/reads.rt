@@ -6,7 +6,7 @@ ghost use Rattle.rr_top.specs.Commands.{command_of_plan};
 
 use rr_edge::Shelf;
 use rr_effects::{Read, fetch};
-use rr_report::Report;
+use rr_endings::Report;
 use rr_words::Command;
 use std::alloc::Global;
 

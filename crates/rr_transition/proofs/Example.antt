@@ -2,12 +2,12 @@
 use Rattle.std.proofs.Common.{◌≡◌, ℕ, List, [], ◌∷◌, Bool, true, None, Ok, refl, sym, subst, arith}
 use Rattle.rr_syntax.specs.Tree.{ModuleDeclaration, SourceText}
 use Rattle.rr_expr.specs.Scopes.{lookup}
-use Rattle.rr_head.specs.Declarations.{brackets, declarations}
+use Rattle.rr_declarations.specs.Declarations.{brackets, declarations}
 use Rattle.rr_flat.specs.Faults.{each}
-use Rattle.rr_head.specs.Heads.{declared, head, numbered, signals_in_order, with_signals}
-use Rattle.rr_head.specs.Parameters.{parameters}
-use Rattle.rr_walk.specs.Tables.{add_module, instantiated_by, last_free}
-use Rattle.rr_walk.specs.Walk.{begin, enter, enter_by, flat_of, reached_from, top_ports}
+use Rattle.rr_declarations.specs.Heads.{declared, head, numbered, signals_in_order, with_signals}
+use Rattle.rr_declarations.specs.Parameters.{parameters}
+use Rattle.rr_flatten.specs.Tables.{add_module, instantiated_by, last_free}
+use Rattle.rr_flatten.specs.Walk.{begin, enter, enter_by, flat_of, reached_from, top_ports}
 use Rattle.rr_flat.specs.Writers.{Clocked}
 use Rattle.rr_choice.specs.Choices.{decode, total_bits}
 use Rattle.rr_instance.specs.Instances.{instance_source, instance_module}

@@ -19,7 +19,7 @@ use Rattle.rr_cycle.specs.Performing.{next_after}
 use Rattle.rr_flat.specs.declared.design.Step.{Step}
 use Rattle.rr_cycle.proofs.Settled.{settles, next_is}
 use Rattle.rr_cycle.proofs.Writes.{put_hit, put_miss}
-use Rattle.rr_walk.proofs.WalkOf.{sound}
+use Rattle.rr_flatten.proofs.WalkOf.{sound}
 use Rattle.rr_transition.specs.Cycles.{Design, HasCycles, IsCycle, widths_of}
 use Rattle.rr_transition.specs.Placed.{placed, any_bit, row_of, settled_of, HasCyclesOfBits, PerformsSteps}
 use Rattle.rr_transition.specs.Transitions.{Transition, words}

@@ -8,7 +8,7 @@ use Rattle.rr_flat.specs.Signals.{Text, signal_at}
 use Rattle.rr_flat.specs.Clocks.{OneClock}
 use Rattle.rr_flat.specs.Lawful.{Lawful}
 use Rattle.rr_flat.specs.Plain.{Flat}
-use Rattle.rr_walk.specs.Walk.{flat_of}
+use Rattle.rr_flatten.specs.Walk.{flat_of}
 use Rattle.rr_flat.specs.Inputs.{row_inputs}
 use Rattle.rr_cycle.specs.Cycles.{IsNext, Settled, beginning, signal_value}
 use Rattle.rr_cycle.specs.Exec.{Environment}

@@ -11,7 +11,7 @@ use Rattle.rr_flat.specs.Lawful.{Lawful}
 use Rattle.rr_flat.specs.Ordered.{Ordered}
 use Rattle.rr_flat.specs.Plain.{Flat}
 use Rattle.rr_flat.specs.Targets.{same_bit}
-use Rattle.rr_walk.specs.Walk.{flat_of}
+use Rattle.rr_flatten.specs.Walk.{flat_of}
 use Rattle.rr_flat.specs.Writers.{Clocked, Writes}
 use Rattle.rr_flat.specs.Inputs.{row_inputs}
 use Rattle.rr_cycle.specs.Cycles.{IsNext, Settled, beginning, zeros}

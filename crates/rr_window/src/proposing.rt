@@ -7,7 +7,7 @@ ghost use Rattle.rr_window.specs.Replies.{AreOf, IsTried};
 use crate::asking::{Mended, Reply, ask};
 use crate::beginning::begun;
 use rr_choice::{Choice, SiteList, cost};
-use rr_encode::encode;
+use rr_choice_bits::encode;
 use rr_plainer::{Near, first_miss, nearer, rank, state_before};
 use rr_trace::Table;
 use rr_transition::Transition;

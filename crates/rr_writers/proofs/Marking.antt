@@ -5,12 +5,12 @@ use Rattle.std.proofs.lemmas.Int.{ints}
 use Rattle.std.proofs.lemmas.List.{take_more, drop_all, take-append-drop, get_or_default}
 use Rattle.rr_expr.specs.declared.types.Bit.{Bit}
 use Rattle.rr_flat.specs.Targets.{same_bit, has_bit}
-use Rattle.rr_target.specs.declared.piece.Piece.{Piece}
-use Rattle.rr_target.specs.declared.writes.Write.{Write}
-use Rattle.rr_target.specs.Lists.{may}
-use Rattle.rr_target.specs.Pieces.{bit_in, bits_in, bits_of, all_bits, covers}
-use Rattle.rr_target.proofs.Growing.{all_bits-push, may-push, rest_is}
-use Rattle.rr_target.proofs.Runs.{bit_is, has_in, covers_in}
+use Rattle.rr_named_bits.specs.declared.piece.Piece.{Piece}
+use Rattle.rr_named_bits.specs.declared.writes.Write.{Write}
+use Rattle.rr_named_bits.specs.Lists.{may}
+use Rattle.rr_named_bits.specs.Pieces.{bit_in, bits_in, bits_of, all_bits, covers}
+use Rattle.rr_named_bits.proofs.Growing.{all_bits-push, may-push, rest_is}
+use Rattle.rr_named_bits.proofs.Runs.{bit_is, has_in, covers_in}
 use Rattle.rr_writers.specs.Marks.{is_free, times, SetMarked, IsTaken, ListMarked, IsTwice}
 use Rattle.rr_writers.proofs.Entries.{same_is}
 use Rattle.rr_writers.proofs.Counts.{times-append, has_times, no_times}

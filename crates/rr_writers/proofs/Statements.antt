@@ -19,9 +19,9 @@ use Rattle.rr_flat.specs.Faults.{answer_of, faults_in}
 use Rattle.rr_flat.specs.Reads.{writes, write_any, arms_write}
 use Rattle.rr_flat.specs.Targets.{writes_target}
 use Rattle.rr_flat.specs.Shapes.{shape, shape_faults, list_faults, statement_faults, statements_faults, arms_faults}
-use Rattle.rr_target.specs.declared.writes.Write.{Write}
-use Rattle.rr_target.specs.Lists.{may}
-use Rattle.rr_target.proofs.Growing.{rest_is}
+use Rattle.rr_named_bits.specs.declared.writes.Write.{Write}
+use Rattle.rr_named_bits.specs.Lists.{may}
+use Rattle.rr_named_bits.proofs.Growing.{rest_is}
 use Rattle.rr_writers.specs.Assigned.{assigns, assign_any, arms_assign}
 use Rattle.rr_writers.proofs.Entries.{or_assoc, or_false}
 use denote.Ref.{Bor}

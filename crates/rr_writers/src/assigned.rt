@@ -4,11 +4,11 @@ ghost use Rattle.rr_syntax.specs.View.{plain_arms, plain_statement, plain_statem
 ghost use Rattle.rr_expr.specs.declared.types.Bit.{Bit};
 ghost use Rattle.rr_flat.specs.Shapes.{arms_faults, statement_faults, statements_faults};
 ghost use Rattle.rr_writers.specs.Assigned.{assigns, assign_any, arms_assign};
-ghost use Rattle.rr_target.specs.Lists.{may};
+ghost use Rattle.rr_named_bits.specs.Lists.{may};
 
 use rr_expr::Scope;
+use rr_named_bits::{Write, add_writes};
 use rr_syntax::{Arm, Stmt};
-use rr_target::{Write, add_writes};
 use std::alloc::{AllocError, Global};
 
 /// Adds the bits that a statement may assign by `=`, and with `later` those by `<=` too, target by

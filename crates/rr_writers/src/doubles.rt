@@ -13,7 +13,7 @@ use crate::assigned::add_assigned_bits;
 use crate::marks::{mark_pieces, mark_writes};
 use crate::table::BitTable;
 use rr_flat::{Bit, Block, Driver, Flat, Part};
-use rr_target::{add_driven, no_values};
+use rr_named_bits::{add_driven, no_values};
 use std::alloc::{AllocError, Global};
 
 /// A bit with two writers, by the tokens of their targets or of their `always` (IEEE 1364-2005

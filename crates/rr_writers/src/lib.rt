@@ -1,6 +1,6 @@
 //! The writers of the bits of a flat design: no bit has two (IEEE 1364-2005 sections 6.1 and 9.2). It
 //! is right where it answers the first writer of the walk that writes a bit for the second time. It
-//! stands on `rr_target`'s pieces.
+//! stands on `rr_named_bits`'s pieces.
 #![tactic(auto)]
 
 mod assigned;

@@ -1,13 +1,13 @@
 //! Numbers put at the bits of pieces, unless one is taken.
 ghost use Rattle.std.specs.Prelude.{◌≡◌, ◌<◌, IfOk, IfNone, IfSome, true, false};
-ghost use Rattle.rr_target.specs.Lists.{may};
-ghost use Rattle.rr_target.specs.Pieces.{all_bits, covers};
+ghost use Rattle.rr_named_bits.specs.Lists.{may};
+ghost use Rattle.rr_named_bits.specs.Pieces.{all_bits, covers};
 ghost use Rattle.rr_writers.specs.Marks.{is_free as is_free_number, IsTaken, IsTwice, ListMarked, SetMarked};
 ghost use Rattle.rr_writers.specs.Tables.{entry};
 
 use crate::table::BitTable;
 use rr_flat::Bit;
-use rr_target::{Piece, Write};
+use rr_named_bits::{Piece, Write};
 use std::alloc::AllocError;
 
 /// Puts a number at each bit of a piece, up to the first that has one already; with `again` the same

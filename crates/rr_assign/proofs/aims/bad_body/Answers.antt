@@ -2,7 +2,7 @@ use Rattle.std.proofs.Common.{◌∙◌, sym, ap, is_some}
 use Rattle.rr_flat.specs.View.{plain_flat}
 use Rattle.rr_assign.specs.Aims.{bad_of_block, bad_of_initial}
 use Rattle.rr_flat.specs.Parts.{block_of, initial_of}
-use Rattle.rr_parts.proofs.Walks.{earliest_hit}
+use Rattle.rr_text_names.proofs.Walks.{earliest_hit}
 use Rattle.rr_assign.proofs.aims.bad_body.Goals as goal
 
 pub returns-then-is_some : goal.returns-then-is_some

@@ -3,8 +3,8 @@ use Rattle.rr_syntax.specs.View.{plain_statement}
 use Rattle.rr_flat.specs.Reads.{assigned_by}
 use Rattle.rr_flat.specs.View.{plain_flat}
 use Rattle.rr_assign.specs.Aims.{bad_assigned}
-use Rattle.rr_parts.specs.Firsts.{earliest}
-use Rattle.rr_parts.specs.View.{plain_target}
+use Rattle.rr_text_names.specs.Firsts.{earliest}
+use Rattle.rr_text_names.specs.View.{plain_target}
 use Rattle.rr_assign.proofs.Fusion.{targets_collected}
 use Rattle.rr_assign.proofs.aims.bad_of_statement.Goals as goal
 

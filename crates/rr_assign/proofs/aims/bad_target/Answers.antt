@@ -5,9 +5,9 @@ use Rattle.rr_flat.specs.Targets.{part_name}
 use Rattle.rr_flat.specs.View.{plain_flat}
 use Rattle.rr_flat.specs.Writers.{scope_at}
 use Rattle.rr_assign.specs.Aims.{may_assign}
-use Rattle.rr_parts.specs.Names.{signal_of, signal_named, part_token}
+use Rattle.rr_text_names.specs.Names.{signal_of, signal_named, part_token}
 use Rattle.rr_assign.proofs.Fusion.{unless_none, unless_some}
-use Rattle.rr_parts.proofs.NamesOfParts.{named_text, named_token}
+use Rattle.rr_text_names.proofs.NamesOfParts.{named_text, named_token}
 use Rattle.rr_assign.proofs.aims.bad_target.Goals as goal
 
 pub returns-then-may_assign : goal.returns-then-may_assign

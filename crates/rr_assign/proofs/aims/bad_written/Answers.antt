@@ -4,8 +4,8 @@ use Rattle.rr_flat.specs.Reads.{assigned_parts}
 use Rattle.rr_flat.specs.Targets.{target_parts}
 use Rattle.rr_flat.specs.View.{plain_flat}
 use Rattle.rr_assign.specs.Aims.{bad_driven}
-use Rattle.rr_parts.specs.Firsts.{earliest}
-use Rattle.rr_parts.specs.View.{plain_target}
+use Rattle.rr_text_names.specs.Firsts.{earliest}
+use Rattle.rr_text_names.specs.View.{plain_target}
 use Rattle.rr_assign.proofs.Fusion.{parts_collected}
 use Rattle.rr_assign.proofs.aims.bad_written.Goals as goal
 

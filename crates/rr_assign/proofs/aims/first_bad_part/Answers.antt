@@ -1,8 +1,8 @@
 use Rattle.std.proofs.Common.{◌∙◌, sym, ap, is_some}
 use Rattle.rr_flat.specs.View.{plain_flat}
-use Rattle.rr_parts.proofs.Walks.{walk_skip_at, walk_hit_at, walk_done}
+use Rattle.rr_text_names.proofs.Walks.{walk_skip_at, walk_hit_at, walk_done}
 use Rattle.rr_assign.specs.Aims.{bad_driven}
-use Rattle.rr_parts.specs.View.{plain_target}
+use Rattle.rr_text_names.specs.View.{plain_target}
 use Rattle.rr_assign.proofs.aims.first_bad_part.Goals as goal
 
 pub loop-target-preserved : goal.loop-target-preserved

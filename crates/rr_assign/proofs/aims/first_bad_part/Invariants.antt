@@ -1,9 +1,9 @@
 use Rattle.std.proofs.Common.{◌≡◌, drop}
 use Rattle.std.specs.Prelude.{flat_map}
 use Rattle.rr_flat.specs.View.{plain_flat}
-use Rattle.rr_parts.specs.Firsts.{earliest}
+use Rattle.rr_text_names.specs.Firsts.{earliest}
 use Rattle.rr_assign.specs.Aims.{bad_driven}
-use Rattle.rr_parts.specs.View.{plain_target}
+use Rattle.rr_text_names.specs.View.{plain_target}
 use Rattle.rr_assign.proofs.aims.first_bad_part.Given as goal
 
 abbrev pub invariant-loop-target : goal.invariant-loop-target

@@ -3,10 +3,10 @@ use Rattle.std.specs.Prelude.{flat_map}
 use Rattle.rr_flat.specs.Lawful.{RightTargets}
 use Rattle.rr_flat.specs.View.{plain_flat}
 use Rattle.rr_assign.specs.Aims.{bad_of_part, bad_targets}
-use Rattle.rr_parts.specs.Firsts.{earliest}
-use Rattle.rr_parts.proofs.Covering.{has_walk}
+use Rattle.rr_text_names.specs.Firsts.{earliest}
+use Rattle.rr_text_names.proofs.Covering.{has_walk}
 use Rattle.rr_assign.proofs.AimLaw.{right_targets, no_bad_targets}
-use Rattle.rr_parts.proofs.Walks.{first_none, first_some, walk_skip_at, walk_hit_at, walk_done}
+use Rattle.rr_text_names.proofs.Walks.{first_none, first_some, walk_skip_at, walk_hit_at, walk_done}
 use Rattle.rr_assign.proofs.aims.first_bad_target.Goals as goal
 
 pub loop-part-init : goal.loop-part-init

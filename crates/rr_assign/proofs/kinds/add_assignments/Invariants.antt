@@ -1,6 +1,6 @@
 use Rattle.std.proofs.Common.{◌≡◌, ◌++◌, map, drop}
 use Rattle.rr_flat.specs.View.{plain_flat}
-use Rattle.rr_parts.specs.View.{plain_target}
+use Rattle.rr_text_names.specs.View.{plain_target}
 use Rattle.rr_assign.specs.Kinds.{aim_of}
 use Rattle.rr_assign.specs.View.{plain_aim}
 use Rattle.rr_assign.proofs.kinds.add_assignments.Given as goal

@@ -2,7 +2,7 @@ use Rattle.std.proofs.Common.{◌∙◌, ◌++◌, ap, map}
 use Rattle.rr_syntax.specs.View.{plain_statement}
 use Rattle.rr_flat.specs.Reads.{assigned_by}
 use Rattle.rr_flat.specs.View.{plain_block, plain_flat}
-use Rattle.rr_parts.specs.View.{plain_target}
+use Rattle.rr_text_names.specs.View.{plain_target}
 use Rattle.rr_assign.specs.View.{plain_aim}
 use Rattle.rr_assign.proofs.Kinding.{no_aims, part_aims}
 use Rattle.rr_assign.proofs.kinds.add_part.Goals as goal

@@ -1,7 +1,7 @@
 use Rattle.std.proofs.Common.{◌∙◌, sym, subst, length, map}
 use Rattle.rr_flat.specs.Sound.{IsWalk}
 use Rattle.rr_flat.specs.View.{plain_flat}
-use Rattle.rr_parts.proofs.Walks.{add_done}
+use Rattle.rr_text_names.proofs.Walks.{add_done}
 use Rattle.rr_assign.specs.Kinds.{aims_of_part}
 use Rattle.rr_assign.specs.View.{plain_aim}
 use Rattle.rr_assign.proofs.kinds.assignments.Goals as goal

@@ -1,6 +1,6 @@
 use Rattle.std.proofs.Common.{◌≤◌, length, map, take}
 use Rattle.rr_flat.specs.View.{plain_flat}
-use Rattle.rr_parts.specs.Names.{entry}
+use Rattle.rr_text_names.specs.Names.{entry}
 use Rattle.rr_assign.specs.Kinds.{HoldsKinds}
 use Rattle.rr_assign.specs.View.{plain_aim}
 use Rattle.rr_assign.proofs.kinds.first_clash.Given as goal

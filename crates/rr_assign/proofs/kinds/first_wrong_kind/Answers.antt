@@ -1,9 +1,9 @@
 use Rattle.std.proofs.Common.{◌∙◌, ap, map, [], refl}
 use Rattle.rr_flat.specs.Lawful.{RightKinds}
 use Rattle.rr_flat.specs.View.{plain_flat}
-use Rattle.rr_parts.specs.Firsts.{earliest}
-use Rattle.rr_parts.proofs.Covering.{has_walk}
-use Rattle.rr_parts.proofs.Walks.{first_none, first_some}
+use Rattle.rr_text_names.specs.Firsts.{earliest}
+use Rattle.rr_text_names.proofs.Covering.{has_walk}
+use Rattle.rr_text_names.proofs.Walks.{first_none, first_some}
 use Rattle.rr_assign.specs.Kinds.{wrong_after, wrong_kinds}
 use Rattle.rr_assign.specs.View.{plain_aim}
 use Rattle.rr_assign.proofs.KindLaw.{right_kinds, no_wrong_kinds}

@@ -1,5 +1,5 @@
 use Rattle.std.proofs.Common.{◌≡◌, ◌∙◌, ap, ℕ, zero, suc, Bool, Option, None, Some, replicate, refl}
-use Rattle.rr_parts.specs.Names.{entry}
+use Rattle.rr_text_names.specs.Names.{entry}
 use Rattle.rr_assign.proofs.Kinding.{nothing_held}
 use Rattle.rr_assign.proofs.kinds.no_kinds.Goals as goal
 

@@ -3,8 +3,8 @@ use Rattle.rr_syntax.specs.View.{plain}
 use Rattle.rr_expr.specs.Scopes.{meant}
 use Rattle.rr_flat.specs.View.{plain_flat}
 use Rattle.rr_flat.specs.Writers.{scope_at}
-use Rattle.rr_parts.specs.Names.{entry, signal_of}
-use Rattle.rr_parts.proofs.NamesOfParts.{named_text, named_token}
+use Rattle.rr_text_names.specs.Names.{entry, signal_of}
+use Rattle.rr_text_names.proofs.NamesOfParts.{named_text, named_token}
 use Rattle.rr_assign.specs.Kinds.{kind_fault}
 use Rattle.rr_assign.specs.View.{plain_aim}
 use Rattle.rr_assign.proofs.Kinding.{noted_late, noted_none, noted_signal, kinds_size}

@@ -1,9 +1,9 @@
 use Rattle.std.proofs.Common.{◌∙◌, sym, ap, is_some}
 use Rattle.rr_syntax.specs.View.{plain}
 use Rattle.rr_flat.specs.Reads.{literals_in}
-use Rattle.rr_parts.specs.Firsts.{earliest}
+use Rattle.rr_text_names.specs.Firsts.{earliest}
 use Rattle.rr_assign.specs.Labels.{wild}
-use Rattle.rr_parts.proofs.Walks.{walk_skip, walk_hit, walk_done}
+use Rattle.rr_text_names.proofs.Walks.{walk_skip, walk_hit, walk_done}
 use Rattle.rr_assign.proofs.WildNodes.{found_list}
 use Rattle.rr_assign.proofs.labels.+literals.Goals as goal
 

@@ -2,7 +2,7 @@ use Rattle.std.proofs.Common.{◌≡◌, drop}
 use Rattle.std.specs.Prelude.{flat_map}
 use Rattle.rr_syntax.specs.View.{plain}
 use Rattle.rr_flat.specs.Reads.{literals_in}
-use Rattle.rr_parts.specs.Firsts.{earliest}
+use Rattle.rr_text_names.specs.Firsts.{earliest}
 use Rattle.rr_assign.specs.Labels.{wild}
 use Rattle.rr_assign.proofs.labels.+literals.Given as goal
 

@@ -1,9 +1,9 @@
 use Rattle.std.proofs.Common.{◌≡◌, ◌∙◌, sym, ap, is_some}
 use Rattle.std.specs.Option.{option_or}
 use Rattle.rr_syntax.specs.View.{plain_list, plain_statement}
-use Rattle.rr_parts.specs.Firsts.{earliest}
+use Rattle.rr_text_names.specs.Firsts.{earliest}
 use Rattle.rr_assign.specs.Labels.{wild_labels, wild_in}
-use Rattle.rr_parts.proofs.Walks.{walk_skip, walk_hit, walk_done, earliest_append}
+use Rattle.rr_text_names.proofs.Walks.{walk_skip, walk_hit, walk_done, earliest_append}
 use Rattle.rr_assign.proofs.WildNodes.{in_list, in_arms, arm_wild}
 use Rattle.rr_assign.proofs.labels.+wild.Goals as goal
 

@@ -1,7 +1,7 @@
 use Rattle.std.proofs.Common.{◌≡◌, drop}
 use Rattle.std.specs.Prelude.{flat_map}
 use Rattle.rr_syntax.specs.View.{plain_statement}
-use Rattle.rr_parts.specs.Firsts.{earliest}
+use Rattle.rr_text_names.specs.Firsts.{earliest}
 use Rattle.rr_assign.specs.Labels.{wild_in}
 use Rattle.rr_assign.proofs.WildNodes.{arm_wild}
 use Rattle.rr_assign.proofs.labels.+wild.Given as goal

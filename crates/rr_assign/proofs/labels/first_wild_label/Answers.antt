@@ -3,10 +3,10 @@ use Rattle.std.specs.Prelude.{flat_map}
 use Rattle.rr_flat.specs.Lawful.{RightLabels}
 use Rattle.rr_flat.specs.View.{plain_flat}
 use Rattle.rr_assign.specs.Labels.{wild_of_part, all_wild}
-use Rattle.rr_parts.specs.Firsts.{earliest}
-use Rattle.rr_parts.proofs.Covering.{has_walk}
+use Rattle.rr_text_names.specs.Firsts.{earliest}
+use Rattle.rr_text_names.proofs.Covering.{has_walk}
 use Rattle.rr_assign.proofs.LabelLaw.{right_labels, no_wild_labels}
-use Rattle.rr_parts.proofs.Walks.{first_none, first_some, walk_skip_at, walk_hit_at, walk_done}
+use Rattle.rr_text_names.proofs.Walks.{first_none, first_some, walk_skip_at, walk_hit_at, walk_done}
 use Rattle.rr_assign.proofs.labels.first_wild_label.Goals as goal
 
 pub loop-part-init : goal.loop-part-init

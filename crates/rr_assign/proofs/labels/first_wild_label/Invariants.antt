@@ -2,7 +2,7 @@ use Rattle.std.proofs.Common.{◌≡◌, drop}
 use Rattle.std.specs.Prelude.{flat_map}
 use Rattle.rr_flat.specs.View.{plain_flat}
 use Rattle.rr_assign.specs.Labels.{wild_of_part, all_wild}
-use Rattle.rr_parts.specs.Firsts.{earliest}
+use Rattle.rr_text_names.specs.Firsts.{earliest}
 use Rattle.rr_assign.proofs.labels.first_wild_label.Given as goal
 
 abbrev pub invariant-loop-part : goal.invariant-loop-part

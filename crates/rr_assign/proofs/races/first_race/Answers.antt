@@ -1,8 +1,8 @@
 use Rattle.std.proofs.Common.{◌∙◌, sym, ap, subst, map, None}
 use Rattle.rr_flat.specs.Lawful.{NoRace}
 use Rattle.rr_flat.specs.View.{plain_block, plain_flat}
-use Rattle.rr_parts.specs.Firsts.{earliest}
-use Rattle.rr_parts.proofs.Walks.{first_none, first_some}
+use Rattle.rr_text_names.specs.Firsts.{earliest}
+use Rattle.rr_text_names.proofs.Walks.{first_none, first_some}
 use Rattle.rr_assign.specs.Races.{HoldsWriters, races, races_from, writer_table, writers_from}
 use Rattle.rr_assign.proofs.RaceLaw.{no_race, race_none}
 use Rattle.rr_assign.proofs.Racing.{races_skip, races_hit, races_done}

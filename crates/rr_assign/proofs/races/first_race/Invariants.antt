@@ -1,6 +1,6 @@
 use Rattle.std.proofs.Common.{◌≡◌, map, drop}
 use Rattle.rr_flat.specs.View.{plain_block, plain_flat}
-use Rattle.rr_parts.specs.Firsts.{earliest}
+use Rattle.rr_text_names.specs.Firsts.{earliest}
 use Rattle.rr_assign.specs.Races.{races, races_from, writers_from}
 use Rattle.rr_assign.proofs.races.first_race.Given as goal
 

@@ -1,8 +1,8 @@
 use Rattle.std.proofs.Common.{◌∙◌, sym, ap, is_some}
 use Rattle.rr_syntax.specs.View.{plain_identifier}
 use Rattle.rr_flat.specs.View.{plain_flat}
-use Rattle.rr_parts.specs.Firsts.{earliest}
-use Rattle.rr_parts.proofs.Walks.{walk_skip_at, walk_hit_at, walk_done, flat_map_map}
+use Rattle.rr_text_names.specs.Firsts.{earliest}
+use Rattle.rr_text_names.proofs.Walks.{walk_skip_at, walk_hit_at, walk_done, flat_map_map}
 use Rattle.rr_assign.specs.Races.{race_of}
 use Rattle.rr_assign.proofs.races.first_race_of.Goals as goal
 

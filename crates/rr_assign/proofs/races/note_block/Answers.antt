@@ -2,7 +2,7 @@ use Rattle.std.proofs.Common.{◌∙◌, ◌++◌, ap, subst, map}
 use Rattle.rr_syntax.specs.View.{plain_statement}
 use Rattle.rr_flat.specs.Reads.{assigned_by}
 use Rattle.rr_flat.specs.View.{plain_flat}
-use Rattle.rr_parts.specs.View.{plain_target}
+use Rattle.rr_text_names.specs.View.{plain_target}
 use Rattle.rr_assign.specs.Races.{HoldsWriters, writer_of, writer_table}
 use Rattle.rr_assign.proofs.races.note_block.Goals as goal
 

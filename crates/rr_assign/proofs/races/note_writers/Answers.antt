@@ -1,6 +1,6 @@
 use Rattle.std.proofs.Common.{◌∙◌, ◌++◌, ap, map, take}
 use Rattle.rr_flat.specs.View.{plain_flat}
-use Rattle.rr_parts.specs.View.{plain_target}
+use Rattle.rr_text_names.specs.View.{plain_target}
 use Rattle.rr_assign.specs.Races.{writer_of, writer_table}
 use Rattle.rr_assign.proofs.Racing.{writers_step, writers_all}
 use Rattle.rr_assign.proofs.races.note_writers.Goals as goal

@@ -1,6 +1,6 @@
 use Rattle.std.proofs.Common.{◌≡◌, ◌++◌, ℕ, List, Option, length, map, take}
 use Rattle.rr_flat.specs.View.{plain_flat}
-use Rattle.rr_parts.specs.View.{plain_target}
+use Rattle.rr_text_names.specs.View.{plain_target}
 use Rattle.rr_assign.specs.Races.{HoldsWriters, writer_of, writer_table}
 use Rattle.rr_assign.proofs.races.note_writers.Given as goal
 

@@ -3,7 +3,7 @@ use Rattle.std.specs.Prelude.{flat_map}
 use Rattle.rr_syntax.specs.View.{plain_identifier, plain_statement}
 use Rattle.rr_flat.specs.Reads.{names_read}
 use Rattle.rr_flat.specs.View.{plain_flat}
-use Rattle.rr_parts.specs.Firsts.{earliest}
+use Rattle.rr_text_names.specs.Firsts.{earliest}
 use Rattle.rr_assign.specs.Races.{race_of}
 use Rattle.rr_assign.proofs.races.race_in_block.Goals as goal
 

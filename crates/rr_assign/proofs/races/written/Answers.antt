@@ -4,8 +4,8 @@ use Rattle.rr_expr.specs.Scopes.{meant}
 use Rattle.rr_flat.specs.Targets.{part_name}
 use Rattle.rr_flat.specs.View.{plain_flat}
 use Rattle.rr_flat.specs.Writers.{scope_at}
-use Rattle.rr_parts.specs.Names.{signal_of, signal_named}
-use Rattle.rr_parts.proofs.NamesOfParts.{named_text}
+use Rattle.rr_text_names.specs.Names.{signal_of, signal_named}
+use Rattle.rr_text_names.proofs.NamesOfParts.{named_text}
 use Rattle.rr_assign.proofs.races.written.Goals as goal
 
 pub returns-then-target-clause-value : goal.returns-then-target-clause-value

@@ -1,7 +1,7 @@
 use Rattle.std.proofs.Common.{◌≡◌, ◌≤◌, ℕ, Bool, drop, length}
 use Rattle.rr_circuit.specs.Values.{Netlist, AreWires, wire_values}
 use Rattle.rr_transition.specs.Placed.{placed}
-use Rattle.rr_machine.specs.Words.{AreWords, carried, widths_of}
+use Rattle.rr_signal_wires.specs.Words.{AreWords, carried, widths_of}
 use Rattle.rr_blast.proofs.beginning.put_bits.Given as goal
 
 abbrev pub invariant-loop-left : goal.invariant-loop-left

@@ -1,7 +1,7 @@
 use Rattle.std.proofs.Common.{◌≡◌, ◌<◌, ℕ, [], Bool, get_or, take}
 use Rattle.rr_bits.specs.Words.{word}
 use Rattle.rr_blast_steps.specs.Designs.{signal_widths}
-use Rattle.rr_machine.specs.Words.{AreWords, widths_of, word_values}
+use Rattle.rr_signal_wires.specs.Words.{AreWords, widths_of, word_values}
 use Rattle.rr_blast.proofs.beginning.start_words.Given as goal
 
 abbrev pub invariant-loop-at : goal.invariant-loop-at

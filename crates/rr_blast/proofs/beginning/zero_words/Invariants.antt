@@ -3,7 +3,7 @@ use Rattle.std.specs.Prelude.{Vec}
 use Rattle.std.specs.Global.{Global}
 use Rattle.rr_circuit.specs.declared.Wire.{Wire}
 use Rattle.rr_blast_steps.specs.Designs.{signal_widths}
-use Rattle.rr_machine.specs.Words.{widths_of}
+use Rattle.rr_signal_wires.specs.Words.{widths_of}
 use Rattle.rr_blast.proofs.beginning.zero_words.Given as goal
 
 abbrev pub invariant-loop-signal : goal.invariant-loop-signal

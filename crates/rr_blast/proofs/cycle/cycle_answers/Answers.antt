@@ -9,10 +9,10 @@ use Rattle.rr_flat.specs.View.{Design, plain_flat}
 use Rattle.rr_flat_instance.specs.Flats.{instance_flat}
 use Rattle.rr_cycle.specs.Performing.{next_after}
 use Rattle.rr_transition.specs.Cycles.{output_bits}
-use Rattle.rr_machine.specs.Words.{carried}
+use Rattle.rr_signal_wires.specs.Words.{carried}
 use Rattle.rr_blast_terms.specs.Choosing.{picks_of}
 use Rattle.rr_blast.proofs.CycleLaws.{answers_are}
-use Rattle.rr_machine.proofs.WordLaws.{carried-extends}
+use Rattle.rr_signal_wires.proofs.WordLaws.{carried-extends}
 use Rattle.rr_blast_terms.proofs.ChoiceLaws.{picks-extends}
 use Rattle.rr_blast.proofs.cycle.cycle_answers.Goals as goal
 

@@ -7,11 +7,11 @@ use Rattle.rr_circuit.specs.declared.Wire.{Wire}
 use Rattle.rr_circuit.specs.Values.{AreWires, IsWire, wire_values}
 use Rattle.rr_flat.specs.declared.signal.Signal.{Signal}
 use Rattle.rr_flat.specs.View.{Design, plain_flat}
-use Rattle.rr_machine.specs.Words.{carried}
+use Rattle.rr_signal_wires.specs.Words.{carried}
 use Rattle.rr_blast.proofs.CycleLaws.{outputs_more}
 use Rattle.rr_meaning.proofs.Scoping.{IsSound}
 use Rattle.rr_blast_steps.proofs.SideLaws.{signal_wires}
-use Rattle.rr_machine.proofs.WordLaws.{count_of}
+use Rattle.rr_signal_wires.proofs.WordLaws.{count_of}
 use Rattle.rr_blast.proofs.cycle.output_wires.Goals as goal
 
 pub bounds-words-id : goal.bounds-words-id

@@ -1,6 +1,6 @@
 use Rattle.std.proofs.Common.{◌≡◌, ℕ, Bool, map, take}
 use Rattle.rr_circuit.specs.Values.{Netlist, AreWires, wire_values}
-use Rattle.rr_machine.specs.Words.{AreWords, carried}
+use Rattle.rr_signal_wires.specs.Words.{AreWords, carried}
 use Rattle.rr_blast.proofs.cycle.wires_at.Given as goal
 
 abbrev pub invariant-loop-bit : goal.invariant-loop-bit

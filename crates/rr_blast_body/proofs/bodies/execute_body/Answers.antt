@@ -6,7 +6,7 @@ use Rattle.rr_instance.specs.Firsts.{first_token}
 use Rattle.rr_instance.specs.Instances.{instance_statement}
 use Rattle.rr_blast_body.specs.Overwrites.{sites_ran}
 use Rattle.rr_blast_stmt.specs.Running.{Values, held, ran}
-use Rattle.rr_machine.specs.Words.{widths_of}
+use Rattle.rr_signal_wires.specs.Words.{widths_of}
 use Rattle.rr_blast_terms.specs.Choosing.{picks_of}
 use Rattle.rr_blast_stmt.proofs.ArmLaws.{holds_again, machine_again}
 use Rattle.rr_blast_body.proofs.OverwriteLaws.{ran_bodies}

@@ -4,7 +4,7 @@ use Rattle.rr_syntax.specs.View.{plain_statement}
 use Rattle.rr_choice.specs.Choices.{decode, total_bits}
 use Rattle.rr_instance.specs.Firsts.{first_token}
 use Rattle.rr_choice.specs.View.{plain_sites}
-use Rattle.rr_machine.specs.Words.{widths_of}
+use Rattle.rr_signal_wires.specs.Words.{widths_of}
 use Rattle.rr_blast_terms.specs.Choosing.{picks_of}
 use Rattle.rr_blast_stmt.specs.Running.{IsMachine, held}
 use Rattle.rr_blast_body.specs.Overwrites.{sites_ran}

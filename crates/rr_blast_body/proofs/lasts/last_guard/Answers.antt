@@ -9,7 +9,7 @@ use Rattle.rr_word_gates.proofs.Carrying.{value-read}
 use Rattle.rr_blast_sites.specs.Instances.{World}
 use Rattle.rr_blast_sites.specs.Signals.{signal_values}
 use Rattle.rr_blast_sites.proofs.GuardLaws.{rest_whole}
-use Rattle.rr_machine.specs.Words.{carried}
+use Rattle.rr_signal_wires.specs.Words.{carried}
 use Rattle.rr_blast_terms.proofs.WildLaws.{carried_signals}
 use Rattle.rr_blast_body.specs.Lasts.{gated}
 use Rattle.rr_blast_body.proofs.LastLaws.{gate_read}

@@ -12,11 +12,11 @@ use Rattle.rr_flat.specs.Targets.{bits_there}
 use Rattle.rr_choice.specs.Choices.{picked_form, picked_name}
 use Rattle.rr_instance.specs.Instances.{gate}
 use Rattle.rr_cycle.specs.Exec.{Environment, is_true, write}
-use Rattle.rr_machine.specs.declared.guarded_pieces.GuardedPiece.{GuardedPiece}
-use Rattle.rr_machine.specs.GuardedPieces.{put_guarded_pieces}
-use Rattle.rr_machine.specs.Words.{carried, widths_of}
-use Rattle.rr_machine.proofs.GuardedPieceLaws.{put_guarded_pieces-extends}
-use Rattle.rr_machine.proofs.WordLaws.{count_of, width_at}
+use Rattle.rr_signal_wires.specs.declared.guarded_pieces.GuardedPiece.{GuardedPiece}
+use Rattle.rr_signal_wires.specs.GuardedPieces.{put_guarded_pieces}
+use Rattle.rr_signal_wires.specs.Words.{carried, widths_of}
+use Rattle.rr_signal_wires.proofs.GuardedPieceLaws.{put_guarded_pieces-extends}
+use Rattle.rr_signal_wires.proofs.WordLaws.{count_of, width_at}
 use Rattle.rr_blast_stmt.specs.Running.{Values, held, stored}
 use Rattle.rr_blast_stmt.proofs.ArmLaws.{held-extends}
 use Rattle.rr_blast_body.specs.Lasts.{last_pick}

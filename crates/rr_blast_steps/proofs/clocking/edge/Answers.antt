@@ -1,8 +1,8 @@
 use Rattle.rr_flat.specs.View.{plain_flat}
-use Rattle.rr_machine.specs.Words.{carried}
+use Rattle.rr_signal_wires.specs.Words.{carried}
 use Rattle.rr_blast_terms.specs.Choosing.{picks_of}
 use Rattle.rr_blast_steps.proofs.CopyLaws.{next_of_two}
-use Rattle.rr_machine.proofs.WordLaws.{carried-extends}
+use Rattle.rr_signal_wires.proofs.WordLaws.{carried-extends}
 use Rattle.rr_blast_terms.proofs.ChoiceLaws.{picks-extends}
 use Rattle.rr_blast_steps.proofs.clocking.edge.Goals as goal
 

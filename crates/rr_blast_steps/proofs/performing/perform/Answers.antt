@@ -2,7 +2,7 @@ use Rattle.std.proofs.Common.{◌≡◌, ◌∙◌, sym, ap, subst, arith, ◌<�
 use Rattle.std.proofs.lemmas.List.{length-map}
 use Rattle.rr_flat.specs.Sound.{IsDriver}
 use Rattle.rr_flat.specs.View.{Design, plain_block, plain_driver, plain_flat}
-use Rattle.rr_machine.specs.Words.{carried}
+use Rattle.rr_signal_wires.specs.Words.{carried}
 use Rattle.rr_blast_terms.specs.Choosing.{picks_of}
 use Rattle.rr_meaning.proofs.Scoping.{IsSound}
 use Rattle.rr_meaning.proofs.Walking.{step_block, step_driver, step_wire}

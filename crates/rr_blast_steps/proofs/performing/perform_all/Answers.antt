@@ -1,7 +1,7 @@
 use Rattle.rr_circuit.proofs.Netlists.{Extends-trans}
 use Rattle.rr_flat.specs.View.{plain_flat}
 use Rattle.rr_flat_instance.specs.Flats.{instance_flat}
-use Rattle.rr_machine.specs.Words.{carried}
+use Rattle.rr_signal_wires.specs.Words.{carried}
 use Rattle.rr_blast_terms.specs.Choosing.{picks_of}
 use Rattle.rr_meaning.proofs.Walking.{steps_done}
 use Rattle.rr_blast_steps.proofs.StepLaws.{steps_more}

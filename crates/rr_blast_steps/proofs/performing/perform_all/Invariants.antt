@@ -5,7 +5,7 @@ use Rattle.rr_cycle.specs.Performing.{performed}
 use Rattle.rr_blast_steps.specs.Designs.{signal_widths}
 use Rattle.rr_flat_instance.specs.Flats.{instance_flat}
 use Rattle.rr_blast_stmt.specs.Running.{IsMachine}
-use Rattle.rr_machine.specs.Words.{carried}
+use Rattle.rr_signal_wires.specs.Words.{carried}
 use Rattle.rr_blast_terms.specs.Choosing.{picks_of}
 use Rattle.rr_blast_steps.proofs.performing.perform_all.Given as goal
 

@@ -7,14 +7,14 @@ use Rattle.rr_flat.specs.Plain as plain
 use Rattle.rr_flat.specs.View.{plain_driver, plain_flat}
 use Rattle.rr_choice.specs.declared.pick.Pick.{Pick}
 use Rattle.rr_cycle.specs.Exec.{Environment}
-use Rattle.rr_machine.specs.declared.guarded_pieces.GuardedPiece.{GuardedPiece}
+use Rattle.rr_signal_wires.specs.declared.guarded_pieces.GuardedPiece.{GuardedPiece}
 use Rattle.rr_blast_steps.specs.Designs.{driver_value_of, signal_widths}
 use Rattle.rr_flat_instance.specs.Flats.{instance_driver}
-use Rattle.rr_machine.specs.GuardedPieces.{put_guarded_pieces}
-use Rattle.rr_machine.specs.Words.{carried}
+use Rattle.rr_signal_wires.specs.GuardedPieces.{put_guarded_pieces}
+use Rattle.rr_signal_wires.specs.Words.{carried}
 use Rattle.rr_blast_terms.specs.Choosing.{picks_of}
-use Rattle.rr_machine.proofs.GuardedPieceLaws.{put_guarded_pieces-extends}
-use Rattle.rr_machine.proofs.WordLaws.{carried-extends}
+use Rattle.rr_signal_wires.proofs.GuardedPieceLaws.{put_guarded_pieces-extends}
+use Rattle.rr_signal_wires.proofs.WordLaws.{carried-extends}
 use Rattle.rr_blast_steps.proofs.steps.drive.Goals as goal
 
 pub returns-clause-value : goal.returns-clause-value

@@ -9,16 +9,16 @@ use Rattle.rr_flat.specs.View.{Design, plain_flat}
 use Rattle.rr_flat.specs.Writers.{driven_by, scope_at}
 use Rattle.rr_cycle.specs.Exec.{Environment, write}
 use Rattle.rr_blast_steps.specs.Designs.{signal_widths}
-use Rattle.rr_target.specs.declared.piece.Piece.{Piece}
-use Rattle.rr_target.specs.Pieces.{bits_of}
-use Rattle.rr_machine.specs.declared.guarded_pieces.GuardedPiece.{GuardedPiece}
-use Rattle.rr_machine.specs.GuardedPieces.{put_guarded_pieces}
+use Rattle.rr_named_bits.specs.declared.piece.Piece.{Piece}
+use Rattle.rr_named_bits.specs.Pieces.{bits_of}
+use Rattle.rr_signal_wires.specs.declared.guarded_pieces.GuardedPiece.{GuardedPiece}
+use Rattle.rr_signal_wires.specs.GuardedPieces.{put_guarded_pieces}
 use Rattle.rr_meaning.proofs.Scoping.{IsSound, scope_is, scope_read}
 use Rattle.rr_blast_steps.proofs.DesignLaws.{scope_holds}
-use Rattle.rr_machine.proofs.NameLaws.{few_bits}
+use Rattle.rr_signal_wires.proofs.NameLaws.{few_bits}
 use Rattle.rr_meaning.proofs.Scoping.{signal_read}
 use Rattle.rr_blast_steps.proofs.SideLaws.{whole_piece}
-use Rattle.rr_machine.proofs.GuardedPieceLaws.{no_guarded_pieces, put_guarded_pieces-push}
+use Rattle.rr_signal_wires.proofs.GuardedPieceLaws.{no_guarded_pieces, put_guarded_pieces-push}
 use Rattle.rr_blast_steps.proofs.steps.driven_guarded_pieces.Goals as goal
 
 pub add_fixed-requires-clause-few : goal.add_fixed-requires-clause-few

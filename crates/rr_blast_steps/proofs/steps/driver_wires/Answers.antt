@@ -1,5 +1,5 @@
 use Rattle.rr_flat.specs.View.{plain_flat, plain_side}
-use Rattle.rr_machine.specs.Words.{carried}
+use Rattle.rr_signal_wires.specs.Words.{carried}
 use Rattle.rr_blast_terms.specs.Choosing.{picks_of}
 use Rattle.rr_blast_steps.proofs.SideLaws.{driver_is}
 use Rattle.rr_blast_steps.proofs.steps.driver_wires.Goals as goal

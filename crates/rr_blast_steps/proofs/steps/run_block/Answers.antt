@@ -3,7 +3,7 @@ use Rattle.rr_syntax.specs.View.{plain_statement}
 use Rattle.rr_expr.specs.Scopes.{Names}
 use Rattle.rr_flat.specs.View.{Design, plain_flat}
 use Rattle.rr_flat.specs.Writers.{scope_at}
-use Rattle.rr_machine.specs.Words.{widths_of}
+use Rattle.rr_signal_wires.specs.Words.{widths_of}
 use Rattle.rr_blast_steps.specs.Designs.{signal_widths}
 use Rattle.rr_blast_body.specs.Overwrites.{body_instance}
 use Rattle.rr_blast_stmt.specs.Running.{held, ran}

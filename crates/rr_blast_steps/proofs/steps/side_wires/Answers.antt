@@ -13,11 +13,11 @@ use Rattle.rr_flat.specs.View.{Design, plain_flat}
 use Rattle.rr_flat.specs.Writers.{scope_at}
 use Rattle.rr_instance.specs.Instances.{instance_tree}
 use Rattle.rr_cycle.specs.Cycles.{side_shape, side_value}
-use Rattle.rr_machine.specs.Words.{carried}
+use Rattle.rr_signal_wires.specs.Words.{carried}
 use Rattle.rr_blast_terms.specs.Choosing.{picks_of}
 use Rattle.rr_meaning.proofs.Scoping.{IsSound, scope_read}
 use Rattle.rr_blast_steps.proofs.SideLaws.{signal_wires}
-use Rattle.rr_machine.proofs.WordLaws.{count_of}
+use Rattle.rr_signal_wires.proofs.WordLaws.{count_of}
 use Rattle.rr_blast_steps.proofs.steps.side_wires.Goals as goal
 
 pub wires-requires-clause-low : goal.wires-requires-clause-low

@@ -1,4 +1,4 @@
-use Rattle.rr_machine.specs.Words.{IsThere}
+use Rattle.rr_signal_wires.specs.Words.{IsThere}
 use Rattle.std.proofs.Common.{◌≡◌, ◌∙◌, sym, ap, subst, arith, List, Option, None, get_or, length}
 use Rattle.rr_syntax.specs.View.{plain}
 use Rattle.rr_expr.specs.declared.types.Bit.{Bit}
@@ -9,11 +9,11 @@ use Rattle.rr_flat.specs.Targets.{target_bits}
 use Rattle.rr_flat.specs.View.{Design, plain_flat}
 use Rattle.rr_flat.specs.Writers.{driven_by, scope_at}
 use Rattle.rr_blast_steps.specs.Designs.{signal_widths}
-use Rattle.rr_target.specs.Pieces.{all_bits}
+use Rattle.rr_named_bits.specs.Pieces.{all_bits}
 use Rattle.rr_blast_steps.proofs.BitLaws.{named_there, some_if, whole_at, whole_past, whole_there}
 use Rattle.rr_meaning.proofs.Scoping.{IsSound, scope_is, scope_read}
 use Rattle.rr_blast_steps.proofs.DesignLaws.{scope_holds}
-use Rattle.rr_machine.proofs.NameLaws.{few_bits, none_bits}
+use Rattle.rr_signal_wires.proofs.NameLaws.{few_bits, none_bits}
 use Rattle.rr_meaning.proofs.Scoping.{signal_read}
 use Rattle.rr_blast_steps.proofs.wiring.driven_bit.Goals as goal
 

@@ -6,7 +6,7 @@ use Rattle.rr_flat.specs.View.{Design, plain_flat, plain_side}
 use Rattle.rr_flat.specs.Writers.{scope_at}
 use Rattle.rr_instance.specs.Instances.{instance_tree}
 use Rattle.rr_blast_terms.specs.Choosing.{picks_of}
-use Rattle.rr_machine.specs.Words.{carried}
+use Rattle.rr_signal_wires.specs.Words.{carried}
 use Rattle.rr_meaning.proofs.Scoping.{scope_read}
 use Rattle.rr_blast_steps.proofs.PartLaws.{joined_side}
 use Rattle.rr_blast_steps.proofs.wiring.driver_wire.Goals as goal

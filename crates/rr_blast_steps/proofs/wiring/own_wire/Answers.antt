@@ -2,7 +2,7 @@ use Rattle.std.proofs.Common.{◌∙◌, ap, List, Bool, false, get_or}
 use Rattle.rr_circuit.specs.Values.{wire_values}
 use Rattle.rr_syntax.specs.View.{plain}
 use Rattle.rr_blast_terms.specs.Choosing.{picks_of}
-use Rattle.rr_machine.specs.Words.{carried}
+use Rattle.rr_signal_wires.specs.Words.{carried}
 use Rattle.rr_blast_steps.proofs.PartLaws.{no_bit, part_bit}
 use Rattle.rr_blast_steps.proofs.wiring.own_wire.Goals as goal
 

@@ -11,10 +11,10 @@ use Rattle.rr_choice.specs.declared.pick.Pick.{Pick}
 use Rattle.rr_cycle.specs.Exec.{Environment, put}
 use Rattle.rr_blast_steps.specs.Designs.{driver_value_of}
 use Rattle.rr_flat_instance.specs.Flats.{instance_driver}
-use Rattle.rr_machine.specs.Words.{carried}
+use Rattle.rr_signal_wires.specs.Words.{carried}
 use Rattle.rr_blast_terms.specs.Choosing.{picks_of}
 use Rattle.rr_meaning.proofs.Placing.{wire_none, wire_some}
-use Rattle.rr_machine.proofs.WordLaws.{carried-extends}
+use Rattle.rr_signal_wires.proofs.WordLaws.{carried-extends}
 use Rattle.rr_blast_steps.proofs.wiring.wire.Goals as goal
 
 pub returns-in-Some-clause-value : goal.returns-in-Some-clause-value

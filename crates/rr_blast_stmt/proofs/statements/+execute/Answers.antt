@@ -18,7 +18,7 @@ use Rattle.rr_exec.proofs.Loops.{arm_body_shaped, arm_labels_shaped, narrow_labe
 use Rattle.rr_wiring.proofs.Widths.{length_value}
 use Rattle.rr_exec.proofs.Nodes.{shaped-Block, shaped-IfElse-no, shaped-Case-on, shaped-Case-arms, shaped-Assign-target, shaped-Assign-value}
 use Rattle.rr_blast_stmt.specs.Running.{Values, held, ran, ran_arms, ran_default}
-use Rattle.rr_machine.specs.Words.{carried, widths_of}
+use Rattle.rr_signal_wires.specs.Words.{carried, widths_of}
 use Rattle.rr_blast_terms.specs.Choosing.{picks_of}
 use Rattle.rr_blast_stmt.proofs.ArmLaws.{holds_again, machine-extends, machine_again, rebased, run-Assign, run-Block, run-Case, run-If, run-IfElse, run-Null, shaped-test, shaped-yes}
 use Rattle.rr_blast_stmt.proofs.RanLaws.{default_at, default_none, guard_else, guard_then, left_done, left_more, left_start, and_false, and_true, no_match, same_case, ran_done, ran_more, rest_all, rest_at, rest_none}

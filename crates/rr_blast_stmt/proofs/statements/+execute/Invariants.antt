@@ -3,7 +3,7 @@ use Rattle.rr_circuit.specs.Values.{Extends, IsWire, wire_value, wire_values}
 use Rattle.rr_syntax.specs.View.{plain_arms, plain_statements}
 use Rattle.rr_instance.specs.Instances.{instance_arms, instance_statements}
 use Rattle.rr_blast_stmt.specs.Running.{IsMachine, held, ran_all, ran_arms, ran_default}
-use Rattle.rr_machine.specs.Words.{widths_of}
+use Rattle.rr_signal_wires.specs.Words.{widths_of}
 use Rattle.rr_blast_terms.specs.Choosing.{picks_of}
 use Rattle.rr_blast_stmt.proofs.RanLaws.{Left, ran_rest}
 use Rattle.rr_blast_stmt.proofs.statements.+execute.Given as goal

@@ -10,11 +10,11 @@ use Rattle.rr_flat.specs.Targets.{target_bits}
 use Rattle.rr_choice.specs.declared.pick.Pick.{Pick}
 use Rattle.rr_instance.specs.Instances.{instance_tree}
 use Rattle.rr_cycle.specs.Exec.{Environment, assigned, write}
-use Rattle.rr_machine.specs.declared.guarded_pieces.GuardedPiece.{GuardedPiece}
-use Rattle.rr_machine.specs.GuardedPieces.{put_guarded_pieces}
-use Rattle.rr_machine.specs.Words.{carried, widths_of}
-use Rattle.rr_machine.proofs.GuardedPieceLaws.{put_guarded_pieces-extends}
-use Rattle.rr_machine.proofs.WordLaws.{carried-extends}
+use Rattle.rr_signal_wires.specs.declared.guarded_pieces.GuardedPiece.{GuardedPiece}
+use Rattle.rr_signal_wires.specs.GuardedPieces.{put_guarded_pieces}
+use Rattle.rr_signal_wires.specs.Words.{carried, widths_of}
+use Rattle.rr_signal_wires.proofs.GuardedPieceLaws.{put_guarded_pieces-extends}
+use Rattle.rr_signal_wires.proofs.WordLaws.{carried-extends}
 use Rattle.rr_blast_terms.specs.Choosing.{picks_of}
 use Rattle.rr_blast_terms.proofs.ChoiceLaws.{picks-extends}
 use Rattle.rr_blast_stmt.specs.Running.{Values, held, ran, stored}

@@ -1,7 +1,7 @@
 use Rattle.std.proofs.Common.{ap}
 use Rattle.rr_syntax.specs.View.{plain}
 use Rattle.rr_expr.specs.declared.types.Shape.{Shape}
-use Rattle.rr_machine.specs.Words.{carried}
+use Rattle.rr_signal_wires.specs.Words.{carried}
 use Rattle.rr_blast_terms.specs.Choosing.{picks_of}
 use Rattle.rr_blast_stmt.proofs.ShapeLaws.{right_is}
 use Rattle.rr_blast_stmt.proofs.statements.right_side.Goals as goal

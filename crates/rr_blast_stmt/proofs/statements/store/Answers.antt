@@ -1,8 +1,8 @@
 use Rattle.std.proofs.Common.{◌∙◌, ap, ap₂, Bool, List, cond}
 use Rattle.rr_circuit.specs.Values.{wire_value, wire_values}
 use Rattle.rr_cycle.specs.Exec.{Environment, write}
-use Rattle.rr_machine.specs.Words.{carried}
-use Rattle.rr_machine.proofs.WordLaws.{carried-extends}
+use Rattle.rr_signal_wires.specs.Words.{carried}
+use Rattle.rr_signal_wires.proofs.WordLaws.{carried-extends}
 use Rattle.rr_blast_stmt.specs.Running.{held}
 use Rattle.rr_blast_stmt.proofs.RanLaws.{made, stored_later, stored_now}
 use Rattle.rr_blast_stmt.proofs.statements.store.Goals as goal

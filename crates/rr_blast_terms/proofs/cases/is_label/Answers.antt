@@ -7,12 +7,12 @@ use Rattle.rr_expr.specs.Values.{value}
 use Rattle.rr_choice.specs.declared.pick.Pick.{Pick}
 use Rattle.rr_instance.specs.Instances.{instance_tree}
 use Rattle.rr_cycle.specs.Exec.{Environment, is_equal, wild}
-use Rattle.rr_target.proofs.Nodes.{shaped_positive}
+use Rattle.rr_named_bits.proofs.Nodes.{shaped_positive}
 use Rattle.rr_exec.proofs.Labels.{length_wild}
 use Rattle.rr_wiring.proofs.Widths.{length_value}
-use Rattle.rr_machine.specs.Words.{carried}
+use Rattle.rr_signal_wires.specs.Words.{carried}
 use Rattle.rr_blast_terms.specs.Choosing.{picks_of}
-use Rattle.rr_machine.proofs.WordLaws.{carried-extends}
+use Rattle.rr_signal_wires.proofs.WordLaws.{carried-extends}
 use Rattle.rr_blast_terms.proofs.ChoiceLaws.{picks-extends}
 use Rattle.rr_blast_terms.proofs.cases.is_label.Goals as goal
 

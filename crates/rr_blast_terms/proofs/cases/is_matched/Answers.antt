@@ -8,10 +8,10 @@ use Rattle.rr_choice.specs.declared.pick.Pick.{Pick}
 use Rattle.rr_instance.specs.Instances.{instance_tree}
 use Rattle.rr_cycle.specs.Exec.{Environment, is_equal, wild}
 use Rattle.rr_exec.proofs.Loops.{label_shaped, narrow_at}
-use Rattle.rr_machine.specs.Words.{carried}
+use Rattle.rr_signal_wires.specs.Words.{carried}
 use Rattle.rr_blast_terms.specs.Choosing.{picks_of}
 use Rattle.rr_blast_terms.proofs.CaseLaws.{match_done, match_more}
-use Rattle.rr_machine.proofs.WordLaws.{carried-extends}
+use Rattle.rr_signal_wires.proofs.WordLaws.{carried-extends}
 use Rattle.rr_blast_terms.proofs.ChoiceLaws.{picks-extends}
 use Rattle.rr_blast_terms.proofs.cases.is_matched.Goals as goal
 

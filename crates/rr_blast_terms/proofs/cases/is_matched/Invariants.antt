@@ -3,7 +3,7 @@ use Rattle.rr_circuit.specs.Values.{Extends, IsWire, wire_value, wire_values}
 use Rattle.rr_syntax.specs.View.{plain_list}
 use Rattle.rr_instance.specs.Instances.{instance_parts}
 use Rattle.rr_cycle.specs.Exec.{is_matched}
-use Rattle.rr_machine.specs.Words.{carried}
+use Rattle.rr_signal_wires.specs.Words.{carried}
 use Rattle.rr_blast_terms.specs.Choosing.{picks_of}
 use Rattle.rr_blast_terms.proofs.cases.is_matched.Given as goal
 

@@ -6,12 +6,12 @@ use Rattle.rr_expr.specs.declared.types.Bit.{Bit}
 use Rattle.rr_expr.specs.declared.types.Shape.{Shape}
 use Rattle.rr_expr.specs.Values.{form, nowhere}
 use Rattle.rr_flat.specs.Targets.{target_bits, targets_bits}
-use Rattle.rr_target.proofs.Nodes.{shaped-Bit, shaped-Indexed, shaped-Concat}
+use Rattle.rr_named_bits.proofs.Nodes.{shaped-Bit, shaped-Indexed, shaped-Concat}
 use Rattle.rr_cycle.specs.Exec.{Environment, write}
-use Rattle.rr_machine.specs.GuardedPieces.{put_guarded_pieces}
-use Rattle.rr_machine.specs.Words.{carried, widths_of}
+use Rattle.rr_signal_wires.specs.GuardedPieces.{put_guarded_pieces}
+use Rattle.rr_signal_wires.specs.Words.{carried, widths_of}
 use Rattle.rr_blast_terms.proofs.NodeLaws.{none-Literal, none-Unary, none-Binary, none-Cond, none-Repeat, none-Cast, none-Paren, fixed-Name, fixed-Part, fixed-Bit, fixed-Indexed, bits-Bit, bits-Indexed, bits-Concat, size-Bit, size-Indexed, no_bits_next, no_bits_value, parts_size, parts_none, parts_left, parts_shaped, parts_more}
-use Rattle.rr_machine.proofs.WordLaws.{AreWords-extends, carried-extends}
+use Rattle.rr_signal_wires.proofs.WordLaws.{AreWords-extends, carried-extends}
 use Rattle.rr_blast_terms.proofs.targets.+naming.Goals as goal
 
 pub add_guarded_pieces-returns-in_ok-next-in-Name-clause-guarded_pieces : goal.add_guarded_pieces-returns-in_ok-next-in-Name-clause-guarded_pieces

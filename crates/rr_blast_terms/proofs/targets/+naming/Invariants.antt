@@ -4,8 +4,8 @@ use Rattle.rr_syntax.specs.View.{plain_list}
 use Rattle.rr_expr.specs.Values.{nowhere}
 use Rattle.rr_flat.specs.Targets.{targets_bits}
 use Rattle.rr_cycle.specs.Exec.{Environment, write}
-use Rattle.rr_machine.specs.GuardedPieces.{AreGuardedPieces, put_guarded_pieces}
-use Rattle.rr_machine.specs.Words.{carried, widths_of}
+use Rattle.rr_signal_wires.specs.GuardedPieces.{AreGuardedPieces, put_guarded_pieces}
+use Rattle.rr_signal_wires.specs.Words.{carried, widths_of}
 use Rattle.rr_blast_terms.proofs.targets.+naming.Given as goal
 
 abbrev pub invariant-add_guarded_pieces_of_all-loop-left : goal.invariant-add_guarded_pieces_of_all-loop-left

@@ -10,9 +10,9 @@ use Rattle.rr_expr.specs.Selects.{integer_with, lowest_place}
 use Rattle.rr_expr.specs.Values.{form, value}
 use Rattle.rr_flat.specs.Targets.{bits_there}
 use Rattle.rr_cycle.specs.Exec.{Environment, write}
-use Rattle.rr_machine.specs.GuardedPieces.{put_guarded_pieces}
-use Rattle.rr_machine.specs.Words.{carried, widths_of}
-use Rattle.rr_machine.proofs.GuardedPieceLaws.{AreGuardedPieces-extends, none_of_constant, none_of_instance, put_guarded_pieces-extends}
+use Rattle.rr_signal_wires.specs.GuardedPieces.{put_guarded_pieces}
+use Rattle.rr_signal_wires.specs.Words.{carried, widths_of}
+use Rattle.rr_signal_wires.proofs.GuardedPieceLaws.{AreGuardedPieces-extends, none_of_constant, none_of_instance, put_guarded_pieces-extends}
 use Rattle.rr_blast_terms.proofs.targets.add_select.Goals as goal
 
 pub returns-in_ok-add_moving-in-Signal-clause-guarded_pieces : goal.returns-in_ok-add_moving-in-Signal-clause-guarded_pieces

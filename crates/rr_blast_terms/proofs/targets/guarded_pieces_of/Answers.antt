@@ -3,9 +3,9 @@ use Rattle.rr_syntax.specs.View.{plain}
 use Rattle.rr_expr.specs.Values.{nowhere}
 use Rattle.rr_flat.specs.Targets.{target_bits}
 use Rattle.rr_cycle.specs.Exec.{write}
-use Rattle.rr_machine.specs.Words.{carried}
-use Rattle.rr_machine.proofs.NameLaws.{few_bits}
-use Rattle.rr_machine.proofs.GuardedPieceLaws.{no_guarded_pieces}
+use Rattle.rr_signal_wires.specs.Words.{carried}
+use Rattle.rr_signal_wires.proofs.NameLaws.{few_bits}
+use Rattle.rr_signal_wires.proofs.GuardedPieceLaws.{no_guarded_pieces}
 use Rattle.rr_blast_terms.proofs.targets.guarded_pieces_of.Goals as goal
 
 pub add_guarded_pieces-requires-clause-few : goal.add_guarded_pieces-requires-clause-few

@@ -1,6 +1,6 @@
 use Rattle.std.proofs.Common.{◌∙◌, refl}
 use Rattle.rr_flat.specs.View.{plain_block, plain_flat}
-use Rattle.rr_parts.specs.Names.{entry}
+use Rattle.rr_text_names.specs.Names.{entry}
 use Rattle.rr_clock.proofs.Finding.{deciding_is}
 use Rattle.rr_clock.proofs.clock.deciding_source.Goals as goal
 

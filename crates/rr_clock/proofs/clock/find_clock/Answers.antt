@@ -1,6 +1,6 @@
 use Rattle.std.proofs.Common.{◌∙◌, sym, ap, map, subst}
 use Rattle.rr_flat.specs.View.{plain_block, plain_flat}
-use Rattle.rr_parts.specs.Names.{entry}
+use Rattle.rr_text_names.specs.Names.{entry}
 use Rattle.rr_clock.specs.Clock.{AreSources}
 use Rattle.rr_clock.proofs.Finding.{found_one, found_first, found_input}
 use Rattle.rr_clock.proofs.clock.find_clock.Goals as goal

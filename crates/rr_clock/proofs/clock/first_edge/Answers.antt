@@ -1,6 +1,6 @@
 use Rattle.std.proofs.Common.{◌∙◌, sym}
 use Rattle.rr_flat.specs.View.{plain_flat}
-use Rattle.rr_parts.specs.Names.{entry}
+use Rattle.rr_text_names.specs.Names.{entry}
 use Rattle.rr_clock.proofs.Finding.{rising_skip, rising_hit, rising_done}
 use Rattle.rr_clock.proofs.clock.first_edge.Goals as goal
 

@@ -2,9 +2,9 @@ use Rattle.std.proofs.Common.{◌≡◌, ◌∙◌, sym, ap, is_some, List, ℕ}
 use Rattle.std.specs.Prelude.{flat_map}
 use Rattle.rr_flat.specs.declared.design.Block.{Block}
 use Rattle.rr_flat.specs.View.{plain_block, plain_flat}
-use Rattle.rr_parts.specs.Firsts.{earliest}
-use Rattle.rr_parts.specs.Names.{entry}
-use Rattle.rr_parts.proofs.Walks.{walk_skip_at, walk_hit_at, walk_done, flat_map_map}
+use Rattle.rr_text_names.specs.Firsts.{earliest}
+use Rattle.rr_text_names.specs.Names.{entry}
+use Rattle.rr_text_names.proofs.Walks.{walk_skip_at, walk_hit_at, walk_done, flat_map_map}
 use Rattle.rr_clock.specs.Found.{unclocked_block}
 use Rattle.rr_clock.proofs.clock.first_unclocked.Goals as goal
 

@@ -1,8 +1,8 @@
 use Rattle.std.proofs.Common.{◌≡◌, drop}
 use Rattle.std.specs.Prelude.{flat_map}
 use Rattle.rr_flat.specs.View.{plain_block, plain_flat}
-use Rattle.rr_parts.specs.Firsts.{earliest}
-use Rattle.rr_parts.specs.Names.{entry}
+use Rattle.rr_text_names.specs.Firsts.{earliest}
+use Rattle.rr_text_names.specs.Names.{entry}
 use Rattle.rr_clock.specs.Found.{unclocked_block}
 use Rattle.rr_clock.proofs.clock.first_unclocked.Given as goal
 

@@ -1,6 +1,6 @@
 use Rattle.std.proofs.Common.{◌∙◌, sym}
 use Rattle.rr_flat.specs.View.{plain_flat}
-use Rattle.rr_parts.specs.Names.{entry}
+use Rattle.rr_text_names.specs.Names.{entry}
 use Rattle.rr_clock.proofs.Finding.{runs_skip, runs_hit, runs_done}
 use Rattle.rr_clock.proofs.clock.runs_on.Goals as goal
 

@@ -1,7 +1,7 @@
 use Rattle.std.proofs.Common.{◌≡◌, map, drop}
 use Rattle.rr_syntax.specs.View.{plain_edge}
 use Rattle.rr_flat.specs.View.{plain_flat}
-use Rattle.rr_parts.specs.Names.{entry}
+use Rattle.rr_text_names.specs.Names.{entry}
 use Rattle.rr_clock.specs.Found.{any_runs}
 use Rattle.rr_clock.proofs.clock.runs_on.Given as goal
 

@@ -2,8 +2,8 @@ use Rattle.std.proofs.Common.{◌≤◌, ◌∙◌, ◌++◌, sym, ap, subst, le
 use Rattle.std.specs.Prelude.{flat_map}
 use Rattle.rr_flat.specs.View.{plain_signal}
 use Rattle.rr_flat.specs.View.{plain_flat}
-use Rattle.rr_parts.specs.Names.{entry, is_the}
-use Rattle.rr_parts.proofs.Walks.{add_done, flat_map_map}
+use Rattle.rr_text_names.specs.Names.{entry, is_the}
+use Rattle.rr_text_names.proofs.Walks.{add_done, flat_map_map}
 use Rattle.rr_clock.specs.Places.{clock_name}
 use Rattle.rr_clock.specs.View.{plain_name}
 use Rattle.rr_clock.proofs.places.add_names.Goals as goal

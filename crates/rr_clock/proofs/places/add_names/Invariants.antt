@@ -2,7 +2,7 @@ use Rattle.std.proofs.Common.{◌≡◌, ◌++◌, map, drop}
 use Rattle.std.specs.Prelude.{flat_map}
 use Rattle.rr_flat.specs.View.{plain_signal}
 use Rattle.rr_flat.specs.View.{plain_flat}
-use Rattle.rr_parts.specs.Names.{entry, is_the}
+use Rattle.rr_text_names.specs.Names.{entry, is_the}
 use Rattle.rr_clock.specs.Places.{clock_name}
 use Rattle.rr_clock.specs.View.{plain_name}
 use Rattle.rr_clock.proofs.places.add_names.Given as goal

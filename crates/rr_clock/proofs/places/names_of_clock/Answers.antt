@@ -1,6 +1,6 @@
 use Rattle.std.proofs.Common.{◌∙◌, ◌++◌, sym, ap, subst, map, Some}
 use Rattle.rr_flat.specs.View.{plain_flat}
-use Rattle.rr_parts.specs.Names.{entry, is_the}
+use Rattle.rr_text_names.specs.Names.{entry, is_the}
 use Rattle.rr_clock.specs.Clock.{AreSources, IsClockInput}
 use Rattle.rr_clock.specs.Places.{AreNames, clock_names}
 use Rattle.rr_clock.specs.View.{plain_name}

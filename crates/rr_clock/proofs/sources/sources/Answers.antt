@@ -1,6 +1,6 @@
 use Rattle.std.proofs.Common.{sym, subst}
 use Rattle.rr_flat.specs.View.{plain_flat}
-use Rattle.rr_parts.specs.Names.{entry}
+use Rattle.rr_text_names.specs.Names.{entry}
 use Rattle.rr_clock.specs.Spread.{AreFirstDrivers}
 use Rattle.rr_clock.proofs.Spreading.{IsFilling, filled}
 use Rattle.rr_clock.proofs.sources.sources.Goals as goal

@@ -1,6 +1,6 @@
 use Rattle.std.proofs.Common.{◌+◌, cond}
 use Rattle.rr_flat.specs.View.{plain_flat}
-use Rattle.rr_parts.specs.Names.{entry}
+use Rattle.rr_text_names.specs.Names.{entry}
 use Rattle.rr_clock.specs.Spread.{missing}
 use Rattle.rr_clock.proofs.Spreading.{IsFilling}
 use Rattle.rr_clock.proofs.sources.sources.Given as goal

@@ -1,6 +1,6 @@
 use Rattle.std.proofs.Common.{arith}
 use Rattle.rr_flat.specs.View.{plain_flat}
-use Rattle.rr_parts.specs.Names.{entry}
+use Rattle.rr_text_names.specs.Names.{entry}
 use Rattle.rr_clock.proofs.Spreading.{spread_start, spread_step}
 use Rattle.rr_clock.proofs.sources.spread.Goals as goal
 

@@ -1,5 +1,5 @@
 use Rattle.rr_flat.specs.View.{plain_flat}
-use Rattle.rr_parts.specs.Names.{entry}
+use Rattle.rr_text_names.specs.Names.{entry}
 use Rattle.rr_clock.specs.Spread.{IsSpread}
 use Rattle.rr_clock.proofs.sources.spread.Given as goal
 

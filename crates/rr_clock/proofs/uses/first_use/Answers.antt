@@ -1,12 +1,12 @@
 use Rattle.std.proofs.Common.{◌≡◌, ◌∙◌, sym, ap, true, false, is_some}
 use Rattle.std.specs.Prelude.{flat_map}
 use Rattle.rr_flat.specs.View.{plain_flat}
-use Rattle.rr_parts.specs.Firsts.{earliest}
-use Rattle.rr_parts.proofs.Walks.{walk_skip_at, walk_hit_at, walk_done}
+use Rattle.rr_text_names.specs.Firsts.{earliest}
+use Rattle.rr_text_names.proofs.Walks.{walk_skip_at, walk_hit_at, walk_done}
 use Rattle.rr_syntax.specs.View.{plain_identifier}
 use Rattle.rr_clock.specs.Clock.{use_of}
-use Rattle.rr_parts.specs.Names.{entry, is_the}
-use Rattle.rr_parts.proofs.Walks.{flat_map_map}
+use Rattle.rr_text_names.specs.Names.{entry, is_the}
+use Rattle.rr_text_names.proofs.Walks.{flat_map_map}
 use Rattle.rr_clock.proofs.uses.first_use.Goals as goal
 
 pub loop-named-preserved : goal.loop-named-preserved

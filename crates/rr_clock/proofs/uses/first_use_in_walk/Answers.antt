@@ -2,9 +2,9 @@ use Rattle.std.proofs.Common.{◌∙◌, sym, ap, subst, length, is_some}
 use Rattle.std.specs.Prelude.{flat_map}
 use Rattle.rr_flat.specs.Sound.{IsWalk}
 use Rattle.rr_flat.specs.View.{plain_flat}
-use Rattle.rr_parts.specs.Firsts.{earliest}
-use Rattle.rr_parts.specs.Names.{entry, is_the}
-use Rattle.rr_parts.proofs.Walks.{walk_skip_at, walk_hit_at, walk_done}
+use Rattle.rr_text_names.specs.Firsts.{earliest}
+use Rattle.rr_text_names.specs.Names.{entry, is_the}
+use Rattle.rr_text_names.proofs.Walks.{walk_skip_at, walk_hit_at, walk_done}
 use Rattle.rr_clock.specs.Clock.{uses_of_part}
 use Rattle.rr_clock.proofs.uses.first_use_in_walk.Goals as goal
 

@@ -1,8 +1,8 @@
 use Rattle.std.proofs.Common.{◌≡◌, drop}
 use Rattle.std.specs.Prelude.{flat_map}
 use Rattle.rr_flat.specs.View.{plain_flat}
-use Rattle.rr_parts.specs.Firsts.{earliest}
-use Rattle.rr_parts.specs.Names.{entry, is_the}
+use Rattle.rr_text_names.specs.Firsts.{earliest}
+use Rattle.rr_text_names.specs.Names.{entry, is_the}
 use Rattle.rr_clock.specs.Clock.{all_uses, uses_of_part}
 use Rattle.rr_clock.proofs.uses.first_use_in_walk.Given as goal
 

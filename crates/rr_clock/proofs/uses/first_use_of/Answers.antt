@@ -1,7 +1,7 @@
 use Rattle.std.proofs.Common.{sym, subst, refl}
 use Rattle.rr_flat.specs.View.{plain_flat}
-use Rattle.rr_parts.specs.Names.{entry, is_the}
-use Rattle.rr_parts.proofs.Covering.{has_walk}
+use Rattle.rr_text_names.specs.Names.{entry, is_the}
+use Rattle.rr_text_names.proofs.Covering.{has_walk}
 use Rattle.rr_clock.specs.Clock.{AreSources}
 use Rattle.rr_clock.proofs.Clocking.{tells}
 use Rattle.rr_clock.proofs.UseLaw.{use_first, use_none, use_some}

@@ -1,7 +1,7 @@
 use Rattle.std.proofs.Common.{◌∙◌, sym, ap}
 use Rattle.rr_flat.specs.View.{plain_flat}
-use Rattle.rr_parts.specs.Firsts.{earliest}
-use Rattle.rr_parts.specs.Names.{entry, is_the}
+use Rattle.rr_text_names.specs.Firsts.{earliest}
+use Rattle.rr_text_names.specs.Names.{entry, is_the}
 use Rattle.rr_clock.specs.Clock.{uses_of_driver}
 use Rattle.rr_clock.proofs.UseLaw.{no_driver_uses}
 use Rattle.rr_clock.proofs.uses.use_by_driver.Goals as goal

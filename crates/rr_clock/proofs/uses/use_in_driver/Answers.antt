@@ -1,7 +1,7 @@
 use Rattle.std.proofs.Common.{ℕ, Bool, ◌∙◌, sym, ap, is_some}
 use Rattle.rr_flat.specs.View.{plain_flat, plain_driver, plain_side}
-use Rattle.rr_parts.specs.Names.{entry, is_the}
-use Rattle.rr_parts.proofs.Walks.{earliest_hit}
+use Rattle.rr_text_names.specs.Names.{entry, is_the}
+use Rattle.rr_text_names.proofs.Walks.{earliest_hit}
 use Rattle.rr_clock.specs.Clock.{side_uses, value_uses}
 use Rattle.rr_clock.proofs.uses.use_in_driver.Goals as goal
 

@@ -1,8 +1,8 @@
 use Rattle.std.proofs.Common.{ℕ, Bool, ◌∙◌, sym, ap, is_some}
 use Rattle.rr_flat.specs.View.{plain_flat}
 use Rattle.rr_flat.specs.Parts.{driver_of, block_of}
-use Rattle.rr_parts.specs.Names.{entry, is_the}
-use Rattle.rr_parts.proofs.Walks.{earliest_hit}
+use Rattle.rr_text_names.specs.Names.{entry, is_the}
+use Rattle.rr_text_names.proofs.Walks.{earliest_hit}
 use Rattle.rr_clock.specs.Clock.{uses_of_driver, uses_of_block}
 use Rattle.rr_clock.proofs.uses.use_in_part.Goals as goal
 

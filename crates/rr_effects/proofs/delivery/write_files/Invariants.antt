@@ -1,5 +1,5 @@
 use Rattle.std.proofs.Common.{◌≡◌, map, take}
-use Rattle.rr_report.specs.Views.{file_of}
+use Rattle.rr_endings.specs.Views.{file_of}
 use Rattle.rr_effects.specs.Delivery.{with_files}
 use Rattle.rr_effects.proofs.delivery.write_files.Given as goal
 

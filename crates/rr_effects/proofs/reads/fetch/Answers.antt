@@ -1,5 +1,5 @@
 use Rattle.std.proofs.Common.{◌∙◌, ◌<◌, length, arith}
-use Rattle.rr_report.specs.Views.{report_text}
+use Rattle.rr_endings.specs.Views.{report_text}
 use Rattle.rr_effects.proofs.Reading.{next_stops, next_given}
 use Rattle.rr_effects.proofs.reads.fetch.Goals as goal
 

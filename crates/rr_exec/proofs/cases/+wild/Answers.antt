@@ -1,7 +1,7 @@
 use Rattle.std.proofs.Common.{◌∙◌, sym, ap, false, rules}
 use Rattle.rr_bits.specs.Words.{extend}
 use Rattle.rr_syntax.specs.declared.tree.Expr.{the_lemmas}
-use Rattle.rr_target.proofs.Nodes.{shaped-Paren}
+use Rattle.rr_named_bits.proofs.Nodes.{shaped-Paren}
 use Rattle.rr_exec.proofs.Labels.{literal_low, literal_high, wild-Paren, wild-Literal}
 use Rattle.rr_exec.proofs.cases.+wild.Goals as goal
 

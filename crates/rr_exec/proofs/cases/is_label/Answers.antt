@@ -2,7 +2,7 @@ use Rattle.std.proofs.Common.{◌∙◌, sym, ap, arith, length}
 use Rattle.rr_syntax.specs.View.{plain}
 use Rattle.rr_expr.specs.Scopes.{env_of}
 use Rattle.rr_flat.proofs.Shaping.{clear}
-use Rattle.rr_target.proofs.Nodes.{shaped_positive}
+use Rattle.rr_named_bits.proofs.Nodes.{shaped_positive}
 use Rattle.rr_exec.proofs.Labels.{length_wild}
 use Rattle.rr_wiring.proofs.Widths.{length_value}
 use Rattle.rr_exec.proofs.cases.is_label.Goals as goal

@@ -3,7 +3,7 @@ use Rattle.rr_syntax.specs.View.{plain}
 use Rattle.rr_expr.specs.Scopes.{env_of}
 use Rattle.rr_flat.proofs.Shaping.{clear}
 use Rattle.rr_flat.specs.Targets.{target_bits}
-use Rattle.rr_target.specs.Pieces.{all_bits}
+use Rattle.rr_named_bits.specs.Pieces.{all_bits}
 use Rattle.rr_exec.proofs.Fitting.{no_pieces, target_fits}
 use Rattle.rr_exec.proofs.exec.name_pieces.Goals as goal
 

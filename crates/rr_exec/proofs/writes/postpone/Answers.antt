@@ -2,7 +2,7 @@ use Rattle.std.proofs.Common.{◌≡◌, ◌+◌, ◌-◌, ◌<◌, ◌≤◌, a
 use Rattle.std.proofs.lemmas.List.Elements.{All-push}
 use Rattle.rr_cycle.specs.Exec.{applied}
 use Rattle.rr_exec.specs.Work.{IsLater, updates_in}
-use Rattle.rr_target.proofs.Places.{bits_left, count_more, count_none, no_piece}
+use Rattle.rr_named_bits.proofs.Places.{bits_left, count_more, count_none, no_piece}
 use Rattle.rr_exec.proofs.Pieces.{applied_push, write_more, write_none}
 use Rattle.rr_exec.proofs.writes.postpone.Goals as goal
 

@@ -1,5 +1,5 @@
 use Rattle.std.proofs.Common.{◌≡◌, ◌≤◌, ℕ, All, drop, length}
-use Rattle.rr_target.specs.Pieces.{all_bits}
+use Rattle.rr_named_bits.specs.Pieces.{all_bits}
 use Rattle.rr_cycle.specs.Exec.{Environment, applied, write}
 use Rattle.rr_exec.specs.Work.{Fits, IsLater, updates_in}
 use Rattle.rr_exec.proofs.writes.postpone.Given as goal

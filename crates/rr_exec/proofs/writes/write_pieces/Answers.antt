@@ -1,6 +1,6 @@
 use Rattle.std.proofs.Common.{◌≡◌, ◌+◌, ◌-◌, ◌<◌, ◌∙◌, arith, length, refl, ℕ, get_or}
 use Rattle.rr_expr.specs.Scopes.{env_of}
-use Rattle.rr_target.proofs.Places.{bits_left, count_more, count_none, no_piece}
+use Rattle.rr_named_bits.proofs.Places.{bits_left, count_more, count_none, no_piece}
 use Rattle.rr_exec.proofs.Pieces.{write_more, write_none}
 use Rattle.rr_exec.proofs.writes.write_pieces.Goals as goal
 

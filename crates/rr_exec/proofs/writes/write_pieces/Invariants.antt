@@ -1,6 +1,6 @@
 use Rattle.std.proofs.Common.{◌≡◌, ◌≤◌, drop, length}
 use Rattle.rr_expr.specs.Scopes.{env_of}
-use Rattle.rr_target.specs.Pieces.{all_bits}
+use Rattle.rr_named_bits.specs.Pieces.{all_bits}
 use Rattle.rr_cycle.specs.Exec.{write}
 use Rattle.rr_exec.proofs.writes.write_pieces.Given as goal
 

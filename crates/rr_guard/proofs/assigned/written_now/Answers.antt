@@ -1,4 +1,4 @@
-use Rattle.rr_parts.specs.View.{plain_target}
+use Rattle.rr_text_names.specs.View.{plain_target}
 use Rattle.rr_guard.specs.Names.{is_now}
 use Rattle.rr_guard.proofs.Lists.{any_more, any_end}
 use Rattle.rr_guard.proofs.assigned.written_now.Goals as goal

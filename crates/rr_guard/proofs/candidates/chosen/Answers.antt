@@ -2,7 +2,7 @@ use Rattle.std.proofs.Common.{◌∙◌, ap, ◌++◌, map, drop}
 use Rattle.std.specs.Prelude.{flat_map}
 use Rattle.rr_syntax.specs.Tree.{Identifier}
 use Rattle.rr_syntax.specs.View.{plain_identifier}
-use Rattle.rr_spots.proofs.Walks.{one_more_at, all_done, flat_map_map}
+use Rattle.rr_change_places.proofs.Walks.{one_more_at, all_done, flat_map_map}
 use Rattle.rr_guard.specs.Candidates.{chosen as chosen_of, may_be}
 use Rattle.rr_guard.proofs.Lists.{filter_flat}
 use Rattle.rr_guard.proofs.candidates.chosen.Goals as goal

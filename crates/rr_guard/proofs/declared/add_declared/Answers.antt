@@ -4,7 +4,7 @@ use Rattle.rr_syntax.specs.View.{plain_declarator}
 use Rattle.rr_guard.specs.Names.{net_name}
 use Rattle.std.proofs.lemmas.List.Concat.{flat_map_single}
 use Rattle.rr_guard.proofs.Lists.{map_twice}
-use Rattle.rr_spots.proofs.Walks.{one_more_at, all_done}
+use Rattle.rr_change_places.proofs.Walks.{one_more_at, all_done}
 use Rattle.rr_guard.proofs.declared.add_declared.Goals as goal
 
 pub loop-name-preserved : goal.loop-name-preserved

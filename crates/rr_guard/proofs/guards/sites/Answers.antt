@@ -3,8 +3,8 @@ use Rattle.std.specs.Prelude.{flat_map}
 use Rattle.std.specs.List.{AllByRecursion}
 use Rattle.rr_syntax.specs.View.{plain_item, plain_module, texts}
 use Rattle.rr_choice.specs.View.{plain_sites}
-use Rattle.rr_spots.specs.Spots.{AreCountable, is_clocked, spots_of_item}
-use Rattle.rr_spots.proofs.Walks.{all_done, flat_map_map}
+use Rattle.rr_change_places.specs.Spots.{AreCountable, is_clocked, spots_of_item}
+use Rattle.rr_change_places.proofs.Walks.{all_done, flat_map_map}
 use Rattle.rr_guard.specs.Guards.{guard_at}
 use Rattle.rr_guard.proofs.GuardLists.{guards_are}
 use Rattle.rr_guard.proofs.Lists.{all_item, module_items}

@@ -1,8 +1,8 @@
 use Rattle.std.proofs.Common.{◌∙◌, sym, ap, subst, Bool, ◌||◌, List}
 use Rattle.rr_syntax.specs.Tree.{Assign}
 use Rattle.rr_syntax.specs.View.{plain}
-use Rattle.rr_target.specs.declared.writes.Write.{Write}
-use Rattle.rr_target.specs.Lists.{must}
+use Rattle.rr_named_bits.specs.declared.writes.Write.{Write}
+use Rattle.rr_named_bits.specs.Lists.{must}
 use Rattle.rr_flat.specs.Targets.{assigns_target}
 use Rattle.rr_latch.specs.Paths.{assigned}
 use Rattle.rr_latch.proofs.Branching.{noted_assign, ran_assign, ran_later, RanBy}

@@ -1,7 +1,7 @@
 use Rattle.std.proofs.Common.{◌≡◌, sym, subst, true, List, take, get_or, pos}
 use Rattle.std.proofs.lemmas.List.{take_more}
-use Rattle.rr_target.specs.declared.piece.Piece.{Piece}
-use Rattle.rr_target.specs.Lists.{covered}
+use Rattle.rr_named_bits.specs.declared.piece.Piece.{Piece}
+use Rattle.rr_named_bits.specs.Lists.{covered}
 use Rattle.rr_latch.specs.Notes.{Noted, Unassigned}
 use Rattle.rr_latch.proofs.Noting.{noted_none, pieces_next}
 use Rattle.rr_latch.proofs.early.note_pieces.Goals as goal

@@ -1,7 +1,7 @@
 use Rattle.std.proofs.Common.{◌≡◌, sym, subst, true, false, List, take, get_or, pos}
 use Rattle.std.proofs.lemmas.List.{take_more}
-use Rattle.rr_target.specs.declared.writes.Write.{Write}
-use Rattle.rr_target.specs.Lists.{may}
+use Rattle.rr_named_bits.specs.declared.writes.Write.{Write}
+use Rattle.rr_named_bits.specs.Lists.{may}
 use Rattle.rr_latch.specs.Notes.{Noted, Unassigned}
 use Rattle.rr_latch.proofs.Noting.{noted_none, writes_next}
 use Rattle.rr_latch.proofs.early.note_writes.Goals as goal

@@ -1,5 +1,5 @@
 use Rattle.std.proofs.Common.{◌≡◌, true, take}
-use Rattle.rr_target.specs.Lists.{may}
+use Rattle.rr_named_bits.specs.Lists.{may}
 use Rattle.rr_latch.specs.Notes.{Noted, Unassigned}
 use Rattle.rr_latch.proofs.early.note_writes.Given as goal
 

@@ -1,6 +1,6 @@
 use Rattle.std.proofs.Common.{◌∙◌, sym, ap}
 use Rattle.std.proofs.lemmas.Result.{on_ok_weaker}
-use Rattle.rr_target.specs.Lists.{covered}
+use Rattle.rr_named_bits.specs.Lists.{covered}
 use Rattle.rr_latch.proofs.Noting.{noted_as}
 use Rattle.rr_latch.proofs.Scanning.{only_grown}
 use Rattle.rr_latch.proofs.early.read.Goals as goal

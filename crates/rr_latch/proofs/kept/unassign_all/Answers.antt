@@ -1,8 +1,8 @@
 use Rattle.std.proofs.Common.{◌≡◌, sym, subst, not, ◌&&◌, false, List, take, get_or, pos}
 use Rattle.std.proofs.lemmas.List.{take_more}
 use Rattle.rr_expr.specs.declared.types.Bit.{Bit}
-use Rattle.rr_target.specs.declared.writes.Write.{Write}
-use Rattle.rr_target.specs.Lists.{may}
+use Rattle.rr_named_bits.specs.declared.writes.Write.{Write}
+use Rattle.rr_named_bits.specs.Lists.{may}
 use Rattle.rr_latch.specs.Paths.{assigned}
 use Rattle.rr_latch.proofs.Logs.{and_true}
 use Rattle.rr_latch.proofs.Scanning.{lost_more}

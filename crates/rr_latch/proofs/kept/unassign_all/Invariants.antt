@@ -1,6 +1,6 @@
 use Rattle.std.proofs.Common.{◌≡◌, ◌&&◌, not, take}
 use Rattle.rr_expr.specs.declared.types.Bit.{Bit}
-use Rattle.rr_target.specs.Lists.{may}
+use Rattle.rr_named_bits.specs.Lists.{may}
 use Rattle.rr_latch.specs.Paths.{assigned}
 use Rattle.rr_latch.proofs.kept.unassign_all.Given as goal
 

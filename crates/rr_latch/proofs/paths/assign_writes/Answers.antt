@@ -1,7 +1,7 @@
 use Rattle.std.proofs.Common.{sym, subst, List, [], ◌∷◌, ◌++◌, take, get_or, refl, pos, false}
 use Rattle.std.proofs.lemmas.List.{take_more}
-use Rattle.rr_target.specs.Lists.{must}
-use Rattle.rr_target.specs.declared.writes.Write.{Write}
+use Rattle.rr_named_bits.specs.Lists.{must}
+use Rattle.rr_named_bits.specs.declared.writes.Write.{Write}
 use Rattle.rr_latch.specs.declared.paths.Path.{Path}
 use Rattle.rr_latch.specs.Paths.{assigned}
 use Rattle.rr_latch.proofs.Scanning.{assigning_none, must_next, must_skip, Assigning}

@@ -1,5 +1,5 @@
 use Rattle.std.proofs.Common.{take}
-use Rattle.rr_target.specs.Lists.{must}
+use Rattle.rr_named_bits.specs.Lists.{must}
 use Rattle.rr_latch.specs.Paths.{assigned}
 use Rattle.rr_latch.proofs.Scanning.{Assigning}
 use Rattle.rr_latch.proofs.paths.assign_writes.Given as goal

@@ -1,7 +1,7 @@
 use Rattle.std.proofs.Common.{ap, map, ◌∙◌, ◌++◌}
 use Rattle.rr_syntax.specs.View.{plain_statement, texts}
 use Rattle.rr_flat.specs.Reads.{assigned_by}
-use Rattle.rr_parts.specs.View.{plain_target}
+use Rattle.rr_text_names.specs.View.{plain_target}
 use Rattle.rr_lint_names.specs.Latched.{marks}
 use Rattle.rr_lint_names.proofs.Once.{seen_none, seen_next, seen_all}
 use Rattle.rr_lint_names.proofs.cleared.cleared_names.Goals as goal

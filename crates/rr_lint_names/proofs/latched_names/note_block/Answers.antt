@@ -4,7 +4,7 @@ use Rattle.rr_syntax.specs.View.{plain_statement}
 use Rattle.rr_expr.specs.declared.types.Bit.{Bit}
 use Rattle.rr_flat.specs.Reads.{assigned_by}
 use Rattle.rr_latch.specs.Paths.{listed}
-use Rattle.rr_parts.specs.View.{plain_target}
+use Rattle.rr_text_names.specs.View.{plain_target}
 use Rattle.rr_lint_names.specs.Latched.{marks}
 use Rattle.rr_lint_names.proofs.Latching.{notes_kept}
 use Rattle.rr_lint_names.proofs.latched_names.note_block.Goals as goal

@@ -1,7 +1,7 @@
 use Rattle.std.proofs.Common.{ap, nat_eq, ◌∙◌}
 use Rattle.indexmap.specs.IndexMap.{get}
 use Rattle.rr_syntax.specs.View.{plain}
-use Rattle.rr_parts.specs.View.{plain_target}
+use Rattle.rr_text_names.specs.View.{plain_target}
 use Rattle.rr_lint_names.specs.Latched.{is_low, marks}
 use Rattle.rr_lint_names.proofs.Latching.{name_text, noted_here, noted_not}
 use Rattle.rr_lint_names.proofs.latched_names.note_target.Goals as goal

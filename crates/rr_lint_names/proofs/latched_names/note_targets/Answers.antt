@@ -1,6 +1,6 @@
 use Rattle.std.proofs.Common.{nat_eq, ◌∙◌, ap, ◌||◌}
 use Rattle.indexmap.specs.IndexMap.{get}
-use Rattle.rr_parts.specs.View.{plain_target}
+use Rattle.rr_text_names.specs.View.{plain_target}
 use Rattle.rr_lint_names.specs.Latched.{is_noted, marks}
 use Rattle.rr_lint_names.proofs.Lists.{any_map_full, any_map_step, or_none}
 use Rattle.rr_lint_names.proofs.latched_names.note_targets.Goals as goal

@@ -1,7 +1,7 @@
 use Rattle.std.proofs.Common.{◌≡◌, ◌++◌, drop}
 use Rattle.std.specs.Prelude.{flat_map}
 use Rattle.rr_choice.specs.View.{plain_sites}
-use Rattle.rr_spots.specs.View.{plain_spot}
+use Rattle.rr_change_places.specs.View.{plain_spot}
 use Rattle.rr_literal.specs.Literals.{literal_at}
 use Rattle.rr_literal.proofs.literals.add_literals.Given as goal
 

@@ -2,8 +2,8 @@ use Rattle.std.proofs.Common.{◌∙◌, sym, ap, ◌++◌, drop}
 use Rattle.std.specs.Prelude.{flat_map}
 use Rattle.rr_syntax.specs.View.{plain_item}
 use Rattle.rr_choice.specs.View.{plain_sites}
-use Rattle.rr_spots.specs.Spots.{spots_of_item}
-use Rattle.rr_spots.proofs.Walks.{one_more, all_done, flat_map_map}
+use Rattle.rr_change_places.specs.Spots.{spots_of_item}
+use Rattle.rr_change_places.proofs.Walks.{one_more, all_done, flat_map_map}
 use Rattle.rr_literal.specs.Literals.{literal_at}
 use Rattle.rr_literal.proofs.Modules.{module_literals}
 use Rattle.rr_literal.proofs.literals.sites.Goals as goal

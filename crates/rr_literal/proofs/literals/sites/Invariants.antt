@@ -2,7 +2,7 @@ use Rattle.std.proofs.Common.{◌≡◌, ◌++◌, drop}
 use Rattle.std.specs.Prelude.{flat_map}
 use Rattle.rr_syntax.specs.View.{plain_item}
 use Rattle.rr_choice.specs.View.{plain_sites}
-use Rattle.rr_spots.specs.Spots.{spots_of_item}
+use Rattle.rr_change_places.specs.Spots.{spots_of_item}
 use Rattle.rr_literal.specs.Literals.{literal_at}
 use Rattle.rr_literal.proofs.literals.sites.Given as goal
 

@@ -1,6 +1,6 @@
 use Rattle.std.proofs.Common.{◌∙◌, ℕ, List, subst}
-use Rattle.rr_made.specs.Made.{made_table}
-use Rattle.rr_report.specs.Views.{plain_answer, StopsWhere}
+use Rattle.rr_made_input.specs.Made.{made_table}
+use Rattle.rr_endings.specs.Views.{plain_answer, StopsWhere}
 use Rattle.rr_repair.specs.Repairs.{CountsRepair, RefusesRepair}
 use Rattle.rr_make.specs.Makes.{made_request}
 use Rattle.rr_make.proofs.making.repaired.Goals as goal

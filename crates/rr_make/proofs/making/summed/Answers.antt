@@ -1,5 +1,5 @@
 use Rattle.std.proofs.Common.{refl}
-use Rattle.rr_report.specs.Views.{plain_answer}
+use Rattle.rr_endings.specs.Views.{plain_answer}
 use Rattle.rr_make.proofs.Summing.{made_told, other_told}
 use Rattle.rr_make.proofs.making.summed.Goals as goal
 

@@ -1,8 +1,8 @@
 use Rattle.std.proofs.Common.{◌≡◌, ◌∙◌, sym, ap, subst, arith, refl, length, get_or, List, true}
 use Rattle.rr_expr.specs.Scopes.{env_of}
 use Rattle.rr_flat.specs.View.{Design, plain_flat}
-use Rattle.rr_target.specs.declared.writes.Write.{Write}
-use Rattle.rr_target.specs.Lists.{may}
+use Rattle.rr_named_bits.specs.declared.writes.Write.{Write}
+use Rattle.rr_named_bits.specs.Lists.{may}
 use Rattle.rr_cycle.specs.Performing.{any_writes}
 use Rattle.rr_meaning.proofs.Marks.{marks_done, marks_more, may_at, no_marks}
 use Rattle.rr_meaning.proofs.Rows.{zeros_made}

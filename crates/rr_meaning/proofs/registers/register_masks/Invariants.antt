@@ -1,7 +1,7 @@
 use Rattle.std.proofs.Common.{◌≡◌, ◌||◌, drop, length}
 use Rattle.rr_expr.specs.Scopes.{env_of}
 use Rattle.rr_expr.specs.declared.types.Bit.{Bit}
-use Rattle.rr_target.specs.Lists.{may}
+use Rattle.rr_named_bits.specs.Lists.{may}
 use Rattle.rr_meaning.proofs.registers.register_masks.Given as goal
 
 abbrev pub invariant-loop-write : goal.invariant-loop-write

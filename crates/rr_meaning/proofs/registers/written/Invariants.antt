@@ -1,7 +1,7 @@
 use Rattle.std.proofs.Common.{◌≡◌, ◌||◌, drop, map}
 use Rattle.rr_expr.specs.declared.types.Bit.{Bit}
 use Rattle.rr_flat.specs.View.{plain_block, plain_flat}
-use Rattle.rr_target.specs.Lists.{may}
+use Rattle.rr_named_bits.specs.Lists.{may}
 use Rattle.rr_cycle.specs.Performing.{any_writes}
 use Rattle.rr_meaning.proofs.registers.written.Given as goal
 

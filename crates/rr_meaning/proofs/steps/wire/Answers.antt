@@ -1,7 +1,7 @@
 use Rattle.std.proofs.Common.{◌≡◌, ◌∙◌, sym, ap, get_or, length, List, Option, Some, None}
 use Rattle.rr_expr.specs.declared.types.Bit.{Bit}
-use Rattle.rr_target.specs.declared.piece.Piece.{Piece}
-use Rattle.rr_target.specs.Pieces.{all_bits}
+use Rattle.rr_named_bits.specs.declared.piece.Piece.{Piece}
+use Rattle.rr_named_bits.specs.Pieces.{all_bits}
 use Rattle.rr_meaning.proofs.Placing.{fits_at, wire_none, wire_some}
 use Rattle.rr_meaning.proofs.steps.wire.Goals as goal
 

@@ -1,6 +1,6 @@
 use Rattle.std.proofs.Common.{◌≡◌, take, true}
 use Rattle.rr_flat.specs.View.{plain_flat}
-use Rattle.rr_target.specs.Lists.{may}
+use Rattle.rr_named_bits.specs.Lists.{may}
 use Rattle.rr_order.specs.Nodes.{IsWritten, widths}
 use Rattle.rr_order.proofs.nodes.written_of.Given as goal
 

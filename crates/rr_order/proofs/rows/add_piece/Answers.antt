@@ -1,7 +1,7 @@
 use Rattle.std.proofs.Common.{arith, ◌≡◌, ◌+◌, true, sym, ◌∙◌, List, ℕ}
 use Rattle.std.proofs.lemmas.Result.{on_ok_weaker}
 use Rattle.rr_flat.specs.View.{plain_flat}
-use Rattle.rr_target.specs.Pieces.{covers}
+use Rattle.rr_named_bits.specs.Pieces.{covers}
 use Rattle.rr_order.specs.Nodes.{Foreign, widths}
 use Rattle.rr_order.proofs.Covering.{Run, run_covers, covers_run, run_true}
 use Rattle.rr_order.proofs.Lists.{covered_whole, covered_added}

@@ -1,6 +1,6 @@
 use Rattle.std.proofs.Common.{◌≡◌, take, true}
 use Rattle.rr_flat.specs.View.{plain_flat}
-use Rattle.rr_target.specs.Lists.{covered}
+use Rattle.rr_named_bits.specs.Lists.{covered}
 use Rattle.rr_order.specs.Nodes.{IsRow, Foreign, widths}
 use Rattle.rr_order.proofs.rows.row_of.Given as goal
 

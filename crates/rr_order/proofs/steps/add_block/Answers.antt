@@ -1,7 +1,7 @@
 use Rattle.std.proofs.Common.{◌≡◌, ◌∙◌, ◌<◌, ◌+◌, arith, true, refl, ℕ, get_or}
 use Rattle.rr_flat.specs.View.{plain_flat, plain_block}
 use Rattle.rr_flat.specs.Writers.{block_at, writes_at_all}
-use Rattle.rr_target.specs.Lists.{may}
+use Rattle.rr_named_bits.specs.Lists.{may}
 use Rattle.rr_order.specs.Nodes.{IsWritten, widths}
 use Rattle.rr_order.proofs.Growing.{written_low, written_inside, block_there, block_writes, block_written, grown_block, block_row, block_added, stamped_low}
 use Rattle.rr_order.proofs.steps.add_block.Goals as goal

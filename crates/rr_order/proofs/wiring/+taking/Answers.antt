@@ -1,8 +1,8 @@
 use Rattle.std.proofs.Common.{◌∙◌, rules}
 use Rattle.std.proofs.lemmas.Result.{on_ok_weaker}
 use Rattle.rr_syntax.specs.declared.tree.Expr.{the_lemmas}
-use Rattle.rr_target.specs.Pieces.{all_bits}
-use Rattle.rr_target.proofs.Nodes.{shaped-Concat}
+use Rattle.rr_named_bits.specs.Pieces.{all_bits}
+use Rattle.rr_named_bits.proofs.Nodes.{shaped-Concat}
 use Rattle.rr_order.proofs.Wirings.{takes-Name, takes-Literal, takes-Bit, takes-Part, takes-Indexed, takes-Unary, takes-Binary, takes-Cond, takes-Concat, takes-Repeat, takes-Cast, takes-Paren, taken_start, taken_here, taken_more, taken_done}
 use Rattle.rr_order.proofs.wiring.+taking.Goals as goal
 

@@ -1,4 +1,4 @@
-use Rattle.rr_target.specs.Pieces.{all_bits}
+use Rattle.rr_named_bits.specs.Pieces.{all_bits}
 use Rattle.rr_order.proofs.Wirings.{TakenLeft}
 use Rattle.rr_order.proofs.wiring.+taking.Given as goal
 

@@ -1,5 +1,5 @@
 use Rattle.std.proofs.Common.{◌≡◌, ◌-◌, ◌++◌, pos, ◌+ℤ◌}
-use Rattle.rr_target.specs.Pieces.{bits_in, bits_of}
+use Rattle.rr_named_bits.specs.Pieces.{bits_in, bits_of}
 use Rattle.rr_order.proofs.wiring.add_bits_of.Given as goal
 
 abbrev pub invariant-loop-place : goal.invariant-loop-place

@@ -1,5 +1,5 @@
 use Rattle.std.proofs.Common.{◌≡◌, ◌-◌, drop, length}
-use Rattle.rr_target.specs.Pieces.{all_bits}
+use Rattle.rr_named_bits.specs.Pieces.{all_bits}
 use Rattle.rr_order.proofs.wiring.bits_of_all.Given as goal
 
 abbrev pub invariant-loop-after : goal.invariant-loop-after

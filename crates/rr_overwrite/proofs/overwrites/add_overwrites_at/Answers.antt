@@ -1,8 +1,8 @@
 use Rattle.std.proofs.Common.{◌∙◌, ap, ◌++◌, map}
 use Rattle.rr_syntax.specs.View.{plain_identifier}
 use Rattle.rr_choice.specs.View.{plain_sites}
-use Rattle.rr_spots.specs.View.{plain_spot}
-use Rattle.rr_spots.proofs.Walks.{one_more, all_done, flat_map_map}
+use Rattle.rr_change_places.specs.View.{plain_spot}
+use Rattle.rr_change_places.proofs.Walks.{one_more, all_done, flat_map_map}
 use Rattle.rr_guard.specs.Names.{first_names}
 use Rattle.rr_overwrite.specs.Overwrites.{overwrites_of}
 use Rattle.rr_overwrite.proofs.overwrites.add_overwrites_at.Goals as goal

@@ -3,7 +3,7 @@ use Rattle.std.specs.Prelude.{flat_map}
 use Rattle.rr_syntax.specs.Tree.{ModuleDeclaration}
 use Rattle.rr_syntax.specs.View.{plain_identifier}
 use Rattle.rr_choice.specs.View.{plain_sites}
-use Rattle.rr_spots.specs.View.{plain_spot}
+use Rattle.rr_change_places.specs.View.{plain_spot}
 use Rattle.rr_guard.specs.Names.{first_names}
 use Rattle.rr_overwrite.specs.Overwrites.{overwrites_of}
 use Rattle.rr_overwrite.specs.Variables.{AreVariables}

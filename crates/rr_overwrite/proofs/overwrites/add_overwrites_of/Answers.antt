@@ -1,7 +1,7 @@
 use Rattle.std.proofs.Common.{◌∙◌, ap, ◌++◌, ◌∷◌, [], if◌then◌else◌, map}
 use Rattle.rr_syntax.specs.View.{plain_statement, texts}
 use Rattle.rr_choice.specs.View.{plain_sites}
-use Rattle.rr_spots.proofs.Walks.{one_more_at, all_done, flat_map_map}
+use Rattle.rr_change_places.proofs.Walks.{one_more_at, all_done, flat_map_map}
 use Rattle.rr_overwrite.specs.Overwrites.{Target, overwrite_of}
 use Rattle.rr_overwrite.specs.Variables.{may_be, plain_whole}
 use Rattle.rr_overwrite.proofs.Listed.{map_filter}

@@ -2,8 +2,8 @@ use Rattle.std.proofs.Common.{◌∙◌, ap, ◌++◌, map}
 use Rattle.std.specs.Prelude.{flat_map}
 use Rattle.rr_syntax.specs.View.{plain_identifier, plain_item}
 use Rattle.rr_choice.specs.View.{plain_sites}
-use Rattle.rr_spots.specs.Spots.{is_clocked, spots_of_item}
-use Rattle.rr_spots.specs.View.{plain_spots}
+use Rattle.rr_change_places.specs.Spots.{is_clocked, spots_of_item}
+use Rattle.rr_change_places.specs.View.{plain_spots}
 use Rattle.rr_guard.specs.Names.{first_names, names_at}
 use Rattle.rr_guard.proofs.GuardLists.{flat_map_same}
 use Rattle.rr_overwrite.specs.Overwrites.{overwrites_of}

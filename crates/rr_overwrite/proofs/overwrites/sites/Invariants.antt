@@ -2,7 +2,7 @@ use Rattle.std.proofs.Common.{◌≡◌, ◌++◌, drop}
 use Rattle.std.specs.Prelude.{flat_map}
 use Rattle.rr_syntax.specs.View.{plain_item, plain_module, texts}
 use Rattle.rr_choice.specs.View.{plain_sites}
-use Rattle.rr_spots.specs.Spots.{is_clocked, spots_of_item}
+use Rattle.rr_change_places.specs.Spots.{is_clocked, spots_of_item}
 use Rattle.rr_overwrite.specs.Overwrites.{overwrites_at}
 use Rattle.rr_overwrite.proofs.overwrites.sites.Given as goal
 

@@ -1,5 +1,5 @@
 use Rattle.std.proofs.Common.{◌∙◌, ap₂, ◌++◌, map}
-use Rattle.rr_parts.specs.View.{plain_target}
+use Rattle.rr_text_names.specs.View.{plain_target}
 use Rattle.rr_overwrite.specs.Variables.{plain_whole}
 use Rattle.rr_overwrite.proofs.FirstTargets.{one_gathered, end_gathered, gathered, gathered_all}
 use Rattle.rr_overwrite.proofs.targets.first_targets.Goals as goal

@@ -1,6 +1,6 @@
 use Rattle.std.proofs.Common.{◌≡◌, ◌++◌, map, drop}
 use Rattle.std.specs.Prelude.{flat_map}
-use Rattle.rr_parts.specs.View.{plain_target}
+use Rattle.rr_text_names.specs.View.{plain_target}
 use Rattle.rr_overwrite.specs.Overwrites.{first_targets as first_targets_of, whole_target}
 use Rattle.rr_overwrite.specs.Variables.{plain_whole}
 use Rattle.rr_overwrite.proofs.FirstTargets.{gathered}

@@ -1,7 +1,7 @@
-use Rattle.rr_sites.specs.View.{source_file}
+use Rattle.rr_sites_command.specs.View.{source_file}
 use Rattle.rr_flat.specs.View.{plain_flat}
 use Rattle.rr_trace.specs.View.{plain_table}
-use Rattle.rr_report.specs.Views.{plain_answer}
+use Rattle.rr_endings.specs.Views.{plain_answer}
 use Rattle.rr_repair.specs.Views.{plain_request}
 use Rattle.rr_repair.proofs.Telling.{counted, much_work}
 use Rattle.rr_repair.proofs.judging.judge_rows.Goals as goal

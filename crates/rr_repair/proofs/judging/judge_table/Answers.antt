@@ -1,4 +1,4 @@
-use Rattle.rr_sites.specs.View.{source_file}
+use Rattle.rr_sites_command.specs.View.{source_file}
 use Rattle.rr_flat.specs.View.{plain_flat}
 use Rattle.rr_repair.specs.Views.{plain_request}
 use Rattle.rr_repair.proofs.Telling.{stops_table}

@@ -3,9 +3,9 @@ use Rattle.std.proofs.lemmas.List.Elements.{All-map}
 use Rattle.rr_choice.specs.declared.pick.Choice.{Choice}
 use Rattle.rr_choice.specs.Choices.{IsChoice}
 use Rattle.rr_syntax.specs.View.{plain_source}
-use Rattle.rr_sites.specs.View.{source_file}
+use Rattle.rr_sites_command.specs.View.{source_file}
 use Rattle.rr_flat.specs.View.{plain_flat}
-use Rattle.rr_report.specs.Views.{plain_answer}
+use Rattle.rr_endings.specs.Views.{plain_answer}
 use Rattle.rr_repair.specs.Repairs.{design_of}
 use Rattle.rr_repair.specs.Views.{plain_request}
 use Rattle.rr_search.proofs.Tasks.{task_stands}

@@ -1,7 +1,7 @@
 use Rattle.std.proofs.Common.{inr, arith}
 use Rattle.std.proofs.lemmas.Result.{IfOk-weaker}
-use Rattle.rr_sites.specs.View.{source_file}
-use Rattle.rr_report.specs.Views.{plain_answer}
+use Rattle.rr_sites_command.specs.View.{source_file}
+use Rattle.rr_endings.specs.Views.{plain_answer}
 use Rattle.rr_search.specs.Answers.{task_of}
 use Rattle.rr_repair.specs.Views.{plain_request}
 use Rattle.rr_repair.proofs.Telling.{beyond_told, choice_length, plain_count, repair_told}

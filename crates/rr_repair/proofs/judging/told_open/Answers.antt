@@ -1,6 +1,6 @@
 use Rattle.std.proofs.Common.{arith}
-use Rattle.rr_sites.specs.View.{source_file}
-use Rattle.rr_report.specs.Views.{plain_answer}
+use Rattle.rr_sites_command.specs.View.{source_file}
+use Rattle.rr_endings.specs.Views.{plain_answer}
 use Rattle.rr_search.specs.Answers.{task_of}
 use Rattle.rr_repair.specs.Views.{plain_request}
 use Rattle.rr_repair.proofs.Telling.{choice_length, found_told, nothing_told}

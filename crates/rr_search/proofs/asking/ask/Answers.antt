@@ -1,6 +1,6 @@
 use Rattle.std.proofs.Common.{ℕ, ◌∙◌, ap, sym, subst, drop, take}
 use Rattle.rr_cnf.specs.Partial.{Determined}
-use Rattle.rr_encode.proofs.CodeLaws.{few_names}
+use Rattle.rr_choice_bits.proofs.CodeLaws.{few_names}
 use Rattle.rr_choice.specs.Choices.{decode, total_bits}
 use Rattle.rr_members.specs.Searched.{SearchedIs}
 use Rattle.rr_search.specs.Answers.{task_of}

@@ -1,5 +1,5 @@
 use Rattle.std.proofs.Common.{arith}
-use Rattle.rr_encode.proofs.CodeLaws.{length_choice}
+use Rattle.rr_choice_bits.proofs.CodeLaws.{length_choice}
 use Rattle.rr_search.specs.Answers.{task_of}
 use Rattle.rr_search.proofs.Answering.{cost_within}
 use Rattle.rr_search.proofs.judging.cost_in.Goals as goal

@@ -1,7 +1,7 @@
 use Rattle.std.proofs.Common.{◌∙◌, sym, rules}
 use Rattle.std.proofs.lemmas.Result.{on_ok_weaker}
 use Rattle.rr_syntax.specs.declared.tree.Stmt.{the_lemmas}
-use Rattle.rr_target.specs.Lists.{may}
+use Rattle.rr_named_bits.specs.Lists.{may}
 use Rattle.rr_writers.proofs.Statements.{shaped-Block, shaped-Yes, shaped-No, shaped-Case, shaped-Assign, adds-Null, adds-Block, adds-Alone, adds-Both, adds-Case, adds-Assign, skips-Assign, assigns_here, assigns_more, assigns_done, arms_here, arms_more, arms_done}
 use Rattle.rr_writers.proofs.assigned.+assigned.Goals as goal
 

@@ -3,7 +3,7 @@ use Rattle.std.proofs.lemmas.Result.{IfOk-weaker}
 use Rattle.rr_syntax.specs.View.{plain_statement}
 use Rattle.rr_flat.specs.View.{plain_flat, plain_block}
 use Rattle.rr_flat.specs.Writers.{writes_at_all}
-use Rattle.rr_target.specs.Lists.{may}
+use Rattle.rr_named_bits.specs.Lists.{may}
 use Rattle.rr_writers.specs.Assigned.{assigns}
 use Rattle.rr_writers.proofs.Marking.{may_new, set_same, taken_same}
 use Rattle.rr_writers.proofs.Options.{none_map, some_map}

@@ -2,7 +2,7 @@ use Rattle.std.proofs.Common.{◌∙◌, ap}
 use Rattle.std.proofs.lemmas.Result.{IfOk-weaker}
 use Rattle.rr_flat.specs.View.{plain_flat, plain_driver}
 use Rattle.rr_flat.specs.Writers.{driven_by}
-use Rattle.rr_target.specs.Pieces.{all_bits}
+use Rattle.rr_named_bits.specs.Pieces.{all_bits}
 use Rattle.rr_writers.proofs.Marking.{all_new, list_same, twice_same}
 use Rattle.rr_writers.proofs.Options.{none_map, some_map}
 use Rattle.rr_writers.proofs.doubles.mark_driver.Goals as goal

@@ -1,5 +1,5 @@
 use Rattle.std.proofs.Common.{take}
-use Rattle.rr_target.specs.Pieces.{all_bits}
+use Rattle.rr_named_bits.specs.Pieces.{all_bits}
 use Rattle.rr_writers.specs.Marks.{ListMarked}
 use Rattle.rr_writers.specs.Tables.{entry}
 use Rattle.rr_writers.proofs.marks.mark_pieces.Given as goal

@@ -1,5 +1,5 @@
 use Rattle.std.proofs.Common.{take, true}
-use Rattle.rr_target.specs.Lists.{may}
+use Rattle.rr_named_bits.specs.Lists.{may}
 use Rattle.rr_writers.specs.Marks.{SetMarked}
 use Rattle.rr_writers.specs.Tables.{entry}
 use Rattle.rr_writers.proofs.marks.mark_writes.Given as goal

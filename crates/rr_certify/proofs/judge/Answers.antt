@@ -1,5 +1,0 @@
-use Rattle.rr_certify.proofs.Certified.{sound_of}
-use Rattle.rr_certify.proofs.judge.Goals as goal
-
-pub returns-clause-sound : goal.returns-clause-sound
-returns-clause-sound g c = sound_of c.args.circuit.items c.args.proof.items c.judged.result c.judged.ensures

@@ -1,0 +1,15 @@
+//! Laws of the names of an instance, as contracts of functions that do nothing.
+ghost use Rattle.rr_declared_ranges.specs.Laws.{NamesAreLocated, NamesHaveRanges};
+
+/// In each instance each name that its module declares as a net or a variable, but by `integer`,
+/// stands for a signal with the declared range, whose bounds have the values of that instance, and
+/// with at most 128 bits (sections 3.2 and 3.3.1).
+pub fn names_have_ranges()
+    ensures { NamesHaveRanges }
+{}
+
+/// A signal that a name of an instance stands for is one of that instance, with that name and that
+/// range; so no signal has two names.
+pub fn names_are_located()
+    ensures { NamesAreLocated }
+{}

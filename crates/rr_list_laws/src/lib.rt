@@ -1,7 +1,0 @@
-//! The list of sites that is told of a text has exactly the places of the text at which a repair may
-//! change it. It stands on `rr_sites` for the list and on `rr_place_laws` for the places, and has no code.
-#![tactic(auto)]
-
-mod laws;
-
-pub use laws::lists_are_exact;

@@ -1,6 +1,0 @@
-use Rattle.std.proofs.Common.{◌∙◌, length, ap}
-use Rattle.rr_made.proofs.TextLaws.{design_length}
-use Rattle.rr_made.proofs.making.made.Goals as goal
-
-pub returns-clause-length : goal.returns-clause-length
-returns-clause-length c = ap length c.in_ok-design.ensures ∙ design_length c.args.seed

@@ -1,5 +1,0 @@
-use Rattle.rr_made.proofs.TextLaws.{Counted}
-use Rattle.rr_made.proofs.table.all_counted.Given as goal
-
-abbrev pub invariant-loop-i : goal.invariant-loop-i
-invariant-loop-i l = Counted l.reset l.enable l.right l.values l.after.items l.i

@@ -1,5 +1,0 @@
-use Rattle.rr_made.proofs.TextLaws.{Lined}
-use Rattle.rr_made.proofs.table.push_line.Given as goal
-
-abbrev pub invariant-loop-i : goal.invariant-loop-i
-invariant-loop-i l = Lined l.numbers l.initial.text.items l.text.items l.i

@@ -1,5 +1,0 @@
-use Rattle.rr_made.proofs.TextLaws.{Tabled}
-use Rattle.rr_made.proofs.table.table.Given as goal
-
-abbrev pub invariant-loop-row : goal.invariant-loop-row
-invariant-loop-row l = Tabled l.seed l.row l.draws.state l.text.items l.values.items

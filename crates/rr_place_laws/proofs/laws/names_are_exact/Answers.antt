@@ -1,5 +1,0 @@
-use Rattle.rr_place_laws.proofs.GuardWords.{names_are_these}
-use Rattle.rr_place_laws.proofs.laws.names_are_exact.Goals as goal
-
-pub returns : goal.returns
-returns c = names_are_these

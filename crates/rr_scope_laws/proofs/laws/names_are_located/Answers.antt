@@ -1,5 +1,0 @@
-use Rattle.rr_scope_laws.proofs.Once.{located_of_source}
-use Rattle.rr_scope_laws.proofs.laws.names_are_located.Goals as goal
-
-pub returns : goal.returns
-returns c = located_of_source

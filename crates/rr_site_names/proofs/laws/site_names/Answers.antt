@@ -1,6 +1,0 @@
-use Rattle.rr_site_names.proofs.Written.{names_are_written}
-use Rattle.rr_site_names.proofs.laws.site_names.Goals as goal
-
--- src/laws.rt
-pub returns : goal.returns
-returns c = names_are_written

@@ -1,7 +1,0 @@
-//! The names of sites can be written: a law over the definitions of `rr_listing` and `rr_respell`. It
-//! has no code.
-#![tactic(auto)]
-
-mod laws;
-
-pub use laws::site_names;

@@ -1,5 +1,0 @@
-use Rattle.rr_stop.proofs.FirstWords.{begins_is}
-use Rattle.rr_stop.proofs.modules.begins.Goals as goal
-
-pub returns : goal.returns
-returns c = begins_is c.args.tokens.now c.is_keyword.result c.is_keyword.ensures

@@ -1,0 +1,12 @@
+use Rattle.std.proofs.Common.{◌-◌}
+use Rattle.rr_syntax_place.specs.Going.{Goes}
+use Rattle.rr_syntax_place.proofs.expressions.+targets.Given as goal
+
+abbrev pub decreases-target : goal.decreases-target
+decreases-target l = l.room
+
+abbrev pub invariant-loop-cursor : goal.invariant-loop-cursor
+invariant-loop-cursor l = Goes l.fn.cursor l.cursor
+
+abbrev pub decreases-loop-cursor : goal.decreases-loop-cursor
+decreases-loop-cursor l = l.cursor.end - l.cursor.at

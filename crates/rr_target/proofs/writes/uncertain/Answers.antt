@@ -1,5 +1,0 @@
-use Rattle.rr_target.proofs.Naming.{whole_covers}
-use Rattle.rr_target.proofs.writes.uncertain.Goals as goal
-
-pub returns-clause-bits : goal.returns-clause-bits
-returns-clause-bits c = whole_covers c.whole.result c.args.entity.now c.whole.ensures

@@ -1,0 +1,146 @@
+-- The names and indices of targets at nodes of the arena, one equation for each form.
+use Rattle.std.proofs.Common.{◌≡◌, ap, ℕ, suc, ◌<◌, Bool, true, false, cond, List, [], ◌∷◌, length, Option, Some, refl, arith}
+use Rattle.std.specs.Prelude.{IfSome}
+use Rattle.std.specs.Str.{bytes_eq}
+use Rattle.rr_syntax.specs.declared.token.Mark.{Mark}
+use Rattle.rr_syntax.specs.declared.token.Number.{Number}
+use Rattle.rr_syntax.specs.declared.tree.Expr.{Expr}
+use Rattle.rr_syntax.specs.declared.tree.Expr.TheVariants as expr
+use Rattle.rr_syntax.specs.declared.tree.Named.{Named}
+use Rattle.rr_syntax.specs.Tree.{Tree}
+use Rattle.rr_syntax.specs.View.{plain, plain_identifier}
+use Rattle.rr_syntax.proofs.Rows.{plain_concat, plain_repeat}
+use Rattle.rr_expr.specs.declared.types.Entity.{Entity}
+use Rattle.rr_expr.specs.declared.types.Entity.TheVariants.{Constant, Signal as SignalEntity, Instance}
+use Rattle.rr_expr.specs.Scopes.{Names, lookup, or_instance}
+use Rattle.rr_flat.specs.Signals.{Text, Signal}
+use Rattle.rr_flat.specs.Sound.{AreNamed, IsNamed}
+use Rattle.rr_flat.specs.Targets.{is_constant, is_fixed}
+use Rattle.rr_flat.specs.Targets.{part_name}
+use Rattle.rr_text_names.specs.Names.{part_identifier, part_token, signal_of}
+use denote.Ref.{Bor}
+
+pub identifier-Name : (token : ℕ) (name : Bor (List ℕ)) → part_identifier (plain (expr.Name token name)) ≡ record { token = token; text = name.now }
+unfolding plain
+identifier-Name token name = refl
+
+pub identifier-Literal : (token : ℕ) (n : Number) → part_identifier (plain (expr.Literal token n)) ≡ record { token = 0; text = [] }
+unfolding plain
+identifier-Literal token n = refl
+
+pub identifier-Bit : (token : ℕ) (name : Bor (List ℕ)) (i : Bor Expr) → part_identifier (plain (expr.Bit token name i)) ≡ record { token = token; text = name.now }
+unfolding plain
+identifier-Bit token name i = refl
+
+pub identifier-Part : (token : ℕ) (name : Bor (List ℕ)) (l r : Bor Expr) → part_identifier (plain (expr.Part token name l r)) ≡ record { token = token; text = name.now }
+unfolding plain
+identifier-Part token name l r = refl
+
+pub identifier-Indexed : (token : ℕ) (name : Bor (List ℕ)) (f n : Bor Expr) (up : Bool) → part_identifier (plain (expr.Indexed token name f n up)) ≡ record { token = token; text = name.now }
+unfolding plain
+identifier-Indexed token name f n up = refl
+
+pub identifier-Unary : (op : Mark) (t : Bor Expr) → part_identifier (plain (expr.Unary op t)) ≡ record { token = 0; text = [] }
+unfolding plain
+identifier-Unary op t = refl
+
+pub identifier-Binary : (op : Mark) (l r : Bor Expr) → part_identifier (plain (expr.Binary op l r)) ≡ record { token = 0; text = [] }
+unfolding plain
+identifier-Binary op l r = refl
+
+pub identifier-Cond : (a b c : Bor Expr) → part_identifier (plain (expr.Cond a b c)) ≡ record { token = 0; text = [] }
+unfolding plain
+identifier-Cond a b c = refl
+
+pub identifier-Concat : (ts : Bor (List Expr)) → part_identifier (plain (expr.Concat ts)) ≡ record { token = 0; text = [] }
+identifier-Concat ts = ap part_identifier (plain_concat ts)
+
+pub identifier-Repeat : (n : Bor Expr) (ts : Bor (List Expr)) → part_identifier (plain (expr.Repeat n ts)) ≡ record { token = 0; text = [] }
+identifier-Repeat n ts = ap part_identifier (plain_repeat n ts)
+
+pub identifier-Cast : (signed : Bool) (t : Bor Expr) → part_identifier (plain (expr.Cast signed t)) ≡ record { token = 0; text = [] }
+unfolding plain
+identifier-Cast signed t = refl
+
+pub identifier-Paren : (t : Bor Expr) → part_identifier (plain (expr.Paren t)) ≡ record { token = 0; text = [] }
+unfolding plain
+identifier-Paren t = refl
+
+pub ruleset identifier_nodes = (identifier-Name, identifier-Literal, identifier-Bit, identifier-Part, identifier-Indexed, identifier-Unary, identifier-Binary, identifier-Cond, identifier-Concat, identifier-Repeat, identifier-Cast, identifier-Paren)
+
+pub fixed-Name : (s : Names) (token : ℕ) (name : Bor (List ℕ)) → is_fixed s (plain (expr.Name token name)) ≡ true
+unfolding plain
+fixed-Name s token name = refl
+
+pub fixed-Literal : (s : Names) (token : ℕ) (n : Number) → is_fixed s (plain (expr.Literal token n)) ≡ true
+unfolding plain
+fixed-Literal s token n = refl
+
+pub fixed-Bit : (s : Names) (token : ℕ) (name : Bor (List ℕ)) (i : Bor Expr) → is_fixed s (plain (expr.Bit token name i)) ≡ is_constant s (plain i.now)
+unfolding plain
+fixed-Bit s token name i = refl
+
+pub fixed-Part : (s : Names) (token : ℕ) (name : Bor (List ℕ)) (l r : Bor Expr) → is_fixed s (plain (expr.Part token name l r)) ≡ true
+unfolding plain
+fixed-Part s token name l r = refl
+
+pub fixed-Indexed : (s : Names) (token : ℕ) (name : Bor (List ℕ)) (f n : Bor Expr) (up : Bool) → is_fixed s (plain (expr.Indexed token name f n up)) ≡ is_constant s (plain f.now)
+unfolding plain
+fixed-Indexed s token name f n up = refl
+
+pub fixed-Unary : (s : Names) (op : Mark) (t : Bor Expr) → is_fixed s (plain (expr.Unary op t)) ≡ true
+unfolding plain
+fixed-Unary s op t = refl
+
+pub fixed-Binary : (s : Names) (op : Mark) (l r : Bor Expr) → is_fixed s (plain (expr.Binary op l r)) ≡ true
+unfolding plain
+fixed-Binary s op l r = refl
+
+pub fixed-Cond : (s : Names) (a b c : Bor Expr) → is_fixed s (plain (expr.Cond a b c)) ≡ true
+unfolding plain
+fixed-Cond s a b c = refl
+
+pub fixed-Concat : (s : Names) (ts : Bor (List Expr)) → is_fixed s (plain (expr.Concat ts)) ≡ true
+fixed-Concat s ts = ap (is_fixed s) (plain_concat ts)
+
+pub fixed-Repeat : (s : Names) (n : Bor Expr) (ts : Bor (List Expr)) → is_fixed s (plain (expr.Repeat n ts)) ≡ true
+fixed-Repeat s n ts = ap (is_fixed s) (plain_repeat n ts)
+
+pub fixed-Cast : (s : Names) (signed : Bool) (t : Bor Expr) → is_fixed s (plain (expr.Cast signed t)) ≡ true
+unfolding plain
+fixed-Cast s signed t = refl
+
+pub fixed-Paren : (s : Names) (t : Bor Expr) → is_fixed s (plain (expr.Paren t)) ≡ true
+unfolding plain
+fixed-Paren s t = refl
+
+pub ruleset fixed_nodes = (fixed-Name, fixed-Literal, fixed-Bit, fixed-Part, fixed-Indexed, fixed-Unary, fixed-Binary, fixed-Cond, fixed-Concat, fixed-Repeat, fixed-Cast, fixed-Paren)
+
+-- the name of a part by its node
+
+pub named_text : (n : Named) (t : Tree) → plain_identifier n ≡ part_identifier t → n.name.now ≡ part_name t
+unfolding plain_identifier
+named_text n t h = ap (λ i. i.text) h
+
+pub named_token : (n : Named) (t : Tree) → plain_identifier n ≡ part_identifier t → n.token ≡ part_token t
+unfolding plain_identifier
+named_token n t h = ap (λ i. i.token) h
+
+-- the signal of a name is one of the design
+
+abbrev Below : ℕ → Option ℕ → Type 0
+Below n r = IfSome r (λ id. id < n)
+
+entity_below : (signals : List Signal) (n : ℕ) (e : Entity) → length signals ≡ n → IsNamed 0 signals e → Below n (signal_of e)
+entity_below signals n (Constant bits signed) l h = tt
+entity_below signals n (SignalEntity id range signed) l h = let k = h.1 in omega (arith, k, l)
+entity_below signals n Instance l h = tt
+
+pub named_below : (signals : List Signal) (n : ℕ) (names : Names) (name : Text) (r : Option ℕ) → length signals ≡ n → AreNamed 0 signals names → r ≡ signal_of (or_instance (lookup name names)) → Below n r
+unfolding lookup
+named_below signals n [] name r l a h = rw h tt
+named_below signals n (e ∷ es) name r l a h = go (bytes_eq name e.0) h (λ q. named_below signals n es name r l (λ k d m. a (suc k) d (omega (arith, m))) q)
+  where
+    go : (b : Bool) → r ≡ signal_of (or_instance (cond b (Some e.1) (lookup name es))) → (r ≡ signal_of (or_instance (lookup name es)) → Below n r) → Below n r
+    go true q rec = rw q (entity_below signals n e.1 l (a 0 e (omega arith)))
+    go false q rec = rec q

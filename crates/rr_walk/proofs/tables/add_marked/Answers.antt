@@ -1,9 +1,0 @@
-use Rattle.std.proofs.Common.{◌∙◌, ap, map, drop, fold, ◌+◌}
-use Rattle.rr_syntax.specs.View.{plain_assignment}
-use Rattle.rr_walk.specs.Tables.{add_parameter_name}
-use Rattle.rr_head.proofs.Steps.{fold_more}
-use Rattle.rr_walk.proofs.tables.add_marked.Goals as goal
-
-pub loop-set-preserved : goal.loop-set-preserved
-unfolding plain_assignment
-loop-set-preserved c = ap (λ s. fold (add_parameter_name c.args.local) s (map plain_assignment (drop (c.loop-set.set-index + 1) c.args.sets.now))) c.in_ok-put.ensures ∙ (fold_more plain_assignment (add_parameter_name c.args.local) c.args.sets.now c.loop-set.set-index _ c.loop-set.table c.loop-set-test.true ∙ c.loop-set.invariant)
