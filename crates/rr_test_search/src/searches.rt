@@ -78,13 +78,14 @@ fn searched_two<R: Threads + Sync>(
     if circuit.inputs != 6 || circuit.outputs.len() != 2 {
         return Ok(None);
     }
+    let switches = vec![in alloc; 0, 2]?;
     let transition = Transition {
         circuit,
         choice_bits: 4,
         state_bits: 1,
         input_bits: 1,
         start: vec![in alloc; false]?,
-        switches: vec![in alloc; 0, 2]?,
+        switches,
         input_widths: vec![in alloc; 1]?,
         output_widths: vec![in alloc; 1]?,
     };
@@ -225,13 +226,14 @@ fn searched_three<R: Threads + Sync>(
     if circuit.inputs != 10 || circuit.outputs.len() != 2 {
         return Ok(None);
     }
+    let switches = vec![in alloc; 0, 2, 4]?;
     let transition = Transition {
         circuit,
         choice_bits: 6,
         state_bits: 1,
         input_bits: 3,
         start: vec![in alloc; false]?,
-        switches: vec![in alloc; 0, 2, 4]?,
+        switches,
         input_widths: vec![in alloc; 3]?,
         output_widths: vec![in alloc; 1]?,
     };
