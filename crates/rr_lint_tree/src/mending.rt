@@ -1,5 +1,5 @@
 //! The tree of a source in which two faults of its combinational blocks are mended.
-ghost use Rattle.std.specs.Prelude.{◌≡◌, ℕ, List, Option, Ok, length, map, nat_eq, if◌then◌else◌, IfOk, MatchResult};
+ghost use Rattle.std.specs.Prelude.{◌≡◌, ℕ, List, Option, Ok, map, nat_eq, if◌then◌else◌, IfOk, MatchResult};
 ghost use Rattle.std.specs.List.{list_any};
 ghost use Rattle.indexmap.specs.IndexSet.{contains};
 ghost use Rattle.rr_syntax.specs.View.{plain_item, plain_module, plain_source, plain_statement, texts};

@@ -1,4 +1,0 @@
-use Rattle.rr_test_base.proofs.sort.sorted.Goals as goal
-
-pub sort-requires : goal.sort-requires
-sort-requires c = rw c.as_slice.ensures.value c.in_ok-rows.ensures

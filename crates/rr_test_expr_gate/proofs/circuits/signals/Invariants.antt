@@ -1,5 +1,0 @@
-use Rattle.rr_blast_sites.specs.Signals.{AreSignals}
-use Rattle.rr_test_expr_gate.proofs.circuits.signals.Given as goal
-
-abbrev pub invariant-loop-i : goal.invariant-loop-i
-invariant-loop-i l = AreSignals l.b l.all.items

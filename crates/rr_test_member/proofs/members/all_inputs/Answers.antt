@@ -1,5 +1,0 @@
-use Rattle.std.proofs.Common.{arith}
-use Rattle.rr_test_member.proofs.members.all_inputs.Goals as goal
-
-pub returns-clause-determined : goal.returns-clause-determined
-returns-clause-determined c = λ held quiet inputs v low high. inputs v low (omega (arith, c.vars.ensures))

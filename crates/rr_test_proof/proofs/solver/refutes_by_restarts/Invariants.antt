@@ -1,5 +1,0 @@
-use Rattle.std.proofs.Common.{◌≡◌}
-use Rattle.rr_test_proof.proofs.solver.refutes_by_restarts.Given as goal
-
-abbrev pub invariant-loop : goal.invariant-loop
-invariant-loop l = l.solver.formula ≡ l.initial.solver.formula

@@ -1,4 +1,0 @@
-use Rattle.rr_test_proof.proofs.solver.searched.Goals as goal
-
-pub returns : goal.returns
-returns c = c.in_ok-conflict_step.ensures.same.formula

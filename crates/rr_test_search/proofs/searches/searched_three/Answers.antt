@@ -1,6 +1,0 @@
-use Rattle.std.proofs.Common.{refl}
-use Rattle.rr_test_search.proofs.Tasks.{three_task}
-use Rattle.rr_test_search.proofs.searches.searched_three.Goals as goal
-
-pub least-requires-clause-task : goal.least-requires-clause-task
-least-requires-clause-task g c κs within = three_task _ c.requires.list refl c.in_ok-switches.ensures.items c.requires.some c.requires.most c.requires.budget

@@ -1,4 +1,0 @@
-use Rattle.rr_test_text.proofs.syntax.+measure_brackets.Given as goal
-
-abbrev pub decreases-measure_brackets : goal.decreases-measure_brackets
-decreases-measure_brackets l = l.brackets
