@@ -1,12 +1,8 @@
 -- The texts on standard error, each line ended by LF.
-use Rattle.std.specs.Prelude.{ℕ, List, [], ◌∷◌, ◌++◌, codes, decimal}
+use Rattle.std.specs.Prelude.{ℕ, List, ◌++◌, codes, decimal}
 use Rattle.rr_run.specs.Texts.{refusal_text as run_refusal_text}
-use Rattle.rr_check_certificate.specs.Texts.{flaw_text}
+use Rattle.rr_check_certificate.specs.Texts.{flaw_text, line}
 use Rattle.rr_endings.specs.Refusals.{Refusal, TooManyBytes, Input, Flawed}
-
--- a line of its own
-abbrev pub line : List ℕ → List ℕ
-line text = text ++ (10 ∷ [])
 
 -- number, name and place
 abbrev pub refusal_text : Refusal → List ℕ

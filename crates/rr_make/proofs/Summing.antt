@@ -2,7 +2,7 @@
 use Rattle.std.proofs.Common.{◌≡◌, ◌∙◌, inl, inr, ℕ, List, [], sym, ap, subst, arith}
 use Rattle.rr_made_input.specs.Made.{made_design, made_table}
 use Rattle.rr_endings.specs.Found.{Answer, File}
-use Rattle.rr_repair.specs.Repairs.{CountsRepair}
+use Rattle.rr_repair.specs.Repairs.{Counts, CountsRepair}
 use Rattle.rr_outcomes.specs.Laws.{TellsOutcome}
 use Rattle.rr_outcomes.specs.Outcomes.{IsDespaired}
 use Rattle.rr_outcomes.proofs.Told.{each_answer}
@@ -16,18 +16,18 @@ same_answer a b s f o n =
     told_by : ℕ → List File → List ℕ → List ℕ → Answer
     told_by status files out notes = record { status = status; files = files; out = out; notes = notes }
 
-module _ (seed : ℕ) (cert : List ℕ) (repair : Answer) (changes : ℕ) (c : CountsRepair (made_request cert) (made_design seed) (made_table seed) repair changes) where
+module _ (seed : ℕ) (cert : List ℕ) (repair : Answer) (counts : Counts) (c : CountsRepair (made_request cert) (made_design seed) (made_table seed) repair counts) where
   told : TellsOutcome (made_request cert) (made_design seed) (made_table seed) repair
   told = each_answer (made_request cert) (made_design seed) (made_table seed) repair c.answers
 
   -- its status is 0
-  made_of : (answer : Answer) → answer.status ≡ 0 → answer.files ≡ repair.files → answer.out ≡ summary seed changes → answer.notes ≡ [] → repair.status ≡ 0
+  made_of : (answer : Answer) → answer.status ≡ 0 → answer.files ≡ repair.files → answer.out ≡ summary seed counts → answer.notes ≡ [] → repair.status ≡ 0
       → TellsOutcome (made_request cert) (made_design seed) (made_table seed) repair → AnswersMake seed cert answer
-  made_of answer s f o n zero (inl t) = inl (record { repair = repair; mended = t.0; changes = changes; least = c.least zero; files = f; printed = o; notes = n; status = s })
+  made_of answer s f o n zero (inl t) = inl (record { repair = repair; mended = t.0; counts = counts; are = c.are zero; files = f; printed = o; notes = n; status = s })
   made_of answer s f o n zero (inr (inl t)) = absurd (omega (arith, zero, t.1.1))
   made_of answer s f o n zero (inr (inr t)) = absurd (omega (arith, zero, t.1))
 
-  pub made_told : (answer : Answer) → answer.status ≡ repair.status → answer.files ≡ repair.files → answer.out ≡ summary seed changes → answer.notes ≡ [] → repair.status ≡ 0
+  pub made_told : (answer : Answer) → answer.status ≡ repair.status → answer.files ≡ repair.files → answer.out ≡ summary seed counts → answer.notes ≡ [] → repair.status ≡ 0
       → AnswersMake seed cert answer
   made_told answer s f o n zero = made_of answer (s ∙ zero) f o n zero told
 

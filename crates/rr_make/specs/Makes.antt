@@ -1,43 +1,44 @@
--- What the made input of a seed comes to: the least number of changes with which its design matches its table, told by a
--- summary, or that no changes do; and what an answer tells of it. No search stands in it.
+-- What the made input of a seed comes to: how many rows and sites it has and the least number of changes with which its design
+-- matches its table, told by a summary, or that no changes do; and what an answer tells of it. No search stands in it.
 use Rattle.std.specs.Prelude.{◌≡◌, ◌⊎◌, ℕ, List, [], ◌++◌, None, codes, decimal}
 use Rattle.rr_made_input.specs.Made.{made_design, made_table}
 use Rattle.rr_run.specs.declared.rows.TableKind.TheVariants.{Csv}
 use Rattle.rr_endings.specs.Found.{Answer}
 use Rattle.rr_endings.specs.Refusals.{Refusal}
-use Rattle.rr_repair.specs.Repairs.{IsLeastCount, RefusesRepair, PlainRequest}
+use Rattle.rr_repair.specs.Repairs.{AreCounts, Counts, RefusesRepair, PlainRequest}
 use Rattle.rr_outcomes.specs.Outcomes.{IsDespaired, IsLeftOpen, IsMended, IsUnmendable}
 
 -- what is asked: a table of comma-separated values, the top and the clock that the design tells, and 4 members of 20,000 lines
 abbrev pub made_request : List ℕ → PlainRequest
 made_request cert = record { kind = Csv; top = None; clock = None; cert = cert; budget = 20000; members = 4 }
 
--- the summary of so many changes, each line ended by LF
-abbrev pub summary : ℕ → ℕ → List ℕ
-summary seed changes = codes "seed " ++ (decimal seed ++ (codes "\nrows 256\nsites 40\nchanges " ++ (decimal changes ++ codes "\n")))
+-- the summary of so many rows, sites and changes, each line ended by LF
+abbrev pub summary : ℕ → Counts → List ℕ
+summary seed counts =
+    codes "seed " ++ (decimal seed ++ (codes "\nrows " ++ (decimal counts.rows ++ (codes "\nsites " ++ (decimal counts.sites ++ (codes "\nchanges " ++ (decimal counts.changes ++ codes "\n")))))))
 
 -- ---- of a seed
--- so many changes are the least with which the made design matches its table
-abbrev pub IsMadeCount : ℕ → List ℕ → ℕ → Type 0
-IsMadeCount seed cert changes = IsLeastCount (made_request cert) (made_design seed) (made_table seed) changes
+-- so many rows has the made table, so many sites the made design, and so many changes are the least with which it matches
+abbrev pub AreMadeCounts : ℕ → List ℕ → Counts → Type 0
+AreMadeCounts seed cert counts = AreCounts (made_request cert) (made_design seed) (made_table seed) counts
 
--- .. and this text tells it
+-- .. and this text tells them
 abbrev pub IsSummary : ℕ → List ℕ → List ℕ → Type 0
-IsSummary seed cert text = (changes : ℕ) × ((text ≡ summary seed changes) × IsMadeCount seed cert changes)
+IsSummary seed cert text = (counts : Counts) × ((text ≡ summary seed counts) × AreMadeCounts seed cert counts)
 
 -- no changes do
 abbrev pub IsNeverMade : ℕ → List ℕ → Type 0
 IsNeverMade seed cert = IsUnmendable (made_request cert) (made_design seed) (made_table seed)
 
 -- ---- of an answer
--- it prints the summary and reports nothing, and its files are those of a repair with so many changes
+-- it prints the summary and reports nothing, and its files are those of a repair that the summary counts
 pub record IsMade (seed : ℕ) (cert : List ℕ) (answer : Answer) : Type 0 where
   pub repair : Answer
   pub mended : IsMended (made_request cert) (made_design seed) (made_table seed) repair
-  pub changes : ℕ
-  pub least : IsMadeCount seed cert changes
+  pub counts : Counts
+  pub are : AreMadeCounts seed cert counts
   pub files : answer.files ≡ repair.files
-  pub printed : answer.out ≡ summary seed changes
+  pub printed : answer.out ≡ summary seed counts
   pub notes : answer.notes ≡ []
   pub status : answer.status ≡ 0
 

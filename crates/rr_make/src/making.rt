@@ -1,7 +1,8 @@
 //! The made input, repaired.
-ghost use Rattle.std.specs.Prelude.{◌≡◌, ◌≤◌, ℕ, IfOk, MatchResult, length, string_bytes};
+ghost use Rattle.std.specs.Prelude.{◌≡◌, ◌≤◌, IfOk, MatchResult, length, string_bytes};
 ghost use Rattle.rr_made_input.specs.Made.{made_design, made_table};
 ghost use Rattle.rr_repair.specs.Repairs.{CountsRepair};
+ghost use Rattle.rr_repair.specs.Views.{plain_counts};
 ghost use Rattle.rr_endings.specs.Views.{plain_answer, StopsWhere};
 ghost use Rattle.rr_make.specs.Makes.{AnswersMake, RefusesMake, made_request, summary};
 
@@ -19,11 +20,17 @@ const BUDGET: u32 = 20_000;
 /// How many members a search has.
 const MEMBERS: u32 = 4;
 
-/// The summary of a repair with so many changes.
-fn summary(alloc: Global, seed: u64, changes: u32) -> Result<String, AllocError>
-    ensures { IfOk result (λ text. string_bytes text ≡ summary seed changes) }
+/// The summary of a repair with such counts.
+fn summary(
+    alloc: Global,
+    seed: u64,
+    rows: u64,
+    sites: u64,
+    changes: u32,
+) -> Result<String, AllocError>
+    ensures { IfOk result (λ text. string_bytes text ≡ summary seed (record { rows = rows; sites = sites; changes = changes })) }
 {
-    format!(in alloc; "seed {seed}\nrows 256\nsites 40\nchanges {changes}\n")
+    format!(in alloc; "seed {seed}\nrows {rows}\nsites {sites}\nchanges {changes}\n")
 }
 
 /// What is done for a repair: its files, and, where its status is 0, the summary in place of what it
@@ -34,10 +41,15 @@ fn summed<'b>(
     cert: &str,
     counted: Counted<'_>,
 ) -> Result<Found<'b>, AllocError>
-    requires { CountsRepair (made_request cert.now) (made_design seed) (made_table seed) (plain_answer counted.found) counted.changes }
+    requires { CountsRepair (made_request cert.now) (made_design seed) (made_table seed) (plain_answer counted.found) (plain_counts counted) }
     ensures { IfOk result (λ found. AnswersMake seed cert.now (plain_answer found)) }
 {
-    let Counted { found, changes } = counted;
+    let Counted {
+        found,
+        rows,
+        sites,
+        changes,
+    } = counted;
     let Found {
         status,
         files,
@@ -52,7 +64,7 @@ fn summed<'b>(
             notes,
         });
     }
-    let text = summary(alloc, seed, changes)?;
+    let text = summary(alloc, seed, rows, sites, changes)?;
     Ok(Found {
         status,
         files,

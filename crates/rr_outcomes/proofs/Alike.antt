@@ -1,5 +1,5 @@
 -- Requests that read two files in one way come to one number of changes.
-use Rattle.std.proofs.Common.{◌≡◌, ℕ, ◌≤◌, List, Bool, Option, inl, inr, subst, arith}
+use Rattle.std.proofs.Common.{◌≡◌, ◌∙◌, ℕ, ◌≤◌, List, length, Bool, Option, inl, inr, ap, sym, subst, arith}
 use Rattle.rr_syntax.specs.Tree.{SourceText}
 use Rattle.rr_flat.specs.Clocks.{OneClock}
 use Rattle.rr_flat.specs.Lawful.{Lawful}
@@ -15,7 +15,7 @@ use Rattle.rr_kept.specs.Read.{SourceFile}
 use Rattle.rr_run.specs.declared.rows.TableKind.{TableKind}
 use Rattle.rr_run.specs.Rows.{ReadsTable}
 use Rattle.rr_endings.specs.Found.{Answer}
-use Rattle.rr_repair.specs.Repairs.{IsLeastCount, IsSited, IsTaken, PlainRequest, design_of}
+use Rattle.rr_repair.specs.Repairs.{AreCounts, Counts, IsLeastCount, IsSited, IsTaken, PlainRequest, design_of}
 use Rattle.rr_outcomes.specs.Laws.{AreAlike, CountsAgree, IsOneTaking, OneCount, OneVerdict, TellsOutcome}
 use Rattle.rr_outcomes.specs.Outcomes.{IsMendable, IsUnmendable}
 use Rattle.rr_outcomes.proofs.Once.{mendable_or_not, moved_choice, one_taking}
@@ -48,6 +48,23 @@ module _ (w : PlainRequest) (design table : List ℕ) where
     matches = p.least.reached.1.1.1;
   }
 
+  -- the least of the counts
+  pub least_of : (k : Counts) → AreCounts w design table k → IsLeastCount w design table k.changes
+  least_of k p = record { file = p.file; sites = p.sites; rows = p.rows; taken = p.taken; least = p.least }
+
+  pub counts_mend : (k : Counts) → AreCounts w design table k → IsMendable w design table
+  counts_mend k p = count_mends k.changes (least_of k p)
+
+  same_counts : (k n : Counts) → k.rows ≡ n.rows → k.sites ≡ n.sites → k.changes ≡ n.changes → k ≡ n
+  same_counts k n rows sites changes = λ i. record { rows = rows i; sites = sites i; changes = changes i }
+
+  pub one_counts : (k n : Counts) → AreCounts w design table k → AreCounts w design table n → k ≡ n
+  one_counts k n p q =
+      let one = one_taking w design table p.file q.file p.sites q.sites p.rows q.rows p.taken q.taken in
+      same_counts k n (p.all_rows ∙ ap (λ (t : Table). length t.inputs) one.rows ∙ sym q.all_rows)
+      (p.all_sites ∙ ap (λ (ss : List Site). length ss) one.sites ∙ sym q.all_sites)
+      (one_least k.changes n.changes (least_of k p) (least_of n q))
+
 -- ---- two requests
 module _ (v w : PlainRequest) (design table : List ℕ) (same : AreAlike v w) where
   moved_sited : {f : SourceFile} {flat : Flat} {clock : Option ℕ} {rising : Bool} {ss : List Site} → IsSited v design f flat clock rising ss → IsSited w design f flat clock rising ss
@@ -78,6 +95,17 @@ module _ (v w : PlainRequest) (design table : List ℕ) (same : AreAlike v w) wh
   moved_count : (k : ℕ) → IsLeastCount v design table k → IsLeastCount w design table k
   moved_count k p = record { file = p.file; sites = p.sites; rows = p.rows; taken = moved_taken p.taken; least = subst (λ (j : Design). Least j p.sites p.rows k) (one_design p.file.source) p.least }
 
+  pub moved_counts : (k : Counts) → AreCounts v design table k → AreCounts w design table k
+  moved_counts k p = record {
+    file = p.file;
+    sites = p.sites;
+    rows = p.rows;
+    taken = moved_taken p.taken;
+    all_rows = p.all_rows;
+    all_sites = p.all_sites;
+    least = subst (λ (j : Design). Least j p.sites p.rows k.changes) (one_design p.file.source) p.least;
+  }
+
   moved_mendable : IsMendable v design table → IsMendable w design table
   moved_mendable m = record {
     file = m.file;
@@ -103,6 +131,6 @@ none_told w design table b (inr (inr t)) e = let two = t.1 in absurd (omega (ari
 
 pub counts_agree : CountsAgree
 counts_agree v w design table a b k n same p q zero = (
-  λ other. one_count v w design table k n same (p.least zero) (q.least other),
-  λ other. one_verdict v w design table same (count_mends v design table k (p.least zero)) (none_told w design table b (each_answer w design table b q.answers) other),
+  λ other. one_counts w design table k n (moved_counts v w design table same k (p.are zero)) (q.are other),
+  λ other. one_verdict v w design table same (counts_mend v design table k (p.are zero)) (none_told w design table b (each_answer w design table b q.answers) other),
 )

@@ -6,7 +6,7 @@ use Rattle.rr_kept.specs.Read.{SourceFile}
 use Rattle.rr_run.specs.Refusals.{Refusal as RunRefusal}
 use Rattle.rr_run.specs.Runs.{IsSameRefusal}
 use Rattle.rr_endings.specs.Found.{Answer}
-use Rattle.rr_repair.specs.Repairs.{AnswersRepair, CountsRepair, IsLeastCount, IsTaken, Refuses, PlainRequest}
+use Rattle.rr_repair.specs.Repairs.{AnswersRepair, Counts, CountsRepair, IsLeastCount, IsTaken, Refuses, PlainRequest}
 use Rattle.rr_outcomes.specs.Outcomes.{IsAmple, IsAsItWas, IsDespaired, IsLeftOpen, IsMatching, IsMatchingSource, IsMendable, IsMended, IsUnmendable}
 
 -- two ways to take the files are one
@@ -75,7 +75,7 @@ OneCount = (v w : PlainRequest) (design table : List ℕ) (k n : ℕ) → AreAli
 abbrev pub OneVerdict : Type 0
 OneVerdict = (v w : PlainRequest) (design table : List ℕ) → AreAlike v w → IsMendable v design table → IsUnmendable w design table → ⊥
 
--- so answers of status 0 have one number of changes, and none has status 1 beside them
+-- so answers of status 0 have the same counts, of changes too, and none has status 1 beside them
 abbrev pub CountsAgree : Type 0
-CountsAgree = (v w : PlainRequest) (design table : List ℕ) (a b : Answer) (k n : ℕ) → AreAlike v w → CountsRepair v design table a k → CountsRepair w design table b n → a.status ≡ 0 →
+CountsAgree = (v w : PlainRequest) (design table : List ℕ) (a b : Answer) (k n : Counts) → AreAlike v w → CountsRepair v design table a k → CountsRepair w design table b n → a.status ≡ 0 →
     (b.status ≡ 0 → k ≡ n) × (b.status ≡ 1 → ⊥)

@@ -25,7 +25,7 @@ pub fn repair_answers()
 
 /// The least number of changes depends on nothing but the files, the kind of the table, the top and the
 /// clock: not on the budget, the members or the name of the certificate. So two answers with status 0 have
-/// one number of changes, and none has status 1 where another has status 0.
+/// the same counts of rows, sites and changes, and none has status 1 where another has status 0.
 pub fn repair_counts()
     ensures count { OneCount }
     ensures verdict { OneVerdict }

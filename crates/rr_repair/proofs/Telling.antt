@@ -61,7 +61,7 @@ use Rattle.rr_members.specs.Searched.{IsSpent}
 use Rattle.rr_unroll.specs.Faithful.{Faithful}
 use Rattle.rr_repair_output.specs.Certified.{certificate}
 use Rattle.rr_repair_output.specs.Texts.{beyond_text, found_text, open_text}
-use Rattle.rr_repair.specs.Repairs.{PlainRequest, AnswersRepair, CountsRepair, IsAnswer, IsCounted, IsFound, IsNothingFound, IsOpen, IsSited, Refuses, RefusesRepair, design_of, work_of}
+use Rattle.rr_repair.specs.Repairs.{PlainRequest, AnswersRepair, Counts, CountsRepair, IsAnswer, IsCounted, IsFound, IsNothingFound, IsOpen, IsSited, Refuses, RefusesRepair, design_of, work_of}
 use Rattle.rr_repair.specs.Views.{answer_status, changes_of}
 
 pub choice_length : (ss : List Site) (ps : List Pick) → IsChoice ss ps → length ps ≡ length ss
@@ -152,12 +152,22 @@ module _ (w : PlainRequest) (design : List ℕ) (file : SourceFile) (t : Task) (
 
 -- the number of changes
 module _ (w : PlainRequest) (design : List ℕ) (file : SourceFile) (t : Task) (told : Answer) where
-  pub counted_told : (answer : SearchAnswer) → search.AnswerIs t (design_of w file.source) answer → IsAnswer w design file t.sites t.table told → told.status ≡ answer_status answer
-      → IsCounted w design file t.sites t.table told (changes_of answer)
-  counted_told found.Unchanged r is e = record { is = is; least = λ zero. r.least }
-  counted_told (found.Repair choice k circuit journal) r is e = record { is = is; least = λ zero. r.least }
-  counted_told (found.NoRepair circuit journal) r is e = record { is = is; least = λ zero. absurd (omega (arith, e, zero)) }
-  counted_told (found.Spent bound circuit journal choice) r is e = record { is = is; least = λ zero. absurd (omega (arith, e, zero)) }
+  least_told : (answer : SearchAnswer) → search.AnswerIs t (design_of w file.source) answer → told.status ≡ answer_status answer
+      → told.status ≡ 0 → Least (design_of w file.source) t.sites t.table (changes_of answer)
+  least_told found.Unchanged r e zero = r.least
+  least_told (found.Repair choice k circuit journal) r e zero = r.least
+  least_told (found.NoRepair circuit journal) r e zero = absurd (omega (arith, e, zero))
+  least_told (found.Spent bound circuit journal choice) r e zero = absurd (omega (arith, e, zero))
+
+  -- .. beside those of the rows and of the sites
+  pub counted_told : (answer : SearchAnswer) (counts : Counts) → search.AnswerIs t (design_of w file.source) answer → IsAnswer w design file t.sites t.table told → told.status ≡ answer_status answer
+      → counts.rows ≡ length t.table.inputs → counts.sites ≡ length t.sites → counts.changes ≡ changes_of answer → IsCounted w design file t.sites t.table told counts
+  counted_told answer counts r is e rows sites changes = record {
+    is = is;
+    all_rows = rows;
+    all_sites = sites;
+    least = λ zero. subst (λ (n : ℕ). Least (design_of w file.source) t.sites t.table n) (sym changes) (least_told answer r e zero);
+  }
 
 pub plain_count : (sites : List ArenaSite) (ss : List Site) → plain_sites sites ≡ ss → length ss ≡ length sites
 plain_count sites ss e = sym (ap (λ (x : List Site). length x) e) ∙ length-map sites plain_site
@@ -210,14 +220,16 @@ module _ (w : PlainRequest) (design table : List ℕ) (file : SourceFile) (flat 
       is = is;
     }
 
-    pub counted : (answer : Answer) (changes : ℕ) → work ≤ 262144 → IsCounted w design file sites rows answer changes → CountsRepair w design table answer changes
-    counted answer changes l c = record {
+    pub counted : (answer : Answer) (counts : Counts) → work ≤ 262144 → IsCounted w design file sites rows answer counts → CountsRepair w design table answer counts
+    counted answer counts l c = record {
       answers = answered answer l c.is;
-      least = λ zero. record {
+      are = λ zero. record {
         file = file;
         sites = sites;
         rows = rows;
         taken = record { flat = flat; clock = clock; rising = rising; sited = sited; read = read; small = subst (λ (n : ℕ). n ≤ 262144) e l };
+        all_rows = c.all_rows;
+        all_sites = c.all_sites;
         least = c.least zero;
       };
     }

@@ -177,11 +177,20 @@ pub record AnswersRepair (w : PlainRequest) (design table : List ℕ) (answer : 
   pub taken : IsTaken w design table file sites rows
   pub is : IsAnswer w design file sites rows answer
 
--- ---- the number of changes
--- an answer, and the least number of changes that match, where it has status 0
-pub record IsCounted (w : PlainRequest) (design : List ℕ) (file : SourceFile) (sites : List Site) (rows : Table) (answer : Answer) (changes : ℕ) : Type 0 where
+-- ---- counts
+-- how many rows a table has, how many sites of a design can be changed in its file, and the least number of changes with which
+-- the design matches
+pub record Counts : Type 0 where
+  pub rows : ℕ
+  pub sites : ℕ
+  pub changes : ℕ
+
+-- an answer, and these counts, the last where it has status 0
+pub record IsCounted (w : PlainRequest) (design : List ℕ) (file : SourceFile) (sites : List Site) (rows : Table) (answer : Answer) (counts : Counts) : Type 0 where
   pub is : IsAnswer w design file sites rows answer
-  pub least : answer.status ≡ 0 → Least (design_of w file.source) sites rows changes
+  pub all_rows : counts.rows ≡ length rows.inputs
+  pub all_sites : counts.sites ≡ length sites
+  pub least : answer.status ≡ 0 → Least (design_of w file.source) sites rows counts.changes
 
 -- both files are taken, and this is the least number of changes with which the design matches
 pub record IsLeastCount (w : PlainRequest) (design table : List ℕ) (changes : ℕ) : Type 0 where
@@ -191,10 +200,20 @@ pub record IsLeastCount (w : PlainRequest) (design table : List ℕ) (changes : 
   pub taken : IsTaken w design table file sites rows
   pub least : Least (design_of w file.source) sites rows changes
 
--- the answer for two files, and the least number of changes, where it has status 0
-pub record CountsRepair (w : PlainRequest) (design table : List ℕ) (answer : Answer) (changes : ℕ) : Type 0 where
+-- both files are taken, and these are their counts
+pub record AreCounts (w : PlainRequest) (design table : List ℕ) (counts : Counts) : Type 0 where
+  pub file : SourceFile
+  pub sites : List Site
+  pub rows : Table
+  pub taken : IsTaken w design table file sites rows
+  pub all_rows : counts.rows ≡ length rows.inputs
+  pub all_sites : counts.sites ≡ length sites
+  pub least : Least (design_of w file.source) sites rows counts.changes
+
+-- the answer for two files, and their counts, where it has status 0
+pub record CountsRepair (w : PlainRequest) (design table : List ℕ) (answer : Answer) (counts : Counts) : Type 0 where
   pub answers : AnswersRepair w design table answer
-  pub least : answer.status ≡ 0 → IsLeastCount w design table changes
+  pub are : answer.status ≡ 0 → AreCounts w design table counts
 
 -- ---- refusals
 

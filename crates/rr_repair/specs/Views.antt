@@ -2,8 +2,9 @@
 use Rattle.std.specs.Prelude.{ℕ, option_map}
 use Rattle.rr_search.specs.declared.answer.Answer.{Answer}
 use Rattle.rr_search.specs.declared.answer.Answer.TheVariants.{Unchanged, Repair, NoRepair, Spent}
+use Rattle.rr_repair.specs.declared.counted.Counted.{Counted}
 use Rattle.rr_repair.specs.declared.request.Request.{Request}
-use Rattle.rr_repair.specs.Repairs.{PlainRequest}
+use Rattle.rr_repair.specs.Repairs.{Counts, PlainRequest}
 
 abbrev pub plain_request : Request → PlainRequest
 plain_request a = record {
@@ -28,3 +29,6 @@ changes_of Unchanged = 0
 changes_of (Repair choice k circuit journal) = k
 changes_of (NoRepair circuit journal) = 0
 changes_of (Spent bound circuit journal found) = 0
+
+abbrev pub plain_counts : Counted → Counts
+plain_counts c = record { rows = c.rows; sites = c.sites; changes = c.changes }

@@ -18,9 +18,9 @@ ghost use Rattle.rr_run.specs.Runs.{InOrder};
 ghost use Rattle.rr_trace.specs.View.{plain_table};
 ghost use Rattle.rr_endings.specs.Views.{plain_answer, StopsWhere};
 ghost use Rattle.rr_repair.specs.Repairs.{AnswersRepair, CountsRepair, IsAnswer, IsCounted, IsOpen, IsSited, RefusesRepair, design_of};
-ghost use Rattle.rr_repair.specs.Views.{answer_status, plain_request};
+ghost use Rattle.rr_repair.specs.Views.{answer_status, plain_counts, plain_request};
 
-use crate::counted::{Counted, changes_of};
+use crate::counted::{Counted, with_counts};
 use crate::request::Request;
 use crate::working::{count_row, work_of};
 use bumpalo::Bump;
@@ -187,7 +187,7 @@ fn searched<'b, R: Threads + Sync>(
     requires budget { 1 ≤ request.now.budget }
     requires fits { FitsArguments (design_of (plain_request request.now) (plain_source file.now.design.source.now)) (plain_flat file.now.design.flat) file.now.design.order.clock file.now.design.order.rising file.now.design.order.steps.items list.now }
     requires read { (table : List ℕ) × (ReadsTable request.now.kind (plain_flat file.now.design.flat) file.now.design.order.clock file.now.design.order.rising table (plain_table rows.now)) }
-    ensures { IfOk result (λ c. IsCounted (plain_request request.now) bytes.entry.now (source_file file.now) list.now (plain_table rows.now) (plain_answer c.found) c.changes) }
+    ensures { IfOk result (λ c. IsCounted (plain_request request.now) bytes.entry.now (source_file file.now) list.now (plain_table rows.now) (plain_answer c.found) (plain_counts c)) }
 {
     let cycle = cycle_of(alloc, &file.design, list)?;
     let job = Job {
@@ -202,10 +202,7 @@ fn searched<'b, R: Threads + Sync>(
     let answer = least(rt, alloc, &job, proposed.as_slice())?;
     let tested = proposed.len().min(u32::MAX as usize) as u32;
     let found = told(alloc, bytes, file, &job, request, tested, &answer)?;
-    Ok(Counted {
-        found,
-        changes: changes_of(&answer),
-    })
+    Ok(with_counts(found, job.table, job.list, &answer))
 }
 
 /// The answer for the lawful design of a file, its kept sites and the rows of its table, or that the work is
@@ -228,7 +225,7 @@ fn judge_rows<'b, 'a, R: Threads + Sync>(
     requires read { (table : List ℕ) × (ReadsTable request.now.kind (plain_flat file.now.design.flat) file.now.design.order.clock file.now.design.order.rising table (plain_table rows.now)) }
     ensures { (table : List ℕ) → IsSited (plain_request request.now) bytes.entry.now (source_file file.now) (plain_flat file.now.design.flat) file.now.design.order.clock file.now.design.order.rising list.now
         → ReadsTable request.now.kind (plain_flat file.now.design.flat) file.now.design.order.clock file.now.design.order.rising table (plain_table rows.now)
-        → MatchResult result (λ c. CountsRepair (plain_request request.now) bytes.entry.now table (plain_answer c.found) c.changes) (StopsWhere (RefusesRepair (plain_request request.now) bytes.entry.now table)) }
+        → MatchResult result (λ c. CountsRepair (plain_request request.now) bytes.entry.now table (plain_answer c.found) (plain_counts c)) (StopsWhere (RefusesRepair (plain_request request.now) bytes.entry.now table)) }
 {
     let work = work_of(&file.design.flat, rows);
     if work > WORK_LIMIT {
@@ -258,7 +255,7 @@ fn judge_table<'b, 'a, R: Threads + Sync>(
     requires budget { 1 ≤ request.now.budget }
     requires fits { FitsArguments (design_of (plain_request request.now) (plain_source file.now.design.source.now)) (plain_flat file.now.design.flat) file.now.design.order.clock file.now.design.order.rising file.now.design.order.steps.items list.now }
     ensures { IsSited (plain_request request.now) bytes.entry.now (source_file file.now) (plain_flat file.now.design.flat) file.now.design.order.clock file.now.design.order.rising list.now
-        → MatchResult result (λ c. CountsRepair (plain_request request.now) bytes.entry.now table.now (plain_answer c.found) c.changes) (StopsWhere (RefusesRepair (plain_request request.now) bytes.entry.now table.now)) }
+        → MatchResult result (λ c. CountsRepair (plain_request request.now) bytes.entry.now table.now (plain_answer c.found) (plain_counts c)) (StopsWhere (RefusesRepair (plain_request request.now) bytes.entry.now table.now)) }
 {
     match read_rows(alloc, &file.design, request.kind, table) {
         Ok(rows) => judge_rows(rt, alloc, bytes, file, list, &rows, request),
@@ -288,7 +285,7 @@ fn judge_sites<'b, 'a, R: Threads + Sync>(
     requires most { request.now.members ≤ 8 }
     requires budget { 1 ≤ request.now.budget }
     ensures { OneClock (plain_flat file.now.design.flat) (plain_request request.now).clock file.now.design.order.clock file.now.design.order.rising
-        → MatchResult result (λ c. CountsRepair (plain_request request.now) bytes.entry.now table.now (plain_answer c.found) c.changes) (StopsWhere (RefusesRepair (plain_request request.now) bytes.entry.now table.now)) }
+        → MatchResult result (λ c. CountsRepair (plain_request request.now) bytes.entry.now table.now (plain_answer c.found) (plain_counts c)) (StopsWhere (RefusesRepair (plain_request request.now) bytes.entry.now table.now)) }
 {
     let list = match file_sites(alloc, file, arena) {
         Ok(list) => list,
@@ -303,7 +300,8 @@ fn judge_sites<'b, 'a, R: Threads + Sync>(
 }
 
 /// The repair of a design of at most 1,048,576 bytes by its table: what is to be printed, reported and
-/// written, and, where the status is 0, the least number of changes. Its directives are expanded, and the
+/// written, the rows of the table and the sites of the design, and, where the status is 0, the least number
+/// of changes. Its directives are expanded, and the
 /// changes are made in the file. Else the first refusal: of the directives (38 to 40 and 16), of the design
 /// (1 to 25), that more than 1,024 of its sites can be changed in the file (16), of the table (33, 26 to 32
 /// and 16, or of a dump 41, 42 and 16), and that the rows times the bits of all signals are more than
@@ -321,7 +319,7 @@ pub fn repair_counted<'b, 'a, R: Threads + Sync>(
     requires most { request.now.members ≤ 8 }
     requires budget { 1 ≤ request.now.budget }
     ensures { MatchResult result
-        (λ c. CountsRepair (plain_request request.now) design.entry.now table.now (plain_answer c.found) c.changes)
+        (λ c. CountsRepair (plain_request request.now) design.entry.now table.now (plain_answer c.found) (plain_counts c))
         (StopsWhere (RefusesRepair (plain_request request.now) design.entry.now table.now)) }
 {
     match file_design(alloc, design, request.top, request.clock, arena) {

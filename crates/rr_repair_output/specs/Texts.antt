@@ -6,7 +6,7 @@ use Rattle.rr_choice.specs.declared.pick.Pick.{Pick}
 use Rattle.rr_choice.specs.Choices.{cost}
 use Rattle.rr_choice.specs.Sites.{Site}
 use Rattle.rr_repair_report.specs.Texts.{site_lines}
-use Rattle.rr_endings.specs.Texts.{line}
+use Rattle.rr_check_certificate.specs.Texts.{line}
 
 -- the design matches as it is
 abbrev pub unchanged_text : List ℕ

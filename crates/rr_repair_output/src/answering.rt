@@ -1,5 +1,5 @@
 //! The answers, from what the search found.
-ghost use Rattle.std.specs.Prelude.{◌≡◌, ◌<◌, ◌^◌, [], IfOk, OnOk, length, string_bytes};
+ghost use Rattle.std.specs.Prelude.{◌≡◌, ◌<◌, ◌^◌, [], IfOk, OnOk, length};
 ghost use Rattle.rr_check_certificate.specs.Certificates.{IsJudged};
 ghost use Rattle.rr_check.specs.declared.verdict.Verdict.TheVariants.{Accepted};
 ghost use Rattle.rr_circuit.specs.Aag.{aag};

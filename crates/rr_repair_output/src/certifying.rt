@@ -1,5 +1,5 @@
 //! The files of a certificate.
-ghost use Rattle.std.specs.Prelude.{◌≡◌, ◌++◌, IfOk, OnOk, map, string_bytes};
+ghost use Rattle.std.specs.Prelude.{◌≡◌, ◌++◌, IfOk, OnOk, map};
 ghost use Rattle.rr_check_certificate.specs.Certificates.{IsJudged};
 ghost use Rattle.rr_check.specs.declared.verdict.Verdict.TheVariants.{Accepted};
 ghost use Rattle.rr_circuit.specs.Aag.{aag};

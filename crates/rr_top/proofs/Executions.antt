@@ -346,8 +346,8 @@ module _ (r : Execution) (answer : Answer) (shelf : HoldsFiles r answer) (out : 
   made_told s c (inl told) zero =
       let m = told.0 in
       record {
-        changes = m.changes;
-        least = m.least;
+        counts = m.counts;
+        are = m.are;
         answer = m.repair;
         repair = m.mended;
         printed = rw m.printed at out;

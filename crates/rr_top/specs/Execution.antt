@@ -27,10 +27,10 @@ use Rattle.rr_effects.specs.Outside.{Outside, KeepsShelf, KeepsOut}
 use Rattle.rr_effects.specs.Reads.{AbsentAt, FaultAt, Gave}
 use Rattle.rr_effects.specs.Delivery.{Reports, StopsAtWrite, file_at, with_files}
 use Rattle.rr_repair_output.specs.Texts.{unchanged_text}
-use Rattle.rr_repair.specs.Repairs.{PlainRequest}
+use Rattle.rr_repair.specs.Repairs.{Counts, PlainRequest}
 use Rattle.rr_outcomes.specs.Outcomes.{IsAmple, IsDespaired, IsLeftOpen, IsMatching, IsMatchingSource, IsMended}
 use Rattle.rr_made_input.specs.Made.{made_design, made_table}
-use Rattle.rr_make.specs.Makes.{IsMadeCount, IsMadeOpen, IsUnmade, made_request, summary}
+use Rattle.rr_make.specs.Makes.{AreMadeCounts, IsMadeOpen, IsUnmade, made_request, summary}
 use Rattle.rr_top.specs.Outcomes.{Outcome, mended, unmendable, ran, listed, checked, made, linted}
 use Rattle.rr_top.specs.Commands.{AsksRepair, BothGiven, Command, Due, IsOfRepair, Refuses, WhereRepair, WhereRun, WhereSites, WhereCheck, WhereMake, WhereLint, command_of_plan, request}
 use Rattle.rr_top.specs.Expected.{Expected, absent, refused, unparsed, done, IsChecked, expected_status}
@@ -164,14 +164,14 @@ pub record IsLinted (r : Execution) (design_name : List ℕ) (top : Option (List
   pub reported : Appends r.notes_before r.notes_after []
   pub shelf : KeepsShelf r.before r.after
 
--- Status 0 of `make`: the output has grown by exactly the summary of the seed, which tells the least number of changes with
--- which its design matches its table, and the shelf holds the files of such a repair.
+-- Status 0 of `make`: the output has grown by exactly the summary of the seed, which tells how many rows and sites it has and the
+-- least number of changes with which its design matches its table, and the shelf holds the files of such a repair.
 pub record IsSummed (r : Execution) (seed : ℕ) (cert : List ℕ) : Type 0 where
-  pub changes : ℕ
-  pub least : IsMadeCount seed cert changes
+  pub counts : Counts
+  pub are : AreMadeCounts seed cert counts
   pub answer : Answer
   pub repair : IsMended (made_request cert) (made_design seed) (made_table seed) answer
-  pub printed : Appends r.before.out r.after.out (summary seed changes)
+  pub printed : Appends r.before.out r.after.out (summary seed counts)
   pub reported : Appends r.notes_before r.notes_after []
   pub shelf : HoldsFiles r answer
 

@@ -7,7 +7,7 @@ use Rattle.rr_sites_command.specs.View.{source_file}
 use Rattle.rr_flat.specs.View.{plain_flat}
 use Rattle.rr_endings.specs.Views.{plain_answer}
 use Rattle.rr_repair.specs.Repairs.{design_of}
-use Rattle.rr_repair.specs.Views.{plain_request}
+use Rattle.rr_repair.specs.Views.{plain_counts, plain_request}
 use Rattle.rr_search.proofs.Tasks.{task_stands}
 use Rattle.rr_repair.proofs.Telling.{counted_told, task_of_design}
 use Rattle.rr_repair.proofs.judging.searched.Goals as goal
@@ -31,8 +31,8 @@ returns g c =
     let j = design_of w source in
     let is = c.in_ok-answer.ensures.answer j
     (task_of_design c.args.request.now.kind _ j (c.in_ok-cycle.ensures j c.requires.fits) (plain_flat c.args.file.now.design.flat) c.requires.fits.design c.args.file.now.design.order.clock c.args.file.now.design.order.rising c.requires.read.0 c.requires.read.1) in
-    rw c.changes_of.ensures
-    (counted_told w c.args.bytes.now (source_file c.args.file.now) _ (plain_answer c.in_ok-found.found) c.in_ok-answer.answer is c.in_ok-found.ensures.answer c.in_ok-found.ensures.status)
+    rw c.with_counts.ensures.found
+    (counted_told w c.args.bytes.now (source_file c.args.file.now) _ (plain_answer c.in_ok-found.found) c.in_ok-answer.answer (plain_counts c.with_counts.result) is c.in_ok-found.ensures.answer c.in_ok-found.ensures.status c.with_counts.ensures.rows c.with_counts.ensures.sites c.with_counts.ensures.changes)
 
 pub proposals-requires-clause-bits : goal.proposals-requires-clause-bits
 proposals-requires-clause-bits g c κs within =
