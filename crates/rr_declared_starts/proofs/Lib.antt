@@ -1,0 +1,4 @@
+pub mod Constants
+pub mod Stepping
+pub mod Heads
+pub mod Flats
