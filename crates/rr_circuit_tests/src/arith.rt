@@ -10,7 +10,7 @@ use rr_circuit::{Builder, Circuit, Wire};
 use std::alloc::{AllocError, Global};
 use std::test::Fail;
 
-#[derive(Clone, Copy, PartialEq, Eq, Debug)]
+#[derive(Clone, Copy)]
 enum Operator {
     Add,
     Sub,
@@ -115,6 +115,24 @@ fn computed(
     }
 }
 
+// The outputs of an operator over two words of inputs.
+fn outputs(
+    alloc: Global,
+    operator: Operator,
+    b: &mut Builder,
+    width: u32,
+) -> Result<Vec<Wire>, AllocError>
+    requires inputs { b.old.inputs ≡ 2 * width }
+    requires low { 1 ≤ width }
+    requires high { width ≤ 128 }
+    ensures inputs { b.new.inputs ≡ 2 * width }
+    ensures wires { IfOk result (λ r. AreWires b.new r.items) }
+{
+    let x = inputs(alloc, b, 0, width)?;
+    let y = inputs(alloc, b, width, width)?;
+    computed(alloc, operator, b, x.as_slice(), y.as_slice())
+}
+
 // The circuit of an operator over two words of inputs.
 fn circuit_of(alloc: Global, operator: Operator, width: u32) -> Result<Circuit, AllocError>
     requires low { 1 ≤ width }
@@ -122,9 +140,7 @@ fn circuit_of(alloc: Global, operator: Operator, width: u32) -> Result<Circuit, 
     ensures { IfOk result (λ c. c.netlist.inputs ≡ 2 * width) }
 {
     let mut b = Builder::new(alloc, 2 * width)?;
-    let x = inputs(alloc, &b, 0, width)?;
-    let y = inputs(alloc, &b, width, width)?;
-    let outputs = computed(alloc, operator, &mut b, x.as_slice(), y.as_slice())?;
+    let outputs = outputs(alloc, operator, &mut b, width)?;
     Ok(b.finish(outputs))
 }
 
@@ -180,6 +196,25 @@ fn pair(width: u32, x: u128, y: u128) -> (Bits, Bits)
     (Bits::from_u128(width, x), Bits::from_u128(width, y))
 }
 
+// The bits of two numbers.
+fn bits_of(alloc: Global, width: u32, numbers: (u128, u128)) -> Result<Vec<bool>, AllocError>
+    requires { width ≤ 128 }
+    ensures { IfOk result (λ r. length r.items ≡ 2 * width) }
+{
+    let mut bits = Vec::new(alloc);
+    push_bits(&mut bits, width, numbers.0)?;
+    push_bits(&mut bits, width, numbers.1)?;
+    Ok(bits)
+}
+
+// The number that the circuit gives for these bits.
+fn number_given(alloc: Global, circuit: &Circuit, bits: &[bool]) -> Result<u128, AllocError>
+    requires { length bits.now ≡ circuit.now.netlist.inputs }
+{
+    let values = circuit.eval(alloc, bits)?;
+    Ok(number_of(values.as_slice()))
+}
+
 // Whether the circuit of the operator gives the word's value for these two numbers.
 fn agrees(
     alloc: Global,
@@ -192,41 +227,78 @@ fn agrees(
     requires high { width ≤ 128 }
     requires count { circuit.now.netlist.inputs ≡ 2 * width }
 {
-    let mut bits = Vec::new(alloc);
-    push_bits(&mut bits, width, numbers.0)?;
-    push_bits(&mut bits, width, numbers.1)?;
-    let values = circuit.eval(alloc, bits.as_slice())?;
+    let bits = bits_of(alloc, width, numbers)?;
+    let given = number_given(alloc, circuit, bits.as_slice())?;
     let (x, y) = pair(width, numbers.0, numbers.1);
-    Ok(number_of(values.as_slice()) == expected(operator, x, y))
+    Ok(given == expected(operator, x, y))
+}
+
+// Whether it does so for all pairs of numbers below 16.
+fn agrees_on_small(
+    alloc: Global,
+    operator: Operator,
+    circuit: &Circuit,
+    width: u32,
+) -> Result<bool, AllocError>
+    requires low { 1 ≤ width }
+    requires high { width ≤ 128 }
+    requires count { circuit.now.netlist.inputs ≡ 2 * width }
+{
+    for x in 0..16u32 {
+        for y in 0..16u32 {
+            let numbers = (u128::from(x), u128::from(y));
+            if !agrees(alloc, operator, circuit, width, numbers)? {
+                return Ok(false);
+            }
+        }
+    }
+    Ok(true)
+}
+
+fn is_right_on_small(alloc: Global, operator: Operator, width: u32) -> Result<bool, AllocError>
+    requires low { 1 ≤ width }
+    requires high { width ≤ 128 }
+{
+    let circuit = circuit_of(alloc, operator, width)?;
+    agrees_on_small(alloc, operator, &circuit, width)
 }
 
 #[test]
 fn operators_at_small_widths_are_those_of_words(rt: HostRuntime) -> Result<(), Fail> {
-    let alloc = rt.alloc();
-    for operator in OPERATORS {
-        let bit = circuit_of(alloc, operator, 1)?;
-        let word = circuit_of(alloc, operator, 4)?;
-        for x in 0..16u32 {
-            for y in 0..16u32 {
-                let numbers = (u128::from(x), u128::from(y));
-                assert!(rt; agrees(alloc, operator, &bit, 1, numbers)?);
-                assert!(rt; agrees(alloc, operator, &word, 4, numbers)?);
-            }
-        }
+    for operator in OPERATORS.iter() {
+        assert!(rt; is_right_on_small(rt.alloc(), *operator, 1)?);
+        assert!(rt; is_right_on_small(rt.alloc(), *operator, 4)?);
     }
     Ok(())
 }
 
-#[test]
-fn operators_at_width_128_are_those_of_words(rt: HostRuntime) -> Result<(), Fail> {
-    let alloc = rt.alloc();
-    for operator in OPERATORS {
-        let word = circuit_of(alloc, operator, 128)?;
-        for x in EXTREMES {
-            for y in EXTREMES {
-                assert!(rt; agrees(alloc, operator, &word, 128, (x, y))?);
+// Whether it does so for all pairs of the extremes.
+fn agrees_on_extremes(
+    alloc: Global,
+    operator: Operator,
+    circuit: &Circuit,
+) -> Result<bool, AllocError>
+    requires { circuit.now.netlist.inputs ≡ 256 }
+{
+    for x in EXTREMES.iter() {
+        for y in EXTREMES.iter() {
+            if !agrees(alloc, operator, circuit, 128, (*x, *y))? {
+                return Ok(false);
             }
         }
+    }
+    Ok(true)
+}
+
+fn is_right_on_extremes(alloc: Global, operator: Operator) -> Result<bool, AllocError> {
+    let circuit = circuit_of(alloc, operator, 128)?;
+    agrees_on_extremes(alloc, operator, &circuit)
+}
+
+#[test]
+fn operators_at_width_128_are_those_of_words(rt: HostRuntime) -> Result<(), Fail> {
+    for operator in OPERATORS.iter() {
+        assert!(rt; is_right_on_extremes(rt.alloc(), *operator)?);
     }
     Ok(())
 }

@@ -1,8 +1,9 @@
 //! Formulas of small circuits, as the definition writes them by hand.
+use crate::circuit::PAIRS;
 use rr_circuit::{Circuit, read_aag};
 use rr_cnf::{Formula, write_dimacs};
 use rr_tseitin::formula_of;
-use std::alloc::Global;
+use std::alloc::{AllocError, Global};
 use std::test::Fail;
 
 /// Circuits with their formulas: a conjunction; signs, and an output twice; the constants as outputs;
@@ -21,11 +22,17 @@ const TEXTS: [(&[u8], &[u8]); 5] = [
     (b"aag 1 1 0 0 0\n2\n", b"p cnf 1 0\n"),
 ];
 
+/// Whether a circuit has the formula that a text gives.
+fn is_formula_of(alloc: Global, circuit: &Circuit, formula: &[u8]) -> Result<bool, AllocError> {
+    let made = formula_of(alloc, circuit)?;
+    let text = write_dimacs(alloc, &made)?;
+    Ok(text.as_slice() == formula)
+}
+
 /// Whether the circuit that a text gives has the formula that another text gives.
 fn has_formula(alloc: Global, circuit: &[u8], formula: &[u8]) -> Result<bool, Fail> {
     let circuit = read_aag(alloc, circuit)?;
-    let made = formula_of(alloc, &circuit)?;
-    Ok(write_dimacs(alloc, &made)?.as_slice() == formula)
+    Ok(is_formula_of(alloc, &circuit, formula)?)
 }
 
 #[test]
@@ -65,14 +72,39 @@ fn is_satisfied(formula: &Formula, values: &[bool]) -> bool {
     })
 }
 
+/// Whether the formula of an exclusive or is satisfied exactly where the inputs differ.
+fn agrees(
+    alloc: Global,
+    circuit: &Circuit,
+    formula: &Formula,
+    a: bool,
+    b: bool,
+) -> Result<bool, Fail> {
+    let values = values_of(alloc, circuit, &[a, b])?;
+    Ok(is_satisfied(formula, &values) == (a != b))
+}
+
+fn agrees_on_all(alloc: Global, circuit: &Circuit, formula: &Formula) -> Result<bool, Fail> {
+    for (a, b) in PAIRS.iter() {
+        if !agrees(alloc, circuit, formula, *a, *b)? {
+            return Ok(false);
+        }
+    }
+    Ok(true)
+}
+
+fn agrees_with(alloc: Global, circuit: &Circuit) -> Result<bool, Fail> {
+    let formula = formula_of(alloc, circuit)?;
+    agrees_on_all(alloc, circuit, &formula)
+}
+
 #[test]
 fn agrees_with_a_circuit(rt: HostRuntime) -> Result<(), Fail> {
-    let alloc = rt.alloc();
-    let circuit = read_aag(alloc, b"aag 5 2 0 1 3\n2\n4\n10\n6 4 2\n8 5 3\n10 9 7\n")?;
-    let formula = formula_of(alloc, &circuit)?;
-    for (a, b) in [(false, false), (false, true), (true, false), (true, true)] {
-        let values = values_of(alloc, &circuit, &[a, b])?;
-        assert!(rt; is_satisfied(&formula, &values) == (a != b), "{a} {b}");
-    }
+    let circuit = read_aag(
+        rt.alloc(),
+        b"aag 5 2 0 1 3\n2\n4\n10\n6 4 2\n8 5 3\n10 9 7\n",
+    )?;
+    let agrees = agrees_with(rt.alloc(), &circuit)?;
+    assert!(rt; agrees);
     Ok(())
 }
