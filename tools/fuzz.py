@@ -4,8 +4,8 @@
 usage: tools/fuzz.py [PROGRAM] [COUNT] [SEED]
 
 PROGRAM is crates/rtl_repair/out/rtl_repair where it is not given, COUNT 1,000 inputs, SEED 1. An input is a design and a table, or a circuit
-and a proof: those of examples/ and of their repairs with bytes or tokens changed, left out, doubled or exchanged, or a random design of the profile
-with a table of its own run in which some cells are changed. Looked for are: an end by a signal, more than LONGEST seconds of processor time, a status
+and a proof: those of examples/ and of their repairs with bytes or tokens changed, left out, doubled or exchanged, or a random design of the profile,
+with starting values and macros or without, with a table of its own run in which some cells are changed. Looked for are: an end by a signal, more than LONGEST seconds of processor time, a status
 outside of 0 to 6, a text on standard error that is none of the documented forms, something on standard output where the status
 is 3, 5 or 6, or 2 and nothing was found, a repair of status 0 or 2 whose source `run` does not confirm on the table, a certificate of status 0 or 1 that `check` and tools/verdicts.py do not
 accept or of status 2 that they refuse, a verdict of `check` that is another than that of tools/verdicts.py, and one of `accepted` on a circuit whose outputs some input makes true.
@@ -17,6 +17,7 @@ top = os.path.dirname(os.path.dirname(os.path.abspath(__file__)))
 sys.path.insert(0, f"{top}/tools")
 from cells import misses  # noqa: E402
 from endings import fault_of  # noqa: E402
+from expressions import INFIXES, SHIFTS, cast, concatenation, conditional, infix, one_of, prefix, replication  # noqa: E402
 from verdicts import is_refuted, read_circuit, verdict  # noqa: E402
 from program import built
 
@@ -90,22 +91,11 @@ def expression(depth, names=("a", "b", "q", "r")):
     if depth == 0 or draw.random() < 0.25:
         return draw.choice((*names, *names, f"4'd{draw.randrange(16)}", f"{draw.randrange(20)}", f"4'sb{draw.randrange(16):b}", "a[1]", "b[2:1]", "a[b +: 2]", "a[3 -: 2]", "b[a]", "K"))
     inner = lambda: expression(depth - 1, names)
-    form = draw.randrange(9)
-    if form <= 1:
-        return f"({inner()} {draw.choice('+ - * & | ^ ~^ == != === < <= > >= << >> <<< >>> && ||'.split())} {inner()})"
-    if form == 2:
-        return f"{draw.choice('~ - + ! & | ^ ~& ~| ~^'.split())}({inner()})"
-    if form == 3:
-        return f"({inner()} ? {inner()} : {inner()})"
-    if form == 4:
-        return "{" + f"{draw.choice((*names, '2' + chr(39) + 'd1'))}, {draw.choice((*names, 'a[0]'))}" + "}"
-    if form == 5:
-        return f"{{{draw.randrange(1, 4)}{{{draw.choice(names)}}}}}"
-    if form == 6:
-        return f"${draw.choice(('signed', 'unsigned'))}({inner()})"
-    if form == 7:
-        return f"({inner()} {draw.choice('+ -'.split())} (K {draw.choice('/ % **'.split())} 2))"
-    return inner()
+    part = lambda: draw.choice((*names, "2'd1", "a[0]"))
+    plain = lambda: infix(draw, inner, [*INFIXES, *SHIFTS, "==="])
+    divided = lambda: f"({inner()} {draw.choice('+-')} (K {draw.choice('/ % **'.split())} 2))"
+    forms = (lambda form=form: form(draw, inner) for form in (prefix, conditional, cast))
+    return one_of(draw, plain, plain, divided, inner, *forms, lambda: concatenation(draw, part), lambda: replication(draw, part))
 
 
 def statement(depth, target="<="):
@@ -125,14 +115,50 @@ def statement(depth, target="<="):
     return f"{word} ({expression(1)}) {labels[0]}: {inner()} {labels[1]}, 4'd{draw.randrange(16)}: {inner()} default: {inner()} endcase"
 
 
+def constant():
+    """A constant of any width and sign, narrower or wider than what it is assigned to."""
+    return draw.choice((f"4'd{draw.randrange(16)}", f"{draw.randrange(40)}", f"-{draw.randrange(1, 9)}", f"3'sb{draw.randrange(8):b}", f"4'd{draw.randrange(16)} + 4'd{draw.randrange(16)}", f"8'd{draw.randrange(256)} >> 1"))
+
+
+def start():
+    """The starting value of a declaration, or none."""
+    return draw.choice(("", "", f" = {constant()}"))
+
+
+def initial():
+    """An `initial` item, or none."""
+    assignments = lambda: "".join(f" {draw.choice('qrt')} = {constant()};" for _ in range(draw.randrange(1, 4)))
+    return draw.choice(("", "", f"  initial {draw.choice('qr')} = {constant()};\n", f"  initial begin{assignments()} end\n"))
+
+
+def with_macros(text):
+    """The text with a macro in place of some literals, and with some drivers behind a conditional."""
+    values = set()
+
+    def named(found):
+        if draw.random() < 0.6:
+            return found[0]
+        values.add(found[1])
+        return f"`V{found[1]}"
+
+    text = re.sub(r"4'd(\d+)", named, text)
+    text = re.sub(r"  assign .*\n", lambda found: f"`ifdef SIMULATED\n  absent\n`else\n{found[0]}`endif\n" if draw.random() < 0.3 else found[0], text)
+    return "".join(f"`define V{it} 4'd{it}\n" for it in sorted(values)) + text
+
+
 def random_design():
-    """A design of one clock with a combinational block, a driver, an instance and a clocked block."""
+    """A design of one clock with a combinational block, a driver, an instance and a clocked block, with starting values and macros or without."""
+    text = plain_design()
+    return with_macros(text) if draw.random() < 0.3 else text
+
+
+def plain_design():
     inner = ("module n #(parameter W = 4)(input [W-1:0] i, output [W-1:0] o);\n"
              f"  assign o = i {draw.choice('+ - ^ &'.split())} 4'd{draw.randrange(16)};\nendmodule\n")
     comb = draw.choice((f"  always @* t = {expression(2)};\n", f"  always @* begin t = 4'd{draw.randrange(16)}; if ({expression(1)}) t = {expression(1)}; end\n",
                         f"  always @(a or b or q) case ({draw.choice('abq')}) 4'd1: t = {expression(1)}; default: t = {expression(1)}; endcase\n"))
     clocked = draw.choice(("posedge clk", "posedge clk or negedge rst", "negedge clk"))
-    return (inner + "module m(input clk, input rst, input [3:0] a, input signed [3:0] b, output reg [3:0] q, output [3:0] y, output [3:0] z);\n  localparam K = 5;\n  reg [3:0] r;\n  reg [3:0] t;\n"
+    return (inner + f"module m(input clk, input rst, input [3:0] a, input signed [3:0] b, output reg [3:0] q{start()}, output [3:0] y, output [3:0] z);\n  localparam K = 5;\n  reg [3:0] r{start()};\n  reg [3:0] t{start()};\n{initial()}"
             f"  wire [3:0] w;\n  n {draw.choice(('', '#(.W(4)) ', '#(3) '))}u0(.i({draw.choice(('a', 'q', 'r', '{a[1:0], q[1:0]}'))}), .o(w));\n"
             f"  assign y = {expression(3, ('a', 'b', 'q', 'r', 'w', 't'))};\n  assign z = {expression(2, ('t', 'w', 'q'))};\n" + comb
             + f"  always @({clocked})\n    if ({draw.choice(('rst', '!rst'))}) begin q <= 4'd{draw.randrange(16)}; r <= 4'd{draw.randrange(16)}; end\n    else {statement(3)}\nendmodule\n")

@@ -15,6 +15,7 @@ byte for byte. Each finding is printed and kept in a folder; the last line count
 """
 import argparse, os, random, re, shutil, subprocess, sys, tempfile
 
+from expressions import INFIXES, SHIFTS, cast, concatenation, conditional, infix, one_of, prefix, replication
 from program import built
 
 top = os.path.dirname(os.path.dirname(os.path.abspath(__file__)))
@@ -42,22 +43,12 @@ def expression(depth, names, is_constant):
     if depth == 0 or draw.random() < 0.2:
         return draw.choice((literal(), literal(), *names, *names))
     inner = lambda: expression(depth - 1, names, is_constant)
-    form = draw.randrange(9 if is_constant else 8)
-    if form <= 1:
-        return f"({inner()} {draw.choice('+ + - - * & | ^ ~^ == != < <= > >= && ||'.split())} {inner()})"
-    if form == 2:
-        return f"({inner()} {draw.choice('<< >> <<< >>>'.split())} {draw.randrange(5)})"
-    if form == 3:
-        return f"{draw.choice('~ - + ! & | ^ ~& ~| ~^'.split())}({inner()})"
-    if form == 4:
-        return f"({inner()} ? {inner()} : {inner()})"
-    if form == 5:
-        return "{" + ", ".join(sized(names) for _ in range(draw.randrange(1, 4))) + "}"
-    if form == 6:
-        return f"{{{draw.randrange(1, 4)}{{{sized(names)}}}}}"
-    if form == 7:
-        return f"${draw.choice(('signed', 'unsigned'))}({inner()})"
-    return draw.choice((f"({inner()} / 4'd{draw.randrange(1, 16)})", f"({inner()} % {draw.randrange(1, 9)})", f"({inner()} ** {draw.randrange(4)})"))
+    part = lambda: sized(names)
+    plain = lambda: infix(draw, inner, [*INFIXES, "+", "-"])
+    shifted = lambda: f"({inner()} {draw.choice(SHIFTS)} {draw.randrange(5)})"
+    divided = lambda: draw.choice((f"({inner()} / 4'd{draw.randrange(1, 16)})", f"({inner()} % {draw.randrange(1, 9)})", f"({inner()} ** {draw.randrange(4)})"))
+    forms = [plain, plain, shifted, *(lambda form=form: form(draw, inner) for form in (prefix, conditional, cast)), *(lambda form=form: form(draw, part) for form in (concatenation, replication))]
+    return one_of(draw, *forms, *([divided] if is_constant else []))
 
 
 # ---- variables
