@@ -1,0 +1,303 @@
+//! The guard sites and the overwrite sites of two modules, one of which instantiates the other.
+
+ghost use Rattle.std.specs.Prelude.{◌≡◌, ◌<◌, ◌^◌, ℕ, IfOk, IfSome, List, Option, length, map};
+ghost use Rattle.std.specs.List.{AllByRecursion};
+ghost use Rattle.rr_syntax.specs.Items.{FitLiteralsSource};
+ghost use Rattle.rr_syntax.specs.View.{plain_source};
+ghost use Rattle.rr_lex.specs.Tokens.{lexemes};
+ghost use Rattle.rr_flat.specs.View.{plain_flat};
+ghost use Rattle.rr_elaborate.specs.Designs.{IsDesignOf};
+ghost use Rattle.rr_change_places.specs.Spots.{IsCountable};
+ghost use Rattle.rr_clock.specs.Places.{ArePlaces};
+ghost use Rattle.rr_clock.specs.View.{plain_place};
+ghost use Rattle.rr_sites_listed.specs.Listing.{IsFitPlace, scope_of};
+
+use bumpalo::Bump;
+use rr_clock::{Found, clock_places, find_clock};
+use rr_elaborate::{Design, elaborate};
+use rr_expr::Scope;
+use rr_flat::Flat;
+use rr_guard::sites as guard_sites;
+use rr_overwrite::sites as overwrite_sites;
+use rr_syntax::{ModulePlace, Site, SiteKind, Source};
+use std::alloc::{AllocError, Global};
+use std::test::Fail;
+
+/// A register of one bit that a condition of four tokens sets, and a body that the register chooses by; the
+/// other module has neither a body nor a condition.
+const TEXT: &str = "module step(input clk, input go, input [3:0] a, output reg [3:0] y);
+  reg seen;
+  always @(posedge clk) if (go & !seen) seen <= 1'b1;
+  always @* begin y = a; if (seen) y = go ? 4'd0 : ~a; end
+endmodule
+module top(input clk, input go, input [3:0] a, output [3:0] y);
+  step u(.clk(clk), .go(go), .a(a), .y(y));
+endmodule
+";
+
+/// `go & !seen` in the clocked block, where a guard may be each scalar but the clock; `seen` and `go` in the other
+/// body, where it may be the register alone.
+const STEP_GUARDS: [Site; 3] = [
+    Site {
+        kind: SiteKind::Guard {
+            module: 0,
+            extent: 4,
+            names: &["go", "seen"],
+        },
+        token: 38,
+    },
+    Site {
+        kind: SiteKind::Guard {
+            module: 0,
+            extent: 1,
+            names: &["seen"],
+        },
+        token: 57,
+    },
+    Site {
+        kind: SiteKind::Guard {
+            module: 0,
+            extent: 1,
+            names: &["seen"],
+        },
+        token: 61,
+    },
+];
+
+/// The register at the `if` of the clocked block, and `y` at the `begin` of the other.
+const STEP_OVERWRITES: [Site; 2] = [
+    Site {
+        kind: SiteKind::Overwrite {
+            module: 0,
+            target: "seen",
+            width: 1,
+            now: false,
+            names: &["go", "seen"],
+        },
+        token: 36,
+    },
+    Site {
+        kind: SiteKind::Overwrite {
+            module: 0,
+            target: "y",
+            width: 4,
+            now: true,
+            names: &["seen"],
+        },
+        token: 50,
+    },
+];
+
+/// Which of the two calls is asked.
+#[derive(Clone, Copy)]
+enum Asked {
+    Guards,
+    Overwrites,
+}
+
+fn are_same_names(found: &[&str], expected: &[&str]) -> bool {
+    if found.len() != expected.len() {
+        return false;
+    }
+    for place in 0..found.len() {
+        if found[place] != expected[place] {
+            return false;
+        }
+    }
+    true
+}
+
+fn is_same_kind(found: &SiteKind, expected: &SiteKind) -> bool {
+    match (*found, *expected) {
+        (
+            SiteKind::Guard {
+                module,
+                extent,
+                names,
+            },
+            SiteKind::Guard {
+                module: owner,
+                extent: length,
+                names: guards,
+            },
+        ) => module == owner && extent == length && are_same_names(names, guards),
+        (
+            SiteKind::Overwrite {
+                module,
+                target,
+                width,
+                now,
+                names,
+            },
+            SiteKind::Overwrite {
+                module: owner,
+                target: variable,
+                width: bits,
+                now: blocking,
+                names: guards,
+            },
+        ) => {
+            module == owner
+                && target == variable
+                && width == bits
+                && now == blocking
+                && are_same_names(names, guards)
+        }
+        _ => false,
+    }
+}
+
+fn are_same(found: &[Site], expected: &[Site]) -> bool {
+    if found.len() != expected.len() {
+        return false;
+    }
+    for (one, other) in found.iter().zip(expected) {
+        if one.token != other.token || !is_same_kind(&one.kind, &other.kind) {
+            return false;
+        }
+    }
+    true
+}
+
+/// The modules that have instances, with the names that lead to the clock.
+fn places_of<'a>(
+    alloc: Global,
+    flat: &Flat<'a>,
+    arena: &'a Bump,
+) -> Result<&'a [ModulePlace<'a>], AllocError>
+    ensures { IfOk result (λ places. (clock : Option ℕ) × ArePlaces (plain_flat flat.now) clock (map plain_place places.now)) }
+{
+    match find_clock(alloc, flat, None)? {
+        Found::Clock { signal, .. } => clock_places(alloc, flat, signal, arena),
+        Found::Nowhere(_) => clock_places(alloc, flat, None, arena),
+    }
+}
+
+/// The names of the first instance of a module.
+fn first_scope<'s, 'a>(
+    scopes: &'s [Scope<'a>],
+    owners: &[u32],
+    module: u32,
+) -> Option<&'s Scope<'a>>
+    ensures { IfSome result (λ scope. scope.now ≡ scope_of scopes.now owners.now «module») }
+{
+    let end = scopes.len().min(owners.len());
+    for i in 0..end {
+        if owners[i] == module {
+            return Some(&scopes[i]);
+        }
+    }
+    None
+}
+
+/// The guard sites of the module of a place.
+fn guards_of<'a>(
+    alloc: Global,
+    source: &'a Source<'a>,
+    place: &ModulePlace<'a>,
+    arena: &'a Bump,
+) -> Result<Vec<Site<'a>>, Fail>
+    requires { AllByRecursion IsCountable (plain_source source.now).modules }
+{
+    match source.modules.get(place.module as usize) {
+        Some(module) => Ok(guard_sites(alloc, module, place, arena)?),
+        None => Err(Fail::from("no module")),
+    }
+}
+
+/// The overwrite sites of the module of a place, with the widths of its first instance.
+fn overwrites_of<'a>(
+    alloc: Global,
+    source: &'a Source<'a>,
+    scopes: &[Scope<'a>],
+    owners: &[u32],
+    place: &ModulePlace<'a>,
+    arena: &'a Bump,
+) -> Result<Vec<Site<'a>>, Fail>
+    requires { IsFitPlace (plain_source source.now) scopes.now owners.now (plain_place place.now) }
+{
+    match source.modules.get(place.module as usize) {
+        Some(module) => match first_scope(scopes, owners, place.module) {
+            Some(scope) => Ok(overwrite_sites(alloc, module, scope, place, arena)?),
+            None => Err(Fail::from("no instance")),
+        },
+        None => Err(Fail::from("no module")),
+    }
+}
+
+/// The sites of the module of a place, of the kind that is asked.
+fn sites_of<'a>(
+    alloc: Global,
+    source: &'a Source<'a>,
+    flat: &Flat<'a>,
+    place: &ModulePlace<'a>,
+    asked: Asked,
+    arena: &'a Bump,
+) -> Result<Vec<Site<'a>>, Fail>
+    requires few { AllByRecursion IsCountable (plain_source source.now).modules }
+    requires fit { IsFitPlace (plain_source source.now) (plain_flat flat.now).scopes (plain_flat flat.now).owners (plain_place place.now) }
+{
+    match asked {
+        Asked::Guards => guards_of(alloc, source, place, arena),
+        Asked::Overwrites => overwrites_of(
+            alloc,
+            source,
+            flat.scopes.as_slice(),
+            flat.owners.as_slice(),
+            place,
+            arena,
+        ),
+    }
+}
+
+/// Whether the place at a number has these sites.
+fn has_sites<'a>(
+    alloc: Global,
+    design: &Design<'a>,
+    at: usize,
+    asked: Asked,
+    expected: &[Site],
+    arena: &'a Bump,
+) -> Result<bool, Fail>
+    requires tree { (bytes : List ℕ) × ((top : Option (List ℕ)) × IsDesignOf bytes (lexemes design.now.tokens.now) (plain_source design.now.source.now) top (plain_flat design.now.flat)) }
+    requires fit { FitLiteralsSource (plain_source design.now.source.now) }
+    requires few { length design.now.tokens.now < 2 ^ 32 }
+{
+    let places = places_of(alloc, &design.flat, arena)?;
+    match places.get(at) {
+        Some(place) => {
+            let found = sites_of(alloc, design.source, &design.flat, place, asked, arena)?;
+            Ok(are_same(found.as_slice(), expected))
+        }
+        None => Err(Fail::from("no place")),
+    }
+}
+
+/// Whether a call answers these sites for the module of the text at a number.
+fn answers(alloc: Global, at: usize, asked: Asked, expected: &[Site]) -> Result<bool, Fail> {
+    let bytes = TEXT.as_bytes();
+    if bytes.len() > 1_048_576 {
+        return Err(Fail::from("a text too long"));
+    }
+    let arena = Bump::new(alloc);
+    match elaborate(alloc, bytes, None, &arena) {
+        Ok(design) => has_sites(alloc, &design, at, asked, expected, &arena),
+        Err(_) => Err(Fail::from("no design")),
+    }
+}
+
+#[test]
+fn guards_of_modules(rt: HostRuntime) -> Result<(), Fail> {
+    let alloc = rt.alloc();
+    assert!(rt; answers(alloc, 0, Asked::Guards, &STEP_GUARDS)?);
+    assert!(rt; answers(alloc, 1, Asked::Guards, &[])?);
+    Ok(())
+}
+
+#[test]
+fn overwrites_of_modules(rt: HostRuntime) -> Result<(), Fail> {
+    let alloc = rt.alloc();
+    assert!(rt; answers(alloc, 0, Asked::Overwrites, &STEP_OVERWRITES)?);
+    assert!(rt; answers(alloc, 1, Asked::Overwrites, &[])?);
+    Ok(())
+}
