@@ -95,18 +95,6 @@ enum Asked {
     Overwrites,
 }
 
-fn are_same_names(found: &[&str], expected: &[&str]) -> bool {
-    if found.len() != expected.len() {
-        return false;
-    }
-    for place in 0..found.len() {
-        if found[place] != expected[place] {
-            return false;
-        }
-    }
-    true
-}
-
 fn is_same_kind(found: &SiteKind, expected: &SiteKind) -> bool {
     match (*found, *expected) {
         (
@@ -120,7 +108,7 @@ fn is_same_kind(found: &SiteKind, expected: &SiteKind) -> bool {
                 extent: length,
                 names: guards,
             },
-        ) => module == owner && extent == length && are_same_names(names, guards),
+        ) => module == owner && extent == length && names == guards,
         (
             SiteKind::Overwrite {
                 module,
@@ -141,7 +129,7 @@ fn is_same_kind(found: &SiteKind, expected: &SiteKind) -> bool {
                 && target == variable
                 && width == bits
                 && now == blocking
-                && are_same_names(names, guards)
+                && names == guards
         }
         _ => false,
     }
