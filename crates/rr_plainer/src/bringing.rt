@@ -1,14 +1,14 @@
 //! Changes that go back to what the source has, where the rows of a table are still mended.
 ghost use Rattle.std.specs.Prelude.{◌≡◌, IfOk, OnOk, length};
-ghost use Rattle.rr_choice.specs.Choices.{IsChoice};
+ghost use Rattle.rr_choice.specs.Choices.{IsChoice, total_bits};
 
 use crate::source::Near;
-use crate::walking::first_miss;
 use rr_choice::{Choice, SiteList, decode, form_width, guard_names, site_bits, value_width};
 use rr_choice_bits::encode;
 use rr_syntax::{Site, SiteKind};
 use rr_trace::Table;
 use rr_transition::Transition;
+use rr_unroll::first_miss;
 use std::alloc::{AllocError, Global};
 
 /// Rows of a table, and the design that runs on them.
@@ -20,8 +20,10 @@ struct Rows<'r> {
 
 impl Rows<'_> {
     /// Whether the choice that bits write mends each row.
-    fn are_mended(&self, alloc: Global, bits: &[bool]) -> Result<bool, AllocError> {
-        let missed = first_miss(alloc, self.transition, bits, self.table)?;
+    fn are_mended(&self, alloc: Global, bits: &[bool]) -> Result<bool, AllocError>
+        requires { length bits.now ≡ self.now.transition.now.choice_bits }
+    {
+        let missed = first_miss(alloc, self.transition, self.table, bits)?;
         Ok(missed.is_none())
     }
 }
@@ -67,12 +69,13 @@ fn number_at(bits: &[bool], from: usize, count: u32) -> u8 {
 /// Gives each bit of a value back that the source has otherwise, where the rows stay mended.
 fn give_back(
     alloc: Global,
-    rows: Rows<'_>,
+    rows: &Rows<'_>,
     bits: &mut [bool],
     from: usize,
     width: u32,
     value: u128,
 ) -> Result<(), AllocError>
+    requires { length bits.old ≡ rows.now.transition.now.choice_bits }
     ensures { OnOk result (length bits.new ≡ length bits.old) }
 {
     for place in 0..width.min(128) {
@@ -91,12 +94,13 @@ fn give_back(
 /// Takes the first of the names near a site with which the rows stay mended.
 fn take_name(
     alloc: Global,
-    rows: Rows<'_>,
+    rows: &Rows<'_>,
     bits: &mut [bool],
     from: usize,
     count: u32,
     names: &[u8],
 ) -> Result<(), AllocError>
+    requires { length bits.old ≡ rows.now.transition.now.choice_bits }
     ensures { OnOk result (length bits.new ≡ length bits.old) }
 {
     let own = number_at(bits, from, count);
@@ -116,13 +120,14 @@ fn take_name(
 /// Brings the change of a site, whose bits begin at a place, nearer to the source.
 fn bring(
     alloc: Global,
-    rows: Rows<'_>,
+    rows: &Rows<'_>,
     bits: &mut [bool],
     at: usize,
     site: &Site,
     near: &Near,
     number: usize,
 ) -> Result<(), AllocError>
+    requires { length bits.old ≡ rows.now.transition.now.choice_bits }
     ensures { OnOk result (length bits.new ≡ length bits.old) }
 {
     if !bit_at(bits, at) {
@@ -151,7 +156,8 @@ pub fn nearer(
     near: &Near,
     choice: &Choice,
 ) -> Result<Choice, AllocError>
-    requires { IsChoice list.now choice.now.picks.items }
+    requires bits { transition.now.choice_bits ≡ total_bits list.now }
+    requires choice { IsChoice list.now choice.now.picks.items }
     ensures { IfOk result (λ c. IsChoice list.now c.picks.items) }
 {
     let rows = Rows { transition, table };
@@ -160,7 +166,7 @@ pub fn nearer(
     let mut at: usize = 0;
     let mut number: usize = 0;
     for site in each.iter() {
-        bring(alloc, rows, &mut bits, at, site, near, number)?;
+        bring(alloc, &rows, &mut bits, at, site, near, number)?;
         at = at.saturating_add(site_bits(site) as usize);
         number = number.saturating_add(1);
     }

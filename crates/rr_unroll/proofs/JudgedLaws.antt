@@ -1,13 +1,10 @@
--- the turns of the evaluation of one choice
-use Rattle.std.proofs.Common.{◌≡◌, ◌↔◌, ℕ, ◌+◌, ◌<◌, ◌≤◌, Bool, true, false, not, ◌&&◌, cond, List, [], ◌∷◌, ◌++◌, All, length, get_or, take, drop, refl, sym, ◌∙◌, ap}
+-- the turns of the evaluation of one row
+use Rattle.std.proofs.Common.{◌≡◌, ◌↔◌, ℕ, ◌+◌, ◌<◌, ◌≤◌, Bool, true, false, not, ◌&&◌, cond, List, [], ◌∷◌, ◌++◌, All, length, get_or, drop, refl, sym, ◌∙◌, ap}
 use Rattle.std.specs.List.{list_all}
 use Rattle.std.proofs.lemmas.List.{drop_all}
-use Rattle.std.proofs.lemmas.List.Folds.{list_all-append}
 use Rattle.std.proofs.lemmas.List.Sums.{AllPass-from_list_all, list_all-from_AllPass}
-use Rattle.rr_trace.specs.declared.cell.Cell.{Cell}
-use Rattle.rr_transition.specs.Transitions.{Transition, cycle_bits}
-use Rattle.rr_unroll.specs.Questions.{is_same, agree, agree_row, judged}
-use Rattle.rr_unroll.proofs.AskedLaws.{agree_step, judged_step}
+use Rattle.rr_unroll.specs.Questions.{is_same, agree}
+use Rattle.rr_unroll.proofs.AskedLaws.{agree_step}
 
 abbrev pub all_true : List Bool → Bool
 all_true bits = list_all (λ (b : Bool). b) bits
@@ -43,35 +40,3 @@ agree_more ks es bs i m all l e t h =
 pub agree_all : (ks es bs : List Bool) (i : ℕ) (all : Bool) → length ks ≤ i → all_true (agree (drop i ks) (drop i es) (drop i bs)) ≡ all → true ≡ all
 unfolding agree
 agree_all ks es bs i all l h = sym (ap (λ xs. all_true (agree xs (drop i es) (drop i bs))) (drop_all i ks l)) ∙ h
-
--- a row that agrees or not
-module _ (t : Transition) (choice state : List Bool) (rows : List (List ℕ)) (expected : List (List Cell)) (r : ℕ) (here all : Bool) where
-  judged_turn : r < length rows →
-      here ≡ all_true (agree_row t.output_widths (get_or expected r []) (drop t.state_bits (cycle_bits t choice state (get_or rows r [])))) →
-      all_true (judged t choice state (drop r rows) (drop r expected)) ≡ all →
-      (here && all_true (judged t choice (take t.state_bits (cycle_bits t choice state (get_or rows r []))) (drop (r + 1) rows) (drop (r + 1) expected))) ≡ all
-  judged_turn l e h =
-      let row : List Bool = agree_row t.output_widths (get_or expected r []) (drop t.state_bits (cycle_bits t choice state (get_or rows r []))) in
-      let later : List Bool = judged t choice (take t.state_bits (cycle_bits t choice state (get_or rows r []))) (drop (r + 1) rows) (drop (r + 1) expected) in
-      ap (λ x. x && all_true later) e
-      ∙ sym (list_all-append (λ (b : Bool). b) row later)
-      ∙ sym (ap all_true (judged_step t choice state rows expected r l))
-      ∙ h
-
-  pub judged_stops : r < length rows →
-      here ≡ all_true (agree_row t.output_widths (get_or expected r []) (drop t.state_bits (cycle_bits t choice state (get_or rows r [])))) →
-      all_true (judged t choice state (drop r rows) (drop r expected)) ≡ all → here ≡ false → false ≡ all
-  judged_stops l e h off =
-      sym (ap (λ x. x && all_true (judged t choice (take t.state_bits (cycle_bits t choice state (get_or rows r []))) (drop (r + 1) rows) (drop (r + 1) expected))) off) ∙ judged_turn l e h
-
-  pub judged_goes : r < length rows →
-      here ≡ all_true (agree_row t.output_widths (get_or expected r []) (drop t.state_bits (cycle_bits t choice state (get_or rows r [])))) →
-      all_true (judged t choice state (drop r rows) (drop r expected)) ≡ all → here ≡ true →
-      all_true (judged t choice (take t.state_bits (cycle_bits t choice state (get_or rows r []))) (drop (r + 1) rows) (drop (r + 1) expected)) ≡ all
-  judged_goes l e h on =
-      sym (ap (λ x. x && all_true (judged t choice (take t.state_bits (cycle_bits t choice state (get_or rows r []))) (drop (r + 1) rows) (drop (r + 1) expected))) on) ∙ judged_turn l e h
-
-pub judged_end : (t : Transition) (choice state : List Bool) (rows : List (List ℕ)) (expected : List (List Cell)) (r : ℕ) (all : Bool) → length rows ≤ r →
-    all_true (judged t choice state (drop r rows) (drop r expected)) ≡ all → true ≡ all
-unfolding judged
-judged_end t choice state rows expected r all l h = sym (ap (λ xs. all_true (judged t choice state xs (drop r expected))) (drop_all r rows l)) ∙ h

@@ -6,3 +6,4 @@ pub mod JudgedLaws
 pub mod FaithfulLaws
 pub mod MatchLaws
 pub mod InstanceLaws
+pub mod WalkingLaws

@@ -49,7 +49,7 @@ next_bit : (xs : List Bool) (i : ℕ) → get_or (rest xs) i false ≡ get_or xs
 next_bit [] i = refl
 next_bit (x ∷ xs) i = refl
 
-next_at : {A : Type 0} (xs : List A) (i : ℕ) (d : A) → get_or (drop 1 xs) i d ≡ get_or xs (suc i) d
+pub next_at : {A : Type 0} (xs : List A) (i : ℕ) (d : A) → get_or (drop 1 xs) i d ≡ get_or xs (suc i) d
 next_at [] i d = refl
 next_at (x ∷ xs) i d = refl
 

@@ -1,4 +1,5 @@
 pub mod Questions
+pub mod Walking
 pub mod Fixed
 pub mod Faithful
 pub mod Matches

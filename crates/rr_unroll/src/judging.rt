@@ -1,6 +1,6 @@
-//! Whether the instance of one choice runs as a table expects, by evaluation.
+//! The first row that the instance of one choice misses, and whether it runs as a table expects, by evaluation.
 
-ghost use Rattle.std.specs.Prelude.{◌≡◌, ◌↔◌, ◌+◌, ◌&&◌, Bool, not, true, All, IfOk, OnOk, IsTrue, List, length, drop, take};
+ghost use Rattle.std.specs.Prelude.{◌≡◌, ◌↔◌, ◌&&◌, Bool, not, true, All, IfOk, OnOk, IsTrue, List, length, drop, take, is_none};
 ghost use Rattle.std.specs.List.{list_all, sum};
 ghost use Rattle.rr_choice.specs.Choices.{decode};
 ghost use Rattle.rr_choice.specs.Sites.{Site};
@@ -9,8 +9,10 @@ ghost use Rattle.rr_transition.specs.Cycles.{Cycle, Design, instance_design};
 ghost use Rattle.rr_transition.specs.Transitions.{cycle_bits};
 ghost use Rattle.rr_unroll.specs.Matches.{FitsOutputs, Matches};
 ghost use Rattle.rr_unroll.specs.Questions.{is_same, agree as agree_of, agree_row, judged as judged_of};
+ghost use Rattle.rr_unroll.specs.Walking.{IsFirstMissed};
 
 use crate::rows::{cells_at, numbers_at};
+use crate::walking::{first_state, turn};
 use crate::words::words;
 use rr_trace::{Cell, Table};
 use rr_transition::Transition;
@@ -54,28 +56,6 @@ fn row_agrees(
     Ok(agree(known_bits.as_slice(), value_bits.as_slice(), found))
 }
 
-// The next state's bits and then the outputs' bits.
-fn cycle(
-    alloc: Global,
-    transition: &Transition,
-    choice: &[bool],
-    state: &[bool],
-    row: &[u128],
-) -> Result<Vec<bool>, AllocError>
-    requires choice { length choice.now ≡ transition.now.choice_bits }
-    requires state { length state.now ≡ transition.now.state_bits }
-    ensures bits { IfOk result (λ r. r.items ≡ cycle_bits transition.now choice.now state.now row.now) }
-    ensures width { IfOk result (λ r. length r.items ≡ transition.now.state_bits + sum transition.now.output_widths) }
-{
-    let bits = words(alloc, transition.input_widths.as_slice(), row)?;
-    let mut inputs = Vec::with_capacity(alloc, choice.len() + state.len() + bits.len())?;
-    inputs.extend_from_slice(choice)?;
-    inputs.extend_from_slice(state)?;
-    inputs.extend_from_slice(bits.as_slice())?;
-    let out = transition.circuit.eval(alloc, inputs.as_slice())?;
-    Ok(out)
-}
-
 // Moves the state by a row. It answers whether the outputs have the known bits of the cells.
 fn row_turn(
     alloc: Global,
@@ -92,36 +72,38 @@ fn row_turn(
     ensures agrees { IfOk result (λ r. r ≡ list_all (λ b. b)
         (agree_row transition.now.output_widths cells.now (drop transition.now.state_bits (cycle_bits transition.now choice.now state.old.items row.now)))) }
 {
-    let bits = cycle(alloc, transition, choice, state.as_slice(), row)?;
-    let (next, found) = bits.as_slice().split_at(transition.state_bits as usize);
-    state.clear();
-    state.extend_from_slice(next)?;
+    let bits = turn(alloc, transition, choice, state, row)?;
+    let (_, found) = bits.as_slice().split_at(transition.state_bits as usize);
     let agrees = row_agrees(alloc, transition.output_widths.as_slice(), cells, found)?;
     Ok(agrees)
 }
 
-// Whether all rows agree, from the state on that a run starts in.
-fn all_agree(
+/// The first row of a table that a choice misses: in the run of its bits, from the state on that a run
+/// starts in, the outputs of the row have not each known bit of its cells. It is found row by row, by
+/// evaluation, and no gate is made. A row without cells is not missed.
+pub fn first_miss(
     alloc: Global,
     transition: &Transition,
     table: &Table,
     choice: &[bool],
-) -> Result<bool, AllocError>
+) -> Result<Option<usize>, AllocError>
     requires { length choice.now ≡ transition.now.choice_bits }
-    ensures { IfOk result (λ r. r ≡ list_all (λ b. b)
-        (judged_of transition.now choice.now transition.now.start (plain_table table.now).inputs (plain_table table.now).expected)) }
+    ensures first { IfOk result (IsFirstMissed transition.now choice.now (plain_table table.now)) }
+    ensures matches { IfOk result (λ r. (j : Design) (sites : List Site) → Cycle j sites transition.now → FitsOutputs transition.now.output_widths (plain_table table.now) →
+        (IsTrue (is_none r) ↔ Matches (instance_design sites (decode sites choice.now) j) (plain_table table.now))) }
 {
-    let mut state = Vec::new(alloc);
-    state.extend_from_slice(transition.start.as_slice())?;
+    let rows = table.inputs.as_slice();
+    let expected = table.expected.as_slice();
+    let mut state = first_state(alloc, transition)?;
     for r in 0..table.inputs.len() {
-        let row = numbers_at(table.inputs.as_slice(), r);
-        let cells = cells_at(table.expected.as_slice(), r);
+        let row = numbers_at(rows, r);
+        let cells = cells_at(expected, r);
         let agrees = row_turn(alloc, transition, choice, &mut state, row, cells)?;
         if !agrees {
-            return Ok(false);
+            return Ok(Some(r));
         }
     }
-    Ok(true)
+    Ok(None)
 }
 
 /// Whether the instance of a choice's bits runs as a table expects, from the state on that a run starts
@@ -139,6 +121,6 @@ pub fn judges(
     ensures matches { IfOk result (λ r. (j : Design) (sites : List Site) → Cycle j sites transition.now → FitsOutputs transition.now.output_widths (plain_table table.now) →
         (IsTrue r ↔ Matches (instance_design sites (decode sites choice.now) j) (plain_table table.now))) }
 {
-    let all = all_agree(alloc, transition, table, choice)?;
-    Ok(all)
+    let missed = first_miss(alloc, transition, table, choice)?;
+    Ok(missed.is_none())
 }

@@ -10,10 +10,12 @@ mod copies;
 mod judging;
 mod laws;
 mod rows;
+mod walking;
 mod wires;
 mod words;
 
 pub use asking::question;
 pub use copies::fixed;
-pub use judging::judges;
+pub use judging::{first_miss, judges};
 pub use laws::verdict_laws;
+pub use walking::state_before;

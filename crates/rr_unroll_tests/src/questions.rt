@@ -1,4 +1,5 @@
 //! Questions, and whether one choice matches.
+use crate::tables::{UNKNOWN, bit, table};
 use crate::transitions::{inverted_reset, inverted_reset_from, values, wires};
 use rr_circuit::{Circuit, write_aag};
 use rr_trace::{Cell, Table};
@@ -12,23 +13,6 @@ use std::thread::Threads;
 fn shared<T: Send + Sync>(_value: &T) -> bool {
     true
 }
-
-/// A table of one input and one output in each row.
-fn table(alloc: Global, rows: &[(u128, Cell)]) -> Result<Table, AllocError> {
-    let mut inputs = Vec::new(alloc);
-    let mut expected = Vec::new(alloc);
-    for (input, cell) in rows {
-        inputs.push(vec![in alloc; *input]?)?;
-        expected.push(vec![in alloc; *cell]?)?;
-    }
-    Ok(Table { inputs, expected })
-}
-
-fn bit(value: u128) -> Cell {
-    Cell { value, known: 1 }
-}
-
-const UNKNOWN: Cell = Cell { value: 0, known: 0 };
 
 /// Whether the choice matches.
 fn matches(

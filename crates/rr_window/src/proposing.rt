@@ -1,16 +1,20 @@
 //! Windows, and what they propose.
-ghost use Rattle.std.specs.Prelude.{◌≡◌, ◌≤◌, List, All, IfOk, IfSome, OnOk};
+ghost use Rattle.std.specs.Prelude.{◌≡◌, ◌≤◌, [], List, All, IfOk, IfSome, None, OnOk};
 ghost use Rattle.rr_choice.specs.Choices.{IsChoice, total_bits};
 ghost use Rattle.rr_choice.specs.Sites.{Site};
+ghost use Rattle.rr_trace.specs.View.{plain_table};
+ghost use Rattle.rr_unroll.specs.Walking.{IsFirstMissed};
 ghost use Rattle.rr_window.specs.Replies.{AreOf, IsTried};
+ghost use Rattle.rr_window.specs.Windows.{off};
 
 use crate::asking::{Mended, Reply, ask};
-use crate::beginning::begun;
+use crate::beginning::{begun_before, switches_off};
 use rr_choice::{Choice, SiteList, cost};
 use rr_choice_bits::encode;
-use rr_plainer::{Near, first_miss, nearer, rank, state_before};
+use rr_plainer::{Near, nearer, rank};
 use rr_trace::Table;
 use rr_transition::Transition;
+use rr_unroll::first_miss;
 use std::alloc::{AllocError, Global};
 use std::thread::Threads;
 
@@ -66,8 +70,7 @@ fn find<R: Threads + Sync>(
     requires bits { transition.now.choice_bits ≡ total_bits list.now }
     ensures { IfOk result (λ r. IfSome r (AreOf list.now)) }
 {
-    let start = state_before(alloc, transition, table, from)?;
-    let there = begun(alloc, transition, start)?;
+    let there = begun_before(alloc, transition, table, from)?;
     let rows = cut(alloc, table, from, len)?;
     for bound in below..MOST {
         match ask(rt, alloc, &there, &rows, list, near, bound + 1, budget)? {
@@ -130,10 +133,11 @@ fn missed(
     list: &SiteList<'_>,
     choice: &Choice,
 ) -> Result<Option<usize>, AllocError>
-    requires { IsChoice list.now choice.now.picks.items }
+    requires bits { transition.now.choice_bits ≡ total_bits list.now }
+    requires choice { IsChoice list.now choice.now.picks.items }
 {
     let bits = encode(alloc, list, choice)?;
-    let row = first_miss(alloc, transition, bits.as_slice(), table)?;
+    let row = first_miss(alloc, transition, table, bits.as_slice())?;
     Ok(row)
 }
 
@@ -185,7 +189,8 @@ fn settled(
     near: &Near,
     choice: Choice,
 ) -> Result<Choice, AllocError>
-    requires { IsChoice list.now choice.picks.items }
+    requires bits { transition.now.choice_bits ≡ total_bits list.now }
+    requires choice { IsChoice list.now choice.picks.items }
     ensures { IfOk result (λ c. IsChoice list.now c.picks.items) }
 {
     if is_small(transition, table.inputs.len()) {
@@ -206,6 +211,7 @@ fn tested(
     mended: Mended,
     found: &mut Vec<Choice>,
 ) -> Result<Tried, AllocError>
+    requires bits { transition.now.choice_bits ≡ total_bits list.now }
     requires mended { AreOf list.now mended }
     requires found { All (λ c. IsChoice list.now c.picks.items) found.old.items }
     ensures found { OnOk result (All (λ c. IsChoice list.now c.picks.items) found.new.items) }
@@ -321,10 +327,12 @@ pub fn proposals<R: Threads + Sync>(
     budget: u32,
 ) -> Result<Vec<Choice>, AllocError>
     requires bits { transition.now.choice_bits ≡ total_bits list.now }
-    ensures { IfOk result (λ r. All (λ c. IsChoice list.now c.picks.items) r.items) }
+    ensures choices { IfOk result (λ r. All (λ c. IsChoice list.now c.picks.items) r.items) }
+    ensures none { IfOk result (λ r. IsFirstMissed transition.now (off transition.now) (plain_table table.now) None → r.items ≡ []) }
 {
     let mut found = Vec::new(alloc);
-    let Some(miss) = first_miss(alloc, transition, &[], table)? else {
+    let bits = switches_off(alloc, transition)?;
+    let Some(miss) = first_miss(alloc, transition, table, bits.as_slice())? else {
         return Ok(found);
     };
     let whole = windows(rt, alloc, transition, table, list, near, miss, &mut found)?;

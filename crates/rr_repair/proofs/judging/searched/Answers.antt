@@ -42,4 +42,4 @@ proposals-requires-clause-bits g c κs within =
 pub least-requires-clause-proposals : goal.least-requires-clause-proposals
 least-requires-clause-proposals g c κs within =
     All-map (IsChoice c.args.list.now) (λ (x : Choice). x.picks.items) c.as_slice.result.now
-    (subst (λ (xs : List Choice). All (λ (x : Choice). IsChoice c.args.list.now x.picks.items) xs) (sym c.as_slice.ensures.value) c.in_ok-proposed.ensures)
+    (subst (λ (xs : List Choice). All (λ (x : Choice). IsChoice c.args.list.now x.picks.items) xs) (sym c.as_slice.ensures.value) c.in_ok-proposed.ensures.choices)

@@ -1,7 +1,7 @@
 use Rattle.std.proofs.Common.{◌≡◌, ◌++◌, length, ◌∙◌, ap, arith, length-append}
 use Rattle.std.specs.List.{sum}
 use Rattle.rr_transition.proofs.WordLaws.{length_words}
-use Rattle.rr_unroll.proofs.judging.cycle.Goals as goal
+use Rattle.rr_unroll.proofs.walking.cycle.Goals as goal
 
 pub eval-requires : goal.eval-requires
 eval-requires c =
