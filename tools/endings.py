@@ -4,8 +4,8 @@ import re
 NUMBER = r"(0|[1-9]\d*)"
 NAMES = ("BadByte BadNumber OpenComment Directive Unsupported Syntax NoTop UnknownModule SelfInstance NameTwice UnknownName BadRange NotConstant PortMismatch TooWide TooMany TwoDrivers WrongAssign Race "
          "Latch Loop ClockUse TwoClocks BadTarget WildLabel NoHeader UnknownColumn ColumnTwice MissingInput RowLength BadCell CellTooLarge NotUtf8 BadCircuit BadProof RatLine").split()
-NUMBERED = {**dict(enumerate(NAMES, 1)), 38: "UnknownMacro", 39: "BadDirective", 40: "MacroLoop", 41: "BadVcd", 42: "NoScope", 43: "FromMacro"}
-LIMITS = "bytes rows sites instances depth flatbits work expanded".split()
+NUMBERED = {**dict(enumerate(NAMES, 1)), 37: "BadLoop", 38: "UnknownMacro", 39: "BadDirective", 40: "MacroLoop", 41: "BadVcd", 42: "NoScope", 43: "FromMacro"}
+LIMITS = "bytes rows sites instances depth flatbits turns unfolded work expanded".split()
 
 
 def place(number):
@@ -14,7 +14,7 @@ def place(number):
         return rf" ({'|'.join(LIMITS)}) {NUMBER}"
     if number == 7:
         return " at 0"
-    if number <= 25 or number in (38, 39, 40, 43):
+    if number <= 25 or number in (37, 38, 39, 40, 43):
         return f" at {NUMBER}"
     if number == 26:
         return " row 0"

@@ -98,21 +98,32 @@ def expression(depth, names=("a", "b", "q", "r")):
     return one_of(draw, plain, plain, divided, inner, *forms, lambda: concatenation(draw, part), lambda: replication(draw, part))
 
 
-def statement(depth, target="<="):
+def head(name, around):
+    """The head of a loop of few turns, or of none, whose first value may be the name of a loop around."""
+    first = draw.choice(("0", "1", "3", "K", *around))
+    return draw.choice((f"({name} = {first}; {name} < {draw.randrange(5)}; {name} = {name} + {draw.choice('112')})", f"({name} = {first}; {name} >= 0; {name} = {name} - {draw.choice('12')})"))
+
+
+def statement(depth, target="<=", around=()):
+    """A statement in the loops of these names, of which each is that of its depth."""
+    names = ("a", "b", "q", "r", *around, *around)
     if depth == 0 or draw.random() < 0.35:
-        left = draw.choice(("q", "r", "q", "r", "q[1:0]", "r[a]", "{q[0], r[0]}", "q[a +: 2]"))
-        return f"{left} {target} {expression(2)};"
-    inner = lambda: statement(depth - 1, target)
-    form = draw.randrange(6)
+        places = (it for name in around for it in (f"q[{name}]", f"r[{name} + 1]"))
+        left = draw.choice(("q", "r", "q", "r", "q[1:0]", "r[a]", "{q[0], r[0]}", "q[a +: 2]", *places))
+        return f"{left} {target} {expression(2, names)};"
+    inner = lambda: statement(depth - 1, target, around)
+    form = draw.randrange(7)
     if form <= 1:
-        return f"if ({expression(1)}) {inner()} else {inner()}"
+        return f"if ({expression(1, names)}) {inner()} else {inner()}"
     if form == 2:
-        return f"if ({expression(1)}) {inner()}"
+        return f"if ({expression(1, names)}) {inner()}"
     if form == 3:
         return f"begin {inner()} {inner()} end"
+    if form == 4:
+        return f"for {head(f'i{depth}', around)} {statement(depth - 1, target, (*around, f'i{depth}'))}"
     word = draw.choice(("case", "casez", "casex"))
     labels = [f"4'b{''.join(draw.choice('01' if word == 'case' else '01?') for _ in range(4))}" for _ in range(2)]
-    return f"{word} ({expression(1)}) {labels[0]}: {inner()} {labels[1]}, 4'd{draw.randrange(16)}: {inner()} default: {inner()} endcase"
+    return f"{word} ({expression(1, names)}) {labels[0]}: {inner()} {labels[1]}, 4'd{draw.randrange(16)}: {inner()} default: {inner()} endcase"
 
 
 def constant():
@@ -147,7 +158,7 @@ def with_macros(text):
 
 
 def random_design():
-    """A design of one clock with a combinational block, a driver, an instance and a clocked block, with starting values and macros or without."""
+    """A design of one clock with a combinational block, a driver, an instance and a clocked block, with starting values, loops and macros or without."""
     text = plain_design()
     return with_macros(text) if draw.random() < 0.3 else text
 
@@ -158,7 +169,7 @@ def plain_design():
     comb = draw.choice((f"  always @* t = {expression(2)};\n", f"  always @* begin t = 4'd{draw.randrange(16)}; if ({expression(1)}) t = {expression(1)}; end\n",
                         f"  always @(a or b or q) case ({draw.choice('abq')}) 4'd1: t = {expression(1)}; default: t = {expression(1)}; endcase\n"))
     clocked = draw.choice(("posedge clk", "posedge clk or negedge rst", "negedge clk"))
-    return (inner + f"module m(input clk, input rst, input [3:0] a, input signed [3:0] b, output reg [3:0] q{start()}, output [3:0] y, output [3:0] z);\n  localparam K = 5;\n  reg [3:0] r{start()};\n  reg [3:0] t{start()};\n{initial()}"
+    return (inner + f"module m(input clk, input rst, input [3:0] a, input signed [3:0] b, output reg [3:0] q{start()}, output [3:0] y, output [3:0] z);\n  localparam K = 5;\n  integer i1, i2, i3;\n  reg [3:0] r{start()};\n  reg [3:0] t{start()};\n{initial()}"
             f"  wire [3:0] w;\n  n {draw.choice(('', '#(.W(4)) ', '#(3) '))}u0(.i({draw.choice(('a', 'q', 'r', '{a[1:0], q[1:0]}'))}), .o(w));\n"
             f"  assign y = {expression(3, ('a', 'b', 'q', 'r', 'w', 't'))};\n  assign z = {expression(2, ('t', 'w', 'q'))};\n" + comb
             + f"  always @({clocked})\n    if ({draw.choice(('rst', '!rst'))}) begin q <= 4'd{draw.randrange(16)}; r <= 4'd{draw.randrange(16)}; end\n    else {statement(3)}\nendmodule\n")

@@ -103,6 +103,7 @@ DEPTH |= {
     "if without else": clocked(nested("if (a) ", "y <= a;", "")),
     "begin": comb(nested("begin ", "y = a;", " end")),
     "case": comb(lambda n: nested("case (a) 1'b0: y = 1'b0; default: ", "y = 1'b1;", " endcase")(n // 2)),
+    "loops": lambda n: module("integer " + ",".join(f"i{k}" for k in range(n)) + ";always @* " + "".join(f"for(i{k}=0;i{k}<0;i{k}=i{k}+1)" for k in range(n)) + "y=a;", "input a, output reg y"),
     "begin, if and case": comb(lambda n: nested("begin if (a) case (a) default: ", "y = a;", " endcase else y = a; end")(n // 4)),
     "targets": comb(lambda n: nested("{", "y", "}")(n) + " = a;"),
 }
@@ -216,6 +217,16 @@ def comb_block(each):
     return design
 
 
+def turns(body):
+    """A loop of so many turns."""
+    return lambda count: module(f"integer i,j;always @* begin y=a;for(i=0;i<{count};i=i+1){body} end", "input a, output reg y")
+
+
+def loops(count):
+    """Loops behind one another, of one turn each."""
+    return module("integer i;always @* begin y=a;" + "for(i=0;i<1;i=i+1)y=y^a;" * count + " end", "input a, output reg y")
+
+
 def latches(count):
     """Ifs in sequence, each of which assigns one variable on one path; the last keeps none."""
     return module("reg " + ",".join(f"r{i}" for i in range(count)) + ";assign y=r0;always @* begin " + "".join(f"if (a) r{i}=a; else r{i}=~a;" for i in range(count)) + " end")
@@ -231,9 +242,10 @@ def kept_names(count):
 
 
 # Sources for `lint`: what is between `begin` and `end` of a combinational block, and sources of many blocks.
-KEEPING = {name: filled("module m(input a, input e, input [6:0] i, output reg y); reg z, w; reg [127:0] v; always @* begin ", each, " w=a; v=a; end endmodule\n") for name, each in {
+KEEPING = {name: filled("module m(input a, input e, input [6:0] i, output reg y); reg z, w; reg [127:0] v; integer k; always @* begin ", each, " w=a; v=a; end endmodule\n") for name, each in {
     "assignments to one name": "y<=a;",
     "ifs": "if(e)y<=y;",
+    "loops": "for(k=0;k<1;k=k+1)if(e)y<=y;",
     "alternatives": "if(z)y=w;else z=y;",
     "alternatives within one another": "if(z)y=w;else " * 400 + "z=y;",
     "ifs within one another": "if(z)" * 400 + "y=w;" + "else z=y;" * 400,
@@ -302,7 +314,7 @@ TOKENS = [
     "1'b1 ", "1'b1?", "8'hff,", "32'd4294967295 ", "'", "1'", '/*', '*/', '//', '//\n', '(*', '(* *)', '*)', '`resetall\n', '`a ', 'module ',
     'module m;', 'module m;endmodule ', 'module m(', 'endmodule ', 'begin ', 'end ', 'if ', 'if(a)', 'if(a) begin ', 'else ', 'case ', 'case(a)',
     'endcase ', 'default: ', 'always ', 'always @* ', 'assign ', 'assign a=', 'wire ', 'wire a;', 'reg a,', 'input ', 'input a,', 'posedge a ', 'or ',
-    'parameter ', 'parameter a=', 'function ', 'initial ', '\n', ' ', '\t', '\x00', '"', 'ÿ', '_', '9', '0', 'x',
+    'parameter ', 'parameter a=', 'function ', 'for ', 'for(a=a;a;a=a)', 'generate ', 'initial ', '\n', ' ', '\t', '\x00', '"', 'ÿ', '_', '9', '0', 'x',
 ]
 HEADS = {
     "": "",
@@ -438,6 +450,10 @@ def inputs():
         "one variable again and again": (comb_block(lambda i, n: "r0=r0^a;"), (8000, 16000, 32000)),
         "variables in a row": (comb_block(lambda i, n: f"r{i}=r{max(i - 1, 0)};"), (8000, 16000, 32000)),
         "ifs of a combinational block": (latches, (5000, 10000, 20000)),
+        "turns of a loop": (turns("y=y^a;"), (16384, 32768, 65536)),
+        "turns of a loop, and as many tokens as may be": (turns("y=y^a^a^a^a^a^a;"), (16384, 32768, 65536)),
+        "turns of a loop in a loop": (turns("for(j=0;j<1;j=j+1)y=y^a;"), (8192, 16384, 32768)),
+        "loops": (loops, (8000, 16000, 32000)),
         "arms": (arms, (8000, 16000, 32000)),
         "labels": (labels, (16000, 32000, 64000)),
         "updates by index": (updates, (2000, 4000, 8000), "i,y\n0,0\n1,0\n0,1\n"),
@@ -451,6 +467,9 @@ def inputs():
         "one instance too many": (instances, 257, "refused 16 TooMany instances 257\n"),
         "one level too many": (chain, 17, "refused 16 TooMany depth 17\n"),
         "one bit too many": (bits(128), 65537, "refused 16 TooMany flatbits 65537\n"),
+        "one turn of a loop too many": (turns(";"), 65537, "refused 16 TooMany turns 65537\n"),
+        "turns of a loop without an end": (lambda n: turns(";")(n).replace("i=i+1", "i=i"), 1, "refused 16 TooMany turns 65537\n"),
+        "one token of a loop's turns too many": (turns("begin" + ";" * 15 + "end"), 65536, "refused 16 TooMany unfolded 1048577\n"),
         "a loop": (loop, 30000, None),
         "modules": (modules, 43000, None),
         "modules that nothing uses": (unused, 20000, None),

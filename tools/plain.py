@@ -59,6 +59,8 @@ class Source:
 
     def statement(self, at):
         """The place behind the statement that begins at a place: of an `initial` item, where only plain forms are followed."""
+        if self.words[at] == "for":
+            return self.statement(self.after(at + 1))
         if self.words[at] != "begin":
             return self.to(at, ";") + 1
         depth = 0
@@ -76,9 +78,13 @@ def blank_initial(source, at):
     end = source.statement(at + 1)
     prints, sets, place = [], False, at + 1
     while place < end:
+        if source.words[place] == "for":
+            place = source.after(place + 1)
+            continue
         if PRINTS.match(source.words[place]):
+            # (its `;` stays, as it may be all of a loop's body)
             stop = source.to(place, ";")
-            prints.append((place, stop))
+            prints.append((place, stop - 1))
             place = stop
         sets = sets or source.words[place] in ("=", "<=")
         place += 1

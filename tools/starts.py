@@ -1,5 +1,5 @@
 #!/usr/bin/env python3
-"""Compares runs of random designs with starting values with runs of Icarus Verilog, row by row. It is no part of the gate, and nothing of it is proved.
+"""Compares runs of random designs with starting values and loops with runs of Icarus Verilog, row by row. It is no part of the gate, and nothing of it is proved.
 
 usage: tools/starts.py [PROGRAM] [--count N] [--seed N] [--unproved]
 
@@ -7,7 +7,9 @@ PROGRAM is crates/rtl_repair/out/rtl_repair where it is not given, N 500 designs
 its proofs, as by tools/preview, and run on all designs. A design has a module with up to three instances of another, which give its parameters
 other values. Variables get starting values in the header, by `output reg` and `reg` among the items, by `initial` items, by two of these and
 by none; the values are constant expressions of every operator, wider and narrower than the variable. Some variables are registers, some are
-those of combinational blocks, whole or in part, and some are never assigned. All are outputs or drive one, so each row tells all values.
+those of combinational blocks, whole or in part, and some are never assigned. All are outputs or drive one, so each row tells all values. Loops
+stand in blocks of both kinds and in `initial` items, up and down, within one another and without a turn; each variable has two integers of its
+own for them, since in Icarus a block that waits for an integer would run again where another block counts by it.
 
 Icarus reads the same text but for two things: a variable without a starting value gets 0, for that is the value of the two states that the program has,
 and each combinational block also waits for a signal of the bench, as `always @*` runs at no event of time 0. The program has to print the bench's table,
@@ -63,7 +65,25 @@ class Variable:
         value = lambda: expression(draw.randrange(4), constants, True)
         form = draw.choice(("value", "value", "value", "initial", "initial", "both", "none"))
         self.start = value() if form in ("value", "both") and self.kind != "integer" else None
-        self.initials = [value() for _ in range(draw.choice((1, 1, 2)))] if form in ("initial", "both") else []
+        self.counters = (f"k{self.name}", f"n{self.name}")
+        self.initials = [self.started(value, constants) for _ in range(draw.choice((1, 1, 2)))] if form in ("initial", "both") else []
+
+    def started(self, value, constants):
+        """The text of an `initial` assignment, or of a loop over one that has a turn."""
+        if draw.random() < 0.7:
+            return f"{self.name} = {value()};"
+        name = self.counters[0]
+        head = draw.choice((f"{name} = 0; {name} < W; {name} = {name} + 1", f"{name} = 3; {name} > 0; {name} = {name} - {draw.choice('12')}"))
+        return f"for ({head}) {self.name} = {expression(draw.randrange(4), (*constants, name), True)};"
+
+    def loop(self, seen, body):
+        """A loop over a statement that is made for the names that may stand in it, or two within one another."""
+        name, inner = self.counters
+        heads = lambda it, first: draw.choice((f"({it} = {first}; {it} < {draw.randrange(5)}; {it} = {it} + {draw.choice('12')})", f"({it} = {first}; {it} < W; {it} = {it} + 1)",
+                                               f"({it} = {draw.choice(('3', 'W'))}; {it} >= 0; {it} = {it} - {draw.choice('12')})"))
+        if draw.random() < 0.7:
+            return f"for {heads(name, draw.choice(('0', '1', 'P')))} {body((*seen, name, name), name)}"
+        return f"for {heads(name, '0')} for {heads(inner, draw.choice(('0', name)))} {body((*seen, name, inner), draw.choice((name, inner)))}"
 
     def width(self, of_w):
         """The number of bits, where that is the value of the parameter W."""
@@ -94,7 +114,7 @@ def initial_items(variables):
     while pairs:
         count = draw.randrange(1, 4)
         some, pairs = pairs[:count], pairs[count:]
-        texts = [f"{it.name} = {value};" for it, value in some]
+        texts = [text for _, text in some]
         if len(texts) > 1 or draw.random() < 0.3:
             cut = draw.randrange(len(texts) + 1)
             inner = f"begin {' '.join(texts[cut:])} end" if draw.random() < 0.3 else " ".join(texts[cut:])
@@ -107,9 +127,12 @@ def initial_items(variables):
 
 def clocked_statement(it, seen):
     value = lambda: expression(draw.randrange(3), seen, False)
-    form = draw.randrange(6)
+    form = draw.randrange(7)
     if form == 0:
         return f"{it.name} <= {value()};"
+    if form == 6:
+        target = lambda name: f"{it.name}[{name}]" if it.has_parts() and draw.random() < 0.5 else it.name
+        return it.loop(seen, lambda names, name: f"if ({expression(1, names, False)}) {target(name)} <= {expression(draw.randrange(3), names, False)};")
     if form == 1:
         return f"if ({value()}) {it.name} <= {value()};"
     if form == 2:
@@ -123,6 +146,9 @@ def clocked_statement(it, seen):
 
 def combinational_body(it, seen):
     value = lambda: expression(draw.randrange(3), seen, False)
+    if draw.random() < 0.3:
+        target = lambda name: draw.choice((f"{it.name}[{name}]", f"{it.name}[{name} +: 2]")) if it.has_parts() and draw.random() < 0.5 else it.name
+        return f"{it.name} = {value()}; " + it.loop((*seen, it.name), lambda names, name: f"{target(name)} = {expression(draw.randrange(3), names, False)};")
     if it.has_parts() and draw.random() < 0.4:
         return f"{it.name}[{draw.choice(('1', '2:1', '0 +: 3'))}] = {value()};"
     return f"{it.name} = {value()}; if ({value()}) {it.name} = {value()};"
@@ -190,6 +216,7 @@ class Module:
         for it in self.variables:
             if it.place == "inner":
                 lines.append(f"  {'integer' if it.kind == 'integer' else 'reg ' + it.kind} {it.declared(is_zeroed)};\n")
+            lines.append(f"  integer {', '.join(it.counters)};\n")
         for text, is_combinational in self.items:
             wait = "if (bench.tick) ; " if is_zeroed else ""
             lines.append(f"  always @* begin {wait}{text} end\n" if is_combinational else f"  {text}\n")

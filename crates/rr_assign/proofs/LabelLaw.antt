@@ -1,7 +1,7 @@
 -- The labels are right exactly where no literal in them is at fault.
 use Rattle.std.proofs.Common.{◌≡◌, ◌∙◌, sym, ap, ℕ, Bool, true, false, not, cond, ◌&&◌, ◌==◌, List, [], ◌∷◌, ◌++◌, refl}
 use Rattle.rr_syntax.specs.declared.token.Number.{Number}
-use Rattle.rr_syntax.specs.Tree.{Tree, Trees, Name, Literal, Bit as BitSelect, Part, Indexed, Unary, Binary, Cond, Concat, Repeat, Cast, Paren, End, More, Statement, Statements, Arm, Arms, Null, Block as Sequence, If, IfElse, Case, Assign, Done, Then, CaseItem, NoArms, MoreArms}
+use Rattle.rr_syntax.specs.Tree.{Tree, Trees, Name, Literal, Bit as BitSelect, Part, Indexed, Unary, Binary, Cond, Concat, Repeat, Cast, Paren, End, More, Statement, Statements, Arm, Arms, Null, Block as Sequence, If, IfElse, Case, Assign, For, Done, Then, CaseItem, NoArms, MoreArms}
 use Rattle.rr_syntax.specs.Words.{keyword_case, keyword_casez}
 use Rattle.rr_flat.specs.Lawful.{has_wild, no_wild, label_fits, all_labels_fit, labels_fit, all_fit, arm_fits, arms_fit, RightLabels}
 use Rattle.rr_flat.specs.Plain.{Flat}
@@ -77,6 +77,7 @@ mutual
   tame_in (IfElse c t u) = both (labels_fit t) (labels_fit u) (wild_in t) (wild_in u) (tame_in t) (tame_in u)
   tame_in (Case kind on arms) = tame_in_arms kind arms
   tame_in (Assign t now e) = refl
+  tame_in (For h t) = refl
 
   tame_in_all : (ss : Statements) → all_fit ss ≡ is_empty (wild_in_all ss)
   tame_in_all Done = refl

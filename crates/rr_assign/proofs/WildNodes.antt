@@ -9,6 +9,7 @@ use Rattle.rr_syntax.specs.declared.tree.Arm.{Arm as Branch}
 use Rattle.rr_syntax.specs.declared.tree.Expr.{Expr, the_lemmas as expr_lemmas}
 use Rattle.rr_syntax.specs.declared.tree.Expr.TheVariants as expr
 use Rattle.rr_syntax.specs.declared.tree.Named.{Named as Name}
+use Rattle.rr_syntax.specs.declared.tree.Head.{Head}
 use Rattle.rr_syntax.specs.declared.tree.Stmt.{Stmt, the_lemmas as stmt_lemmas}
 use Rattle.rr_syntax.specs.declared.tree.Stmt.TheVariants as stmt
 use Rattle.rr_syntax.specs.View.{plain, plain_list, plain_statement, plain_statements, plain_arm, plain_arms}
@@ -187,7 +188,11 @@ pub in-Case : (kind : Keyword) (t : Bor Expr) (arms : Bor (List Branch)) → wil
 unfolding wild_in
 in-Case kind t arms = ap wild_in (plain_case kind t arms)
 
-pub ruleset statement_nodes = (stmt_lemmas, in-Null, in-Assign, in-Block, in-If, in-IfElse, in-Case)
+pub in-For : (h : Head) (b : Bor Stmt) → earliest (wild_in (plain_statement (stmt.For h b))) ≡ None
+unfolding plain_statement wild_in earliest
+in-For h b = refl
+
+pub ruleset statement_nodes = (stmt_lemmas, in-Null, in-Assign, in-Block, in-If, in-IfElse, in-Case, in-For)
 
 pub in_list : (xs : List Stmt) → wild_in_all (plain_statements xs) ≡ flat_map (λ x. wild_in (plain_statement x)) xs
 unfolding wild_in plain_statements

@@ -2,7 +2,7 @@
 -- the tokens of the literals, in the order of the text.
 use Rattle.std.specs.Prelude.{ℕ, List, [], ◌∷◌, ◌++◌, cond, ◌==◌}
 use Rattle.rr_syntax.specs.declared.token.Number.{Number}
-use Rattle.rr_syntax.specs.Tree.{Tree, Trees, Name, Literal, Bit as BitSelect, Part, Indexed, Unary, Binary, Cond, Concat, Repeat, Cast, Paren, End, More, Statement, Statements, Arm, Arms, Null, Block as Sequence, If, IfElse, Case, Assign, Done, Then, CaseItem, NoArms, MoreArms}
+use Rattle.rr_syntax.specs.Tree.{Tree, Trees, Name, Literal, Bit as BitSelect, Part, Indexed, Unary, Binary, Cond, Concat, Repeat, Cast, Paren, End, More, Statement, Statements, Arm, Arms, Null, Block as Sequence, If, IfElse, Case, Assign, For, Done, Then, CaseItem, NoArms, MoreArms}
 use Rattle.rr_syntax.specs.Words.{keyword_case, keyword_casez}
 use Rattle.rr_flat.specs.declared.design.Part as design
 use Rattle.rr_flat.specs.Lawful.{has_wild}
@@ -48,6 +48,7 @@ unfoldable mutual
   wild_in (IfElse c t u) = wild_in t ++ wild_in u
   wild_in (Case kind on arms) = wild_in_arms kind arms
   wild_in (Assign t now e) = []
+  wild_in (For h t) = []
 
   pub wild_in_all : Statements → List ℕ
   wild_in_all Done = []

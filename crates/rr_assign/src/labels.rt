@@ -103,7 +103,7 @@ fn first_in(stmt: &Stmt) -> Option<u32>
     ensures { result ≡ earliest (wild_in (plain_statement stmt.now)) }
 {
     match stmt {
-        Stmt::Null | Stmt::Assign { .. } => None,
+        Stmt::Null | Stmt::Assign { .. } | Stmt::For { .. } => None,
         Stmt::Block { body, .. } => first_in_all(body),
         Stmt::If { yes, no: None, .. } => first_in(yes),
         Stmt::If {

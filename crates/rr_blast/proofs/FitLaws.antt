@@ -1,5 +1,5 @@
 -- from the circuit of a cycle to what a transition stands for
-use Rattle.std.proofs.Common.{◌≡◌, ◌∙◌, sym, ap, ap₂, refl, subst, ℕ, zero, suc, ◌+◌, ◌<◌, ◌≤◌, Bool, true, List, [], ◌∷◌, ◌++◌, length, map, flat_map, drop, drop-cons, get_or, All, Option, Ok, arith}
+use Rattle.std.proofs.Common.{◌≡◌, ◌∙◌, sym, ap, ap₂, refl, subst, ℕ, zero, suc, ◌+◌, ◌<◌, ◌≤◌, Bool, true, List, [], ◌∷◌, ◌++◌, length, map, flat_map, drop, drop-cons, get_or, All, Option, Some, Ok, arith}
 use Rattle.std.specs.List.{AllByRecursion, sum}
 use Rattle.std.proofs.lemmas.List.{append-nil, append_assoc, drop_all, length-append, length-map}
 use Rattle.std.proofs.lemmas.List.Elements.{All-from_recursion}
@@ -26,7 +26,8 @@ use Rattle.rr_choice.specs.declared.pick.Pick.{Pick}
 use Rattle.rr_choice.specs.Choices.{decode, site_bits, total_bits}
 use Rattle.rr_choice.specs.Sites.{Site}
 use Rattle.rr_choice.specs.View.{plain_site, plain_sites}
-use Rattle.rr_flatten.specs.Walk.{flat_of}
+use Rattle.rr_flatten.specs.Walk.{flat_by}
+use Rattle.rr_flatten.proofs.Limits.{design_stays}
 use Rattle.rr_lawful_instance.specs.Laws.{IsRepairable}
 use Rattle.rr_lawful_instance.specs.Listed.{AreRight}
 use Rattle.rr_lawful_instance.proofs.Cycles.{bases_stay, stays_lawful}
@@ -176,10 +177,10 @@ module _ (F : Flat) (clock : Option ℕ) (rising : Bool) (steps : List Step) (ss
     refl,
   )
 
--- a design that is lawful in this order, with its sites as they are listed for it, fits
+-- a design within the limit on the tokens of loops that is lawful in this order, with its sites as they are listed for it, fits
 pub design_fits : (source : SourceText) (top word : Option Text) (F : Flat) (clock : Option ℕ) (rising : Bool) (steps : List Step) (ss : List Site) →
-    flat_of source top ≡ Ok F → Lawful F word → Ordered F word clock rising steps → AreRight source F word ss → (j : Design) × FitsArguments j F clock rising steps ss
-design_fits source top word F clock rising steps ss d l o r = (record { source = source; top = top; word = word }, record { design = d; lawful = l; ordered = o; right = r })
+    flat_by (Some 1048576) source top ≡ Ok F → Lawful F word → Ordered F word clock rising steps → AreRight source F word ss → (j : Design) × FitsArguments j F clock rising steps ss
+design_fits source top word F clock rising steps ss d l o r = (record { source = source; top = top; word = word }, record { design = design_stays 1048576 source top F d; lawful = l; ordered = o; right = r })
 
 -- registers have wires
 

@@ -5,6 +5,7 @@ use Rattle.rr_syntax.specs.declared.token.Keyword.{Keyword}
 use Rattle.rr_syntax.specs.declared.tree.Arm.{Arm as Branch}
 use Rattle.rr_syntax.specs.declared.tree.Expr.{Expr}
 use Rattle.rr_syntax.specs.declared.tree.Named.{Named as Label}
+use Rattle.rr_syntax.specs.declared.tree.Head.{Head}
 use Rattle.rr_syntax.specs.declared.tree.Stmt.{Stmt}
 use Rattle.rr_syntax.specs.declared.tree.Stmt.TheVariants as stmt
 use Rattle.rr_syntax.specs.Tree.{Assign, Statement}
@@ -35,6 +36,10 @@ use denote.Ref.{Bor}
 pub run-Null : (s : Names) (ss : List Site) (ps : List Pick) (v : Values) → ran s (instance_statement ss ps (plain_statement stmt.Null)) v ≡ v
 unfolding plain_statement instance_statement ran executed updates applied
 run-Null s ss ps v = refl
+
+pub run-For : (s : Names) (ss : List Site) (ps : List Pick) (head : Head) (body : Bor Stmt) (v : Values) → ran s (instance_statement ss ps (plain_statement (stmt.For head body))) v ≡ v
+unfolding plain_statement instance_statement ran executed updates applied
+run-For s ss ps head body v = refl
 
 pub run-Block : (s : Names) (ss : List Site) (ps : List Pick) (label : Option Label) (body : Bor (List Stmt)) (v : Values) →
     ran s (instance_statement ss ps (plain_statement (stmt.Block label body))) v ≡ ran_all s (instance_statements ss ps (plain_statements body.now)) v

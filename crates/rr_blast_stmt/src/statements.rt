@@ -154,6 +154,7 @@ pub fn execute(
 {
     match stmt {
         Stmt::Null => Ok(()),
+        Stmt::For { .. } => Ok(()),
         Stmt::Block { body, .. } => {
             execute_all(alloc, b, body, scope, choice, guard, machine)?;
             Ok(())

@@ -8,6 +8,7 @@ use Rattle.rr_flat.specs.Ordered.{Ordered}
 use Rattle.rr_flat.specs.Plain.{Flat}
 use Rattle.rr_flat.specs.Signals.{Text}
 use Rattle.rr_lex.specs.Tokens.{Lexeme}
+use Rattle.rr_flatten.proofs.Limits.{design_stays}
 use Rattle.rr_elaborate.specs.Designs.{IsDesignOf}
 use Rattle.rr_choice.specs.Choices.{total_bits}
 use Rattle.rr_choice.specs.Sites.{IsSiteList, Site}
@@ -21,7 +22,7 @@ pub fits : (bytes : List ℕ) (tokens : List Lexeme) (source : SourceText) (top 
 fits bytes tokens source top word flat clock rising steps sites d l o e = (
   record { source = source; top = top; word = word },
   record {
-    design = d.flat;
+    design = design_stays 1048576 source top flat d.flat;
     lawful = l;
     ordered = o;
     right = subst (AreRight source flat word) (sym e) (record { formed = d.text.spells.tree.spells.well; numbered = d.text.spells.numbered; each = tt });

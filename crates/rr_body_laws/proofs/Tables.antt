@@ -1,16 +1,17 @@
 -- Tables of names see nothing of a body, and a module that has an instance is one of those that change.
-use Rattle.std.proofs.Common.{◌≡◌, ◌∙◌, sym, ap, subst, ℕ, zero, suc, ◌+◌, ◌<◌, Bool, true, false, if◌then◌else◌, List, [], ◌∷◌, ◌++◌, length, Option, Some, None, refl, fold, is_some, nat_eq, arith}
+use Rattle.std.proofs.Common.{◌≡◌, ◌∙◌, sym, ap, ap₂, subst, ℕ, zero, suc, ◌+◌, ◌<◌, Bool, true, false, if◌then◌else◌, List, [], ◌∷◌, ◌++◌, length, map, flat_map, Option, Some, None, refl, fold, is_some, nat_eq, arith}
 use Rattle.std.specs.List.{list_any}
 use Rattle.std.proofs.lemmas.Bool.{eq-eqb, or_right}
-use Rattle.rr_syntax.specs.Tree.{ModuleItem, Always, ModuleDeclaration}
+use Rattle.rr_syntax.specs.Tree.{Statement, EventControl, Star, Edges, Levels, ModuleItem, Always, ModuleDeclaration}
 use Rattle.rr_expr.specs.Scopes.{Names, lookup}
 use Rattle.rr_flat.specs.Faults.{each}
 use Rattle.rr_flat.specs.Signals.{Text}
 use Rattle.rr_flatten.specs.Tables.{add_module, instantiated_by_item, instantiated_by, last_free, add_parameter_names, add_item_parameter_names, parameter_table, add_open_names, add_item_open_names, open_names, port_names}
+use Rattle.rr_loop_rules.specs.Rules.{loops_in, loops_of_item, integers_of_item, loop_names, with_integer}
 use Rattle.rr_flatten.specs.Walk.{module_at, top_place, reached_from}
 use Rattle.rr_token_numbers.proofs.Folds.{fold_mapped}
 use Rattle.rr_flat_instance.proofs.Lists.{and_then_same}
-use Rattle.rr_body_laws.specs.Bodies.{Bodies, item_with, module_with, modules_with}
+use Rattle.rr_body_laws.specs.Bodies.{Bodies, body_with, item_with, module_with, modules_with}
 
 -- a module, or the same with other bodies
 abbrev pub either_with : Bool → Bodies → ModuleDeclaration → ModuleDeclaration
@@ -43,6 +44,32 @@ module _ (f : Bodies) where
   unfolding port_names module_with
   port_names_with true m = refl
   port_names_with false m = refl
+
+  -- the names of the loops of a module, where each new body has loops of the same names
+
+  body_loops_with : ((token : ℕ) (body : Statement) → loops_in (f token body) ≡ loops_in body) → (events : EventControl) (body : Statement) (token : ℕ) → loops_in (body_with f events body token) ≡ loops_in body
+  body_loops_with h (Star brackets) body token = h token body
+  body_loops_with h (Edges list commas) body token = refl
+  body_loops_with h (Levels list commas) body token = h token body
+
+  item_loops_with : ((token : ℕ) (body : Statement) → loops_in (f token body) ≡ loops_in body) → (i : ModuleItem) → loops_of_item (item_with f i) ≡ loops_of_item i
+  unfolding loops_of_item item_with
+  item_loops_with h (Always events body token) = body_loops_with h events body token
+  item_loops_with h i = refl
+
+  item_integers_with : (i : ModuleItem) → integers_of_item (item_with f i) ≡ integers_of_item i
+  unfolding integers_of_item item_with
+  item_integers_with (Always events body token) = refl
+  item_integers_with i = refl
+
+  flat_with_items : (g : ModuleItem → List Text) → ((i : ModuleItem) → g (item_with f i) ≡ g i) → (items : List ModuleItem) → flat_map g (map (item_with f) items) ≡ flat_map g items
+  flat_with_items g h [] = refl
+  flat_with_items g h (i ∷ items) = ap₂ (λ (xs ys : List Text). xs ++ ys) (h i) (flat_with_items g h items)
+
+  pub loop_names_with : ((token : ℕ) (body : Statement) → loops_in (f token body) ≡ loops_in body) → (m : ModuleDeclaration) → loop_names (module_with f m) ≡ loop_names m
+  unfolding loop_names module_with
+  loop_names_with h m =
+      ap₂ (λ (loops integers : List Text). fold (with_integer loops) [] integers) (flat_with_items loops_of_item (item_loops_with h) m.items) (flat_with_items integers_of_item item_integers_with m.items)
 
   text_with : (b : Bool) (m : ModuleDeclaration) → (either_with b f m).text ≡ m.text
   unfolding module_with

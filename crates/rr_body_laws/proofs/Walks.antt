@@ -1,30 +1,30 @@
--- A step of the walk and the same step of a walk over other bodies.
-use Rattle.std.proofs.Common.{◌≡◌, ◌∙◌, sym, ap, ap₂, ℕ, List, [], ◌∷◌, ◌++◌, map, Bool, Option, Some, None, Result, Ok, refl, fold}
-use Rattle.std.proofs.lemmas.List.{map-append, length-map}
-use Rattle.rr_syntax.specs.Tree.{Tree, Trees, End, More, Statement, EventControl, Star, Edges, Levels, DeclaredName, NetAssignment, NamedConnection, Connections, Positions, ModuleDeclaration}
+-- The items of a module but its instances: with other bodies, each block is the one with its new body, and all else goes on alike.
+use Rattle.std.proofs.Common.{◌≡◌, ◌∙◌, sym, ap, subst, ℕ, ◌<◌, Bool, List, [], ◌∷◌, ◌++◌, length, map, Option, Some, None, Result, Ok, refl, fold, option_to_list}
+use Rattle.rr_syntax.specs.Tree.{Tree, Trees, End, More, Statement, EventControl, Star, Edges, Levels, DeclaredName, NetAssignment, NamedConnection, Connections, Positions, ModuleItem, Always, ModuleDeclaration, SourceText}
 use Rattle.rr_syntax.specs.Tree.{Names as Named}
 use Rattle.rr_expr.specs.Faults.{first}
-use Rattle.rr_expr.specs.Scopes.{Names, lookup}
+use Rattle.rr_expr.specs.Scopes.{Names, lookup, meant}
 use Rattle.rr_flat.specs.declared.design.Part.TheVariants as part
 use Rattle.rr_flat.specs.declared.fault.FlatFault.{FlatFault}
 use Rattle.rr_flat.specs.declared.signal.Port.{Port}
 use Rattle.rr_flat.specs.declared.signal.Port.TheVariants.{Inner, Input, Output}
-use Rattle.rr_flat.specs.Faults.{each}
-use Rattle.rr_flat.specs.Plain.{Side, Written, Whole}
+use Rattle.rr_flat.specs.Faults.{and_then, each, earliest_of, first_fault_or}
+use Rattle.rr_flat.specs.Plain.{Written, Whole}
 use Rattle.rr_flat.specs.Plain as plain_design
-use Rattle.rr_flat.specs.Shapes.{shape_faults, statement_faults}
+use Rattle.rr_flat.specs.Shapes.{statement_faults}
 use Rattle.rr_flat.specs.Signals.{Text, signal_at}
+use Rattle.rr_flat.specs.Writers.{scope_at as final_scope}
 use Rattle.rr_starts.specs.Starts.{initial_faults}
+use Rattle.rr_loop_rules.specs.Rules.{LoopNames, loop_faults}
+use Rattle.rr_unfold.specs.Unfold.{Count, counted, unfold_statement}
 use Rattle.rr_flatten.specs.Tables.{place_of, port_names}
-use Rattle.rr_flatten.specs.Walk.{Walked, scope_at, with_driver, with_block, combined, assign, net_driver, net_value, net_with, net, event_faults, always, with_initial, initial, join_port, join_at, join, join_value, join_named, join_positions, joined}
-use Rattle.rr_flat_instance.proofs.Grown.{Grows, grows-trans, each_grows}
+use Rattle.rr_flatten.specs.Walk.{Walked, scope_at, loops_at, expression_faults, with_driver, with_block, combined, assign, net_driver, net_value, net_with, net, event_faults, always, with_initial, initial, join_port, join_at, join, join_value, join_named, join_positions, joined}
+use Rattle.rr_flat_laws.specs.Names.{module_of}
 use Rattle.rr_flat_instance.proofs.Lists.{stepped, and_then_ok, and_then_same}
 use Rattle.rr_flat_instance.proofs.Shapes.{settled, settle_none, nil_left, nil_right, nil_both}
-use Rattle.rr_body_laws.specs.Bodies.{Bodies, KeepsShapes, block_with, body_with, flat_with}
+use Rattle.rr_body_laws.specs.Bodies.{Bodies, AllChanged, IsAmong, IsChanged, KeepsBody, KeepsBodies, body_with}
+use Rattle.rr_body_laws.proofs.Blocks.{put_blocks, changed_length, changed_more, Follows, unfound_earliest, earliest_none}
 use Rattle.rr_body_laws.proofs.Tables.{either_with, port_names_with}
-
-abbrev pub walked_with : Bodies → Walked → Walked
-walked_with f w = record w { flat = flat_with f w.flat }
 
 -- steps over a list whose elements change
 pub each_of_map : {X S : Type 0} (g : X → X) (step : X → S → Result S FlatFault) (xs : List X) (s : S) → each step (map g xs) s ≡ each (λ x. step (g x)) xs s
@@ -32,114 +32,153 @@ unfolding each
 each_of_map g step [] s = refl
 each_of_map g step (x ∷ xs) s = and_then_same (step (g x) s) (step (g x) s) (each step (map g xs)) (each (λ x. step (g x)) xs) refl (each_of_map g step xs)
 
--- steps of a list, each of which gives the same design with other bodies
-pub each_with : {X : Type 0} (f : Bodies) (final : Walked) (step other : X → Walked → Result Walked FlatFault) → ((x : X) (w v : Walked) → step x w ≡ Ok v → Grows w v)
-    → ((x : X) (w v : Walked) → Grows v final → step x w ≡ Ok v → other x (walked_with f w) ≡ Ok (walked_with f v))
-    → (xs : List X) (w v : Walked) → Grows v final → each step xs w ≡ Ok v → each other xs (walked_with f w) ≡ Ok (walked_with f v)
-unfolding each
-each_with f final step other grows one [] w v g e = let q : w ≡ v = cc in ap (λ (x : Walked). Ok (walked_with f x)) q
-each_with f final step other grows one (x ∷ xs) w v g e =
-    let s = stepped (step x w) (each step xs) v e in
-    let k : Grows s.mid final = grows-trans s.mid v final (each_grows step grows xs s.mid v s.next) g in
-    and_then_ok (other x (walked_with f w)) (each other xs) (walked_with f s.mid) (one x w s.mid k s.first) ∙ each_with f final step other grows one xs s.mid v g s.next
+-- a block that runs where a value changes
+abbrev block_of : ℕ → ℕ → Statement → plain_design.Block
+block_of i at s = record { body = s; edges = []; scope = i; token = at }
 
-module _ (f : Bodies) where
-  -- a block more
+-- the faults of an `always`
+abbrev always_faults : LoopNames → Names → EventControl → Statement → List FlatFault
+always_faults L names events s = loop_faults L [] s ++ (event_faults L names events ++ option_to_list (earliest_of (statement_faults names (unfold_statement names [] s))))
 
-  combined_with : (b : plain_design.Block) (w : Walked) → combined (block_with f b) (walked_with f w) ≡ walked_with f (combined b w)
-  unfolding flat_with
-  combined_with b w =
-      ap₂ (λ (n : ℕ) (bs : List plain_design.Block). record w { flat = record w.flat { combinational = bs; walk = w.flat.walk ++ part.Combinational n ∷ [] } })
-      (length-map w.flat.combinational (block_with f)) (sym (map-append (block_with f) w.flat.combinational (b ∷ [])))
+-- a new body has none where the old one has none
+new_faults : (L : LoopNames) (names : Names) (events : EventControl) (s t : Statement) → KeepsBody L names s t → always_faults L names events s ≡ [] → always_faults L names events t ≡ []
+new_faults L names events s t k h =
+    let rest = nil_right (loop_faults L [] s) (event_faults L names events ++ option_to_list (earliest_of (statement_faults names (unfold_statement names [] s)))) h in
+    nil_both (loop_faults L [] t) (event_faults L names events ++ option_to_list (earliest_of (statement_faults names (unfold_statement names [] t))))
+    (k.loops (nil_left (loop_faults L [] s) (event_faults L names events ++ option_to_list (earliest_of (statement_faults names (unfold_statement names [] s)))) h))
+    (nil_both (event_faults L names events) (option_to_list (earliest_of (statement_faults names (unfold_statement names [] t))))
+    (nil_left (event_faults L names events) (option_to_list (earliest_of (statement_faults names (unfold_statement names [] s)))) rest)
+    (earliest_none (statement_faults names (unfold_statement names [] t))
+    (k.shapes (unfound_earliest (statement_faults names (unfold_statement names [] s)) (nil_right (event_faults L names events) (option_to_list (earliest_of (statement_faults names (unfold_statement names [] s)))) rest)))))
 
-  block_more : (i : ℕ) (events : EventControl) (s : Statement) (at : ℕ) (w : Walked) → with_block i events (body_with f events s at) at (walked_with f w) ≡ walked_with f (with_block i events s at w)
-  unfolding flat_with
-  block_more i (Star brackets) s at w = combined_with (record { body = s; edges = []; scope = i; token = at }) w
-  block_more i (Edges list commas) s at w = refl
-  block_more i (Levels list commas) s at w = combined_with (record { body = s; edges = []; scope = i; token = at }) w
+-- what is answered where the turns are counted and there are no faults
+answers : (limit : Option ℕ) (L : LoopNames) (names : Names) (events : EventControl) (t : Statement) (start c : Count) (next : Count → Walked) → counted limit L names [] t start ≡ Ok c → always_faults L names events t ≡ []
+    → and_then (counted limit L names [] t start) (λ d. first_fault_or (always_faults L names events t) (next d)) ≡ Ok (next c)
+answers limit L names events t start c next counts none =
+    and_then_ok (counted limit L names [] t start) (λ d. first_fault_or (always_faults L names events t) (next d)) c counts ∙ settle_none (always_faults L names events t) (next c) none
 
-  body_keeps : KeepsShapes f → (names : Names) (events : EventControl) (s : Statement) (at : ℕ) → statement_faults names s ≡ [] → statement_faults names (body_with f events s at) ≡ []
-  body_keeps keeps names (Star brackets) s at h = keeps.keeps names at s h
-  body_keeps keeps names (Edges list commas) s at h = h
-  body_keeps keeps names (Levels list commas) s at h = keeps.keeps names at s h
+-- an `always`
 
-  pub always_with : KeepsShapes f → (i : ℕ) (events : EventControl) (s : Statement) (at : ℕ) (w v : Walked) → always i events s at w ≡ Ok v
-      → always i events (body_with f events s at) at (walked_with f w) ≡ Ok (walked_with f v)
-  unfolding always flat_with
-  always_with keeps i events s at w v e =
-      let r = settled (event_faults (scope_at w i) events ++ statement_faults (scope_at w i) s) (with_block i events s at w) v e in
-      settle_none (event_faults (scope_at w i) events ++ statement_faults (scope_at w i) (body_with f events s at)) _
-      (nil_both _ _ (nil_left (event_faults (scope_at w i) events) (statement_faults (scope_at w i) s) r.none)
-      (body_keeps keeps (scope_at w i) events s at (nil_right (event_faults (scope_at w i) events) (statement_faults (scope_at w i) s) r.none)))
-      ∙ ap (λ (x : Walked). Ok x) (block_more i events s at w ∙ ap (walked_with f) r.is)
+module _ (f : Bodies) (source : SourceText) (final : plain_design.Flat) (keeps : KeepsBodies f source final) where
+  -- one block more
+  changed_block : (i at : ℕ) (old new : Statement) (w : Walked) (c : Count) (bs : List plain_design.Block) (r : Result Walked FlatFault) → AllChanged f source final w.flat.combinational bs → IsChanged f source final (block_of i at old) (block_of i at new)
+      → r ≡ Ok (combined (block_of i at new) (record (put_blocks bs w) { count = c })) → Follows f source final r (combined (block_of i at old) (record w { count = c }))
+  changed_block i at old new w c bs r h b e = record {
+    blocks = bs ++ block_of i at new ∷ [];
+    is = e ∙ ap (λ (x : Walked). Ok x) (ap (λ (n : ℕ). record w { flat = record w.flat { combinational = bs ++ block_of i at new ∷ []; walk = w.flat.walk ++ part.Combinational n ∷ [] }; count = c }) (changed_length f source final w.flat.combinational bs h));
+    changed = changed_more f source final w.flat.combinational bs (block_of i at old) (block_of i at new) h b;
+  }
 
+  by_events : (i : ℕ) (events : EventControl) (s : Statement) (at : ℕ) (w : Walked) (bs : List plain_design.Block) (c : Count) → i < length final.owners → IsAmong (Always events s at) (module_of source final i).items
+      → ((name : Text) → meant (scope_at w i) name ≡ meant (final_scope final i) name) → AllChanged f source final w.flat.combinational bs → counted w.limit (loops_at w i) (scope_at w i) [] s w.count ≡ Ok c
+      → always_faults (loops_at w i) (scope_at w i) events s ≡ []
+      → Follows f source final (always i events (body_with f events s at) at (put_blocks bs w)) (with_block i events (unfold_statement (scope_at w i) [] s) at (record w { count = c }))
+  unfolding always
+  by_events i (Star brackets) s at w bs c there among alike h counts none =
+      let names : Names = scope_at w i in
+      let k = keeps.bodies i names (Star brackets) s at there among alike (loops_at w i) in
+      changed_block i at (unfold_statement names [] s) (unfold_statement names [] (f at s)) w c bs _ h
+      (record { there = there; events = Star brackets; body = s; among = among; names = names; alike = alike; was = refl; is = refl })
+      (answers w.limit (loops_at w i) names (Star brackets) (f at s) w.count c (λ d. combined (block_of i at (unfold_statement names [] (f at s))) (record (put_blocks bs w) { count = d })) (k.counts w.limit w.count c counts)
+      (new_faults (loops_at w i) names (Star brackets) s (f at s) k none))
+  by_events i (Edges list commas) s at w bs c there among alike h counts none =
+      let names : Names = scope_at w i in
+      record {
+        blocks = bs;
+        is = answers w.limit (loops_at w i) names (Edges list commas) s w.count c (λ d. with_block i (Edges list commas) (unfold_statement names [] s) at (record (put_blocks bs w) { count = d })) counts none;
+        changed = h;
+      }
+  by_events i (Levels list commas) s at w bs c there among alike h counts none =
+      let names : Names = scope_at w i in
+      let k = keeps.bodies i names (Levels list commas) s at there among alike (loops_at w i) in
+      changed_block i at (unfold_statement names [] s) (unfold_statement names [] (f at s)) w c bs _ h
+      (record { there = there; events = Levels list commas; body = s; among = among; names = names; alike = alike; was = refl; is = refl })
+      (answers w.limit (loops_at w i) names (Levels list commas) (f at s) w.count c (λ d. combined (block_of i at (unfold_statement names [] (f at s))) (record (put_blocks bs w) { count = d })) (k.counts w.limit w.count c counts)
+      (new_faults (loops_at w i) names (Levels list commas) s (f at s) k none))
+
+  pub always_follows : (i : ℕ) (events : EventControl) (s : Statement) (at : ℕ) (w v : Walked) (bs : List plain_design.Block) → i < length final.owners → IsAmong (Always events s at) (module_of source final i).items
+      → ((name : Text) → meant (scope_at w i) name ≡ meant (final_scope final i) name) → AllChanged f source final w.flat.combinational bs → always i events s at w ≡ Ok v
+      → Follows f source final (always i events (body_with f events s at) at (put_blocks bs w)) v
+  unfolding always
+  always_follows i events s at w v bs there among alike h e =
+      let names : Names = scope_at w i in
+      let body : Statement = unfold_statement names [] s in
+      let r = stepped (counted w.limit (loops_at w i) names [] s w.count) (λ c. first_fault_or (always_faults (loops_at w i) names events s) (with_block i events body at (record w { count = c }))) v e in
+      let q = settled (always_faults (loops_at w i) names events s) (with_block i events body at (record w { count = r.mid })) v r.next in
+      subst (λ (x : Walked). Follows f source final (always i events (body_with f events s at) at (put_blocks bs w)) x) q.is (by_events i events s at w bs r.mid there among alike h r.first q.none)
+
+module _ (bs : List plain_design.Block) where
   -- an `initial` item, which stays as it is
-  pub initial_with : (i : ℕ) (s : Statement) (at : ℕ) (w v : Walked) → initial i s at w ≡ Ok v → initial i s at (walked_with f w) ≡ Ok (walked_with f v)
-  unfolding initial flat_with
+  pub initial_with : (i : ℕ) (s : Statement) (at : ℕ) (w v : Walked) → initial i s at w ≡ Ok v → initial i s at (put_blocks bs w) ≡ Ok (put_blocks bs v)
+  unfolding initial
   initial_with i s at w v e =
-      let r = settled (initial_faults (scope_at w i) s) (with_initial i s at w) v e in
-      settle_none (initial_faults (scope_at w i) s) (with_initial i s at (walked_with f w)) r.none ∙ ap (λ (x : Walked). Ok (walked_with f x)) r.is
+      let names : Names = scope_at w i in
+      let body : Statement = unfold_statement names [] s in
+      let faults : List FlatFault = loop_faults (loops_at w i) [] s ++ option_to_list (earliest_of (initial_faults names body)) in
+      let r = stepped (counted w.limit (loops_at w i) names [] s w.count) (λ c. first_fault_or faults (with_initial i body at (record w { count = c }))) v e in
+      let q = settled faults (with_initial i body at (record w { count = r.mid })) v r.next in
+      and_then_ok (counted w.limit (loops_at w i) names [] s w.count) (λ c. first_fault_or faults (with_initial i body at (record (put_blocks bs w) { count = c }))) r.mid r.first
+      ∙ (settle_none faults (with_initial i body at (record (put_blocks bs w) { count = r.mid })) q.none ∙ ap (λ (x : Walked). Ok (put_blocks bs x)) q.is)
 
   -- assignments and nets
 
-  pub assign_with : (i : ℕ) (p : NetAssignment) (w v : Walked) → assign i p w ≡ Ok v → assign i p (walked_with f w) ≡ Ok (walked_with f v)
-  unfolding assign flat_with
+  pub assign_with : (i : ℕ) (p : NetAssignment) (w v : Walked) → assign i p w ≡ Ok v → assign i p (put_blocks bs w) ≡ Ok (put_blocks bs v)
+  unfolding assign
   assign_with i p w v e =
-      let s = settled (shape_faults (scope_at w i) p.target ++ shape_faults (scope_at w i) p.value) (with_driver (Written p.target i) (Written p.value i) (first p.target) w) v e in
-      settle_none (shape_faults (scope_at w i) p.target ++ shape_faults (scope_at w i) p.value) _ s.none ∙ ap (λ (x : Walked). Ok (walked_with f x)) s.is
+      let faults : List FlatFault = expression_faults (loops_at w i) (scope_at w i) p.target ++ expression_faults (loops_at w i) (scope_at w i) p.value in
+      let s = settled faults (with_driver (Written p.target i) (Written p.value i) (first p.target) w) v e in
+      settle_none faults _ s.none ∙ ap (λ (x : Walked). Ok (put_blocks bs x)) s.is
 
-  net_driver_with : (i at : ℕ) (t : Tree) (o : Option ℕ) (w : Walked) → net_driver i at t o (walked_with f w) ≡ walked_with f (net_driver i at t o w)
-  unfolding flat_with
+  net_driver_with : (i at : ℕ) (t : Tree) (o : Option ℕ) (w : Walked) → net_driver i at t o (put_blocks bs w) ≡ put_blocks bs (net_driver i at t o w)
   net_driver_with i at t None w = refl
   net_driver_with i at t (Some id) w = refl
 
-  net_value_with : (i at : ℕ) (name : Text) (t : Tree) (w v : Walked) → net_value i at name t w ≡ Ok v → net_value i at name t (walked_with f w) ≡ Ok (walked_with f v)
-  unfolding net_value flat_with
+  net_value_with : (i at : ℕ) (name : Text) (t : Tree) (w v : Walked) → net_value i at name t w ≡ Ok v → net_value i at name t (put_blocks bs w) ≡ Ok (put_blocks bs v)
+  unfolding net_value
   net_value_with i at name t w v e =
-      let s = settled (shape_faults (scope_at w i) t) (net_driver i at t (place_of (lookup name (scope_at w i))) w) v e in
-      settle_none (shape_faults (scope_at w i) t) _ s.none ∙ ap (λ (x : Walked). Ok x) (net_driver_with i at t (place_of (lookup name (scope_at w i))) w ∙ ap (walked_with f) s.is)
+      let faults : List FlatFault = expression_faults (loops_at w i) (scope_at w i) t in
+      let s = settled faults (net_driver i at t (place_of (lookup name (scope_at w i))) w) v e in
+      settle_none faults _ s.none ∙ ap (λ (x : Walked). Ok x) (net_driver_with i at t (place_of (lookup name (scope_at w i))) w ∙ ap (put_blocks bs) s.is)
 
-  net_option_with : (i at : ℕ) (name : Text) (o : Option Tree) (w v : Walked) → net_with i at name o w ≡ Ok v → net_with i at name o (walked_with f w) ≡ Ok (walked_with f v)
-  net_option_with i at name None w v e = let q : w ≡ v = cc in ap (λ (x : Walked). Ok (walked_with f x)) q
+  net_option_with : (i at : ℕ) (name : Text) (o : Option Tree) (w v : Walked) → net_with i at name o w ≡ Ok v → net_with i at name o (put_blocks bs w) ≡ Ok (put_blocks bs v)
+  net_option_with i at name None w v e = let q : w ≡ v = cc in ap (λ (x : Walked). Ok (put_blocks bs x)) q
   net_option_with i at name (Some t) w v e = net_value_with i at name t w v e
 
-  pub net_step_with : (i : ℕ) (x : DeclaredName) (w v : Walked) → net i x w ≡ Ok v → net i x (walked_with f w) ≡ Ok (walked_with f v)
+  pub net_step_with : (i : ℕ) (x : DeclaredName) (w v : Walked) → net i x w ≡ Ok v → net i x (put_blocks bs w) ≡ Ok (put_blocks bs v)
   unfolding net
   net_step_with i x w v e = net_option_with i x.token x.text x.value w v e
 
   -- the drivers of connections
 
-  port_with : (p : Port) (i id : ℕ) (t : Tree) (w : Walked) → join_port p i id t (walked_with f w) ≡ walked_with f (join_port p i id t w)
-  unfolding flat_with
+  port_with : (p : Port) (i id : ℕ) (t : Tree) (w : Walked) → join_port p i id t (put_blocks bs w) ≡ put_blocks bs (join_port p i id t w)
   port_with Inner i id t w = refl
   port_with Input i id t w = refl
   port_with Output i id t w = refl
 
-  at_with : (o : Option ℕ) (i : ℕ) (t : Tree) (w : Walked) → join_at o i t (walked_with f w) ≡ walked_with f (join_at o i t w)
-  unfolding flat_with
+  at_with : (o : Option ℕ) (i : ℕ) (t : Tree) (w : Walked) → join_at o i t (put_blocks bs w) ≡ put_blocks bs (join_at o i t w)
   at_with None i t w = refl
   at_with (Some id) i t w = port_with (signal_at w.flat.signals id).port i id t w
 
-  join_with : (i k : ℕ) (name : Text) (t : Tree) (w : Walked) → join i k name t (walked_with f w) ≡ walked_with f (join i k name t w)
-  unfolding join flat_with
+  join_with : (i k : ℕ) (name : Text) (t : Tree) (w : Walked) → join i k name t (put_blocks bs w) ≡ put_blocks bs (join i k name t w)
+  unfolding join
   join_with i k name t w = at_with (place_of (lookup name (scope_at w k))) i t w
 
-  value_with : (i k : ℕ) (name : Text) (o : Option Tree) (w : Walked) → join_value i k name o (walked_with f w) ≡ walked_with f (join_value i k name o w)
+  value_with : (i k : ℕ) (name : Text) (o : Option Tree) (w : Walked) → join_value i k name o (put_blocks bs w) ≡ put_blocks bs (join_value i k name o w)
   value_with i k name None w = refl
   value_with i k name (Some t) w = join_with i k name t w
 
-  named_with : (i k : ℕ) (list : List NamedConnection) (w : Walked) → fold (join_named i k) (walked_with f w) list ≡ walked_with f (fold (join_named i k) w list)
+  named_with : (i k : ℕ) (list : List NamedConnection) (w : Walked) → fold (join_named i k) (put_blocks bs w) list ≡ put_blocks bs (fold (join_named i k) w list)
   named_with i k [] w = refl
   named_with i k (x ∷ xs) w = ap (λ (v : Walked). fold (join_named i k) v xs) (value_with i k x.text x.value w) ∙ named_with i k xs (join_named i k w x)
 
-  positions_with : (i k : ℕ) (left : List Text) (ts : Trees) (w : Walked) → join_positions i k left ts (walked_with f w) ≡ walked_with f (join_positions i k left ts w)
+  positions_with : (i k : ℕ) (left : List Text) (ts : Trees) (w : Walked) → join_positions i k left ts (put_blocks bs w) ≡ put_blocks bs (join_positions i k left ts w)
   unfolding join_positions
   positions_with i k left End w = refl
   positions_with i k [] (More t ts) w = refl
   positions_with i k (p ∷ rest) (More t ts) w = ap (λ (v : Walked). join_positions i k rest ts v) (join_with i k p t w) ∙ positions_with i k rest ts (join i k p t w)
 
-  pub joined_with : (b : Bool) (i k : ℕ) (m : ModuleDeclaration) (c : Connections) (w : Walked) → joined i k (either_with b f m) c (walked_with f w) ≡ walked_with f (joined i k m c w)
+  pub joined_with : (f : Bodies) (b : Bool) (i k : ℕ) (m : ModuleDeclaration) (c : Connections) (w : Walked) → joined i k (either_with b f m) c (put_blocks bs w) ≡ put_blocks bs (joined i k m c w)
   unfolding joined
-  joined_with b i k m (Positions ts) w =
-      ap (λ (left : List Text). join_positions i k left ts (walked_with f w)) (port_names_with f b m) ∙ positions_with i k (port_names m) ts w
-  joined_with b i k m (Named list) w = named_with i k list w
+  joined_with f b i k m (Positions ts) w =
+      ap (λ (left : List Text). join_positions i k left ts (put_blocks bs w)) (port_names_with f b m) ∙ positions_with i k (port_names m) ts w
+  joined_with f b i k m (Named list) w = named_with i k list w

@@ -1,5 +1,5 @@
 -- The flat design of a source with other bodies.
-use Rattle.std.proofs.Common.{◌≡◌, ◌∙◌, ap, subst, sym, ℕ, ◌+◌, ◌<◌, true, nat_eq, List, [], length, Option, Some, None, Ok, arith}
+use Rattle.std.proofs.Common.{◌≡◌, ◌∙◌, ap, subst, sym, ℕ, ◌+◌, ◌<◌, true, nat_eq, List, [], length, Option, Some, None, Ok, refl, arith}
 use Rattle.std.specs.List.{list_any}
 use Rattle.rr_syntax.specs.Tree.{ModuleDeclaration, SourceText}
 use Rattle.rr_expr.specs.Scopes.{Names}
@@ -7,21 +7,20 @@ use Rattle.rr_flat.specs.Faults.{each}
 use Rattle.rr_flat.specs.Signals.{Text}
 use Rattle.rr_flat.specs.Plain.{Flat}
 use Rattle.rr_flatten.specs.Tables.{add_module}
-use Rattle.rr_flatten.specs.Walk.{Walked, module_at, nothing, finished, reached_from, top_place, enter_top, enter, flat_of}
-use Rattle.rr_flat_instance.proofs.Lists.{stepped, and_then_ok}
-use Rattle.rr_flat_instance.proofs.Grown.{grows_here}
-use Rattle.rr_body_laws.specs.Bodies.{Bodies, KeepsShapes, flat_with, modules_with, source_with}
+use Rattle.rr_flatten.specs.Walk.{Walked, module_at, nothing, finished, reached_from, top_place, enter_top, enter, flat_by}
+use Rattle.rr_flat_instance.proofs.Lists.{begins_here, stepped, and_then_ok}
+use Rattle.rr_flat_instance.proofs.Grown.{Grows}
+use Rattle.rr_body_laws.specs.Bodies.{Bodies, IsFlatWith, KeepsBodies, modules_with, source_with}
+use Rattle.rr_body_laws.proofs.Blocks.{put_blocks, changed_none, Follows}
 use Rattle.rr_body_laws.proofs.Tables.{table_with, top_place_with, reached_with, module_token, reached_owner}
-use Rattle.rr_body_laws.proofs.Walks.{walked_with}
-use Rattle.rr_body_laws.proofs.Enters.{enter_with}
+use Rattle.rr_body_laws.proofs.Enters.{enter_follows}
 
-finished_with : (f : Bodies) (numbers : List ℕ) (source : List ModuleDeclaration) (flat : Flat) → finished (modules_with numbers f 0 source) (flat_with f flat) ≡ flat_with f (finished source flat)
-unfolding flat_with
-finished_with f numbers source flat = ap (λ (reached : List ℕ). record (flat_with f (finished source flat)) { reached = reached }) (reached_with f numbers flat.owners 0 source)
+-- the walk of the whole source, with what is told of it at its end
+abbrev ended : List ModuleDeclaration → Walked → Walked
+ended source w = record w { flat = finished source w.flat }
 
-nothing_with : (f : Bodies) (numbers : List ℕ) (source : List ModuleDeclaration) (k : ℕ) → nothing (module_at (modules_with numbers f 0 source) k).token ≡ walked_with f (nothing (module_at source k).token)
-unfolding flat_with
-nothing_with f numbers source k = ap (λ (at : ℕ). nothing at) (module_token f numbers source k)
+ended_grows : (source : List ModuleDeclaration) (w : Walked) → Grows w (ended source w)
+ended_grows source w = record { more = omega arith; alike = λ i l n. refl; owners = begins_here w.flat.owners; drivers = begins_here w.flat.drivers; even = λ e. e; loops = begins_here w.loops; lined = λ e. e; limit = refl }
 
 -- the modules that own an instance are those that change
 owners_reached : (owners : List ℕ) (source : List ModuleDeclaration) (k : ℕ) → k < length source → list_any (nat_eq k) owners ≡ true → list_any (nat_eq k) (reached_from owners 0 source) ≡ true
@@ -29,31 +28,45 @@ owners_reached owners source k l h =
     let n : 0 + k ≡ k = omega arith in
     subst (λ (j : ℕ). list_any (nat_eq j) (reached_from owners 0 source) ≡ true) n (reached_owner owners 0 source k l (subst (λ (j : ℕ). list_any (nat_eq j) owners ≡ true) (sym n) h))
 
-top_with : (f : Bodies) → KeepsShapes f → (source : List ModuleDeclaration) (table : Names) (o : Option ℕ) (w : Walked) → enter_top source table o ≡ Ok w
-    → enter_top (modules_with (reached_from w.flat.owners 0 source) f 0 source) table o ≡ Ok (walked_with f w)
-top_with f keeps source table None w e = absurd (cc)
-top_with f keeps source table (Some k) w e =
-    let numbers : List ℕ = reached_from w.flat.owners 0 source in
-    ap (λ (start : Walked). enter (modules_with numbers f 0 source) table 16 [] k [] start) (nothing_with f numbers source k)
-    ∙ enter_with f keeps numbers source w (owners_reached w.flat.owners source) table 16 [] k [] (nothing (module_at source k).token) w (grows_here w) e
+top_follows : (limit : Option ℕ) (f : Bodies) (source : SourceText) (table : Names) (o : Option ℕ) (w : Walked) → KeepsBodies f source (finished source.modules w.flat) → enter_top limit source.modules table o ≡ Ok w
+    → Follows f source (finished source.modules w.flat) (enter_top limit (modules_with (reached_from w.flat.owners 0 source.modules) f 0 source.modules) table o) w
+top_follows limit f source table None w keeps e = absurd (cc)
+top_follows limit f source table (Some k) w keeps e =
+    let numbers : List ℕ = reached_from w.flat.owners 0 source.modules in
+    let final : Walked = ended source.modules w in
+    let r = enter_follows f numbers source final keeps (owners_reached w.flat.owners source.modules) table 16 [] k [] (nothing limit (module_at source.modules k).token) w [] refl (ended_grows source.modules w)
+    (changed_none f source final.flat) e in
+    record {
+      blocks = r.blocks;
+      is = ap (λ (at : ℕ). enter (modules_with numbers f 0 source.modules) table 16 [] k [] (nothing limit at)) (module_token f numbers source.modules k) ∙ r.is;
+      changed = r.changed;
+    }
 
-elaborated_with : (f : Bodies) → KeepsShapes f → (source : List ModuleDeclaration) (table : Names) (top : Option Text) (w : Walked) → each add_module source [] ≡ Ok table → enter_top source table (top_place source table top) ≡ Ok w
-    → flat_of (record { modules = modules_with (finished source w.flat).reached f 0 source }) top ≡ Ok (flat_with f (finished source w.flat))
-unfolding flat_of
-elaborated_with f keeps source table top w named walked =
-    let numbers : List ℕ = reached_from w.flat.owners 0 source in
-    let new : List ModuleDeclaration = modules_with numbers f 0 source in
-    and_then_ok (each add_module new []) _ table (table_with f numbers 0 source [] ∙ named)
-    ∙ (and_then_ok (enter_top new table (top_place new table top)) (λ (w : Walked). Ok (finished new w.flat)) (walked_with f w)
-    (ap (enter_top new table) (top_place_with f numbers source table top) ∙ top_with f keeps source table (top_place source table top) w walked)
-    ∙ ap (λ (x : Flat). Ok x) (finished_with f numbers source w.flat))
+elaborated_with : (limit : Option ℕ) (f : Bodies) (source : SourceText) (table : Names) (top : Option Text) (w : Walked) → each add_module source.modules [] ≡ Ok table → enter_top limit source.modules table (top_place source.modules table top) ≡ Ok w
+    → KeepsBodies f source (finished source.modules w.flat)
+    → (new : Flat) × ((flat_by limit (source_with (finished source.modules w.flat).reached f source) top ≡ Ok new) × IsFlatWith f source (finished source.modules w.flat) new)
+unfolding flat_by source_with
+elaborated_with limit f source table top w named walked keeps =
+    let numbers : List ℕ = reached_from w.flat.owners 0 source.modules in
+    let modules : List ModuleDeclaration = modules_with numbers f 0 source.modules in
+    let r = top_follows limit f source table (top_place source.modules table top) w keeps walked in
+    let flat : Flat = record (finished source.modules w.flat) { combinational = r.blocks } in (
+      flat,
+      (
+        and_then_ok (each add_module modules []) _ table (table_with f numbers 0 source.modules [] ∙ named)
+            ∙ (and_then_ok (enter_top limit modules table (top_place modules table top)) (λ (u : Walked). Ok (finished modules u.flat)) (put_blocks r.blocks w)
+            (ap (enter_top limit modules table) (top_place_with f numbers source.modules table top) ∙ r.is)
+            ∙ ap (λ (x : Flat). Ok x) (ap (λ (reached : List ℕ). record flat { reached = reached }) (reached_with f numbers w.flat.owners 0 source.modules))),
+        record { blocks = r.changed; others = refl },
+      ),
+    )
 
-pub bodies_elaborate : (f : Bodies) (source : SourceText) (top : Option Text) (flat : Flat) → KeepsShapes f → flat_of source top ≡ Ok flat → flat_of (source_with flat.reached f source) top ≡ Ok (flat_with f flat)
-unfolding flat_of source_with
-bodies_elaborate f source top flat keeps e =
+pub bodies_elaborate : (limit : Option ℕ) (f : Bodies) (source : SourceText) (top : Option Text) (flat : Flat) → flat_by limit source top ≡ Ok flat → KeepsBodies f source flat
+    → (new : Flat) × ((flat_by limit (source_with flat.reached f source) top ≡ Ok new) × IsFlatWith f source flat new)
+unfolding flat_by
+bodies_elaborate limit f source top flat e =
     let a = stepped (each add_module source.modules []) _ flat e in
-    let b = stepped (enter_top source.modules a.mid (top_place source.modules a.mid top)) (λ (w : Walked). Ok (finished source.modules w.flat)) flat a.next in
+    let b = stepped (enter_top limit source.modules a.mid (top_place source.modules a.mid top)) (λ (w : Walked). Ok (finished source.modules w.flat)) flat a.next in
     let last : Ok (finished source.modules b.mid.flat) ≡ Ok flat = b.next in
     let is : finished source.modules b.mid.flat ≡ flat = cc in
-    subst (λ (x : Flat). flat_of (record { modules = modules_with x.reached f 0 source.modules }) top ≡ Ok (flat_with f x)) is
-    (elaborated_with f keeps source.modules a.mid top b.mid a.first b.first)
+    subst (λ (x : Flat). KeepsBodies f source x → (new : Flat) × ((flat_by limit (source_with x.reached f source) top ≡ Ok new) × IsFlatWith f source x new)) is (elaborated_with limit f source a.mid top b.mid a.first b.first)

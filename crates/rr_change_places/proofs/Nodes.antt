@@ -7,6 +7,7 @@ use Rattle.rr_syntax.specs.declared.token.Number.{Number}
 use Rattle.rr_syntax.specs.declared.tree.Arm.{Arm as Branch}
 use Rattle.rr_syntax.specs.declared.tree.Expr.{Expr, the_lemmas as expr_lemmas}
 use Rattle.rr_syntax.specs.declared.tree.Expr.TheVariants as expr
+use Rattle.rr_syntax.specs.declared.tree.Head.{Head}
 use Rattle.rr_syntax.specs.declared.tree.Named.{Named as Name}
 use Rattle.rr_syntax.specs.declared.tree.Stmt.{Stmt, the_lemmas as stmt_lemmas}
 use Rattle.rr_syntax.specs.declared.tree.Stmt.TheVariants as stmt
@@ -107,7 +108,11 @@ pub statement-Assign : (acc : List Spot) (t : Bor Expr) (now : Bool) (v : Bor Ex
 unfolding plain_statement spots_of
 statement-Assign acc t now v = refl
 
-pub ruleset statement_nodes = (stmt_lemmas, statement-Null, statement-Block, statement-If, statement-IfElse, statement-Case, statement-Assign)
+pub statement-For : (acc : List Spot) (h : Head) (b : Bor Stmt) → acc ++ spots_of (plain_statement (stmt.For h b)) ≡ acc ++ spots_of (plain_statement b.now)
+unfolding plain_statement spots_of
+statement-For acc h b = refl
+
+pub ruleset statement_nodes = (stmt_lemmas, statement-Null, statement-Block, statement-If, statement-IfElse, statement-Case, statement-Assign, statement-For)
 
 pub statements_list : (xs : List Stmt) → spots_of_all (plain_statements xs) ≡ flat_map (λ x. spots_of (plain_statement x)) xs
 unfolding spots_of plain_statements

@@ -3,7 +3,7 @@ use Rattle.std.specs.Prelude.{ℕ, ◌<◌, ◌^◌, Bool, true, false, List, []
 use Rattle.std.specs.List.{AllByRecursion}
 use Rattle.rr_syntax.specs.declared.token.Number.{Number}
 use Rattle.rr_syntax.specs.Expressions.{spell}
-use Rattle.rr_syntax.specs.Tree.{Tree, Trees, Name, Literal, Bit, Part, Indexed, Unary, Binary, Cond, Concat, Repeat, Cast, Paren, End, More, Statement, Statements, Arm, Arms, Null, Block, If, IfElse, Case, Assign, Done, Then, CaseItem, NoArms, MoreArms, DeclaredName, NetAssignment, NamedConnection, EventControl, Star, Edges, Levels, Connections, Positions, Names, ModuleInstance, ModuleItem, Ports, Nets, Variables, Integers, Parameters, Assigns, Always, Initial, Instances, ModuleDeclaration}
+use Rattle.rr_syntax.specs.Tree.{Tree, Trees, Name, Literal, Bit, Part, Indexed, Unary, Binary, Cond, Concat, Repeat, Cast, Paren, End, More, Statement, Statements, Arm, Arms, Null, Block, If, IfElse, Case, Assign, For, Done, Then, CaseItem, NoArms, MoreArms, DeclaredName, NetAssignment, NamedConnection, EventControl, Star, Edges, Levels, Connections, Positions, Names, ModuleInstance, ModuleItem, Ports, Nets, Variables, Integers, Parameters, Assigns, Always, Initial, Instances, ModuleDeclaration}
 use Rattle.rr_expr.specs.declared.operators.Infix.TheVariants.{Either}
 use Rattle.rr_expr.specs.Faults.{takes_constants}
 use Rattle.rr_expr.specs.Operators.{infixes}
@@ -34,7 +34,7 @@ unfoldable mutual
   spots_of_parts End = []
   spots_of_parts (More t ts) = spots t ++ spots_of_parts ts
 
--- in a statement; targets have none
+-- in a statement; targets have none, nor has what a loop tells of its name (section 9.6)
 unfoldable mutual
   pub spots_of : Statement → List Spot
   spots_of Null = []
@@ -43,6 +43,7 @@ unfoldable mutual
   spots_of (IfElse c t u) = Test c ∷ (spots c ++ (spots_of t ++ spots_of u))
   spots_of (Case kind on arms) = spots on ++ spots_of_arms arms
   spots_of (Assign t now e) = spots e
+  spots_of (For h t) = spots_of t
 
   pub spots_of_all : Statements → List Spot
   spots_of_all Done = []

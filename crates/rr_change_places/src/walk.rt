@@ -94,6 +94,7 @@ fn add_spots_of<'a>(list: &mut Vec<Spot<'a>>, stmt: &'a Stmt<'a>) -> Result<(), 
             add_spots_of_arms(list, arms)
         }
         Stmt::Assign { value, .. } => add_spots(list, value),
+        Stmt::For { body, .. } => add_spots_of(list, body),
     }
 }
 

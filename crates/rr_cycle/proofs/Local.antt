@@ -2,7 +2,7 @@
 use Rattle.std.proofs.Common.{◌≡◌, ℕ, max, List, Bool, true, false, not, cond, ◌||◌, refl, ap, ◌∙◌, ◌⊎◌, inl, inr}
 use Rattle.std.proofs.lemmas.Bool.{cases_Bool, and_parts, both_ways, or_cases}
 use Rattle.rr_bits.specs.Words.{is_zero}
-use Rattle.rr_syntax.specs.Tree.{Tree, Trees, End, More, Statement, Statements, Arm, Arms, Null, Block as Sequence, If, IfElse, Case, Assign, Done, Then, CaseItem, NoArms, MoreArms}
+use Rattle.rr_syntax.specs.Tree.{Tree, Trees, End, More, Statement, Statements, Arm, Arms, Null, Block as Sequence, If, IfElse, Case, Assign, For, Done, Then, CaseItem, NoArms, MoreArms}
 use Rattle.rr_expr.specs.declared.types.Bit.{Bit}
 use Rattle.rr_expr.specs.declared.types.Shape.{Shape}
 use Rattle.rr_expr.specs.Reading.{NamesBit, NamesBits}
@@ -45,6 +45,7 @@ mutual
   outside s (Assign t true x) e b h =
       write_outside (target_bits s e t) (assigned s t x e) e b (missed (has_bit (target_bits s e t) b) (λ i. both_ways (writes_target s t b) h (target_written s e t b i)))
   outside s (Assign t false x) e b h = refl
+  outside s (For head t) e b h = refl
 
   outside_all : (s : Names) (ss : Statements) (e : Environment) (b : Bit) → write_any true s ss b ≡ false → executed_all s ss e b ≡ e b
   outside_all s Done e b h = refl
@@ -124,6 +125,7 @@ mutual
       ] in
       write_agree (target_bits s e t) (assigned s t x e) e f b same ∙ rw (p, v) refl
   run_agree s R (Assign t false x) before e f r k h = h
+  run_agree s R (For head t) before e f r k h = h
 
   run_all : (s : Names) (R : Bit → Type 0) (ss : Statements) (before : Bit → Bool) (e f : Environment) → Within (StatementsRead s ss) R →
       AllReadKnown s before ss → Agree e f (Known before R) → Agree (executed_all s ss e) (executed_all s ss f) (Known (known_all s before ss) R)

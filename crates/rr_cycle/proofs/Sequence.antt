@@ -3,7 +3,7 @@ use Rattle.std.proofs.Common.{◌≡◌, ℕ, zero, suc, ◌+◌, ◌≤◌, ◌
 use mathlib.Core.Path.{fun_ext}
 use Rattle.std.proofs.lemmas.Bool.{cases_eq, both_ways, or_cases, and_parts, eqb-true}
 use Rattle.std.proofs.lemmas.List.{get_or_append_left, get_or-append-add, drop_all}
-use Rattle.rr_syntax.specs.Tree.{Tree, Trees, Name, Literal, Bit as BitSelect, Part, Indexed, Unary, Binary, Cond, Concat, Repeat, Cast, Paren, End, More, Identifier, Statement, Statements, Arm, Arms, Null, Block as Sequence, If, IfElse, Case, Assign, Done, Then, CaseItem, NoArms, MoreArms}
+use Rattle.rr_syntax.specs.Tree.{Tree, Trees, Name, Literal, Bit as BitSelect, Part, Indexed, Unary, Binary, Cond, Concat, Repeat, Cast, Paren, End, More, Identifier, Statement, Statements, Arm, Arms, Null, Block as Sequence, If, IfElse, Case, Assign, For, Done, Then, CaseItem, NoArms, MoreArms}
 use Rattle.rr_expr.specs.declared.types.Bit.{Bit}
 use Rattle.rr_expr.specs.declared.types.Entity.{Entity}
 use Rattle.rr_expr.specs.declared.types.Entity.TheVariants.{Constant, Signal, Instance}
@@ -65,6 +65,7 @@ mutual
       let p : target_bits s e t ≡ target_bits s f t = target_local s e f t (named R (TargetReads s t) e f (λ a m. r a (inl m)) h) in
       write_agree (target_bits s e t) (assigned s t x e) e f b (inl (h b q)) ∙ rw (p, v) refl
   agree_after s R (Assign t false x) e f r h = h
+  agree_after s R (For head t) e f r h = h
 
   agree_all : (s : Names) (R : Bit → Type 0) (ss : Statements) (e f : Environment) → Within (StatementsRead s ss) R → Agree e f R → Agree (executed_all s ss e) (executed_all s ss f) R
   agree_all s R Done e f r h = h
@@ -122,6 +123,7 @@ mutual
       let v : assigned s t x e ≡ assigned s t x f = value_by_named_bits s x e f (named R (NamesBit s x) e f (λ a m. r a (inr m)) h) (max (form s t).width (form s x).width) (form s x).signed in
       let p : target_bits s e t ≡ target_bits s f t = target_local s e f t (named R (TargetReads s t) e f (λ a m. r a (inl m)) h) in
       rw (p, v) refl
+  updates_same s R (For head t) e f r h = refl
 
   all_same : (s : Names) (R : Bit → Type 0) (ss : Statements) (e f : Environment) → Within (StatementsRead s ss) R → Agree e f R → updates_of_all s ss e ≡ updates_of_all s ss f
   all_same s R Done e f r h = refl
@@ -245,6 +247,7 @@ mutual
   read_named s (Case kind on arms) b (inr h) = to_right (OfName s b) (names_in on) (names_read_by_arms arms) (arms_named s arms b h)
   read_named s (Assign t now e) b (inl h) = to_left (OfName s b) (index_names t) (names_in e) (index_named s t b h)
   read_named s (Assign t now e) b (inr h) = to_right (OfName s b) (index_names t) (names_in e) (bit_named s e b h)
+  read_named s (For head t) b h = absurd h
 
   all_named : (s : Names) (ss : Statements) (b : Bit) → StatementsRead s ss b → Among (OfName s b) (names_read_by ss)
   all_named s Done b h = absurd h
@@ -344,6 +347,7 @@ mutual
     | inr i ↦ to_right (OfKind s b now) (assigned_by t) (assigned_by u) (write_named now s u b i)
   ]
   write_named now s (Case kind on arms) b h = arms_written now s arms b h
+  write_named now s (For head t) b h = absurd (both_ways false refl h)
   write_named true s (Assign t true e) b h = parts_assigned s b true (target_parts t) (target_named s t b h)
   write_named true s (Assign t false e) b h = absurd (both_ways false refl h)
   write_named false s (Assign t true e) b h = absurd (both_ways false refl h)

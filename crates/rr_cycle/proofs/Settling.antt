@@ -4,7 +4,7 @@ use mathlib.Core.Path.{fun_ext}
 use Rattle.std.proofs.lemmas.Bool.{and_parts, both_ways, cases_eq, cases_Bool, or_cases, eqb-true, eq-eqb, and_from, lt-ltb, ltb-true}
 use Rattle.std.specs.List.{AllByRecursion}
 use Rattle.std.proofs.lemmas.List.Elements.{recursion_from_All}
-use Rattle.rr_syntax.specs.Tree.{Tree, Trees, Name, Literal, Bit as BitSelect, Part, Indexed, Unary, Binary, Cond, Concat, Repeat, Cast, Paren, End, More, Statement, Statements, Arm, Arms, Null, Block as Sequence, If, IfElse, Case, Assign, Done, Then, CaseItem, NoArms, MoreArms}
+use Rattle.rr_syntax.specs.Tree.{Tree, Trees, Name, Literal, Bit as BitSelect, Part, Indexed, Unary, Binary, Cond, Concat, Repeat, Cast, Paren, End, More, Statement, Statements, Arm, Arms, Null, Block as Sequence, If, IfElse, Case, Assign, For, Done, Then, CaseItem, NoArms, MoreArms}
 use Rattle.rr_expr.specs.declared.types.Bit.{Bit}
 use Rattle.rr_expr.specs.Faults.{constant_count, constant_span}
 use Rattle.rr_expr.specs.Scopes.{Names, meant, entity_shape, entity_range}
@@ -100,6 +100,7 @@ mutual
   none_later s (Case kind on arms) b h = none_later_arms s arms b h
   none_later s (Assign t true e) b h = refl
   none_later s (Assign t false e) b h = no_parts s (target_parts t) b h
+  none_later s (For head t) b h = refl
 
   none_later_all : (s : Names) (ss : Statements) (b : Bit) → AllByRecursion (λ a. a.now ≡ true) (assigned_by_all ss) → write_any false s ss b ≡ false
   none_later_all s Done b h = refl

@@ -3,7 +3,7 @@
 use Rattle.std.specs.Prelude.{ℕ, ◌==◌, max, List, [], ◌∷◌, ◌++◌, Bool, true, false, cond, not, ◌||◌, Option, Some, None}
 use Rattle.rr_bits.specs.Words.{word, extend, both, either, one_of, inverted, is_zero}
 use Rattle.rr_syntax.specs.declared.token.Number.{Number}
-use Rattle.rr_syntax.specs.Tree.{Tree, Trees, Name, Literal, Bit as BitSelect, Part, Indexed, Unary, Binary, Cond, Concat, Repeat, Cast, Paren, End, More, Statement, Statements, Arm, Arms, Null, Block as Sequence, If, IfElse, Case, Assign, Done, Then, CaseItem, NoArms, MoreArms}
+use Rattle.rr_syntax.specs.Tree.{Tree, Trees, Name, Literal, Bit as BitSelect, Part, Indexed, Unary, Binary, Cond, Concat, Repeat, Cast, Paren, End, More, Statement, Statements, Arm, Arms, Null, Block as Sequence, If, IfElse, Case, Assign, For, Done, Then, CaseItem, NoArms, MoreArms}
 use Rattle.rr_syntax.specs.Words.{keyword_case, keyword_casez}
 use Rattle.rr_expr.specs.declared.types.Bit.{Bit}
 use Rattle.rr_expr.specs.declared.types.Shape.{Shape}
@@ -93,7 +93,7 @@ is_matched s kind a x (More t ts) env = is_equal (wild kind t a.width) x (value 
 -- Statements
 
 -- the environment after the `=` of a statement; a `case` takes the first arm that has an equal label, else its `default`,
--- else nothing
+-- else nothing. Loops have been unfolded before (section 9.6)
 unfoldable mutual
   pub executed : Names → Statement → Environment → Environment
   executed s Null env = env
@@ -104,6 +104,7 @@ unfoldable mutual
       executed_case s kind (case_shape s on arms) (value s on env (case_shape s on arms).width (case_shape s on arms).signed) arms (executed_default s arms env) env
   executed s (Assign t true e) env = write (target_bits s env t) (assigned s t e env) env
   executed s (Assign t false e) env = env
+  executed s (For h t) env = env
 
   pub executed_all : Names → Statements → Environment → Environment
   executed_all s Done env = env
@@ -137,6 +138,7 @@ unfoldable mutual
       updates_of_case s kind (case_shape s on arms) (value s on env (case_shape s on arms).width (case_shape s on arms).signed) arms (updates_of_default s arms env) env
   updates s (Assign t true e) env = []
   updates s (Assign t false e) env = record { bits = target_bits s env t; value = assigned s t e env } ∷ []
+  updates s (For h t) env = []
 
   pub updates_of_all : Names → Statements → Environment → List Update
   updates_of_all s Done env = []

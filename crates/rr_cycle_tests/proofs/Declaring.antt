@@ -8,6 +8,7 @@ use Rattle.rr_syntax.specs.declared.token.Keyword.{Keyword}
 use Rattle.rr_syntax.specs.declared.tree.Arm.{Arm as Branch}
 use Rattle.rr_syntax.specs.declared.tree.Expr.{Expr}
 use Rattle.rr_syntax.specs.declared.tree.Named.{Named as Name}
+use Rattle.rr_syntax.specs.declared.tree.Head.{Head}
 use Rattle.rr_syntax.specs.declared.tree.Stmt.{Stmt, the_lemmas as stmt_lemmas}
 use Rattle.rr_syntax.specs.declared.tree.Stmt.TheVariants as stmt
 use Rattle.rr_syntax.specs.Tree.{Tree}
@@ -127,7 +128,11 @@ pub whole-Assign : (s : Names) (t : Bor Expr) (now : Bool) (v : Bor Expr) → sh
 unfolding plain_statement statement_faults
 whole-Assign s t now v h k = none_more s (shape_faults s (plain t.now)) (shape_faults s (plain v.now)) h k
 
-pub ruleset whole_nodes = (stmt_lemmas, and_parts, whole-Null, whole-Block, whole-If, whole-IfElse, whole-Case, whole-Assign)
+pub whole-For : (s : Names) (h : Head) (b : Bor Stmt) → statement_faults s (plain_statement (stmt.For h b)) ≡ []
+unfolding plain_statement statement_faults
+whole-For s h b = refl
+
+pub ruleset whole_nodes = (stmt_lemmas, and_parts, whole-Null, whole-For, whole-Block, whole-If, whole-IfElse, whole-Case, whole-Assign)
 
 pub declared : (r : Bool) (old new : Names) (name : List ℕ) (id : ℕ) (range : Option (ℕ × ℕ)) (signed : Bool) (n : ℕ) → new ≡ (if r then old ++ (name, Signal id range signed) ∷ [] else old) → range_width range ≤ 128 → id < n → Holds old n → Holds new n
 declared true old new name id range signed n e w l h = subst (λ (s : Names). Holds s n) (sym e) (holds_more old name id range signed n w l h)

@@ -10,6 +10,8 @@ mod directives;
 #[cfg(test)]
 mod dumps;
 #[cfg(test)]
+mod loops;
+#[cfg(test)]
 mod runs;
 #[cfg(test)]
 mod statements;

@@ -367,6 +367,15 @@ fn texts(rt: HostRuntime) -> Result<(), Fail> {
     let alloc = rt.alloc();
     for (refusal, expected) in [
         (Refusal::At(Fault::Loop, 42), "21 Loop at 42"),
+        (Refusal::At(Fault::BadLoop, 42), "37 BadLoop at 42"),
+        (
+            Refusal::TooMany(Limit::Turns, 65_537),
+            "16 TooMany turns 65537",
+        ),
+        (
+            Refusal::TooMany(Limit::Unfolded, 1_048_577),
+            "16 TooMany unfolded 1048577",
+        ),
         (
             Refusal::TooMany(Limit::Rows, 65_537),
             "16 TooMany rows 65537",

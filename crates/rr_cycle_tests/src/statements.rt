@@ -104,7 +104,7 @@ fn is_shaped(stmt: &Stmt, scope: &Scope) -> bool
     ensures { result ≡ true → statement_faults scope.now (plain_statement stmt.now) ≡ [] }
 {
     match stmt {
-        Stmt::Null => true,
+        Stmt::Null | Stmt::For { .. } => true,
         Stmt::Block { body, .. } => are_shaped(body, scope),
         Stmt::If {
             test,

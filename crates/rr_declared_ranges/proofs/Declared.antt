@@ -144,7 +144,7 @@ module _ (P Q : Text → Option (ℕ × ℕ) → Type 0) (seen : Names) (weaker 
   item_later (Ports p) h = by_later p.range (map net_name p.names) h
   item_later (Nets signed range list) h = by_later range (map net_name list) h
   item_later (Variables signed range list) h = by_later range (map net_name list) h
-  item_later (Integers list) h = tt
+  item_later (Integers list) h = all_weaken (λ (y : Identifier). P y.text (Some (31, 0))) list (λ y p. weaker y.text (Some (31, 0)) p) h
   item_later (Parameters p) h = tt
   item_later (Assigns pairs) h = tt
   item_later (Always events body token) h = tt
@@ -361,10 +361,9 @@ module _ (bracketed params : Names) where
   declarators_step seen k list d t g q =
       each_step (declare bracketed seen k) (λ (y : DeclaredName) t. Has t y.text k.range) (λ y d t l h. l y.text k.range h) (λ y d t g q. declare_step seen k y d t g q) list d t g q
 
-  integers_step : (seen : Names) (list : List Identifier) (d t : Declarations) → IsRight d → each (declare_integer bracketed seen) list d ≡ Ok t → Gives d t (Unit {0})
+  integers_step : (seen : Names) (list : List Identifier) (d t : Declarations) → IsRight d → each (declare_integer bracketed seen) list d ≡ Ok t → Gives d t (AllByRecursion (λ (y : Identifier). Has t y.text (Some (31, 0))) list)
   integers_step seen list d t g q =
-      let s = each_step (declare_integer bracketed seen) (λ (y : Identifier) t. Has t y.text integer_declaration.range) (λ y d t l h. l y.text integer_declaration.range h) (λ y d t g q. declare_step seen integer_declaration (integer_name y) d t g q) list d t g q in
-      (s.0, s.1, tt)
+      each_step (declare_integer bracketed seen) (λ (y : Identifier) t. Has t y.text integer_declaration.range) (λ y d t l h. l y.text integer_declaration.range h) (λ y d t g q. declare_step seen integer_declaration (integer_name y) d t g q) list d t g q
 
   -- with a range
   ranged_step : (seen : Names) (k : Option (ℕ × ℕ) → _) (o : Option Range) (list : List DeclaredName) (d t : Declarations) → IsRight d

@@ -81,7 +81,7 @@ head_names i base bits given m h e =
     (all_named base base signals signals r.0 (omega arith) (omega arith) (λ j l. let z : base - base + j ≡ j = omega arith in ap (λ (n : ℕ). signal_at signals n) z)
     (all_weaker (λ e. NoSignal e.1) (λ n. IsItsName base signals n.0 n.1) r.0 (λ n k. none_named base signals n.0 n.1 k) (constants given m r.0 r.1.0)))
 
-meant_found : (names : Names) (name : Text) (id : ℕ) (range : Option (ℕ × ℕ)) (signed : Bool) → meant names name ≡ entity.Signal id range signed → lookup name names ≡ Some (entity.Signal id range signed)
+pub meant_found : (names : Names) (name : Text) (id : ℕ) (range : Option (ℕ × ℕ)) (signed : Bool) → meant names name ≡ entity.Signal id range signed → lookup name names ≡ Some (entity.Signal id range signed)
 unfolding meant
 meant_found names name id range signed e = by (lookup name names) e
   where

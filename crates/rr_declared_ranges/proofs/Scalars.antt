@@ -145,7 +145,7 @@ module _ (d : Declarations) where
         by true = q
         by false = all_append Q s (x.signal ∷ []) q (m, tt)
 
-    all_in_order : (m : ModuleDeclaration) → AllByRecursion Q (signals_in_order m d)
+    pub all_in_order : (m : ModuleDeclaration) → AllByRecursion Q (signals_in_order m d)
     unfolding signals_in_order with_ports
     all_in_order m =
         fold_over (λ (x : Declared). Q x.signal) (AllByRecursion Q) with_inner (λ x s q p. inner_one x s q p) d.list (fold (with_ports d) (fold (with_identifier d) [] (plain_names m.header)) m.groups) all
@@ -251,7 +251,7 @@ numbers_there k (s ∷ ss) names name (inr h) n = by (lookup name (with_name nam
       | inr a ↦ (k, (s.range, (s.signed, numbers_stay (k + 1) ss (with_name names s.name (entity.Signal k s.range s.signed)) name (entity.Signal k s.range s.signed) (q ∙ ap Some (sym a.1)))))
     ]
 
-all_by_index : (P : Declared → Type 0) (xs : List Declared) → ((q : ℕ) → q < length xs → P (declared_at xs q)) → AllByRecursion P xs
+pub all_by_index : (P : Declared → Type 0) (xs : List Declared) → ((q : ℕ) → q < length xs → P (declared_at xs q)) → AllByRecursion P xs
 all_by_index P [] h = tt
 all_by_index P (x ∷ xs) h = (h 0 (omega arith), all_by_index P xs (λ q l. h (suc q) (omega (arith, l))))
 
@@ -297,7 +297,7 @@ module _ (m : ModuleDeclaration) (base : ℕ) (bracketed params : Names) (bracke
         narrow = ap (λ r. nat_lt 128 (range_width r)) (sym r) ∙ right.narrow p l;
       }
 
-nothing_right : (bracketed params : Names) → Entries NoSignal params → Right bracketed params params []
+pub nothing_right : (bracketed params : Names) → Entries NoSignal params → Right bracketed params params []
 nothing_right bracketed params c = record {
   there = λ p l. absurd (omega (arith, l));
   back = λ x p r s h. absurd (never p r s (entity.Signal p r s) (found (λ y e. NoSignal e) params x (entity.Signal p r s) c h) refl);

@@ -1,20 +1,21 @@
 -- Each instance of a flat design has the names and the signals of the head of its module.
 use Rattle.std.proofs.Common.{◌≡◌, ◌⊎◌, inl, inr, ℕ, zero, suc, ◌+◌, ◌-◌, ◌<◌, ◌≤◌, List, [], ◌∷◌, ◌++◌, length, Option, Some, None, Ok, refl, sym, subst, ap, ◌∙◌, arith, length-append}
 use Rattle.std.specs.Prelude.{slice_index_or}
-use Rattle.std.proofs.lemmas.Bool.{cases_lt, cases_eq}
-use Rattle.std.proofs.lemmas.List.{length-set, get_or_append_left, get_or-append_right, get_or-set_same, get_or-set_other}
+use Rattle.std.proofs.lemmas.Bool.{cases_lt}
+use Rattle.std.proofs.lemmas.List.{length-set, get_or_append_left, get_or-append_right}
 use Rattle.rr_syntax.specs.Tree.{Connections, ModuleInstance, ModuleItem, Ports, Nets, Variables, Integers, Parameters, Assigns, Always, Initial, Instances, ModuleDeclaration, SourceText}
-use Rattle.rr_expr.specs.Scopes.{Names, lookup, meant}
+use Rattle.rr_expr.specs.Scopes.{Names, lookup}
 use Rattle.rr_expr.specs.declared.types.Entity.TheVariants as entity
 use Rattle.rr_flat.specs.Faults.{and_then, each}
 use Rattle.rr_declarations.specs.Heads.{Head, head}
 use Rattle.rr_flat.specs.Signals.{with_name, Text, Signal, signal_at, no_signal}
 use Rattle.rr_flat.specs.Plain.{Flat}
+use Rattle.rr_loop_rules.specs.Rules.{loop_names}
 use Rattle.rr_flatten.specs.Tables.{place_of, add_module}
-use Rattle.rr_flatten.specs.Walk.{Walked, Enter, scope_at, module_at, assign, net, with_instance, joined, instance_of, item, opened, enter_by, enter, nothing, finished, top_place, enter_top, flat_of}
-use Rattle.rr_flat.proofs.Alike.{Alike, alike_named}
+use Rattle.rr_flatten.specs.Walk.{Walked, Enter, scope_at, module_at, assign, net, with_instance, joined, instance_of, item, opened, enter_by, enter, nothing, finished, top_place, enter_top, flat_by, flat_of}
+use Rattle.rr_flat.proofs.Alike.{Alike}
 use Rattle.rr_flatten.proofs.HeadOf.{ok_is, not_ok, first_ok, each_keeps}
-use Rattle.rr_flat_laws.proofs.Growing.{Same, each_same, assign_same, net_same, always_same, initial_same, joined_same, began, inside, entered}
+use Rattle.rr_flat_laws.proofs.Growing.{Same, each_same, assign_same, net_same, always_same, initial_same, joined_same, began, inside, entered, named_alike}
 
 module _ (ms : List ModuleDeclaration) where
   -- the head of instance i, which is one of module k, has its names, and its signals from a base on
@@ -47,16 +48,6 @@ module _ (ms : List ModuleDeclaration) where
       (subst (λ (scopes : List Names). Headed scopes w.flat.owners t.flat.signals) s.scopes (subst (λ (signals : List Signal). Headed w.flat.scopes w.flat.owners signals) s.signals g))
 
   -- Instances
-
-  -- a name of an instance changes nothing that the other names stand for
-  named_alike : (i : ℕ) (name : Text) (w : Walked) (j : ℕ) → j < length w.flat.scopes → Alike (scope_at w j) (scope_at (with_instance i name w) j)
-  named_alike i name w j l = by (cases_eq j i)
-    where
-      by : ((j ≡ i) ⊎ (j ≡ i → ⊥)) → Alike (scope_at w j) (scope_at (with_instance i name w) j)
-      by (inl e) = λ n.
-          let here : i < length w.flat.scopes = rw (← e) l in
-          rw (e, get_or-set_same w.flat.scopes i (with_name (scope_at w i) name entity.Instance) [] here) (sym (alike_named (scope_at w i) name n))
-      by (inr e) = λ n. ap (λ (s : Names). meant s n) (sym (get_or-set_other w.flat.scopes i j (with_name (scope_at w i) name entity.Instance) [] e))
 
   named : (i : ℕ) (text : Text) (w : Walked) → Fine w → Fine (with_instance i text w)
   named i text w g =
@@ -152,7 +143,7 @@ module _ (ms : List ModuleDeclaration) where
         (subst (FromHead (ss ++ more) (length scopes) k) (sym n)
         (record { base = length ss; bits = bits; given = given; top = h; is = e; alike = λ x. refl; room = omega (arith, room); same = λ j l. signal_new ss more j })))
 
-    after_opened : Fine (opened k h w)
+    after_opened : Fine (opened k h (loop_names (module_at ms k)) w)
     after_opened = record {
       even = length-append owners (k ∷ []) ∙ (ap (λ (n : ℕ). n + 1) f.even ∙ sym (length-append scopes (h.scope ∷ [])));
       each = λ j l. by j (cases_lt j (length scopes)) l;
@@ -170,14 +161,14 @@ module _ (ms : List ModuleDeclaration) where
   after_enter table zero above k given w t f e = absurd (not_ok _ t e)
   after_enter table (suc levels) above k given w t f e = after_enter_by table (enter ms table levels) (after_enter table levels) above k given w t f e
 
-  after_top : (table : Names) (o : Option ℕ) (w : Walked) → enter_top ms table o ≡ Ok w → Fine w
+  after_top : (table : Names) (o : Option ℕ) (w : Walked) → enter_top None ms table o ≡ Ok w → Fine w
   after_top table None w e = absurd (not_ok _ w e)
-  after_top table (Some k) w e = after_enter table 16 [] k [] (nothing (module_at ms k).token) w (record { even = refl; each = λ i l. absurd (omega (arith, l)) }) e
+  after_top table (Some k) w e = after_enter table 16 [] k [] (nothing None (module_at ms k).token) w (record { even = refl; each = λ i l. absurd (omega (arith, l)) }) e
 
 pub heads : (source : SourceText) (top : Option Text) (flat : Flat) → flat_of source top ≡ Ok flat → Headed source.modules flat.scopes flat.owners flat.signals
-unfolding flat_of
+unfolding flat_by
 heads source top flat e =
-    let r = first_ok (each add_module source.modules []) (λ table. and_then (enter_top source.modules table (top_place source.modules table top)) (λ w. Ok (finished source.modules w.flat))) flat e in
-    let s = first_ok (enter_top source.modules r.0 (top_place source.modules r.0 top)) (λ w. Ok (finished source.modules w.flat)) flat r.1.1 in
+    let r = first_ok (each add_module source.modules []) (λ table. and_then (enter_top None source.modules table (top_place source.modules table top)) (λ w. Ok (finished source.modules w.flat))) flat e in
+    let s = first_ok (enter_top None source.modules r.0 (top_place source.modules r.0 top)) (λ w. Ok (finished source.modules w.flat)) flat r.1.1 in
     let f = after_top source.modules r.0 (top_place source.modules r.0 top) s.0 s.1.0 in
     subst (λ (x : Flat). Headed source.modules x.scopes x.owners x.signals) (ok_is (finished source.modules s.0.flat) flat s.1.1) (record { even = f.even; each = f.each })

@@ -1,6 +1,6 @@
 -- What the names that a module declares stand for in an instance: signals with the declared ranges (IEEE 1364-2005 sections
--- 3.2, 3.3.1 and 12.3.3).
-use Rattle.std.specs.Prelude.{◌≡◌, ℕ, Bool, false, List, map, Option, Ok, nat_lt}
+-- 3.2, 3.3.1, 3.9 and 12.3.3).
+use Rattle.std.specs.Prelude.{◌≡◌, ℕ, Bool, false, List, map, Option, Some, Ok, nat_lt}
 use Rattle.std.specs.List.{AllByRecursion}
 use Rattle.rr_syntax.specs.Tree.{Identifier, DeclaredName, Range, ModuleItem, Ports, Nets, Variables, Integers, Parameters, Assigns, Always, Initial, Instances, ModuleDeclaration}
 use Rattle.rr_expr.specs.declared.types.Entity.TheVariants as entity
@@ -26,12 +26,12 @@ IsBy P seen o name = (r : Option (ℕ × ℕ)) × ((range_in seen o ≡ Ok r) ×
 abbrev pub AreBy : (Text → Option (ℕ × ℕ) → Type 0) → Names → Option Range → List Identifier → Type 0
 AreBy P seen o list = AllByRecursion (λ (y : Identifier). IsBy P seen o y.text) list
 
--- so it is of each name that an item declares, but by `integer`, which has no range in the text
+-- so it is of each name that an item declares; an `integer` has no range in the text, and 32 bits (section 3.9)
 abbrev pub ItemBy : (Text → Option (ℕ × ℕ) → Type 0) → Names → ModuleItem → Type 0
 ItemBy P seen (Ports p) = AreBy P seen p.range (map net_name p.names)
 ItemBy P seen (Nets signed range list) = AreBy P seen range (map net_name list)
 ItemBy P seen (Variables signed range list) = AreBy P seen range (map net_name list)
-ItemBy P seen (Integers list) = Unit {0}
+ItemBy P seen (Integers list) = AllByRecursion (λ (y : Identifier). P y.text (Some (31, 0))) list
 ItemBy P seen (Parameters p) = Unit {0}
 ItemBy P seen (Assigns pairs) = Unit {0}
 ItemBy P seen (Always events body token) = Unit {0}

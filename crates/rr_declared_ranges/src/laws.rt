@@ -1,9 +1,9 @@
 //! Laws of the names of an instance, as contracts of functions that do nothing.
-ghost use Rattle.rr_declared_ranges.specs.Laws.{NamesAreLocated, NamesHaveRanges};
+ghost use Rattle.rr_declared_ranges.specs.Laws.{LoopsAreVectors, NamesAreLocated, NamesHaveRanges};
 
-/// In each instance each name that its module declares as a net or a variable, but by `integer`,
-/// stands for a signal with the declared range, whose bounds have the values of that instance, and
-/// with at most 128 bits (sections 3.2 and 3.3.1).
+/// In each instance each name that its module declares as a net or a variable stands for a signal
+/// with the declared range, whose bounds have the values of that instance, and with at most 128 bits
+/// (sections 3.2 and 3.3.1); an `integer` has 32 bits (section 3.9).
 pub fn names_have_ranges()
     ensures { NamesHaveRanges }
 {}
@@ -12,4 +12,11 @@ pub fn names_have_ranges()
 /// range; so no signal has two names.
 pub fn names_are_located()
     ensures { NamesAreLocated }
+{}
+
+/// A name of a loop of an instance's module stands there for a signal of 32 bits: it is one of the
+/// module's integers (sections 3.9 and 9.6).
+#[tactic(auto, using(crate::proofs::Vectors::loops_of_source))]
+pub fn loops_are_vectors()
+    ensures { LoopsAreVectors }
 {}

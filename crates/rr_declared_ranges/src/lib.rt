@@ -6,4 +6,4 @@
 
 mod laws;
 
-pub use laws::{names_are_located, names_have_ranges};
+pub use laws::{loops_are_vectors, names_are_located, names_have_ranges};

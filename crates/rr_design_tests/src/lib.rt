@@ -18,6 +18,10 @@ mod expressions;
 #[cfg(test)]
 mod heads;
 #[cfg(test)]
+mod leaves;
+#[cfg(test)]
+mod loops;
+#[cfg(test)]
 mod modules;
 #[cfg(test)]
 mod parts;

@@ -9,7 +9,7 @@ use std::alloc::{AllocError, Global};
 use std::test::Fail;
 
 /// A text, its top, and what its flat design is.
-type Case = (&'static str, &'static Option<&'static str>, &'static str);
+pub(crate) type Case = (&'static str, &'static Option<&'static str>, &'static str);
 
 /// Instances, with connections by name and by position.
 const CONNECTIONS: [Case; 3] = [
@@ -518,7 +518,7 @@ fn first_wrong(alloc: Global, cases: &[Case]) -> Result<Option<usize>, AllocErro
 }
 
 /// Fails at the first case of these tables that is told otherwise.
-fn all_right(alloc: Global, tables: &[&[Case]]) -> Result<(), Fail> {
+pub(crate) fn all_right(alloc: Global, tables: &[&[Case]]) -> Result<(), Fail> {
     for (table, cases) in tables.iter().enumerate() {
         if let Some(place) = first_wrong(alloc, cases)? {
             return Err(Fail::new(format_args!("case {place} of table {table}")));

@@ -6,9 +6,9 @@ use Rattle.std.proofs.lemmas.List.Elements.{recursion_from_All}
 use Rattle.rr_lex.specs.Tokens.{IsSound}
 use Rattle.std.specs.List.{AllByRecursion}
 use Rattle.rr_syntax.specs.Words.{Word, Named, System, Digits, Reserved, Marked}
-use Rattle.rr_syntax.specs.Tree.{Tree, Trees, Name, Literal, Bit, Part, Indexed, Unary, Binary, Cond, Concat, Repeat, Cast, Paren, End, More, Statement, Statements, Arm, Arms, Null, Block, If, IfElse, Case, Assign, Done, Then, CaseItem, NoArms, MoreArms, Identifier, Range, PortDeclaration, ParamAssignment, ParameterDeclaration, DeclaredName, NetAssignment, EventControl, Star, Edges, Levels, NamedConnection, Connections, Positions, Names, ModuleInstance, ModuleItem, Ports, Nets, Variables, Integers, Parameters, Assigns, Always, Initial, Instances, ModuleDeclaration, SourceText}
+use Rattle.rr_syntax.specs.Tree.{Tree, Trees, Name, Literal, Bit, Part, Indexed, Unary, Binary, Cond, Concat, Repeat, Cast, Paren, End, More, LoopHead, Statement, Statements, Arm, Arms, Null, Block, If, IfElse, Case, Assign, For, Done, Then, CaseItem, NoArms, MoreArms, Identifier, Range, PortDeclaration, ParamAssignment, ParameterDeclaration, DeclaredName, NetAssignment, EventControl, Star, Edges, Levels, NamedConnection, Connections, Positions, Names, ModuleInstance, ModuleItem, Ports, Nets, Variables, Integers, Parameters, Assigns, Always, Initial, Instances, ModuleDeclaration, SourceText}
 use Rattle.rr_syntax.specs.Expressions.{spell, spell_parts, spell_more, IsFit, FitLiterals, FitLiteralsParts}
-use Rattle.rr_syntax.specs.Statements.{spell_label, spell_labels, spell_statement, spell_statements, spell_arm, spell_arms, FitLiteralsStatement, FitLiteralsStatements, FitLiteralsArm, FitLiteralsArms}
+use Rattle.rr_syntax.specs.Statements.{spell_label, spell_labels, spell_loop, spell_statement, spell_statements, spell_arm, spell_arms, FitLiteralsLoop, FitLiteralsStatement, FitLiteralsStatements, FitLiteralsArm, FitLiteralsArms}
 use Rattle.rr_syntax.specs.Items.{spell_each, spell_separated, spell_all, spell_where, spell_identifier, spell_range, spell_type, spell_dir, spell_port, spell_assignment, spell_parameter, spell_value, spell_declarator, spell_pair, spell_more_levels, spell_levels, spell_events, spell_optional, spell_connection, spell_connections, spell_overrides, spell_instance, spell_item, spell_parameters, spell_ports, spell_module, spell_source, rest, FitLiteralsRange, FitLiteralsPort, FitLiteralsAssignment, FitLiteralsParameter, FitLiteralsValue, FitLiteralsDeclarator, FitLiteralsPair, FitLiteralsEvents, FitLiteralsConnection, FitLiteralsConnections, FitLiteralsOverrides, FitLiteralsInstance, FitLiteralsItem, FitLiteralsModule, FitLiteralsSource, IsHeader, WellFormedModule, WellFormedSource}
 
 abbrev pub IsFitWord : Word → Type 0
@@ -63,6 +63,13 @@ unfolding spell_labels FitLiterals
 fit_labels End colon h = tt
 fit_labels (More t ts) colon h = fit_parts (More t ts) (front (spell_parts (More t ts)) _ h)
 
+fit_loop : (head : LoopHead) → Fit (spell_loop head) → FitLiteralsLoop head
+unfolding spell_loop FitLiteralsLoop
+fit_loop head h =
+    let k = (back (spell head.start) _ h.1.1.1).1 in
+    let j = (back (spell head.test) _ k).1.1.1 in
+    (fit head.start (front (spell head.start) _ h.1.1.1), fit head.test (front (spell head.test) _ k), fit head.step (front (spell head.step) _ j))
+
 mutual
   unfolding spell_statement FitLiteralsStatement
 
@@ -75,6 +82,7 @@ mutual
       (fit t (front (spell t) _ h.1.1), fit_statement s (front (spell_statement s) _ k), fit_statement u (back (spell_statement s) _ k).1)
   fit_statement (Case kind t arms) h = (fit t (front (spell t) _ h.1.1), fit_arms arms (front (spell_arms arms) _ (back (spell t) _ h.1.1).1))
   fit_statement (Assign t now v) h = (fit t (front (spell t) _ h), fit v (front (spell v) _ (back (spell t) _ h).1))
+  fit_statement (For head s) h = (fit_loop head (front (spell_loop head) _ h.1), fit_statement s (back (spell_loop head) _ h.1))
 
   fit_statements : (ss : Statements) → Fit (spell_statements ss) → FitLiteralsStatements ss
   fit_statements Done h = tt

@@ -5,3 +5,4 @@ pub mod RenumberedExpressions
 pub mod RenumberedItems
 pub mod RenumberedParts
 pub mod RenumberedStatements
+pub mod Unlimited

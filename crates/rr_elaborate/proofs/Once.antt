@@ -1,5 +1,5 @@
 -- Bytes have one flat design with a top, or one refusal.
-use Rattle.std.proofs.Common.{ℕ, ◌≡◌, ◌∙◌, ◌<◌, ◌⊎◌, inl, inr, List, refl, sym, ap, subst, Option, Ok, Err}
+use Rattle.std.proofs.Common.{ℕ, ◌≡◌, ◌∙◌, ◌<◌, ◌⊎◌, inl, inr, List, refl, sym, ap, subst, Option, Some, Ok, Err}
 use Rattle.std.proofs.lemmas.Bool.{cases_order}
 use Rattle.rr_syntax.specs.Tree.{SourceText}
 use Rattle.rr_lex.specs.Tokens.{Lexeme, AreTokens, words_of}
@@ -8,7 +8,7 @@ use Rattle.rr_grammar.specs.Trees.{SpellsShallow, IsNumberedTree}
 use Rattle.rr_grammar.proofs.OneSource.{unique_source}
 use Rattle.rr_flat.specs.Signals.{Text}
 use Rattle.rr_flat.specs.Plain.{Flat}
-use Rattle.rr_flatten.specs.Walk.{flat_of}
+use Rattle.rr_flatten.specs.Walk.{flat_by}
 use Rattle.rr_flat.specs.declared.fault.FlatFault.{FlatFault}
 use Rattle.rr_elaborate.specs.declared.design.DesignFault.{DesignFault}
 use Rattle.rr_elaborate.specs.declared.design.DesignFault.TheVariants as fault
@@ -52,20 +52,20 @@ one_outside bytes i j p q = by_order (cases_order p.at q.at)
 pub one_flaw : (bytes : List ℕ) (top : Option Text) (f g : FlatFault) → IsFlawed bytes top f → IsFlawed bytes top g → f ≡ g
 one_flaw bytes top f g p q =
     let both = one_text bytes p.tokens q.tokens p.tree q.tree p.text q.text in
-    let founds : Err p.found ≡ Err q.found = sym p.flat ∙ (ap (λ (t : SourceText). flat_of t top) both.1 ∙ q.flat) in
+    let founds : Err p.found ≡ Err q.found = sym p.flat ∙ (ap (λ (t : SourceText). flat_by (Some 1048576) t top) both.1 ∙ q.flat) in
     let found : p.found ≡ q.found = cc in
     p.at ∙ (ap (λ (l : List Lexeme). placed l p.found) both.0 ∙ (ap (placed q.tokens) found ∙ sym q.at))
 
 pub no_flaw : (bytes : List ℕ) (top : Option Text) (ts : List Lexeme) (f : Flat) (e : FlatFault) → IsDesign bytes ts top f → IsFlawed bytes top e → ⊥
 no_flaw bytes top ts f e d p =
     let both = one_text bytes ts p.tokens d.tree p.tree d.text p.text in
-    let answers : Ok f ≡ Err p.found = sym d.flat ∙ (ap (λ (t : SourceText). flat_of t top) both.1 ∙ p.flat) in
+    let answers : Ok f ≡ Err p.found = sym d.flat ∙ (ap (λ (t : SourceText). flat_by (Some 1048576) t top) both.1 ∙ p.flat) in
     absurd (cc)
 
 pub one_design : (bytes : List ℕ) (top : Option Text) (ts us : List Lexeme) (f g : Flat) → IsDesign bytes ts top f → IsDesign bytes us top g → (ts ≡ us) × (f ≡ g)
 one_design bytes top ts us f g d e =
     let both = one_text bytes ts us d.tree e.tree d.text e.text in
-    let answers : Ok f ≡ Ok g = sym d.flat ∙ (ap (λ (t : SourceText). flat_of t top) both.1 ∙ e.flat) in
+    let answers : Ok f ≡ Ok g = sym d.flat ∙ (ap (λ (t : SourceText). flat_by (Some 1048576) t top) both.1 ∙ e.flat) in
     (both.0, cc)
 
 -- where there is a design nothing is refused but for want of memory

@@ -1,10 +1,10 @@
 -- A statement has its token numbers from its bare statement and the number of its first token.
-use Rattle.std.proofs.Common.{ℕ, ◌≡◌, ◌+◌, length, Option, None, Some, refl, ap, sym}
-use Rattle.rr_syntax.specs.Tree.{Trees, End, More, Identifier, Statement, Statements, Arm, Arms, Null, Block, If, IfElse, Case, Assign, Done, Then, CaseItem, NoArms, MoreArms, bare, bare_parts, bare_identifier, bare_label, bare_statement, bare_statements, bare_arm, bare_arms}
+use Rattle.std.proofs.Common.{ℕ, ◌≡◌, ◌+◌, length, Option, None, Some, refl, ap, ap₂, sym}
+use Rattle.rr_syntax.specs.Tree.{Trees, End, More, Identifier, LoopHead, Statement, Statements, Arm, Arms, Null, Block, If, IfElse, Case, Assign, For, Done, Then, CaseItem, NoArms, MoreArms, bare, bare_parts, bare_identifier, bare_label, bare_loop, bare_statement, bare_statements, bare_arm, bare_arms}
 use Rattle.rr_syntax.specs.Expressions.{spell}
-use Rattle.rr_syntax.specs.Statements.{spell_label, spell_labels, spell_statement, spell_arm, NumberedLabel, NumberedLabels, NumberedStatement, NumberedStatements, NumberedArm, NumberedArms}
+use Rattle.rr_syntax.specs.Statements.{spell_label, spell_labels, spell_loop, spell_statement, spell_arm, NumberedLabel, NumberedLabels, NumberedLoop, NumberedStatement, NumberedStatements, NumberedArm, NumberedArms}
 use Rattle.rr_syntax.proofs.BareExpressions.{spell-bare}
-use Rattle.rr_syntax.proofs.BareStatements.{spell_statement-bare, spell_arm-bare, spell_label-bare, spell_labels-bare}
+use Rattle.rr_syntax.proofs.BareStatements.{spell_statement-bare, spell_arm-bare, spell_label-bare, spell_labels-bare, spell_loop-bare}
 use Rattle.rr_elaborate.proofs.RenumberedExpressions.{renumbered, renumbered_more, renumbered-bare, renumbered_more-bare}
 
 -- the name of a block, whose colon is number `at`
@@ -15,6 +15,18 @@ renumbered_label (Some i) at = Some (record { token = at + 1; text = i.text })
 unfoldable pub renumbered_labels : Trees → ℕ → Trees
 renumbered_labels End at = End
 renumbered_labels (More t ts) at = More (renumbered t at) (renumbered_more ts (at + length (spell t)))
+
+-- the head of a loop, whose opening bracket is number `at`
+unfoldable pub renumbered_loop : LoopHead → ℕ → LoopHead
+renumbered_loop h at = record {
+  token = at + 1;
+  text = h.text;
+  start = renumbered h.start (at + 3);
+  test = renumbered h.test (at + 3 + length (spell h.start) + 1);
+  step_token = at + 3 + length (spell h.start) + 1 + length (spell h.test) + 1;
+  step_text = h.step_text;
+  step = renumbered h.step (at + 3 + length (spell h.start) + 1 + length (spell h.test) + 3);
+}
 
 -- the same statement with the numbers that it has where its first token is number `at`
 unfoldable mutual
@@ -27,6 +39,7 @@ unfoldable mutual
       (renumbered_statement u (at + 2 + length (spell t) + 1 + length (spell_statement s) + 1))
   renumbered_statement (Case kind t arms) at = Case kind (renumbered t (at + 2)) (renumbered_arms arms (at + 2 + length (spell t) + 1))
   renumbered_statement (Assign t now v) at = Assign (renumbered t at) now (renumbered v (at + length (spell t) + 1))
+  renumbered_statement (For h s) at = For (renumbered_loop h (at + 1)) (renumbered_statement s (at + 1 + length (spell_loop h)))
 
   pub renumbered_statements : Statements → ℕ → Statements
   renumbered_statements Done at = Done
@@ -50,6 +63,17 @@ unfolding renumbered_labels bare NumberedLabels
 labels-bare End at h = refl
 labels-bare (More t ts) at h = rw (spell-bare t, renumbered-bare t at h.0, renumbered_more-bare ts (at + length (spell t)) h.1) refl
 
+loop-bare : (h : LoopHead) (at : ℕ) → NumberedLoop h at → renumbered_loop (bare_loop h) at ≡ h
+unfolding renumbered_loop bare_loop NumberedLoop
+loop-bare h at n =
+    rw (
+      spell-bare h.start,
+      spell-bare h.test,
+      renumbered-bare h.start (at + 3) n.1,
+      renumbered-bare h.test (at + 3 + length (spell h.start) + 1) n.2,
+      renumbered-bare h.step (at + 3 + length (spell h.start) + 1 + length (spell h.test) + 3) n.4,
+    ) (ap₂ (λ (a b : ℕ). record h { token = a; step_token = b }) (sym n.0) (sym n.3))
+
 mutual
   unfolding renumbered_statement bare_statement NumberedStatement
 
@@ -70,6 +94,8 @@ mutual
   renumbered_statement-bare (Case kind t arms) at h =
       rw (spell-bare t, renumbered-bare t (at + 2) h.0, arms-bare arms (at + 2 + length (spell t) + 1) h.1) refl
   renumbered_statement-bare (Assign t now v) at h = rw (spell-bare t, renumbered-bare t at h.0, renumbered-bare v (at + length (spell t) + 1) h.1) refl
+  renumbered_statement-bare (For head s) at h =
+      rw (spell_loop-bare head, loop-bare head (at + 1) h.0, renumbered_statement-bare s (at + 1 + length (spell_loop head)) h.1) refl
 
   statements-bare : (ss : Statements) (at : ℕ) → NumberedStatements ss at → renumbered_statements (bare_statements ss) at ≡ ss
   statements-bare Done at h = refl

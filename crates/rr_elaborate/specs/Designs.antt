@@ -1,5 +1,5 @@
 -- The flat design of a text, and why it has none.
-use Rattle.std.specs.Prelude.{ℕ, ◌≡◌, ◌<◌, List, length, drop, get_or, IsTrue, Option, Ok, Err}
+use Rattle.std.specs.Prelude.{ℕ, ◌≡◌, ◌<◌, List, length, drop, get_or, IsTrue, Option, Some, Ok, Err}
 use Rattle.rr_syntax.specs.Tree.{SourceText}
 use Rattle.rr_syntax.specs.Words.{Marked}
 use Rattle.rr_lex.specs.Tokens.{Lexeme, AreTokens, IsFirstFault, words_of}
@@ -9,7 +9,7 @@ use Rattle.rr_flat.specs.Signals.{Text}
 use Rattle.rr_flat.specs.declared.fault.FlatFault.{FlatFault}
 use Rattle.rr_flat.specs.declared.fault.FlatFault.TheVariants as flat
 use Rattle.rr_flat.specs.Plain.{Flat}
-use Rattle.rr_flatten.specs.Walk.{flat_of}
+use Rattle.rr_flatten.specs.Walk.{flat_by}
 use Rattle.rr_elaborate.specs.declared.design.DesignFault.{DesignFault}
 use Rattle.rr_elaborate.specs.declared.design.DesignFault.TheVariants as fault
 
@@ -30,16 +30,17 @@ pub record IsText (bytes : List ℕ) (ts : List Lexeme) (t : SourceText) : Type 
   pub rules : AllHaveRules ts
   pub spells : IsNumberedTree (words_of ts) t
 
--- the bytes have these tokens and this flat design with a top (section 12)
+-- the bytes have these tokens and this flat design with a top (section 12), where the bodies of loops have at most 1,048,576 tokens in
+-- all their turns (section 9.6)
 pub record IsDesign (bytes : List ℕ) (tokens : List Lexeme) (top : Option Text) (design : Flat) : Type 0 where
   pub tree : SourceText
   pub text : IsText bytes tokens tree
-  pub flat : flat_of tree top ≡ Ok design
+  pub flat : flat_by (Some 1048576) tree top ≡ Ok design
 
 -- the bytes have these tokens, which spell this tree, and this is its flat design
 pub record IsDesignOf (bytes : List ℕ) (tokens : List Lexeme) (tree : SourceText) (top : Option Text) (design : Flat) : Type 0 where
   pub text : IsText bytes tokens tree
-  pub flat : flat_of tree top ≡ Ok design
+  pub flat : flat_by (Some 1048576) tree top ≡ Ok design
 
 -- the first word without a rule begins at this byte
 pub record IsUnsupported (bytes : List ℕ) (offset : ℕ) : Type 0 where
@@ -70,6 +71,7 @@ placed ts (flat.NotConstant at) = flat.NotConstant (start_of ts at)
 placed ts (flat.PortMismatch at) = flat.PortMismatch (start_of ts at)
 placed ts (flat.TooWide at width) = flat.TooWide (start_of ts at) width
 placed ts (flat.TooMany limit count) = flat.TooMany limit count
+placed ts (flat.BadLoop at) = flat.BadLoop (start_of ts at)
 placed ts flat.Memory = flat.Memory
 
 -- the text has a tree, of which elaboration finds this fault first
@@ -78,7 +80,7 @@ pub record IsFlawed (bytes : List ℕ) (top : Option Text) (fault : FlatFault) :
   pub tree : SourceText
   pub text : IsText bytes tokens tree
   pub found : FlatFault
-  pub flat : flat_of tree top ≡ Err found
+  pub flat : flat_by (Some 1048576) tree top ≡ Err found
   pub at : fault ≡ placed tokens found
 
 -- why there is none; want of memory is free, and which byte is told of a text without a tree is not said

@@ -1,5 +1,5 @@
 //! From bytes to tokens, to the tree, to the flat design.
-ghost use Rattle.std.specs.Prelude.{◌≡◌, ◌≤◌, ◌<◌, ◌^◌, ℕ, List, Option, IfOk, MatchResult, length, option_map};
+ghost use Rattle.std.specs.Prelude.{◌≡◌, ◌≤◌, ◌<◌, ◌^◌, ℕ, List, Option, Some, IfOk, MatchResult, length, option_map};
 ghost use Rattle.rr_syntax.specs.Tree.{SourceText};
 ghost use Rattle.rr_syntax.specs.Items.{WellFormedSource, FitLiteralsSource};
 ghost use Rattle.rr_syntax.specs.View.{plain_source};
@@ -7,7 +7,7 @@ ghost use Rattle.rr_lex.specs.Tokens.{AreTokens, IsTextFault, lexemes};
 ghost use Rattle.rr_flat.specs.Elaborated.{IsSound};
 ghost use Rattle.rr_flat.specs.Faults.{Refuses as RefusesFlat};
 ghost use Rattle.rr_flat.specs.View.{plain_flat};
-ghost use Rattle.rr_flatten.specs.Walk.{flat_of};
+ghost use Rattle.rr_flatten.specs.Walk.{flat_by};
 ghost use Rattle.rr_parse.specs.Exact.{IsRefusal};
 ghost use Rattle.rr_elaborate.specs.Designs.{IsDesign, IsDesignOf, IsText, Refuses, placed as placed_by, start_of as start_in};
 
@@ -103,12 +103,13 @@ fn placed(tokens: &[Token<'_>], fault: FlatFault) -> FlatFault
         FlatFault::PortMismatch(at) => FlatFault::PortMismatch(start_of(tokens, at)),
         FlatFault::TooWide(at, width) => FlatFault::TooWide(start_of(tokens, at), width),
         FlatFault::TooMany(limit, count) => FlatFault::TooMany(limit, count),
+        FlatFault::BadLoop(at) => FlatFault::BadLoop(start_of(tokens, at)),
         FlatFault::Memory => FlatFault::Memory,
     }
 }
 
 fn of_flat(tokens: &[Token<'_>], fault: FlatFault) -> DesignFault
-    ensures { (bytes : List ℕ) (top : Option (List ℕ)) (tree : SourceText) → IsText bytes (lexemes tokens.now) tree → RefusesFlat (flat_of tree top) fault → Refuses bytes top result }
+    ensures { (bytes : List ℕ) (top : Option (List ℕ)) (tree : SourceText) → IsText bytes (lexemes tokens.now) tree → RefusesFlat (flat_by (Some 1048576) tree top) fault → Refuses bytes top result }
 {
     match fault {
         FlatFault::Memory => DesignFault::Memory,
@@ -122,6 +123,7 @@ fn flattened<'a>(
     tokens: &'a [Token<'a>],
     source: &'a Source<'a>,
     top: Option<&str>,
+    arena: &'a Bump,
 ) -> Result<Design<'a>, DesignFault>
     requires few { length source.now.modules.now < 2 ^ 32 }
     requires short { length tokens.now < 2 ^ 32 }
@@ -136,7 +138,7 @@ fn flattened<'a>(
     ensures fit { IfOk result (λ design. FitLiteralsSource (plain_source design.source.now)) }
     ensures few { IfOk result (λ design. length design.tokens.now < 2 ^ 32) }
 {
-    match flatten(alloc, source, top) {
+    match flatten(alloc, source, top, arena) {
         Ok(flat) => Ok(Design {
             tokens,
             source,
@@ -165,7 +167,7 @@ fn parsed<'a>(
     ensures few { IfOk result (λ design. length design.tokens.now < 2 ^ 32) }
 {
     match parse(tokens, arena) {
-        Ok(source) => flattened(alloc, tokens, source, top),
+        Ok(source) => flattened(alloc, tokens, source, top, arena),
         Err(fault) => Err(of_tokens(tokens, fault)),
     }
 }

@@ -11,7 +11,7 @@ use std::fmt;
 pub enum Refusal<'a> {
     /// A file has more bytes than its limit: so many (16).
     TooManyBytes(u64),
-    /// What is wrong with a design or its table first (1 to 33, 38 to 40), with every other count that
+    /// What is wrong with a design or its table first (1 to 33, 37 to 42), with every other count that
     /// passes its limit (16).
     Input(rr_run::Refusal<'a>),
     /// The first bad line of a certificate is this one, counted from 1 (34 to 36).

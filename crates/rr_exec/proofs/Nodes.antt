@@ -4,6 +4,7 @@ use Rattle.rr_syntax.specs.declared.token.Keyword.{Keyword}
 use Rattle.rr_syntax.specs.declared.tree.Arm.{Arm as Branch}
 use Rattle.rr_syntax.specs.declared.tree.Expr.{Expr}
 use Rattle.rr_syntax.specs.declared.tree.Named.{Named as Name}
+use Rattle.rr_syntax.specs.declared.tree.Head.{Head}
 use Rattle.rr_syntax.specs.declared.tree.Stmt.{Stmt, the_lemmas as stmt_lemmas}
 use Rattle.rr_syntax.specs.declared.tree.Stmt.TheVariants as stmt
 use Rattle.rr_syntax.specs.Tree.{Case}
@@ -75,6 +76,10 @@ pub run-Null : (s : Names) (e : Environment) → executed s (plain_statement stm
 unfolding plain_statement executed
 run-Null s e = refl
 
+pub run-For : (s : Names) (h : Head) (b : Bor Stmt) (e : Environment) → executed s (plain_statement (stmt.For h b)) e ≡ e
+unfolding plain_statement executed
+run-For s h b e = refl
+
 pub run-Block : (s : Names) (label : Option Name) (body : Bor (List Stmt)) (e : Environment) → executed s (plain_statement (stmt.Block label body)) e ≡ executed_all s (plain_statements body.now) e
 unfolding executed
 run-Block s label body e = ap (λ p. executed s p e) (plain_block label body)
@@ -111,6 +116,10 @@ run-later s t v e = refl
 pub left-Null : (s : Names) (e : Environment) → updates s (plain_statement stmt.Null) e ≡ []
 unfolding plain_statement updates
 left-Null s e = refl
+
+pub left-For : (s : Names) (h : Head) (b : Bor Stmt) (e : Environment) → updates s (plain_statement (stmt.For h b)) e ≡ []
+unfolding plain_statement updates
+left-For s h b e = refl
 
 pub left-Block : (s : Names) (label : Option Name) (body : Bor (List Stmt)) (e : Environment) → updates s (plain_statement (stmt.Block label body)) e ≡ updates_of_all s (plain_statements body.now) e
 unfolding updates
@@ -160,6 +169,7 @@ pub ruleset statement_nodes = (
   shaped-Assign-target,
   shaped-Assign-value,
   run-Null,
+  run-For,
   run-Block,
   run-If-true,
   run-If-false,
@@ -169,6 +179,7 @@ pub ruleset statement_nodes = (
   run-now,
   run-later,
   left-Null,
+  left-For,
   left-Block,
   left-If-true,
   left-If-false,

@@ -110,7 +110,7 @@ pub fn execute(stmt: &Stmt, scope: &Scope, machine: &mut Machine) -> Result<(), 
     ensures none { OnOk result (machine.new.none ≡ machine.old.none) }
 {
     match stmt {
-        Stmt::Null => Ok(()),
+        Stmt::Null | Stmt::For { .. } => Ok(()),
         Stmt::Block { body, .. } => execute_all(body, scope, machine),
         Stmt::If {
             test,

@@ -2,7 +2,7 @@
 use Rattle.std.proofs.Common.{◌≡◌, ◌∙◌, sym, ℕ, Bool, true, false, cond, List, [], ◌∷◌, ◌++◌, Option, Some, None, refl, is_some}
 use Rattle.std.specs.List.{AllByRecursion}
 use Rattle.std.specs.Str.{bytes_eq}
-use Rattle.rr_syntax.specs.Tree.{Tree, Trees, End, More, Statement, Statements, Arm, Arms, Null, Block, If, IfElse, Case, Assign, Done, Then, CaseItem, NoArms, MoreArms, NamedConnection, Connections, Positions}
+use Rattle.rr_syntax.specs.Tree.{Tree, Trees, End, More, Statement, Statements, Arm, Arms, Null, Block, If, IfElse, Case, Assign, For, Done, Then, CaseItem, NoArms, MoreArms, NamedConnection, Connections, Positions}
 use Rattle.rr_syntax.specs.Tree.{Names as Named}
 use Rattle.rr_expr.specs.Scopes.{Names, lookup, meant, or_instance}
 use Rattle.rr_expr.specs.Faults.{fault}
@@ -73,6 +73,7 @@ mutual
   one_alike a b (IfElse t s u) h = λ k. shape_alike a b t h k ++ (one_alike a b s h k ++ one_alike a b u h k)
   one_alike a b (Case kind t arms) h = λ k. shape_alike a b t h k ++ arms_alike a b arms h k
   one_alike a b (Assign t now v) h = λ k. shape_alike a b t h k ++ shape_alike a b v h k
+  one_alike a b (For head s) h = refl
 
   all_alike : (a b : Names) (ss : Statements) → Alike a b → statements_faults a ss ≡ statements_faults b ss
   all_alike a b Done h = refl
@@ -86,7 +87,7 @@ mutual
   arm_alike a b (CaseItem labels colon s) h = λ k. list_alike a b labels h k ++ one_alike a b s h k
 
 pub statement_alike : (a b : Names) (s : Statement) → Alike a b → IsStatement a s → IsStatement b s
-statement_alike a b s h e = record { formed = e.formed; fit = e.fit; shaped = sym (one_alike a b s h) ∙ e.shaped }
+statement_alike a b s h e = record { formed = e.formed; fit = e.fit; shaped = sym (one_alike a b s h) ∙ e.shaped; loops = e.loops }
 
 -- and what is connected
 

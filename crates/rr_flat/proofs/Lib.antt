@@ -6,3 +6,4 @@ pub mod WalkLemmas
 pub mod Lists
 pub mod Shaping
 pub mod Relaxing
+pub mod EarliestFaults

@@ -3,7 +3,7 @@ use Rattle.std.specs.Prelude.{◌≡◌, ℕ, Bool, List, [], ◌∷◌, ◌++�
 use Rattle.rr_expr.specs.declared.types.ExprFault.{ExprFault}
 use Rattle.rr_expr.specs.declared.types.ExprFault.TheVariants as expression
 use Rattle.rr_flat.specs.declared.fault.FlatFault.{FlatFault}
-use Rattle.rr_flat.specs.declared.fault.FlatFault.TheVariants.{NoTop, UnknownModule, SelfInstance, NameTwice, UnknownName, BadRange, NotConstant, PortMismatch, TooWide, TooMany, Memory}
+use Rattle.rr_flat.specs.declared.fault.FlatFault.TheVariants.{NoTop, UnknownModule, SelfInstance, NameTwice, UnknownName, BadRange, NotConstant, PortMismatch, TooWide, TooMany, BadLoop, Memory}
 
 -- the number of a refusal
 unfoldable pub number : FlatFault → ℕ
@@ -17,6 +17,7 @@ number (NotConstant at) = 13
 number (PortMismatch at) = 14
 number (TooWide at width) = 15
 number (TooMany limit count) = 16
+number (BadLoop at) = 37
 number Memory = 0
 
 -- the token at which it stands; a count stands at none
@@ -31,6 +32,7 @@ token (NotConstant at) = at
 token (PortMismatch at) = at
 token (TooWide at width) = at
 token (TooMany limit count) = 0
+token (BadLoop at) = at
 token Memory = 0
 
 -- at an earlier token, or at the same with a lower number
@@ -42,9 +44,18 @@ unfoldable pub sooner : Option FlatFault → FlatFault → Option FlatFault
 sooner None f = Some f
 sooner (Some g) f = if before f g then Some f else Some g
 
+-- the same among the turns of loops (section 9.6), in which a token has a fault for each turn: of two at one token the one that
+-- was found first stays
+unfoldable pub earlier : Option FlatFault → FlatFault → Option FlatFault
+earlier None f = Some f
+earlier (Some g) f = if nat_lt (token f) (token g) then Some f else Some g
+
 -- the first of the faults
 abbrev pub first_of : List FlatFault → Option FlatFault
 first_of faults = fold sooner None faults
+
+abbrev pub earliest_of : List FlatFault → Option FlatFault
+earliest_of faults = fold earlier None faults
 
 abbrev pub fault_or : {A : Type 0} → Option FlatFault → A → Result A FlatFault
 fault_or None a = Ok a

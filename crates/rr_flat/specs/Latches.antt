@@ -1,6 +1,7 @@
--- Which bits a statement has assigned on every path (IEEE 1364-2005 sections 9.2.1, 9.4 and 9.5).
+-- Which bits a statement has assigned on every path (IEEE 1364-2005 sections 9.2.1, 9.4 and 9.5). No loop stands in a flat design
+-- (section 9.6), as elaboration unfolds them.
 use Rattle.std.specs.Prelude.{◌≡◌, Bool, true, false, not, ◌&&◌, ◌||◌}
-use Rattle.rr_syntax.specs.Tree.{Trees, End, More, Statement, Statements, Arm, Arms, Null, Block as Sequence, If, IfElse, Case, Assign, Done, Then, CaseItem, NoArms, MoreArms}
+use Rattle.rr_syntax.specs.Tree.{Trees, End, More, Statement, Statements, Arm, Arms, Null, Block as Sequence, If, IfElse, Case, Assign, For, Done, Then, CaseItem, NoArms, MoreArms}
 use Rattle.rr_expr.specs.declared.types.Bit.{Bit}
 use Rattle.rr_expr.specs.Reading.{NamesBit, NamesBits}
 use Rattle.rr_expr.specs.Scopes.{Names}
@@ -28,6 +29,7 @@ unfoldable mutual
   known s before (Case kind on arms) b = known_arms s before arms b && (has_default arms || before b)
   known s before (Assign t true e) b = before b || assigns_target s t b
   known s before (Assign t false e) b = before b
+  known s before (For h t) b = before b
 
   pub known_all : Names → (Bit → Bool) → Statements → Bit → Bool
   known_all s before Done b = before b
@@ -51,6 +53,7 @@ unfoldable mutual
   ReadsKnown s before (Case kind on arms) = ((b : Bit) → NamesBit s on b → before b ≡ true) × ArmsReadKnown s before arms
   ReadsKnown s before (Assign t now e) =
       ((b : Bit) → TargetReads s t b → before b ≡ true) × ((b : Bit) → NamesBit s e b → before b ≡ true)
+  ReadsKnown s before (For h t) = Unit {0}
 
   pub AllReadKnown : Names → (Bit → Bool) → Statements → Type 0
   AllReadKnown s before Done = Unit {0}

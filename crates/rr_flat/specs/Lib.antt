@@ -4,6 +4,7 @@ pub mod Plain
 pub mod Inputs
 pub mod View
 pub mod Shapes
+pub mod Loops
 pub mod Sound
 pub mod Targets
 pub mod Reads

@@ -1,8 +1,8 @@
 -- What expressions, drivers and statements read and write, and which names stand in them
--- (IEEE 1364-2005 sections 5, 6.1 and 9).
+-- (IEEE 1364-2005 sections 5, 6.1 and 9). Statements of a flat design hold no loop (section 9.6): elaboration unfolds them.
 use Rattle.std.specs.Prelude.{ℕ, List, [], ◌∷◌, ◌++◌, Bool, true, false, ◌||◌, ◌⊎◌}
 use Rattle.rr_syntax.specs.declared.token.Number.{Number}
-use Rattle.rr_syntax.specs.Tree.{Tree, Trees, Name, Literal, Bit as BitSelect, Part, Indexed, Unary, Binary, Cond, Concat, Repeat, Cast, Paren, End, More, Identifier, Statement, Statements, Arm, Arms, Null, Block as Sequence, If, IfElse, Case, Assign, Done, Then, CaseItem, NoArms, MoreArms}
+use Rattle.rr_syntax.specs.Tree.{Tree, Trees, Name, Literal, Bit as BitSelect, Part, Indexed, Unary, Binary, Cond, Concat, Repeat, Cast, Paren, End, More, Identifier, Statement, Statements, Arm, Arms, Null, Block as Sequence, If, IfElse, Case, Assign, For, Done, Then, CaseItem, NoArms, MoreArms}
 use Rattle.rr_expr.specs.declared.types.Bit.{Bit}
 use Rattle.rr_expr.specs.Scopes.{Names}
 use Rattle.rr_expr.specs.Reading.{NamesBit, NamesBits}
@@ -101,6 +101,7 @@ unfoldable mutual
   StatementReads s (IfElse c t u) b = NamesBit s c b ⊎ (StatementReads s t b ⊎ StatementReads s u b)
   StatementReads s (Case kind on arms) b = NamesBit s on b ⊎ ArmsRead s arms b
   StatementReads s (Assign t now e) b = TargetReads s t b ⊎ NamesBit s e b
+  StatementReads s (For h t) b = ⊥
 
   pub StatementsRead : Names → Statements → Bit → Type 0
   StatementsRead s Done b = ⊥
@@ -122,6 +123,7 @@ unfoldable mutual
   names_of (IfElse c t u) = names_in c ++ (names_of t ++ names_of u)
   names_of (Case kind on arms) = names_in on ++ names_of_arms arms
   names_of (Assign t now e) = names_in t ++ names_in e
+  names_of (For h t) = []
 
   pub names_of_all : Statements → List Identifier
   names_of_all Done = []
@@ -142,6 +144,7 @@ unfoldable mutual
   names_read (IfElse c t u) = names_in c ++ (names_read t ++ names_read u)
   names_read (Case kind on arms) = names_in on ++ names_read_by_arms arms
   names_read (Assign t now e) = index_names t ++ names_in e
+  names_read (For h t) = []
 
   pub names_read_by : Statements → List Identifier
   names_read_by Done = []
@@ -172,6 +175,7 @@ unfoldable mutual
   assigned_by (IfElse c t u) = assigned_by t ++ assigned_by u
   assigned_by (Case kind on arms) = assigned_by_arms arms
   assigned_by (Assign t now e) = assigned_parts now (target_parts t)
+  assigned_by (For h t) = []
 
   pub assigned_by_all : Statements → List Assigned
   assigned_by_all Done = []
@@ -192,6 +196,7 @@ unfoldable mutual
   writes now s (If c t) b = writes now s t b
   writes now s (IfElse c t u) b = writes now s t b || writes now s u b
   writes now s (Case kind on arms) b = arms_write now s arms b
+  writes now s (For h t) b = false
   writes true s (Assign t true e) b = writes_target s t b
   writes true s (Assign t false e) b = false
   writes false s (Assign t true e) b = false

@@ -1,6 +1,6 @@
 -- The shapes of the expressions of a statement, or their faults (IEEE 1364-2005 section 5.4).
 use Rattle.std.specs.Prelude.{false, List, [], ◌++◌, Result}
-use Rattle.rr_syntax.specs.Tree.{Tree, Trees, End, More, Statement, Statements, Arm, Arms, Null, Block, If, IfElse, Case, Assign, Done, Then, CaseItem, NoArms, MoreArms}
+use Rattle.rr_syntax.specs.Tree.{Tree, Trees, End, More, Statement, Statements, Arm, Arms, Null, Block, If, IfElse, Case, Assign, For, Done, Then, CaseItem, NoArms, MoreArms}
 use Rattle.rr_expr.specs.Scopes.{Names}
 use Rattle.rr_expr.specs.Values.{form}
 use Rattle.rr_expr.specs.Faults.{fault}
@@ -19,7 +19,7 @@ unfoldable pub list_faults : Names → Trees → List FlatFault
 list_faults names End = []
 list_faults names (More t ts) = shape_faults names t ++ list_faults names ts
 
--- each expression of a statement gets its shape
+-- each expression of a statement gets its shape; a loop has been unfolded before (section 9.6)
 unfoldable mutual
   pub statement_faults : Names → Statement → List FlatFault
   statement_faults names Null = []
@@ -28,6 +28,7 @@ unfoldable mutual
   statement_faults names (IfElse t s u) = shape_faults names t ++ (statement_faults names s ++ statement_faults names u)
   statement_faults names (Case kind t arms) = shape_faults names t ++ arms_faults names arms
   statement_faults names (Assign t now v) = shape_faults names t ++ shape_faults names v
+  statement_faults names (For h s) = []
 
   pub statements_faults : Names → Statements → List FlatFault
   statements_faults names Done = []

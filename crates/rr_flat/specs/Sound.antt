@@ -1,5 +1,5 @@
 -- What every flat design keeps.
-use Rattle.std.specs.Prelude.{◌≡◌, ℕ, ◌+◌, ◌-◌, ◌^◌, ◌<◌, ◌≤◌, false, List, [], ◌∷◌, length, map, All, Option, Some, None, get_or, slice_index_or}
+use Rattle.std.specs.Prelude.{◌≡◌, ℕ, ◌+◌, ◌-◌, ◌^◌, ◌<◌, ◌≤◌, true, false, List, [], ◌∷◌, length, map, All, Option, Some, None, get_or, slice_index_or}
 use Rattle.std.specs.List.{AllByRecursion, range_with_len}
 use Rattle.rr_syntax.specs.Tree.{Tree, Trees, End, More, Statement, NamedConnection, Connections, Positions}
 use Rattle.rr_syntax.specs.Tree.{Names as Named}
@@ -22,6 +22,7 @@ use Rattle.rr_flat.specs.declared.design.Initial.{Initial}
 use Rattle.rr_flat.specs.declared.design.Part as design
 use Rattle.rr_flat.specs.declared.design.Part.TheVariants as part
 use Rattle.rr_flat.specs.Shapes.{statement_faults}
+use Rattle.rr_flat.specs.Loops.{is_loop_free}
 
 -- of that instance, with the width of its range, which is 1 to 128 and holds the starting value
 pub record IsOwn (i : ℕ) (s : Signal) : Type 0 where
@@ -69,11 +70,12 @@ pub record IsExpression (names : Names) (t : Tree) : Type 0 where
   pub fit : FitLiterals t
   pub shaped : fault names t false ≡ None
 
--- the same of each expression in a statement
+-- the same of each expression in a statement, and no loop in it (section 9.6): each has been unfolded
 pub record IsStatement (names : Names) (s : Statement) : Type 0 where
   pub formed : WellFormedStatement s
   pub fit : FitLiteralsStatement s
   pub shaped : statement_faults names s ≡ []
+  pub loops : is_loop_free s ≡ true
 
 -- the same of each expression of a list, and of those that are connected to ports
 unfoldable pub AreExpressions : Names → Trees → Type 0

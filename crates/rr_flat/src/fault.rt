@@ -19,13 +19,17 @@ pub enum Limit {
     FlatBits,
     /// Rows times flat bits.
     Work,
+    /// Turns of the loops of all instances (IEEE 1364-2005 section 9.6).
+    Turns,
+    /// Tokens of the bodies of loops, once for each turn.
+    Unfolded,
 }
 
-/// Refusals 7 to 16, in this order, with the numbers of the tokens at which they stand: no top
+/// Refusals 7 to 16 and 37, in this order, with the numbers of the tokens at which they stand: no top
 /// module, a module that is not there, an instance of a module that is being elaborated, a second
 /// declaration of a name, a name that is not declared, a bad range, a value that is no constant,
-/// connections or overrides that do not fit, a width outside 1 to 128 with that width, and a count
-/// that passes its limit with that count; and want of memory.
+/// connections or overrides that do not fit, a width outside 1 to 128 with that width, a count
+/// that passes its limit with that count, and a loop that is none; and want of memory.
 #[derive(Clone, Copy, Debug, PartialEq, Eq)]
 pub enum FlatFault {
     NoTop,
@@ -38,6 +42,7 @@ pub enum FlatFault {
     PortMismatch(u32),
     TooWide(u32, u32),
     TooMany(Limit, u64),
+    BadLoop(u32),
     Memory,
 }
 

@@ -1,11 +1,11 @@
 //! The first of several faults.
 ghost use Rattle.std.specs.Prelude.{◌≡◌, Some, fold};
-ghost use Rattle.rr_flat.specs.Faults.{sooner, fault_if, faults_in, number as number_of, token as token_of};
+ghost use Rattle.rr_flat.specs.Faults.{sooner, earlier as earlier_in, fault_if, faults_in, number as number_of, token as token_of};
 
 use crate::fault::FlatFault;
 
 impl FlatFault {
-    /// The number of the refusal, 7 to 16; 0 for want of memory.
+    /// The number of the refusal, 7 to 16 or 37; 0 for want of memory.
     #[tactic(auto, unfolding(crate::specs::Faults::number))]
     pub fn number(self) -> u32
         ensures { result ≡ number_of self }
@@ -21,6 +21,7 @@ impl FlatFault {
             FlatFault::PortMismatch(_) => 14,
             FlatFault::TooWide(_, _) => 15,
             FlatFault::TooMany(_, _) => 16,
+            FlatFault::BadLoop(_) => 37,
             FlatFault::Memory => 0,
         }
     }
@@ -38,7 +39,8 @@ impl FlatFault {
             | FlatFault::BadRange(token)
             | FlatFault::NotConstant(token)
             | FlatFault::PortMismatch(token)
-            | FlatFault::TooWide(token, _) => token,
+            | FlatFault::TooWide(token, _)
+            | FlatFault::BadLoop(token) => token,
             FlatFault::NoTop | FlatFault::TooMany(_, _) | FlatFault::Memory => 0,
         }
     }
@@ -66,6 +68,37 @@ pub fn sooner_of(found: Option<FlatFault>, fault: FlatFault) -> Option<FlatFault
     match found {
         None => Some(fault),
         Some(other) => Some(earlier(other, fault)),
+    }
+}
+
+/// A fault that was found, if any, or one more that stands at an earlier token.
+#[tactic(auto, unfolding(crate::specs::Faults::earlier))]
+pub fn earliest(found: Option<FlatFault>, fault: FlatFault) -> Option<FlatFault>
+    ensures { result ≡ earlier_in found fault }
+{
+    match found {
+        None => Some(fault),
+        Some(other) => {
+            let token = fault.token();
+            if token < other.token() {
+                Some(fault)
+            } else {
+                Some(other)
+            }
+        }
+    }
+}
+
+/// A fault that was found, if any, or the answer's, if it is one at an earlier token.
+pub fn note_earliest<T: Drop>(
+    found: Option<FlatFault>,
+    answer: &Result<T, FlatFault>,
+) -> Option<FlatFault>
+    ensures { result ≡ fold earlier_in found (faults_in answer.now) }
+{
+    match answer {
+        Ok(_) => found,
+        Err(fault) => earliest(found, *fault),
     }
 }
 

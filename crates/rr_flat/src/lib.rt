@@ -13,7 +13,7 @@ mod signal;
 
 pub use design::{Block, Driver, Flat, Initial, Order, Part, Side, Step, number_of};
 pub use fault::{FlatFault, Limit};
-pub use first::{earlier, note, note_if, sooner_of};
+pub use first::{earlier, earliest, note, note_earliest, note_if, sooner_of};
 pub use laws::order_laws;
 pub use reading::is_constant;
 pub use rr_expr::Bit;

@@ -15,8 +15,8 @@ use Rattle.rr_flat.specs.Faults.{fault_if, fault_or}
 use Rattle.rr_flat.specs.Signals.{Text, signal_at}
 use Rattle.rr_flat.specs.Plain.{Written, Whole, Driver}
 use Rattle.rr_flatten.specs.Tables.{place_of, port_names, name_set, at_place}
-use Rattle.rr_flatten.specs.Walk.{Walked, scope_at, with_driver, noted, Checked, check_override, fold_trees, check_position, nothing_checked, overrides, twice_faults, value_faults, Connected, check_connection, Joining, place_port, check_port, connections, join_port, join_at, join, join_value, join_named, join_positions, joined, checked}
-use Rattle.rr_flat.specs.Shapes.{shape_faults}
+use Rattle.rr_flatten.specs.Walk.{Walked, scope_at, expression_faults, with_driver, noted, Checked, check_override, fold_trees, check_position, nothing_checked, overrides, twice_faults, value_faults, Connected, check_connection, Joining, place_port, check_port, connections, join_port, join_at, join, join_value, join_named, join_positions, joined, checked}
+use Rattle.rr_loop_rules.specs.Rules.{LoopNames, contains}
 use Rattle.rr_flat.specs.Writers.{no_driver}
 use Rattle.rr_choice.specs.declared.pick.Pick.{Pick}
 use Rattle.rr_choice.specs.Sites.{Site}
@@ -27,32 +27,32 @@ use Rattle.rr_flat_instance.specs.Flats.{instance_at, instance_flat}
 use Rattle.rr_flat_instance.specs.Places.{Somewhere, IsNameOfValue, IsNameOfConnection, IsNameOfConnections, MayBeDriven}
 use Rattle.rr_flat_instance.proofs.Lists.{Begins}
 use Rattle.rr_flat_instance.proofs.Tables.{parameter_table_instance, open_names_instance}
-use Rattle.rr_flat_instance.proofs.Shapes.{unfound, tree_stays}
+use Rattle.rr_flat_instance.proofs.Shapes.{unfound, expression_stays}
 use Rattle.rr_flat_instance.proofs.Targets.{target_stays}
 use Rattle.rr_flat_instance.proofs.Grown.{Grows, grows-trans, named_grows, positions_grows}
 use Rattle.rr_flat_instance.proofs.Commutes.{instance_walked, driver_instance}
 
 -- what is found stays found
 
-port_before : (names : Names) (left : List Text) (j : Joining) (t : Tree) → (place_port names left j t).found ≡ None → j.found ≡ None
-port_before names [] j t e = (unfound j.found (shape_faults names t) (unfound (noted j.found (shape_faults names t)) (fault_if (not j.over) (PortMismatch (first t))) e).before).before
-port_before names (n ∷ ns) j t e = (unfound j.found (shape_faults names t) e).before
+port_before : (loops : LoopNames) (names : Names) (left : List Text) (j : Joining) (t : Tree) → (place_port loops names left j t).found ≡ None → j.found ≡ None
+port_before loops names [] j t e = (unfound j.found (expression_faults loops names t) (unfound (noted j.found (expression_faults loops names t)) (fault_if (not j.over) (PortMismatch (first t))) e).before).before
+port_before loops names (n ∷ ns) j t e = (unfound j.found (expression_faults loops names t) e).before
 
-ports_before : (names : Names) (ts : Trees) (j : Joining) → (fold_trees (check_port names) j ts).found ≡ None → j.found ≡ None
+ports_before : (loops : LoopNames) (names : Names) (ts : Trees) (j : Joining) → (fold_trees (check_port loops names) j ts).found ≡ None → j.found ≡ None
 unfolding fold_trees check_port
-ports_before names End j e = e
-ports_before names (More t ts) j e = port_before names j.left j t (ports_before names ts (check_port names j t) e)
+ports_before loops names End j e = e
+ports_before loops names (More t ts) j e = port_before loops names j.left j t (ports_before loops names ts (check_port loops names j t) e)
 
-connection_before : (ports names : Names) (c : Connected) (n : NamedConnection) → (check_connection ports names c n).found ≡ None → c.found ≡ None
+connection_before : (loops : LoopNames) (ports names : Names) (c : Connected) (n : NamedConnection) → (check_connection loops ports names c n).found ≡ None → c.found ≡ None
 unfolding check_connection
-connection_before ports names c n e =
-    let a = unfound (noted (noted c.found (fault_if (is_none (lookup n.text ports)) (PortMismatch n.token))) (twice_faults n.token n.text c.seen)) (value_faults names n.value) e in
+connection_before loops ports names c n e =
+    let a = unfound (noted (noted c.found (fault_if (is_none (lookup n.text ports)) (PortMismatch n.token))) (twice_faults n.token n.text c.seen)) (value_faults loops names n.value) e in
     let b = unfound (noted c.found (fault_if (is_none (lookup n.text ports)) (PortMismatch n.token))) (twice_faults n.token n.text c.seen) a.before in
     (unfound c.found (fault_if (is_none (lookup n.text ports)) (PortMismatch n.token)) b.before).before
 
-named_before : (ports names : Names) (list : List NamedConnection) (c : Connected) → (fold (check_connection ports names) c list).found ≡ None → c.found ≡ None
-named_before ports names [] c e = e
-named_before ports names (n ∷ ns) c e = connection_before ports names c n (named_before ports names ns (check_connection ports names c n) e)
+named_before : (loops : LoopNames) (ports names : Names) (list : List NamedConnection) (c : Connected) → (fold (check_connection loops ports names) c list).found ≡ None → c.found ≡ None
+named_before loops ports names [] c e = e
+named_before loops ports names (n ∷ ns) c e = connection_before loops ports names c n (named_before loops ports names ns (check_connection loops ports names c n) e)
 
 unless_other : (b : Bool) (f g : FlatFault) → fault_if b f ≡ [] → fault_if b g ≡ fault_if b f
 unless_other true f g e = absurd (cc)
@@ -79,70 +79,77 @@ module _ (ss : List Site) (ps : List Pick) where
 
   -- connections without a fault
 
-  port_stays : (names : Names) (left : List Text) (j : Joining) (t : Tree) → ((name : List ℕ) → IsGuardName ss t name → IsScalar names name) → (place_port names left j t).found ≡ None
-      → place_port names left j (instance_tree ss ps t) ≡ place_port names left j t
-  port_stays names [] j t n e =
-      let a = unfound (noted j.found (shape_faults names t)) (fault_if (not j.over) (PortMismatch (first t))) e in
-      let b = unfound j.found (shape_faults names t) a.before in
+  port_stays : (loops : LoopNames) (names : Names) (left : List Text) (j : Joining) (t : Tree) → ((name : List ℕ) → IsGuardName ss t name → IsScalar names name)
+      → ((name : List ℕ) → IsGuardName ss t name → contains loops name ≡ false) → (place_port loops names left j t).found ≡ None
+      → place_port loops names left j (instance_tree ss ps t) ≡ place_port loops names left j t
+  port_stays loops names [] j t n free e =
+      let a = unfound (noted j.found (expression_faults loops names t)) (fault_if (not j.over) (PortMismatch (first t))) e in
+      let b = unfound j.found (expression_faults loops names t) a.before in
       ap₂ (λ (faults more : List FlatFault). record j { over = true; found = noted (noted j.found faults) more })
-      (tree_stays ss ps names t n b.more ∙ sym b.more) (unless_other (not j.over) (PortMismatch (first t)) (PortMismatch (first (instance_tree ss ps t))) a.more)
-  port_stays names (m ∷ ms) j t n e =
-      let a = unfound j.found (shape_faults names t) e in
-      ap (λ (faults : List FlatFault). record j { left = ms; found = noted j.found faults }) (tree_stays ss ps names t n a.more ∙ sym a.more)
+      (expression_stays ss ps names loops t n free b.more ∙ sym b.more) (unless_other (not j.over) (PortMismatch (first t)) (PortMismatch (first (instance_tree ss ps t))) a.more)
+  port_stays loops names (m ∷ ms) j t n free e =
+      let a = unfound j.found (expression_faults loops names t) e in
+      ap (λ (faults : List FlatFault). record j { left = ms; found = noted j.found faults }) (expression_stays ss ps names loops t n free a.more ∙ sym a.more)
 
-  ports_stay : (names : Names) (ts : Trees) (j : Joining) → ((name : List ℕ) → IsGuardNameIn ss ts name → IsScalar names name) → (fold_trees (check_port names) j ts).found ≡ None
-      → fold_trees (check_port names) j (instance_parts ss ps ts) ≡ fold_trees (check_port names) j ts
+  ports_stay : (loops : LoopNames) (names : Names) (ts : Trees) (j : Joining) → ((name : List ℕ) → IsGuardNameIn ss ts name → IsScalar names name)
+      → ((name : List ℕ) → IsGuardNameIn ss ts name → contains loops name ≡ false) → (fold_trees (check_port loops names) j ts).found ≡ None
+      → fold_trees (check_port loops names) j (instance_parts ss ps ts) ≡ fold_trees (check_port loops names) j ts
   unfolding fold_trees check_port instance_tree IsGuardName
-  ports_stay names End j n e = refl
-  ports_stay names (More t ts) j n e =
-      ap (λ (k : Joining). fold_trees (check_port names) k (instance_parts ss ps ts)) (port_stays names j.left j t (λ x k. n x (inl k)) (ports_before names ts (check_port names j t) e))
-      ∙ ports_stay names ts (check_port names j t) (λ x k. n x (inr k)) e
+  ports_stay loops names End j n free e = refl
+  ports_stay loops names (More t ts) j n free e =
+      ap (λ (k : Joining). fold_trees (check_port loops names) k (instance_parts ss ps ts)) (port_stays loops names j.left j t (λ x k. n x (inl k)) (λ x k. free x (inl k)) (ports_before loops names ts (check_port loops names j t) e))
+      ∙ ports_stay loops names ts (check_port loops names j t) (λ x k. n x (inr k)) (λ x k. free x (inr k)) e
 
-  value_stays : (names : Names) (o : Option Tree) → ((name : List ℕ) → IsNameOfValue ss o name → IsScalar names name) → value_faults names o ≡ [] → value_faults names (instance_value ss ps o) ≡ value_faults names o
+  value_stays : (loops : LoopNames) (names : Names) (o : Option Tree) → ((name : List ℕ) → IsNameOfValue ss o name → IsScalar names name)
+      → ((name : List ℕ) → IsNameOfValue ss o name → contains loops name ≡ false) → value_faults loops names o ≡ [] → value_faults loops names (instance_value ss ps o) ≡ value_faults loops names o
   unfolding instance_value
-  value_stays names None n e = refl
-  value_stays names (Some t) n e = tree_stays ss ps names t n e ∙ sym e
+  value_stays loops names None n free e = refl
+  value_stays loops names (Some t) n free e = expression_stays ss ps names loops t n free e ∙ sym e
 
-  connection_stays : (ports names : Names) (c : Connected) (x : NamedConnection) → ((name : List ℕ) → IsNameOfConnection ss name x → IsScalar names name) → (check_connection ports names c x).found ≡ None
-      → check_connection ports names c (instance_connection ss ps x) ≡ check_connection ports names c x
+  connection_stays : (loops : LoopNames) (ports names : Names) (c : Connected) (x : NamedConnection) → ((name : List ℕ) → IsNameOfConnection ss name x → IsScalar names name)
+      → ((name : List ℕ) → IsNameOfConnection ss name x → contains loops name ≡ false) → (check_connection loops ports names c x).found ≡ None
+      → check_connection loops ports names c (instance_connection ss ps x) ≡ check_connection loops ports names c x
   unfolding check_connection instance_connection
-  connection_stays ports names c x n e =
+  connection_stays loops ports names c x n free e =
       let found : Option FlatFault = noted (noted c.found (fault_if (is_none (lookup x.text ports)) (PortMismatch x.token))) (twice_faults x.token x.text c.seen) in
-      let a = unfound found (value_faults names x.value) e in
-      ap (λ (faults : List FlatFault). record { found = noted found faults; seen = at_place c.seen x.text 0 }) (value_stays names x.value n a.more)
+      let a = unfound found (value_faults loops names x.value) e in
+      ap (λ (faults : List FlatFault). record { found = noted found faults; seen = at_place c.seen x.text 0 }) (value_stays loops names x.value n free a.more)
 
-  named_stay : (ports names : Names) (list : List NamedConnection) (c : Connected) → ((name : List ℕ) → Somewhere (IsNameOfConnection ss name) list → IsScalar names name)
-      → (fold (check_connection ports names) c list).found ≡ None → fold (check_connection ports names) c (map (instance_connection ss ps) list) ≡ fold (check_connection ports names) c list
+  named_stay : (loops : LoopNames) (ports names : Names) (list : List NamedConnection) (c : Connected) → ((name : List ℕ) → Somewhere (IsNameOfConnection ss name) list → IsScalar names name)
+      → ((name : List ℕ) → Somewhere (IsNameOfConnection ss name) list → contains loops name ≡ false)
+      → (fold (check_connection loops ports names) c list).found ≡ None → fold (check_connection loops ports names) c (map (instance_connection ss ps) list) ≡ fold (check_connection loops ports names) c list
   unfolding Somewhere
-  named_stay ports names [] c n e = refl
-  named_stay ports names (x ∷ xs) c n e =
-      ap (λ (k : Connected). fold (check_connection ports names) k (map (instance_connection ss ps) xs)) (connection_stays ports names c x (λ y k. n y (inl k)) (named_before ports names xs (check_connection ports names c x) e))
-      ∙ named_stay ports names xs (check_connection ports names c x) (λ y k. n y (inr k)) e
+  named_stay loops ports names [] c n free e = refl
+  named_stay loops ports names (x ∷ xs) c n free e =
+      ap (λ (k : Connected). fold (check_connection loops ports names) k (map (instance_connection ss ps) xs)) (connection_stays loops ports names c x (λ y k. n y (inl k)) (λ y k. free y (inl k)) (named_before loops ports names xs (check_connection loops ports names c x) e))
+      ∙ named_stay loops ports names xs (check_connection loops ports names c x) (λ y k. n y (inr k)) (λ y k. free y (inr k)) e
 
-  connections_stay : (m : ModuleDeclaration) (names : Names) (found : Option FlatFault) (c : Connections) → ((name : List ℕ) → IsNameOfConnections ss name c → IsScalar names name) → connections m names found c ≡ None
-      → connections (instance_module ss ps m) names found (instance_connections ss ps c) ≡ None
+  connections_stay : (loops : LoopNames) (m : ModuleDeclaration) (names : Names) (found : Option FlatFault) (c : Connections) → ((name : List ℕ) → IsNameOfConnections ss name c → IsScalar names name)
+      → ((name : List ℕ) → IsNameOfConnections ss name c → contains loops name ≡ false) → connections loops m names found c ≡ None
+      → connections loops (instance_module ss ps m) names found (instance_connections ss ps c) ≡ None
   unfolding connections instance_module instance_connections port_names IsNameOfConnections
-  connections_stay m names found (Positions ts) n e =
+  connections_stay loops m names found (Positions ts) n free e =
       let start : Joining = record { left = port_names m; over = false; found = found } in
-      ap (λ (j : Joining). j.found) (ports_stay names ts start n e) ∙ e
-  connections_stay m names found (Named list) n e =
+      ap (λ (j : Joining). j.found) (ports_stay loops names ts start n free e) ∙ e
+  connections_stay loops m names found (Named list) n free e =
       let start : Connected = record { found = found; seen = [] } in
-      ap (λ (c : Connected). c.found) (named_stay (name_set (port_names m)) names list start n e) ∙ e
+      ap (λ (c : Connected). c.found) (named_stay loops (name_set (port_names m)) names list start n free e) ∙ e
 
   -- an instance without a fault
 
-  pub checked_stays : (above : List ℕ) (names : Names) (m : ModuleDeclaration) (k at : ℕ) (over : Option Connections) (x : ModuleInstance) (given : Names)
-      → ((name : List ℕ) → IsNameOfConnections ss name x.connections → IsScalar names name) → checked above names m k at over x ≡ Ok given
-      → checked above names (instance_module ss ps m) k at over (instance_child ss ps x) ≡ Ok given
+  pub checked_stays : (loops : LoopNames) (above : List ℕ) (names : Names) (m : ModuleDeclaration) (k at : ℕ) (over : Option Connections) (x : ModuleInstance) (given : Names)
+      → ((name : List ℕ) → IsNameOfConnections ss name x.connections → IsScalar names name)
+      → ((name : List ℕ) → IsNameOfConnections ss name x.connections → contains loops name ≡ false) → checked loops above names m k at over x ≡ Ok given
+      → checked loops above names (instance_module ss ps m) k at over (instance_child ss ps x) ≡ Ok given
   unfolding checked instance_child
-  checked_stays above names m k at over x given n e =
+  checked_stays loops above names m k at over x given n free e =
       let begun : Option FlatFault = noted None (fault_if (list_any (nat_eq k) above) (SelfInstance at)) in
       let o : Checked = overrides m names begun over in
       let found : Option FlatFault = noted o.found (fault_if (is_some (lookup x.text names)) (NameTwice x.token)) in
-      let a = unrefused (connections m names found x.connections) o.given given e in
-      ap (λ (o : Checked). fault_or (connections (instance_module ss ps m) names (noted o.found (fault_if (is_some (lookup x.text names)) (NameTwice x.token))) (instance_connections ss ps x.connections)) o.given)
+      let a = unrefused (connections loops m names found x.connections) o.given given e in
+      ap (λ (o : Checked). fault_or (connections loops (instance_module ss ps m) names (noted o.found (fault_if (is_some (lookup x.text names)) (NameTwice x.token))) (instance_connections ss ps x.connections)) o.given)
       (overrides_instance m names begun over)
-      ∙ (ap (λ (r : Option FlatFault). fault_or r o.given) (connections_stay m names found x.connections n a.none) ∙ ap (λ (g : Names). Ok g) a.is)
+      ∙ (ap (λ (r : Option FlatFault). fault_or r o.given) (connections_stay loops m names found x.connections n free a.none) ∙ ap (λ (g : Names). Ok g) a.is)
 
   -- the drivers of connections
 

@@ -1,4 +1,4 @@
--- A walk that goes on: every name means what it meant, and owners and drivers are added.
+-- A walk that goes on: every name means what it meant, and owners, names of loops and drivers are added.
 use Rattle.std.proofs.Common.{◌≡◌, ◌∙◌, sym, ap, ◌⊎◌, inl, inr, ℕ, zero, suc, ◌+◌, ◌<◌, ◌≤◌, List, [], ◌∷◌, ◌++◌, length, Option, Some, None, Result, Ok, refl, arith, fold, length-append, not, nat_lt}
 use Rattle.std.proofs.lemmas.Bool.{cases_eq}
 use Rattle.std.proofs.lemmas.List.{length-set, get_or-set_same, get_or-set_other, get_or_append_left}
@@ -16,9 +16,10 @@ use Rattle.rr_declarations.specs.Heads.{Head, head}
 use Rattle.rr_flat.specs.Signals.{with_name, Text, signal_at}
 use Rattle.rr_flat.specs.Plain.{Side, Written, Whole}
 use Rattle.rr_flatten.specs.Tables.{place_of, port_names}
-use Rattle.rr_flatten.specs.Walk.{Walked, Enter, scope_at, module_at, with_driver, with_block, assign, net_driver, net_value, net_with, net, event_faults, always, with_initial, initial, checked, with_instance, join_port, join_at, join, join_value, join_named, join_positions, joined, instance_of, item, opened, begin, enter_by, enter}
-use Rattle.rr_flat.specs.Shapes.{shape_faults, statement_faults}
-use Rattle.rr_starts.specs.Starts.{initial_faults}
+use Rattle.rr_flatten.specs.Walk.{Walked, Enter, scope_at, loops_at, module_at, expression_faults, with_driver, with_block, assign, net_driver, net_value, net_with, net, always, with_initial, initial, checked, with_instance, join_port, join_at, join, join_value, join_named, join_positions, joined, instance_of, item, opened, begin, enter_by, enter}
+use Rattle.rr_flatten.proofs.Gives.{always_gives, initial_gives}
+use Rattle.rr_loop_rules.specs.Rules.{LoopNames, loop_names}
+use Rattle.rr_unfold.specs.Unfold.{Count, unfold_statement}
 use Rattle.rr_flat.proofs.Alike.{Alike, alike_named}
 use Rattle.rr_flat_instance.proofs.Lists.{Begins, begins_here, begins_with, begins-trans, stepped}
 use Rattle.rr_flat_instance.proofs.Shapes.{settled}
@@ -29,9 +30,12 @@ pub record Grows (w v : Walked) : Type 0 where
   pub owners : Begins w.flat.owners v.flat.owners
   pub drivers : Begins w.flat.drivers v.flat.drivers
   pub even : length w.flat.owners ≡ length w.flat.scopes → length v.flat.owners ≡ length v.flat.scopes
+  pub loops : Begins w.loops v.loops
+  pub lined : length w.loops ≡ length w.flat.scopes → length v.loops ≡ length v.flat.scopes
+  pub limit : v.limit ≡ w.limit
 
 pub grows_here : (w : Walked) → Grows w w
-grows_here w = record { more = omega arith; alike = λ i l n. refl; owners = begins_here w.flat.owners; drivers = begins_here w.flat.drivers; even = λ e. e }
+grows_here w = record { more = omega arith; alike = λ i l n. refl; owners = begins_here w.flat.owners; drivers = begins_here w.flat.drivers; even = λ e. e; loops = begins_here w.loops; lined = λ e. e; limit = refl }
 
 pub grows-trans : (w v u : Walked) → Grows w v → Grows v u → Grows w u
 grows-trans w v u g h = record {
@@ -40,18 +44,22 @@ grows-trans w v u g h = record {
   owners = begins-trans _ _ _ g.owners h.owners;
   drivers = begins-trans _ _ _ g.drivers h.drivers;
   even = λ e. h.even (g.even e);
+  loops = begins-trans _ _ _ g.loops h.loops;
+  lined = λ e. h.lined (g.lined e);
+  limit = h.limit ∙ g.limit;
 }
 
 pub grows_to : (w v u : Walked) → Grows w v → v ≡ u → Grows w u
 grows_to w v u g e = rw (← e) g
 
 pub driver_grows : (target value : Side) (at : ℕ) (w : Walked) → Grows w (with_driver target value at w)
-driver_grows target value at w = record { more = omega arith; alike = λ i l n. refl; owners = begins_here w.flat.owners; drivers = begins_with w.flat.drivers _; even = λ e. e }
+driver_grows target value at w = record { more = omega arith; alike = λ i l n. refl; owners = begins_here w.flat.owners; drivers = begins_with w.flat.drivers _; even = λ e. e; loops = begins_here w.loops; lined = λ e. e; limit = refl }
 
-block_grows : (i : ℕ) (events : EventControl) (s : Statement) (at : ℕ) (w : Walked) → Grows w (with_block i events s at w)
-block_grows i (Star brackets) s at w = record { more = omega arith; alike = λ i l n. refl; owners = begins_here w.flat.owners; drivers = begins_here w.flat.drivers; even = λ e. e }
-block_grows i (Edges list commas) s at w = record { more = omega arith; alike = λ i l n. refl; owners = begins_here w.flat.owners; drivers = begins_here w.flat.drivers; even = λ e. e }
-block_grows i (Levels list commas) s at w = record { more = omega arith; alike = λ i l n. refl; owners = begins_here w.flat.owners; drivers = begins_here w.flat.drivers; even = λ e. e }
+-- turns are counted
+block_grows : (i : ℕ) (events : EventControl) (s : Statement) (at : ℕ) (c : Count) (w : Walked) → Grows w (with_block i events s at (record w { count = c }))
+block_grows i (Star brackets) s at c w = record { more = omega arith; alike = λ i l n. refl; owners = begins_here w.flat.owners; drivers = begins_here w.flat.drivers; even = λ e. e; loops = begins_here w.loops; lined = λ e. e; limit = refl }
+block_grows i (Edges list commas) s at c w = record { more = omega arith; alike = λ i l n. refl; owners = begins_here w.flat.owners; drivers = begins_here w.flat.drivers; even = λ e. e; loops = begins_here w.loops; lined = λ e. e; limit = refl }
+block_grows i (Levels list commas) s at c w = record { more = omega arith; alike = λ i l n. refl; owners = begins_here w.flat.owners; drivers = begins_here w.flat.drivers; even = λ e. e; loops = begins_here w.loops; lined = λ e. e; limit = refl }
 
 -- steps of a list
 
@@ -67,7 +75,7 @@ each_grows step h (x ∷ xs) w v e =
 pub assign_grows : (i : ℕ) (p : NetAssignment) (w v : Walked) → assign i p w ≡ Ok v → Grows w v
 unfolding assign
 assign_grows i p w v e =
-    let s = settled (shape_faults (scope_at w i) p.target ++ shape_faults (scope_at w i) p.value) (with_driver (Written p.target i) (Written p.value i) (first p.target) w) v e in
+    let s = settled (expression_faults (loops_at w i) (scope_at w i) p.target ++ expression_faults (loops_at w i) (scope_at w i) p.value) (with_driver (Written p.target i) (Written p.value i) (first p.target) w) v e in
     grows_to w _ v (driver_grows (Written p.target i) (Written p.value i) (first p.target) w) s.is
 
 net_driver_grows : (i at : ℕ) (t : Tree) (o : Option ℕ) (w : Walked) → Grows w (net_driver i at t o w)
@@ -77,7 +85,7 @@ net_driver_grows i at t (Some id) w = driver_grows (Whole id) (Written t i) at w
 net_value_grows : (i at : ℕ) (name : Text) (t : Tree) (w v : Walked) → net_value i at name t w ≡ Ok v → Grows w v
 unfolding net_value
 net_value_grows i at name t w v e =
-    let s = settled (shape_faults (scope_at w i) t) (net_driver i at t (place_of (lookup name (scope_at w i))) w) v e in
+    let s = settled (expression_faults (loops_at w i) (scope_at w i) t) (net_driver i at t (place_of (lookup name (scope_at w i))) w) v e in
     grows_to w _ v (net_driver_grows i at t (place_of (lookup name (scope_at w i))) w) s.is
 
 net_with_grows : (i at : ℕ) (name : Text) (o : Option Tree) (w v : Walked) → net_with i at name o w ≡ Ok v → Grows w v
@@ -89,16 +97,15 @@ unfolding net
 net_grows i n w v e = net_with_grows i n.token n.text n.value w v e
 
 pub always_grows : (i : ℕ) (events : EventControl) (s : Statement) (at : ℕ) (w v : Walked) → always i events s at w ≡ Ok v → Grows w v
-unfolding always
 always_grows i events s at w v e =
-    let r = settled (event_faults (scope_at w i) events ++ statement_faults (scope_at w i) s) (with_block i events s at w) v e in
-    grows_to w _ v (block_grows i events s at w) r.is
+    let r = always_gives i events s at w v e in
+    let body : Statement = unfold_statement (scope_at w i) [] s in
+    grows_to w (with_block i events body at (record w { count = r.0 })) v (block_grows i events body at r.0 w) r.1.1
 
 pub initial_grows : (i : ℕ) (s : Statement) (at : ℕ) (w v : Walked) → initial i s at w ≡ Ok v → Grows w v
-unfolding initial
 initial_grows i s at w v e =
-    let r = settled (initial_faults (scope_at w i) s) (with_initial i s at w) v e in
-    grows_to w (with_initial i s at w) v (record { more = omega arith; alike = λ i l n. refl; owners = begins_here w.flat.owners; drivers = begins_here w.flat.drivers; even = λ e. e }) r.is
+    let r = initial_gives i s at w v e in
+    grows_to w (with_initial i (unfold_statement (scope_at w i) [] s) at (record w { count = r.0 })) v (record { more = omega arith; alike = λ i l n. refl; owners = begins_here w.flat.owners; drivers = begins_here w.flat.drivers; even = λ e. e; loops = begins_here w.loops; lined = λ e. e; limit = refl }) r.1.1
 
 -- connections
 
@@ -145,6 +152,9 @@ with_instance_grows i name w = record {
   owners = begins_here w.flat.owners;
   drivers = begins_here w.flat.drivers;
   even = λ e. e ∙ sym (length-set w.flat.scopes i (with_name (scope_at w i) name entity.Instance));
+  loops = begins_here w.loops;
+  lined = λ e. e ∙ sym (length-set w.flat.scopes i (with_name (scope_at w i) name entity.Instance));
+  limit = refl;
 }
   where
     by_place : (j : ℕ) → j < length w.flat.scopes → ((j ≡ i) ⊎ (j ≡ i → ⊥)) → Alike (scope_at w j) (scope_at (with_instance i name w) j)
@@ -153,13 +163,16 @@ with_instance_grows i name w = record {
         rw (e, get_or-set_same w.flat.scopes i (with_name (scope_at w i) name entity.Instance) [] here) (sym (alike_named (scope_at w i) name n))
     by_place j l (inr e) = λ n. ap (λ (s : Names). meant s n) (sym (get_or-set_other w.flat.scopes i j (with_name (scope_at w i) name entity.Instance) [] e))
 
-pub opened_grows : (k : ℕ) (h : Head) (w : Walked) → Grows w (opened k h w)
-opened_grows k h w = record {
+pub opened_grows : (k : ℕ) (h : Head) (names : LoopNames) (w : Walked) → Grows w (opened k h names w)
+opened_grows k h names w = record {
   more = let e = length-append w.flat.scopes (h.scope ∷ []) in omega arith;
   alike = λ i l n. ap (λ (s : Names). meant s n) (sym (get_or_append_left w.flat.scopes (h.scope ∷ []) [] i l));
   owners = begins_with w.flat.owners (k ∷ []);
   drivers = begins_here w.flat.drivers;
   even = λ e. length-append w.flat.owners (k ∷ []) ∙ (ap (λ (n : ℕ). n + 1) e ∙ sym (length-append w.flat.scopes (h.scope ∷ [])));
+  loops = begins_with w.loops (names ∷ []);
+  lined = λ e. length-append w.loops (names ∷ []) ∙ (ap (λ (n : ℕ). n + 1) e ∙ sym (length-append w.flat.scopes (h.scope ∷ [])));
+  limit = refl;
 }
 
 -- an instance began with its head
@@ -167,20 +180,20 @@ pub record Began (source : List ModuleDeclaration) (k : ℕ) (given : Names) (w 
   pub room : fault_if (not (nat_lt (length w.flat.scopes) 256)) (TooMany InstanceCount 257) ≡ []
   pub top : Head
   pub found : head (length w.flat.scopes) (length w.flat.signals) w.bits given (module_at source k) ≡ Ok top
-  pub is : opened k top w ≡ v
+  pub is : opened k top (loop_names (module_at source k)) w ≡ v
 
 pub began : (source : List ModuleDeclaration) (k : ℕ) (given : Names) (w v : Walked) → begin source k given w ≡ Ok v → Began source k given w v
 unfolding begin
 began source k given w v e =
     let r = stepped (first_fault_or (fault_if (not (nat_lt (length w.flat.scopes) 256)) (TooMany InstanceCount 257)) w) _ v e in
     let s = settled (fault_if (not (nat_lt (length w.flat.scopes) 256)) (TooMany InstanceCount 257)) w r.mid r.first in
-    let n : and_then (head (length w.flat.scopes) (length w.flat.signals) w.bits given (module_at source k)) (λ (h : Head). Ok (opened k h w)) ≡ Ok v = rw s.is r.next in
-    let q = stepped (head (length w.flat.scopes) (length w.flat.signals) w.bits given (module_at source k)) (λ (h : Head). Ok (opened k h w)) v n in
-    let t : Ok (opened k q.mid w) ≡ Ok v = q.next in
+    let n : and_then (head (length w.flat.scopes) (length w.flat.signals) w.bits given (module_at source k)) (λ (h : Head). Ok (opened k h (loop_names (module_at source k)) w)) ≡ Ok v = rw s.is r.next in
+    let q = stepped (head (length w.flat.scopes) (length w.flat.signals) w.bits given (module_at source k)) (λ (h : Head). Ok (opened k h (loop_names (module_at source k)) w)) v n in
+    let t : Ok (opened k q.mid (loop_names (module_at source k)) w) ≡ Ok v = q.next in
     record { room = s.none; top = q.mid; found = q.first; is = cc }
 
 pub begin_grows : (source : List ModuleDeclaration) (k : ℕ) (given : Names) (w v : Walked) → begin source k given w ≡ Ok v → Grows w v
-begin_grows source k given w v e = let b = began source k given w v e in grows_to w (opened k b.top w) v (opened_grows k b.top w) b.is
+begin_grows source k given w v e = let b = began source k given w v e in grows_to w (opened k b.top (loop_names (module_at source k)) w) v (opened_grows k b.top (loop_names (module_at source k)) w) b.is
 
 -- each inner walk goes on
 abbrev pub EnterGrows : Enter → Type 0
@@ -189,7 +202,7 @@ EnterGrows sub = (k : ℕ) (given : Names) (w v : Walked) → sub k given w ≡ 
 -- an instance was walked
 pub record Inside (source : List ModuleDeclaration) (above : List ℕ) (i : ℕ) (sub : Enter) (at : ℕ) (over : Option Connections) (k : ℕ) (x : ModuleInstance) (w v : Walked) : Type 0 where
   pub given : Names
-  pub settings : checked above (scope_at w i) (module_at source k) k at over x ≡ Ok given
+  pub settings : checked (loops_at w i) above (scope_at w i) (module_at source k) k at over x ≡ Ok given
   pub mid : Walked
   pub walked : sub k given (with_instance i x.text w) ≡ Ok mid
   pub is : joined i (length w.flat.scopes) (module_at source k) x.connections mid ≡ v
@@ -198,7 +211,7 @@ pub inside : (source : List ModuleDeclaration) (above : List ℕ) (i : ℕ) (sub
     → instance_of source above i sub at over (Some k) x w ≡ Ok v → Inside source above i sub at over k x w v
 unfolding instance_of
 inside source above i sub at over k x w v e =
-    let r = stepped (checked above (scope_at w i) (module_at source k) k at over x) _ v e in
+    let r = stepped (checked (loops_at w i) above (scope_at w i) (module_at source k) k at over x) _ v e in
     let q = stepped (sub k r.mid (with_instance i x.text w)) (λ (m : Walked). Ok (joined i (length w.flat.scopes) (module_at source k) x.connections m)) v r.next in
     let t : Ok (joined i (length w.flat.scopes) (module_at source k) x.connections q.mid) ≡ Ok v = q.next in
     record { given = r.mid; settings = r.first; mid = q.mid; walked = q.first; is = cc }

@@ -1,7 +1,7 @@
 -- No fault comes into an expression or a statement.
 use Rattle.std.proofs.Common.{◌≡◌, sym, subst, inl, inr, ℕ, ◌==◌, Bool, true, false, ◌&&◌, if◌then◌else◌, List, [], ◌∷◌, ◌++◌, Option, Some, None, Ok, refl, fold}
 use Rattle.std.specs.List.{Contains}
-use Rattle.rr_syntax.specs.Tree.{Tree, Trees, End, More, Statement, Statements, Arm, Arms, Null, Block, If, IfElse, Case, Assign, Done, Then, CaseItem, NoArms, MoreArms, Literal}
+use Rattle.rr_syntax.specs.Tree.{Tree, Trees, End, More, Statement, Statements, Arm, Arms, Null, Block, If, IfElse, Case, Assign, For, Done, Then, CaseItem, NoArms, MoreArms, Literal}
 use Rattle.rr_expr.specs.declared.types.ExprFault.{ExprFault}
 use Rattle.rr_expr.specs.declared.types.Entity.{Entity}
 use Rattle.rr_expr.specs.declared.types.Entity.TheVariants as entity
@@ -23,6 +23,10 @@ use Rattle.rr_instance_laws.specs.Truth.{IsScalar}
 use Rattle.rr_instance_laws.proofs.FormLaws.{no_faults_by_scalars, no_faults_in_tests}
 use Rattle.rr_instance_laws.proofs.Rounds.{picked_is_one}
 use Rattle.rr_token_numbers.proofs.Folds.{some_stays}
+use Rattle.rr_loop_rules.specs.Rules.{LoopNames, contains, strays}
+use Rattle.rr_flatten.specs.Walk.{expression_faults}
+use Rattle.rr_unfold_instance.specs.Laws.{IsFreeAim, AimsAreFree}
+use Rattle.rr_unfold_instance.proofs.Rules.{instance_strays}
 use Rattle.rr_flat_instance.specs.Places.{HasWidth, IsAim, IsAimAt}
 
 -- lists without elements
@@ -112,6 +116,13 @@ module _ (ss : List Site) (ps : List Pick) (names : Names) where
   pub tree_stays : (t : Tree) → ((name : List ℕ) → IsGuardName ss t name → IsScalar names name) → shape_faults names t ≡ [] → shape_faults names (instance_tree ss ps t) ≡ []
   tree_stays t n h = shape_none names (instance_tree ss ps t) (no_faults_by_scalars ss ps names t n (fault_none names t h))
 
+  -- and no name of a loop
+  pub expression_stays : (loops : LoopNames) (t : Tree) → ((name : List ℕ) → IsGuardName ss t name → IsScalar names name) → ((name : List ℕ) → IsGuardName ss t name → contains loops name ≡ false)
+      → expression_faults loops names t ≡ [] → expression_faults loops names (instance_tree ss ps t) ≡ []
+  expression_stays loops t n f h =
+      nil_both (strays loops [] (instance_tree ss ps t)) (shape_faults names (instance_tree ss ps t))
+      (instance_strays ss ps loops t f (nil_left (strays loops [] t) (shape_faults names t) h)) (tree_stays t n (nil_right (strays loops [] t) (shape_faults names t) h))
+
   test_stays : (t : Tree) → ((name : List ℕ) → IsTestName ss t name → IsScalar names name) → shape_faults names t ≡ [] → shape_faults names (instance_test ss ps t) ≡ []
   test_stays t n h = shape_none names (instance_test ss ps t) (no_faults_in_tests ss ps names t n (fault_none names t h))
 
@@ -141,6 +152,7 @@ module _ (ss : List Site) (ps : List Pick) (names : Names) where
         (arms_stay arms (λ x k. n x (inr k)) (nil_right (shape_faults names on) (arms_faults names arms) h))
     statement_stays (Assign t now e) n h =
         nil_both _ _ (nil_left (shape_faults names t) (shape_faults names e) h) (tree_stays e n (nil_right (shape_faults names t) (shape_faults names e) h))
+    statement_stays (For head t) n h = refl
 
     statements_stay : (ts : Statements) → ((name : List ℕ) → IsGuardNameOfAll ss ts name → IsScalar names name) → statements_faults names ts ≡ [] → statements_faults names (instance_statements ss ps ts) ≡ []
     statements_stay Done n h = refl
@@ -197,6 +209,18 @@ module _ (names : Names) where
   all_overwritten_stays token (s ∷ ss) (p ∷ ps) body n a h =
       all_overwritten_stays token ss ps (new_body token s p body) (λ x k. n x (inr k)) (λ x w k. a x w (inr k))
       (new_body_stays token s p body (λ e x k. n x (inl (e, k))) (λ e x w k. a x w (inl (e, k))) h)
+
+-- what they assign is no name of a loop
+
+aim_free : (names : LoopNames) (k : SiteKind) → ((target : List ℕ) (w : ℕ) → IsAim k target w → contains names target ≡ false) → IsFreeAim names k
+aim_free names (sites.Literal width signed) h = tt
+aim_free names (sites.Guard owner extent list) h = tt
+aim_free names (sites.Overwrite owner target width now list) h = h target width (refl, refl)
+
+pub aims_free : (names : LoopNames) (token : ℕ) (ss : List Site) → ((target : List ℕ) (w : ℕ) → IsAimAt ss token target w → contains names target ≡ false) → AimsAreFree ss names token
+unfolding IsAimAt
+aims_free names token [] h = tt
+aims_free names token (s ∷ ss) h = ((λ e. aim_free names s.kind (λ t w a. h t w (inl (e, a)))), aims_free names token ss (λ t w a. h t w (inr a)))
 
 pub body_stays : (ss : List Site) (ps : List Pick) (names : Names) (token : ℕ) (body : Statement) → ((name : List ℕ) → IsBodyName ss token body name → IsScalar names name)
     → ((target : List ℕ) (w : ℕ) → IsAimAt ss token target w → HasWidth names target w) → statement_faults names body ≡ [] → statement_faults names (instance_body ss ps token body) ≡ []

@@ -1,5 +1,5 @@
 -- What the sites of a source bring into its modules: names of guards, and targets of last assignments.
-use Rattle.std.specs.Prelude.{◌≡◌, ◌⊎◌, ℕ, ◌<◌, true, List, [], ◌∷◌, length, Option, Some, None, IsTrue, slice_index_or}
+use Rattle.std.specs.Prelude.{◌≡◌, ◌⊎◌, ℕ, ◌<◌, true, false, List, [], ◌∷◌, length, Option, Some, None, IsTrue, slice_index_or}
 use Rattle.std.specs.List.{AllByRecursion}
 use Rattle.rr_syntax.specs.Expressions.{is_target}
 use Rattle.rr_syntax.specs.Tree.{Tree, DeclaredName, NetAssignment, NamedConnection, Connections, Positions, Names as Named, ModuleInstance, ModuleItem, Ports, Nets, Variables, Integers, Parameters, Assigns, Always, Initial, Instances, ModuleDeclaration, SourceText}
@@ -14,6 +14,8 @@ use Rattle.rr_choice.specs.Sites as sites
 use Rattle.rr_choice.specs.Sites.{SiteKind, Site}
 use Rattle.rr_instance_laws.specs.Tests.{IsGuardName, IsGuardNameIn, IsBodyName}
 use Rattle.rr_instance_laws.specs.Truth.{IsScalar}
+use Rattle.rr_loop_rules.specs.Rules.{LoopNames, contains, loop_names}
+use Rattle.rr_unfold_instance.specs.Apart.{NamesStayOf}
 
 -- it holds of an element
 unfoldable pub Somewhere : {X : Type 0} → (X → Type 0) → List X → Type 0
@@ -79,13 +81,29 @@ pub record HasWidth (names : Names) (name : List ℕ) (w : ℕ) : Type 0 where
   pub shape : (entity_shape (meant names name)).width ≡ w
   pub width : is_width w ≡ true
 
--- in a scope each name that a guard may be is that of a signal without a range, and each target has its site's width
-pub record FitsItem (ss : List Site) (names : Names) (i : ModuleItem) : Type 0 where
+-- in the body of an `always` no literal site has the token of a name
+unfoldable pub NamesStayOfItem : List Site → ModuleItem → Type 0
+NamesStayOfItem ss (Ports p) = Unit {0}
+NamesStayOfItem ss (Nets signed range list) = Unit {0}
+NamesStayOfItem ss (Variables signed range list) = Unit {0}
+NamesStayOfItem ss (Integers list) = Unit {0}
+NamesStayOfItem ss (Parameters p) = Unit {0}
+NamesStayOfItem ss (Assigns pairs) = Unit {0}
+NamesStayOfItem ss (Always events body token) = NamesStayOf ss body
+NamesStayOfItem ss (Initial body token) = Unit {0}
+NamesStayOfItem ss (Instances m token overrides list) = Unit {0}
+
+-- in a scope each name that a guard may be is that of a signal without a range, and each target has its site's width; neither
+-- is a name of a loop of the module
+pub record FitsItem (ss : List Site) (loops : LoopNames) (names : Names) (i : ModuleItem) : Type 0 where
   pub guards : (name : List ℕ) → IsNameOfItem ss name i → IsScalar names name
   pub aims : (target : List ℕ) (w : ℕ) → IsAimOfItem ss target w i → HasWidth names target w
+  pub free_guards : (name : List ℕ) → IsNameOfItem ss name i → contains loops name ≡ false
+  pub free_aims : (target : List ℕ) (w : ℕ) → IsAimOfItem ss target w i → contains loops target ≡ false
+  pub stays : NamesStayOfItem ss i
 
 abbrev pub FitsModule : List Site → Names → ModuleDeclaration → Type 0
-FitsModule ss names m = AllByRecursion (FitsItem ss names) m.items
+FitsModule ss names m = AllByRecursion (FitsItem ss (loop_names m) names) m.items
 
 -- the name of a net is another token than the first of its value
 abbrev pub IsApart : DeclaredName → Type 0

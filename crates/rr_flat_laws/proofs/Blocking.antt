@@ -14,18 +14,20 @@ use Rattle.rr_flat.specs.declared.signal.Port.{Port}
 use Rattle.rr_flat.specs.declared.signal.Port.TheVariants.{Inner, Input, Output}
 use Rattle.rr_flat.specs.Faults.{each}
 use Rattle.rr_flat.specs.Plain.{Written, Block, Flat}
-use Rattle.rr_flat.specs.Shapes.{shape_faults, statement_faults}
+use Rattle.rr_flat.specs.Writers.{scope_at as scope_in}
 use Rattle.rr_flat.specs.Signals.{Text, signal_at, with_name}
 use Rattle.rr_flatten.specs.Tables.{place_of, port_names}
-use Rattle.rr_starts.specs.Starts.{initial_faults}
-use Rattle.rr_flatten.specs.Walk.{Walked, Enter, scope_at, module_at, with_driver, with_block, assign, net_driver, net_value, net_with, net, event_faults, always, with_initial, initial, with_instance, join_port, join_at, join, join_value, join_named, join_positions, joined, instance_of, item, opened, enter_by, enter, nothing, finished, top_place, enter_top, flat_of}
+use Rattle.rr_loop_rules.specs.Rules.{loop_names}
+use Rattle.rr_unfold.specs.Unfold.{Count, unfold_statement}
+use Rattle.rr_unfold.proofs.Meanings.{unfold_by_meanings}
+use Rattle.rr_flatten.specs.Walk.{Walked, Enter, scope_at, loops_at, module_at, with_driver, with_block, expression_faults, assign, net_driver, net_value, net_with, net, always, with_initial, initial, with_instance, join_port, join_at, join, join_value, join_named, join_positions, joined, instance_of, item, opened, enter_by, enter, nothing, finished, top_place, enter_top, flat_of}
 use Rattle.rr_flatten.proofs.HeadOf.{ok_is, not_ok, first_ok, all_append, all_weaker}
-use Rattle.rr_flat_laws.specs.Blocks.{at_edges, at_changes, clocked_by, combinational_by, is_block_of, AreBlocks}
+use Rattle.rr_flat_laws.specs.Blocks.{unfolded_at, at_edges, at_changes, clocked_by, combinational_by, is_block_of, AreBlocks}
 use Rattle.rr_flat_laws.specs.Names.{module_of}
 use Rattle.rr_flat_laws.proofs.Answers.{settled}
 use Rattle.rr_flat_laws.proofs.Driving as driving
 use Rattle.rr_flat_laws.proofs.Driving.{same_numbers, other_numbers, grows_back}
-use Rattle.rr_flat_laws.proofs.Growing.{Same, each_same, assign_same, net_same, always_same, initial_same, joined_same, began, inside, entered, unknown, Grows, EnterGrows, grows_twice, enter_grows, end_grows}
+use Rattle.rr_flat_laws.proofs.Growing.{Same, each_same, assign_same, net_same, always_step, always_same, initial_step, initial_same, joined_same, began, inside, entered, unknown, Grows, EnterGrows, grows_twice, enter_grows, end_grows}
 use Rattle.rr_flat_laws.proofs.Naming as naming
 use Rattle.rr_flat_laws.proofs.Naming.{Fine, FineWalk, walking, after_top, fine_nothing}
 use Rattle.rr_flat_laws.proofs.Opening.{opened_head}
@@ -59,11 +61,12 @@ assign_still : (i : ℕ) (p : NetAssignment) (w v : Walked) → assign i p w ≡
 unfolding assign
 assign_still i p w v e =
     still_to w (with_driver (Written p.target i) (Written p.value i) (first p.target) w) v (record { clocked = refl; combinational = refl })
-    (settled (shape_faults (scope_at w i) p.target ++ shape_faults (scope_at w i) p.value) (with_driver (Written p.target i) (Written p.value i) (first p.target) w) v e).1
+    (settled (expression_faults (loops_at w i) (scope_at w i) p.target ++ expression_faults (loops_at w i) (scope_at w i) p.value) (with_driver (Written p.target i) (Written p.value i) (first p.target) w) v e).1
 
 initial_still : (i : ℕ) (s : Statement) (at : ℕ) (w v : Walked) → initial i s at w ≡ Ok v → Still w v
-unfolding initial
-initial_still i s at w v e = still_to w (with_initial i s at w) v (record { clocked = refl; combinational = refl }) (settled (initial_faults (scope_at w i) s) (with_initial i s at w) v e).1
+initial_still i s at w v e =
+    let x = initial_step i s at w v e in
+    still_to w (with_initial i (unfold_statement (scope_at w i) [] s) at (record w { count = x.count })) v (record { clocked = refl; combinational = refl }) x.is
 
 net_driver_still : (i at : ℕ) (t : Tree) (o : Option ℕ) (w : Walked) → Still w (net_driver i at t o w)
 net_driver_still i at t None w = still_here w
@@ -74,7 +77,7 @@ unfolding net_value
 net_with_still i at name None w v e = still_to w w v (still_here w) (ok_is w v e)
 net_with_still i at name (Some t) w v e =
     still_to w (net_driver i at t (place_of (lookup name (scope_at w i))) w) v (net_driver_still i at t (place_of (lookup name (scope_at w i))) w)
-    (settled (shape_faults (scope_at w i) t) (net_driver i at t (place_of (lookup name (scope_at w i))) w) v e).1
+    (settled (expression_faults (loops_at w i) (scope_at w i) t) (net_driver i at t (place_of (lookup name (scope_at w i))) w) v e).1
 
 net_still : (i : ℕ) (n : DeclaredName) (w v : Walked) → net i n w ≡ Ok v → Still w v
 unfolding net
@@ -117,15 +120,16 @@ record Added (w v : Walked) (ticked changed : List Block) : Type 0 where
   clocked : v.flat.clocked ≡ w.flat.clocked ++ ticked
   combinational : v.flat.combinational ≡ w.flat.combinational ++ changed
 
-block_added : (i : ℕ) (events : EventControl) (s : Statement) (at : ℕ) (w : Walked) → Added w (with_block i events s at w) (at_edges i events s at) (at_changes i events s at)
-block_added i (Star brackets) s at w = record { clocked = sym (append-nil w.flat.clocked); combinational = refl }
-block_added i (Edges list commas) s at w = record { clocked = refl; combinational = sym (append-nil w.flat.combinational) }
-block_added i (Levels list commas) s at w = record { clocked = sym (append-nil w.flat.clocked); combinational = refl }
+block_added : (i : ℕ) (events : EventControl) (s : Statement) (at : ℕ) (c : Count) (w : Walked) → Added w (with_block i events s at (record w { count = c })) (at_edges i events s at) (at_changes i events s at)
+block_added i (Star brackets) s at c w = record { clocked = sym (append-nil w.flat.clocked); combinational = refl }
+block_added i (Edges list commas) s at c w = record { clocked = refl; combinational = sym (append-nil w.flat.combinational) }
+block_added i (Levels list commas) s at c w = record { clocked = sym (append-nil w.flat.clocked); combinational = refl }
 
-always_added : (i : ℕ) (events : EventControl) (s : Statement) (at : ℕ) (w v : Walked) → always i events s at w ≡ Ok v → Added w v (at_edges i events s at) (at_changes i events s at)
-unfolding always
-always_added i events s at w v e =
-    subst (λ (u : Walked). Added w u (at_edges i events s at) (at_changes i events s at)) (settled (event_faults (scope_at w i) events ++ statement_faults (scope_at w i) s) (with_block i events s at w) v e).1 (block_added i events s at w)
+always_added : (i : ℕ) (events : EventControl) (s body : Statement) (at : ℕ) (w v : Walked) → unfold_statement (scope_at w i) [] s ≡ body → always i events s at w ≡ Ok v → Added w v (at_edges i events body at) (at_changes i events body at)
+always_added i events s body at w v same e =
+    let x = always_step i events s at w v e in
+    subst (λ (b : Statement). Added w v (at_edges i events b at) (at_changes i events b at)) same
+    (subst (λ (u : Walked). Added w u (at_edges i events (unfold_statement (scope_at w i) [] s) at) (at_changes i events (unfold_statement (scope_at w i) [] s) at)) x.is (block_added i events (unfold_statement (scope_at w i) [] s) at x.count w))
 
 -- all of them are of the instance
 edges_own : (i : ℕ) (events : EventControl) (s : Statement) (at : ℕ) → AllByRecursion (λ (b : Block). b.scope ≡ i) (at_edges i events s at)
@@ -160,16 +164,16 @@ module _ (source : SourceText) (F : Flat) (whole : Fine source.modules F.signals
     clocked_is : t.flat.clocked ≡ w.flat.clocked ++ clocked
     combinational_is : t.flat.combinational ≡ w.flat.combinational ++ combinational
     more : length w.flat.scopes ≤ length t.flat.scopes
-    ticks : Share is_block_of (λ j. flat_map (clocked_by j) (module_of source F j).items) i (length w.flat.scopes) (length t.flat.scopes) clocked ticked
-    changes : Share is_block_of (λ j. flat_map (combinational_by j) (module_of source F j).items) i (length w.flat.scopes) (length t.flat.scopes) combinational changed
+    ticks : Share is_block_of (λ j. flat_map (clocked_by F j) (module_of source F j).items) i (length w.flat.scopes) (length t.flat.scopes) clocked ticked
+    changes : Share is_block_of (λ j. flat_map (combinational_by F j) (module_of source F j).items) i (length w.flat.scopes) (length t.flat.scopes) combinational changed
     clocked_in : AllByRecursion (λ b. b.scope < length F.owners) clocked
     combinational_in : AllByRecursion (λ b. b.scope < length F.owners) combinational
 
   abbrev all_clocked : ℕ → List Block
-  all_clocked j = flat_map (clocked_by j) (module_of source F j).items
+  all_clocked j = flat_map (clocked_by F j) (module_of source F j).items
 
   abbrev all_combinational : ℕ → List Block
-  all_combinational j = flat_map (combinational_by j) (module_of source F j).items
+  all_combinational j = flat_map (combinational_by F j) (module_of source F j).items
 
   made_none : (i : ℕ) (w t : Walked) → Still w t → length t.flat.scopes ≡ length w.flat.scopes → Made i w t [] []
   made_none i w t s n = record {
@@ -197,22 +201,25 @@ module _ (source : SourceText) (F : Flat) (whole : Fine source.modules F.signals
     combinational_in = all_append (λ b. b.scope < length F.owners) x.combinational y.combinational x.combinational_in y.combinational_in;
   }
 
-  made_always : (i k : ℕ) (events : EventControl) (s : Statement) (at : ℕ) (w t : Walked) → Here i k w → Grows t.flat F → always i events s at w ≡ Ok t → Made i w t (at_edges i events s at) (at_changes i events s at)
+  -- the names of an instance mean in its walk what they mean at the end
+  made_always : (i k : ℕ) (events : EventControl) (s : Statement) (at : ℕ) (w t : Walked) → Here i k w → Grows t.flat F → always i events s at w ≡ Ok t → Made i w t (at_edges i events (unfolded_at F i s) at) (at_changes i events (unfolded_at F i s) at)
   made_always i k events s at w t h g e =
-      let a = always_added i events s at w t e in
+      let body : Statement = unfolded_at F i s in
       let z = always_same i events s at w t e in
+      let gw = grows_back w t F z g in
+      let a = always_added i events s body at w t (unfold_by_meanings (scope_at w i) (scope_in F i) s (gw.scopes.1 i h.there)) e in
       let n : length t.flat.scopes ≡ length w.flat.scopes = ap (λ (ns : List Names). length ns) (sym z.scopes) in
-      let there = (driving.at_end source F whole table tabled i k w h (grows_back w t F z g)).0 in
+      let there = (driving.at_end source F whole table tabled i k w h gw).0 in
       record {
-        clocked = at_edges i events s at;
-        combinational = at_changes i events s at;
+        clocked = at_edges i events body at;
+        combinational = at_changes i events body at;
         clocked_is = a.clocked;
         combinational_is = a.combinational;
         more = omega (arith, n);
-        ticks = share_own all_clocked i (length w.flat.scopes) (length t.flat.scopes) (at_edges i events s at) h.there n (edges_own i events s at);
-        changes = share_own all_combinational i (length w.flat.scopes) (length t.flat.scopes) (at_changes i events s at) h.there n (changes_own i events s at);
-        clocked_in = all_weaker (λ b. b.scope ≡ i) (λ b. b.scope < length F.owners) (at_edges i events s at) (λ b q. omega (arith, q, there)) (edges_own i events s at);
-        combinational_in = all_weaker (λ b. b.scope ≡ i) (λ b. b.scope < length F.owners) (at_changes i events s at) (λ b q. omega (arith, q, there)) (changes_own i events s at);
+        ticks = share_own all_clocked i (length w.flat.scopes) (length t.flat.scopes) (at_edges i events body at) h.there n (edges_own i events body at);
+        changes = share_own all_combinational i (length w.flat.scopes) (length t.flat.scopes) (at_changes i events body at) h.there n (changes_own i events body at);
+        clocked_in = all_weaker (λ b. b.scope ≡ i) (λ b. b.scope < length F.owners) (at_edges i events body at) (λ b q. omega (arith, q, there)) (edges_own i events body at);
+        combinational_in = all_weaker (λ b. b.scope ≡ i) (λ b. b.scope < length F.owners) (at_changes i events body at) (λ b q. omega (arith, q, there)) (changes_own i events body at);
       }
 
   -- a module was walked: its instance is the first that is new
@@ -222,7 +229,7 @@ module _ (source : SourceText) (F : Flat) (whole : Fine source.modules F.signals
     one : length mid.flat.scopes ≡ n + 1
     fine : Fine source.modules t.flat.signals t.flat.scopes t.flat.owners
     owner : get_or t.flat.owners n 0 ≡ k
-    made : Made n mid t (flat_map (clocked_by n) (module_at source.modules k).items) (flat_map (combinational_by n) (module_at source.modules k).items)
+    made : Made n mid t (flat_map (clocked_by F n) (module_at source.modules k).items) (flat_map (combinational_by F n) (module_at source.modules k).items)
 
   abbrev Enters : Enter → Type 0
   Enters sub = (k : ℕ) (given : Names) (w t : Walked) → FineWalk source.modules w → Grows t.flat F → sub k given w ≡ Ok t → Entering k (length w.flat.scopes) w t
@@ -267,10 +274,10 @@ module _ (source : SourceText) (F : Flat) (whole : Fine source.modules F.signals
         clocked_is = st.clocked ∙ (en.made.clocked_is ∙ ap (λ (z : List Block). z ++ en.made.clocked) en.same.clocked);
         combinational_is = st.combinational ∙ (en.made.combinational_is ∙ ap (λ (z : List Block). z ++ en.made.combinational) en.same.combinational);
         more = omega (arith, high, mm, one);
-        ticks = share_child all_clocked i n n (length en.mid.flat.scopes) (length u.flat.scopes) (length r.mid.flat.scopes) en.made.clocked (flat_map (clocked_by n) (items_of kk)) h.there refl one high
-            (ap (λ (z : ModuleDeclaration). flat_map (clocked_by n) z.items) (sym me)) en.made.ticks;
-        changes = share_child all_combinational i n n (length en.mid.flat.scopes) (length u.flat.scopes) (length r.mid.flat.scopes) en.made.combinational (flat_map (combinational_by n) (items_of kk)) h.there refl one high
-            (ap (λ (z : ModuleDeclaration). flat_map (combinational_by n) z.items) (sym me)) en.made.changes;
+        ticks = share_child all_clocked i n n (length en.mid.flat.scopes) (length u.flat.scopes) (length r.mid.flat.scopes) en.made.clocked (flat_map (clocked_by F n) (items_of kk)) h.there refl one high
+            (ap (λ (z : ModuleDeclaration). flat_map (clocked_by F n) z.items) (sym me)) en.made.ticks;
+        changes = share_child all_combinational i n n (length en.mid.flat.scopes) (length u.flat.scopes) (length r.mid.flat.scopes) en.made.combinational (flat_map (combinational_by F n) (items_of kk)) h.there refl one high
+            (ap (λ (z : ModuleDeclaration). flat_map (combinational_by F n) z.items) (sym me)) en.made.changes;
         clocked_in = en.made.clocked_in;
         combinational_in = en.made.combinational_in;
       })
@@ -297,7 +304,7 @@ module _ (source : SourceText) (F : Flat) (whole : Fine source.modules F.signals
   same_made i w t s z = made_none i w t s (ap (λ (ns : List Names). length ns) (sym z.scopes))
 
   made_item : (above : List ℕ) (i k : ℕ) (sub : Enter) → naming.Enters source.modules sub → EnterGrows sub → Enters sub → (x : ModuleItem) (w t : Walked) → Here i k w → Grows t.flat F → item source.modules table above i sub x w ≡ Ok t →
-      Made i w t (clocked_by i x) (combinational_by i x)
+      Made i w t (clocked_by F i x) (combinational_by F i x)
   unfolding item
   made_item above i k sub fs gs s (Ports p) w t h g e = nothing_made i w t (ok_is w t e)
   made_item above i k sub fs gs s (Nets signed range list) w t h g e = same_made i w t (each_still (net i) (net_still i) list w t e) (each_same (net i) (net_same i) list w t e)
@@ -334,11 +341,11 @@ module _ (source : SourceText) (F : Flat) (whole : Fine source.modules F.signals
       let l = driving.each_later source F whole table tabled n k step keeps (items_of k) r.mid t h r.walked in
       record {
         mid = r.mid;
-        same = still_to w (opened k b.top w) r.mid (record { clocked = refl; combinational = refl }) b.is;
+        same = still_to w (opened k b.top (loop_names (module_at source.modules k)) w) r.mid (record { clocked = refl; combinational = refl }) b.is;
         one = one;
         fine = l.0.fine;
         owner = l.0.owner;
-        made = made_each (clocked_by n) (combinational_by n) n k step keeps (λ x a c p u q. made_item inner n k (sub inner) (fs inner) (gs inner) (s inner) x a c p u q) (items_of k) r.mid t h g r.walked;
+        made = made_each (clocked_by F n) (combinational_by F n) n k step keeps (λ x a c p u q. made_item inner n k (sub inner) (fs inner) (gs inner) (s inner) x a c p u q) (items_of k) r.mid t h g r.walked;
       }
 
   made_enter : (levels : ℕ) (above : List ℕ) → Enters (enter source.modules table levels above)
@@ -362,12 +369,12 @@ module _ (source : SourceText) (F : Flat) (whole : Fine source.modules F.signals
     high : (i : ℕ) → i < length F.owners → i < length end.flat.scopes
     high i l = let e = whole.even in let s = ap length scopes in omega (arith, l, e, s)
 
-    clocked_at : (i : ℕ) → i < length F.owners → filter (is_block_of i) h.made.clocked ≡ flat_map (clocked_by i) (module_of source F i).items
-    clocked_at zero l = h.made.ticks.here ∙ ap (λ (m : ModuleDeclaration). flat_map (clocked_by 0) m.items) (sym top_module)
+    clocked_at : (i : ℕ) → i < length F.owners → filter (is_block_of i) h.made.clocked ≡ flat_map (clocked_by F i) (module_of source F i).items
+    clocked_at zero l = h.made.ticks.here ∙ ap (λ (m : ModuleDeclaration). flat_map (clocked_by F 0) m.items) (sym top_module)
     clocked_at (suc i) l = let o = h.one in h.made.ticks.new (suc i) (omega (arith, o)) (high (suc i) l)
 
-    combinational_at : (i : ℕ) → i < length F.owners → filter (is_block_of i) h.made.combinational ≡ flat_map (combinational_by i) (module_of source F i).items
-    combinational_at zero l = h.made.changes.here ∙ ap (λ (m : ModuleDeclaration). flat_map (combinational_by 0) m.items) (sym top_module)
+    combinational_at : (i : ℕ) → i < length F.owners → filter (is_block_of i) h.made.combinational ≡ flat_map (combinational_by F i) (module_of source F i).items
+    combinational_at zero l = h.made.changes.here ∙ ap (λ (m : ModuleDeclaration). flat_map (combinational_by F 0) m.items) (sym top_module)
     combinational_at (suc i) l = let o = h.one in h.made.changes.new (suc i) (omega (arith, o)) (high (suc i) l)
 
     blocks : AreBlocks source F
@@ -378,12 +385,12 @@ module _ (source : SourceText) (F : Flat) (whole : Fine source.modules F.signals
       combinational_in = subst (λ (bs : List Block). All (λ b. b.scope < length F.owners) bs) (sym combinational_are) (All-from_recursion (λ b. b.scope < length F.owners) h.made.combinational h.made.combinational_in);
     }
 
-blocks_of_top : (source : SourceText) (table : Names) → Table source.modules table → (o : Option ℕ) (end : Walked) → enter_top source.modules table o ≡ Ok end → AreBlocks source (finished source.modules end.flat)
+blocks_of_top : (source : SourceText) (table : Names) → Table source.modules table → (o : Option ℕ) (end : Walked) → enter_top None source.modules table o ≡ Ok end → AreBlocks source (finished source.modules end.flat)
 blocks_of_top source table t None end e = absurd (not_ok _ end e)
 blocks_of_top source table t (Some k) end e =
     let F = finished source.modules end.flat in
     let whole : Fine source.modules F.signals F.scopes F.owners = after_top source.modules table (Some k) end e in
-    let w = nothing (module_at source.modules k).token in
+    let w = nothing None (module_at source.modules k).token in
     blocks source F whole table t k w end refl refl refl refl refl refl (made_enter source F whole table t 16 [] k [] w end (fine_nothing source.modules (module_at source.modules k).token) (end_grows source.modules end) e)
 
 pub blocks_of_design : (source : SourceText) (top : Option Text) (flat : Flat) → flat_of source top ≡ Ok flat → AreBlocks source flat

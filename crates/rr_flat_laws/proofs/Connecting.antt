@@ -11,11 +11,11 @@ use Rattle.rr_expr.specs.declared.types.Entity.TheVariants as entity
 use Rattle.rr_flat.specs.declared.fault.FlatFault.{FlatFault}
 use Rattle.rr_flat.specs.declared.fault.FlatFault.TheVariants.{PortMismatch}
 use Rattle.rr_flat.specs.Faults.{fault_if}
-use Rattle.rr_flat.specs.Shapes.{shape_faults}
 use Rattle.rr_flat.specs.Signals.{Text}
 use Rattle.rr_declarations.specs.Declarations.{plain_names}
 use Rattle.rr_flatten.specs.Tables.{add_port_name, add_declarator_name, add_port_names, port_names, add_text, name_set}
-use Rattle.rr_flatten.specs.Walk.{noted, twice_faults, value_faults, fold_trees, Joining, place_port, check_port, Connected, check_connection, connections}
+use Rattle.rr_loop_rules.specs.Rules.{LoopNames}
+use Rattle.rr_flatten.specs.Walk.{expression_faults, noted, twice_faults, value_faults, fold_trees, Joining, place_port, check_port, Connected, check_connection, connections}
 use Rattle.rr_declarations.proofs.Firsts.{none_before, none_here}
 use Rattle.rr_flat_laws.specs.Declared.{texts_of, names_of, ports_by, ports_of}
 use Rattle.rr_flat_laws.specs.Drivers.{connected_in_order, HavePorts, Fits, connected_value, connected_name, connected}
@@ -58,13 +58,13 @@ set_has : (ns : List Text) (n : Text) → is_some (lookup n (name_set ns)) ≡ t
 unfolding name_set
 set_has ns n h = elim (known_from (λ (x : Text). x ∷ []) add_text from_text ns [] n h) [ inl a ↦ absurd (nothing_known n a) | inr k ↦ subst (λ z. Contains z n) (ones ns) k ]
 
-found_before : (ports names : Names) (list : List NamedConnection) (c : Connected) → (fold (check_connection ports names) c list).found ≡ None → c.found ≡ None
+found_before : (loops : LoopNames) (ports names : Names) (list : List NamedConnection) (c : Connected) → (fold (check_connection loops ports names) c list).found ≡ None → c.found ≡ None
 unfolding check_connection
-found_before ports names [] c e = e
-found_before ports names (x ∷ xs) c e =
+found_before loops ports names [] c e = e
+found_before loops ports names (x ∷ xs) c e =
     let f : List FlatFault = fault_if (is_none (lookup x.text ports)) (PortMismatch x.token) in
-    let h = found_before ports names xs (check_connection ports names c x) e in
-    none_before c.found f (none_before (noted c.found f) (twice_faults x.token x.text c.seen) (none_before (noted (noted c.found f) (twice_faults x.token x.text c.seen)) (value_faults names x.value) h))
+    let h = found_before loops ports names xs (check_connection loops ports names c x) e in
+    none_before c.found f (none_before (noted c.found f) (twice_faults x.token x.text c.seen) (none_before (noted (noted c.found f) (twice_faults x.token x.text c.seen)) (value_faults loops names x.value) h))
 
 abbrev text_of : NamedConnection → Text
 text_of n = n.text
@@ -74,17 +74,17 @@ record ByName (ports seen : Names) (list : List NamedConnection) : Type 0 where
   new : (n : Text) → Contains (map text_of list) n → lookup n seen ≡ None
   apart : Distinct (map text_of list)
 
-by_name : (ports names : Names) (list : List NamedConnection) (c : Connected) → (fold (check_connection ports names) c list).found ≡ None → ByName ports c.seen list
+by_name : (loops : LoopNames) (ports names : Names) (list : List NamedConnection) (c : Connected) → (fold (check_connection loops ports names) c list).found ≡ None → ByName ports c.seen list
 unfolding check_connection
-by_name ports names [] c e = record { known = λ n k. absurd (nowhere n k); new = λ n k. absurd (nowhere n k); apart = tt }
-by_name ports names (x ∷ xs) c e =
+by_name loops ports names [] c e = record { known = λ n k. absurd (nowhere n k); new = λ n k. absurd (nowhere n k); apart = tt }
+by_name loops ports names (x ∷ xs) c e =
     let y = entity.Signal 0 None false in
     let f : List FlatFault = fault_if (is_none (lookup x.text ports)) (PortMismatch x.token) in
-    let h = none_before (noted (noted c.found f) (twice_faults x.token x.text c.seen)) (value_faults names x.value) (found_before ports names xs (check_connection ports names c x) e) in
+    let h = none_before (noted (noted c.found f) (twice_faults x.token x.text c.seen)) (value_faults loops names x.value) (found_before loops ports names xs (check_connection loops ports names c x) e) in
     let new : lookup x.text c.seen ≡ None = is_none_of (lookup x.text c.seen) (not_if (is_some (lookup x.text c.seen)) (PortMismatch x.token) (none_here (noted c.found f) (twice_faults x.token x.text c.seen) h)) in
     let port : is_some (lookup x.text ports) ≡ true =
     there_of (lookup x.text ports) (not_if (is_none (lookup x.text ports)) (PortMismatch x.token) (none_here c.found f (none_before (noted c.found f) (twice_faults x.token x.text c.seen) h))) in
-    let rest = by_name ports names xs (check_connection ports names c x) e in
+    let rest = by_name loops ports names xs (check_connection loops ports names c x) e in
     record {
       known = λ n k. elim (there_cases x.text (map text_of xs) n k) [ inl q ↦ subst (λ m. is_some (lookup m ports) ≡ true) q port | inr r ↦ rest.known n r ];
       new = λ n k. elim (there_cases x.text (map text_of xs) n k) [ inl q ↦ subst (λ m. lookup m c.seen ≡ None) q new | inr r ↦ texts.none_before c.seen x.text n y (rest.new n r) ];
@@ -116,22 +116,22 @@ order_apart (p ∷ ps) (More t ts) d = (λ c. d.0 (in_order ps ts p c), order_ap
 
 -- the first expression that is too many is a fault
 
-position_before : (names : Names) (left : List Text) (j : Joining) (t : Tree) → (place_port names left j t).found ≡ None → j.found ≡ None
-position_before names [] j t e = none_before j.found (shape_faults names t) (none_before (noted j.found (shape_faults names t)) (fault_if (not j.over) (PortMismatch (first t))) e)
-position_before names (n ∷ ns) j t e = none_before j.found (shape_faults names t) e
+position_before : (loops : LoopNames) (names : Names) (left : List Text) (j : Joining) (t : Tree) → (place_port loops names left j t).found ≡ None → j.found ≡ None
+position_before loops names [] j t e = none_before j.found (expression_faults loops names t) (none_before (noted j.found (expression_faults loops names t)) (fault_if (not j.over) (PortMismatch (first t))) e)
+position_before loops names (n ∷ ns) j t e = none_before j.found (expression_faults loops names t) e
 
-positions_before : (names : Names) (ts : Trees) (j : Joining) → (fold_trees (check_port names) j ts).found ≡ None → j.found ≡ None
+positions_before : (loops : LoopNames) (names : Names) (ts : Trees) (j : Joining) → (fold_trees (check_port loops names) j ts).found ≡ None → j.found ≡ None
 unfolding fold_trees check_port
-positions_before names End j e = e
-positions_before names (More t ts) j e = position_before names j.left j t (positions_before names ts (place_port names j.left j t) e)
+positions_before loops names End j e = e
+positions_before loops names (More t ts) j e = position_before loops names j.left j t (positions_before loops names ts (place_port loops names j.left j t) e)
 
-have_ports : (names : Names) (left : List Text) (ts : Trees) (found : Option FlatFault) → (fold_trees (check_port names) (record { left = left; over = false; found = found }) ts).found ≡ None → HavePorts left ts
+have_ports : (loops : LoopNames) (names : Names) (left : List Text) (ts : Trees) (found : Option FlatFault) → (fold_trees (check_port loops names) (record { left = left; over = false; found = found }) ts).found ≡ None → HavePorts left ts
 unfolding fold_trees check_port HavePorts
-have_ports names left End found e = tt
-have_ports names [] (More t ts) found e =
-    let j : Joining = place_port names [] (record { left = []; over = false; found = found }) t in
-    absurd (both_ways true (not_if true (PortMismatch (first t)) (none_here (noted found (shape_faults names t)) (fault_if true (PortMismatch (first t))) (positions_before names ts j e))) refl)
-have_ports names (p ∷ ps) (More t ts) found e = have_ports names ps ts (noted found (shape_faults names t)) e
+have_ports loops names left End found e = tt
+have_ports loops names [] (More t ts) found e =
+    let j : Joining = place_port loops names [] (record { left = []; over = false; found = found }) t in
+    absurd (both_ways true (not_if true (PortMismatch (first t)) (none_here (noted found (expression_faults loops names t)) (fault_if true (PortMismatch (first t))) (positions_before loops names ts j e))) refl)
+have_ports loops names (p ∷ ps) (More t ts) found e = have_ports loops names ps ts (noted found (expression_faults loops names t)) e
 
 values_among : (list : List NamedConnection) (n : Text) → Contains (map port_of (flat_map connected_name list)) n → Contains (map text_of list) n
 values_among [] n c = c
@@ -149,11 +149,11 @@ values_apart (x ∷ xs) d = by x.value (values_apart xs d.1)
     by None e = e
     by (Some t) e = (λ c. d.0 (values_among xs x.text c), e)
 
-pub connects : (m : ModuleDeclaration) (names : Names) (found : Option FlatFault) (c : Connections) → Distinct (ports_of m) → connections m names found c ≡ None → Connects m c
+pub connects : (loops : LoopNames) (m : ModuleDeclaration) (names : Names) (found : Option FlatFault) (c : Connections) → Distinct (ports_of m) → connections loops m names found c ≡ None → Connects m c
 unfolding connections
-connects m names found (Positions ts) d e = record { known = in_order (ports_of m) ts; apart = order_apart (ports_of m) ts d; fits = subst (λ ns. HavePorts ns ts) (ports_are m) (have_ports names (port_names m) ts found e) }
-connects m names found (Named list) d e =
-    let b = by_name (name_set (port_names m)) names list (record { found = found; seen = [] }) e in
+connects loops m names found (Positions ts) d e = record { known = in_order (ports_of m) ts; apart = order_apart (ports_of m) ts d; fits = subst (λ ns. HavePorts ns ts) (ports_are m) (have_ports loops names (port_names m) ts found e) }
+connects loops m names found (Named list) d e =
+    let b = by_name loops (name_set (port_names m)) names list (record { found = found; seen = [] }) e in
     record {
       known = λ n c. subst (λ ns. Contains ns n) (ports_are m) (set_has (port_names m) n (b.known n (values_among list n c)));
       apart = values_apart list b.apart;

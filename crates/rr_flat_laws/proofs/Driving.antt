@@ -18,11 +18,11 @@ use Rattle.rr_flat.specs.declared.signal.Port.TheVariants.{Inner, Input, Output}
 use Rattle.rr_flat.specs.declared.fault.FlatFault.TheVariants.{NameTwice, SelfInstance}
 use Rattle.rr_flat.specs.Faults.{fault_or, fault_if, each}
 use Rattle.rr_flat.specs.Plain.{Written, Whole, Driver, Flat}
-use Rattle.rr_flat.specs.Shapes.{shape_faults}
 use Rattle.rr_flat.specs.Signals.{Text, Signal, signal_at, no_signal, with_name}
 use Rattle.rr_flat.specs.Writers.{scope_at as scope_in}
+use Rattle.rr_loop_rules.specs.Rules.{LoopNames}
 use Rattle.rr_flatten.specs.Tables.{place_of}
-use Rattle.rr_flatten.specs.Walk.{Walked, Enter, scope_at, module_at, with_driver, assign, net_value, net_with, net, always, noted, overrides, connections, checked, with_instance, join_port, join_at, join, join_value, join_named, join_positions, joined, item, opened, enter_by, enter}
+use Rattle.rr_flatten.specs.Walk.{Walked, Enter, scope_at, loops_at, module_at, with_driver, expression_faults, assign, net_value, net_with, net, always, noted, overrides, connections, checked, with_instance, join_port, join_at, join, join_value, join_named, join_positions, joined, item, opened, enter_by, enter}
 use Rattle.rr_flatten.specs.Walk as walk
 use Rattle.rr_flatten.proofs.HeadOf.{ok_is, not_ok, first_ok, each_keeps, all_append, all_weaker}
 use Rattle.rr_flat_laws.specs.Declared.{Declares, ports_of}
@@ -31,7 +31,7 @@ use Rattle.rr_flat_laws.specs.Hierarchy.{IsDue}
 use Rattle.rr_flat_laws.specs.Names.{module_of}
 use Rattle.rr_flat_laws.proofs.Answers.{settled}
 use Rattle.rr_flat_laws.proofs.Connecting.{Connects, connects, ports_are}
-use Rattle.rr_flat_laws.proofs.Growing.{Same, assign_same, net_same, always_same, initial_same, unknown, always_drivers, initial_drivers, join_same, join_value_same, joined_same, began, inside, entered, Grows, grows_here, grows_twice, same_grows, EnterGrows, instance_grows, item_grows, enter_grows}
+use Rattle.rr_flat_laws.proofs.Growing.{Same, assign_same, net_same, always_same, initial_same, unknown, always_drivers, initial_drivers, join_same, join_value_same, joined_same, began, inside, entered, Alikes, Grows, grows_here, grows_twice, same_grows, EnterGrows, instance_grows, item_grows, enter_grows}
 use Rattle.rr_flat_laws.proofs.Naming as naming
 use Rattle.rr_flat_laws.proofs.Naming.{Fine, FineWalk, Is, named_found}
 use Rattle.rr_flat_laws.proofs.Opening.{opened_head}
@@ -91,6 +91,7 @@ pub grows_from : (w v : Walked) (g : Flat) → Same w v → Grows w.flat g → G
 grows_from w v g s h = record {
   signals = subst (λ ss. (zs : List Signal) × (g.signals ≡ ss ++ zs)) s.signals h.signals;
   owners = subst (λ (os : List ℕ). (zs : List ℕ) × (g.owners ≡ os ++ zs)) s.owners h.owners;
+  scopes = subst (λ (ns : List Names). Alikes ns g.scopes) s.scopes h.scopes;
 }
 
 pub grows_back : (w v : Walked) (g : Flat) → Same w v → Grows v.flat g → Grows w.flat g
@@ -281,7 +282,7 @@ module _ (source : SourceText) (F : Flat) (whole : Fine source.modules F.signals
   made_assign : (i k : ℕ) (p : NetAssignment) (w t : Walked) → Here i k w → Grows t.flat F → assign i p w ≡ Ok t → Made i w t (driver_of_pair i p ∷ []) []
   unfolding assign
   made_assign i k p w t h g e =
-      let s = settled (shape_faults (scope_at w i) p.target ++ shape_faults (scope_at w i) p.value) (with_driver (Written p.target i) (Written p.value i) (first p.target) w) t e in
+      let s = settled (expression_faults (loops_at w i) (scope_at w i) p.target ++ expression_faults (loops_at w i) (scope_at w i) p.value) (with_driver (Written p.target i) (Written p.value i) (first p.target) w) t e in
       let a = at_end i k w h (grows_back w t F (assign_same i p w t e) g) in
       made_one i w t (driver_of_pair i p) h.there a.0 (within_pair i p) (ap (λ (u : Walked). u.flat.drivers) (sym s.1)) (ap (λ (u : Walked). length u.flat.scopes) (sym s.1))
 
@@ -299,7 +300,7 @@ module _ (source : SourceText) (F : Flat) (whole : Fine source.modules F.signals
       by None q = made_none i w t (ap (λ (u : Walked). u.flat.drivers) (ok_is w t q)) (ap (λ (u : Walked). length u.flat.scopes) (sym (ok_is w t q)))
       by (Some v) q =
           let d : Driver = record { target = Whole known.id; value = Written v i; token = n.token } in
-          let s = settled (shape_faults (scope_at w i) v) (walk.net_driver i n.token v (place_of (lookup n.text (scope_at w i))) w) t q in
+          let s = settled (expression_faults (loops_at w i) (scope_at w i) v) (walk.net_driver i n.token v (place_of (lookup n.text (scope_at w i))) w) t q in
           let is : with_driver (Whole known.id) (Written v i) n.token w ≡ t = ap (λ (o : Option ℕ). walk.net_driver i n.token v o w) (sym known.found) ∙ s.1 in
           subst (λ (z : ℕ). Made i w t (record { target = Whole z; value = Written v i; token = n.token } ∷ []) []) (sym known.named)
           (made_one i w t d h.there (at_end i k w h gw).0 (within_net i known.id v n.token known.instance) (ap (λ (u : Walked). u.flat.drivers) (sym is)) (ap (λ (u : Walked). length u.flat.scopes) (sym is)))
@@ -526,12 +527,12 @@ module _ (source : SourceText) (F : Flat) (whole : Fine source.modules F.signals
       due = all_append (IsDue F) made.drivers links made.due (all_weaker (Conn n) (IsDue F) links (λ z c. inr (n, (omega (arith, il, nl), (inside_end, c.own)))) conns);
     }
 
-  checked_connects : (above : List ℕ) (names : Names) (m : ModuleDeclaration) (k at : ℕ) (over : Option Connections) (x : ModuleInstance) (given : Names) → Distinct (ports_of m) → checked above names m k at over x ≡ Ok given → Connects m x.connections
+  checked_connects : (loops : LoopNames) (above : List ℕ) (names : Names) (m : ModuleDeclaration) (k at : ℕ) (over : Option Connections) (x : ModuleInstance) (given : Names) → Distinct (ports_of m) → checked loops above names m k at over x ≡ Ok given → Connects m x.connections
   unfolding checked
-  checked_connects above names m k at over x given d e =
+  checked_connects loops above names m k at over x given d e =
       let o = overrides m names (noted None (fault_if (list_any (nat_eq k) above) (SelfInstance at))) over in
       let found = noted o.found (fault_if (is_some (lookup x.text names)) (NameTwice x.token)) in
-      connects m names found x.connections d (no_fault (connections m names found x.connections) o.given given e)
+      connects loops m names found x.connections d (no_fault (connections loops m names found x.connections) o.given given e)
 
   abbrev child_of : ℕ → Text → ModuleInstance → Child
   child_of i m x = record { parent = i; module_name = m; text = x }
@@ -551,7 +552,7 @@ module _ (source : SourceText) (F : Flat) (whole : Fine source.modules F.signals
       let there : n < length r.mid.flat.scopes = let c = en.made.count in let one = en.one in omega (arith, c, one) in
       let hn : Here n kk r.mid = record { fine = en.fine; there = there; owner = en.owner } in
       let apart : Distinct (ports_of (module_at ms kk)) = subst (λ (z : ℕ). Distinct (ports_of (module_at ms z))) en.owner (en.fine.filled n there).apart in
-      let joins = checked_connects above (scope_at w i) (module_at ms kk) kk at over x r.given apart r.settings in
+      let joins = checked_connects (loops_at w i) above (scope_at w i) (module_at ms kk) kk at over x r.given apart r.settings in
       let l = h.there in
       let ae = at_end n kk r.mid hn gm in
       subst (λ (z : Walked). Made i w z [] (record { parent = i; module_name = m; text = x } ∷ [])) r.is

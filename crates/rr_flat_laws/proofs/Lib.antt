@@ -11,3 +11,4 @@ pub mod Driving
 pub mod Porting
 pub mod Whole
 pub mod Blocking
+pub mod Ruling

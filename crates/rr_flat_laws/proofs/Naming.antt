@@ -16,8 +16,9 @@ use Rattle.rr_flat.specs.Signals.{Text, Signal, signal_at, no_signal, with_name}
 use Rattle.rr_flat.proofs.Lists.{all_index}
 use Rattle.rr_declarations.specs.Declarations.{is_port}
 use Rattle.rr_declarations.specs.Heads.{Head}
+use Rattle.rr_loop_rules.specs.Rules.{loop_names}
 use Rattle.rr_flatten.specs.Tables.{place_of, add_module}
-use Rattle.rr_flatten.specs.Walk.{Walked, Enter, scope_at, module_at, net, assign, with_instance, joined, instance_of, item, opened, enter_by, enter, nothing, finished, top_place, enter_top, flat_of}
+use Rattle.rr_flatten.specs.Walk.{Walked, Enter, scope_at, module_at, net, assign, with_instance, joined, instance_of, item, opened, enter_by, enter, nothing, finished, top_place, enter_top, flat_by, flat_of}
 use Rattle.rr_flatten.proofs.HeadOf.{ok_is, not_ok, first_ok, each_keeps}
 use Rattle.rr_flat_laws.specs.Declared.{ports_by, HasDeclaration, way_of, Declares, ports_of}
 use Rattle.rr_flat_laws.specs.Names.{IsSignalOf, NamesAre}
@@ -130,7 +131,7 @@ module _ (ms : List ModuleDeclaration) where
         listed = subst (λ (z : ℕ). is_port s.port ≡ true → Contains (ports_of (module_at ms z)) s.name) (sym b) (o.listed j l);
       }
 
-  pub fine_opened : (k : ℕ) (h : Head) (w : Walked) → FineWalk w → Opened (module_at ms k) (length w.flat.scopes) (length w.flat.signals) h → FineWalk (opened k h w)
+  pub fine_opened : (k : ℕ) (h : Head) (w : Walked) → FineWalk w → Opened (module_at ms k) (length w.flat.scopes) (length w.flat.signals) h → FineWalk (opened k h (loop_names (module_at ms k)) w)
   fine_opened k h w f o =
       let ss = w.flat.signals in
       let ns = w.flat.scopes in
@@ -220,26 +221,26 @@ module _ (ms : List ModuleDeclaration) where
   after_enter table zero above k given w t f e = absurd (not_ok _ t e)
   after_enter table (suc levels) above k given w t f e = after_enter_by table (enter ms table levels) (after_enter table levels) above k given w t f e
 
-  pub fine_nothing : (at : ℕ) → FineWalk (nothing at)
+  pub fine_nothing : (at : ℕ) → FineWalk (nothing None at)
   fine_nothing at = record { even = refl; one = λ id l. absurd (omega (arith, l)); filled = λ i l. absurd (omega (arith, l)) }
 
-  pub after_top : (table : Names) (o : Option ℕ) (w : Walked) → enter_top ms table o ≡ Ok w → FineWalk w
+  pub after_top : (table : Names) (o : Option ℕ) (w : Walked) → enter_top None ms table o ≡ Ok w → FineWalk w
   after_top table None w e = absurd (not_ok _ w e)
-  after_top table (Some k) w e = after_enter table 16 [] k [] (nothing (module_at ms k).token) w (fine_nothing (module_at ms k).token) e
+  after_top table (Some k) w e = after_enter table 16 [] k [] (nothing None (module_at ms k).token) w (fine_nothing (module_at ms k).token) e
 
 -- the walk of a source
 pub record Walking (source : SourceText) (top : Option Text) (flat : Flat) : Type 0 where
   pub table : Names
   pub tabled : each add_module source.modules [] ≡ Ok table
   pub end : Walked
-  pub walked : enter_top source.modules table (top_place source.modules table top) ≡ Ok end
+  pub walked : enter_top None source.modules table (top_place source.modules table top) ≡ Ok end
   pub is : finished source.modules end.flat ≡ flat
 
 pub walking : (source : SourceText) (top : Option Text) (flat : Flat) → flat_of source top ≡ Ok flat → Walking source top flat
-unfolding flat_of
+unfolding flat_by
 walking source top flat e =
-    let r = first_ok (each add_module source.modules []) (λ table. and_then (enter_top source.modules table (top_place source.modules table top)) (λ w. Ok (finished source.modules w.flat))) flat e in
-    let s = first_ok (enter_top source.modules r.0 (top_place source.modules r.0 top)) (λ w. Ok (finished source.modules w.flat)) flat r.1.1 in
+    let r = first_ok (each add_module source.modules []) (λ table. and_then (enter_top None source.modules table (top_place source.modules table top)) (λ w. Ok (finished source.modules w.flat))) flat e in
+    let s = first_ok (enter_top None source.modules r.0 (top_place source.modules r.0 top)) (λ w. Ok (finished source.modules w.flat)) flat r.1.1 in
     record { table = r.0; tabled = r.1.0; end = s.0; walked = s.1.0; is = ok_is (finished source.modules s.0.flat) flat s.1.1 }
 
 -- inputs and outputs

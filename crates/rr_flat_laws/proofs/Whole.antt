@@ -120,12 +120,12 @@ module _ (source : SourceText) (F : Flat) (whole : Fine source.modules F.signals
   }
 
 driven_top : (source : SourceText) (top : Option Text) (table : Names) → Table source.modules table → (o : Option ℕ) → ((k : ℕ) → o ≡ Some k → (k < length source.modules) × IsTop source top (module_at source.modules k)) → (end : Walked) →
-    enter_top source.modules table o ≡ Ok end → Driven source top (finished source.modules end.flat)
+    enter_top None source.modules table o ≡ Ok end → Driven source top (finished source.modules end.flat)
 driven_top source top table t None l end e = absurd (not_ok _ end e)
 driven_top source top table t (Some k) l end e =
     let F = finished source.modules end.flat in
     let whole : Fine source.modules F.signals F.scopes F.owners = after_top source.modules table (Some k) end e in
-    let w = nothing (module_at source.modules k).token in
+    let w = nothing None (module_at source.modules k).token in
     driven source F whole table t k w end refl refl refl refl (l k refl).0 top (l k refl).1 (made_enter source F whole table t 16 [] k [] w end (fine_nothing source.modules (module_at source.modules k).token) (end_grows source.modules end) e)
 
 driven_design : (source : SourceText) (top : Option Text) (flat : Flat) → flat_of source top ≡ Ok flat → Driven source top flat

@@ -7,6 +7,7 @@ use Rattle.rr_flatten.specs.Walk.{flat_of}
 use Rattle.rr_flat_laws.specs.Blocks.{AreBlocks}
 use Rattle.rr_flat_laws.specs.Hierarchy.{IsTop, AreAssignments, AreConnections, IsDue}
 use Rattle.rr_flat_laws.specs.Names.{module_of, NamesAre}
+use Rattle.rr_flat_laws.specs.Rules.{KeepRules}
 
 -- each name that an instance declares as a net or a variable is one signal, and each signal is such a name
 abbrev pub NamesAreSignals : Type 0
@@ -20,7 +21,7 @@ AssignmentsAreDrivers = (source : SourceText) (top : Option Text) (flat : Flat) 
 abbrev pub ConnectionsAreDrivers : Type 0
 ConnectionsAreDrivers = (source : SourceText) (top : Option Text) (flat : Flat) → flat_of source top ≡ Ok flat → AreConnections source flat
 
--- each `always` of an instance is one block, and there are no others
+-- each `always` of an instance is one block, without loops, and there are no others
 abbrev pub BlocksAreAlways : Type 0
 BlocksAreAlways = (source : SourceText) (top : Option Text) (flat : Flat) → flat_of source top ≡ Ok flat → AreBlocks source flat
 
@@ -31,3 +32,7 @@ TopIsFirst = (source : SourceText) (top : Option Text) (flat : Flat) → flat_of
 -- there are no other drivers
 abbrev pub NoOtherDrivers : Type 0
 NoOtherDrivers = (source : SourceText) (top : Option Text) (flat : Flat) → flat_of source top ≡ Ok flat → All (IsDue flat) flat.drivers
+
+-- in each item of an instance's module the names of loops stand where they may
+abbrev pub RulesKept : Type 0
+RulesKept = (source : SourceText) (top : Option Text) (flat : Flat) → flat_of source top ≡ Ok flat → (i : ℕ) → i < length flat.owners → KeepRules (module_of source flat i)

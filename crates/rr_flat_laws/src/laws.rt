@@ -1,5 +1,5 @@
 //! What the flat design of a source is, as contracts of functions that do nothing.
-ghost use Rattle.rr_flat_laws.specs.Laws.{NamesAreSignals, AssignmentsAreDrivers, ConnectionsAreDrivers, TopIsFirst, NoOtherDrivers, BlocksAreAlways};
+ghost use Rattle.rr_flat_laws.specs.Laws.{NamesAreSignals, AssignmentsAreDrivers, ConnectionsAreDrivers, TopIsFirst, NoOtherDrivers, BlocksAreAlways, RulesKept};
 
 /// In the flat design of a source each name that an instance declares as a net or a variable is
 /// exactly one signal, which the name stands for there, each signal is such a name, and the ports of
@@ -38,8 +38,15 @@ pub fn no_other_drivers()
 {}
 
 /// The blocks of an instance are the `always` of its module, each once and in the order of the text:
-/// those with edges are clocked, the others combinational (sections 9.7 and 9.9.2). There are no
-/// others.
+/// those with edges are clocked, the others combinational (sections 9.7 and 9.9.2). In a block each
+/// loop of the `always` is the block of its turns (section 9.6). There are no others.
 pub fn blocks_are_always()
     ensures { BlocksAreAlways }
+{}
+
+/// In each `always` and each `initial` of an instance's module the names of the module's loops stand
+/// where they may: in their loops as values, and nowhere else (section 9.6).
+#[tactic(auto, using(crate::proofs::Ruling::rules_of_design))]
+pub fn rules_are_kept()
+    ensures { RulesKept }
 {}

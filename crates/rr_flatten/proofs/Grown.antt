@@ -1,10 +1,10 @@
 -- A design in its walk, one part more.
-use Rattle.std.proofs.Common.{◌≡◌, ◌∙◌, sym, ap, ℕ, zero, suc, ◌+◌, ◌<◌, ◌≤◌, Bool, true, false, cond, List, [], ◌∷◌, ◌++◌, length, map, get_or, drop, Option, Some, None, refl, subst, arith}
+use Rattle.std.proofs.Common.{◌≡◌, ◌∙◌, sym, ap, ℕ, zero, suc, ◌+◌, ◌<◌, ◌≤◌, Bool, true, false, cond, List, [], ◌∷◌, ◌++◌, length, length-append, map, get_or, drop, Option, Some, None, refl, subst, arith}
 use Rattle.std.specs.Prelude.{IfSome, All}
 use Rattle.std.specs.List.{AllByRecursion}
 use Rattle.std.specs.Str.{bytes_eq}
 use Rattle.std.proofs.Math.ListN.{set}
-use Rattle.std.proofs.lemmas.List.{drop_all, length-map, map-append, length-set, get_or-set_other}
+use Rattle.std.proofs.lemmas.List.{drop_all, get_or_append_left, length-map, map-append, length-set, get_or-set_other}
 use Rattle.std.proofs.lemmas.List.Elements.{All-get_or}
 use Rattle.rr_syntax.specs.Tree.{Tree, Trees, End, More, ModuleDeclaration}
 use Rattle.rr_syntax.specs.View.{plain, plain_list, plain_module, texts}
@@ -23,7 +23,8 @@ use Rattle.rr_flat.specs.declared.design.Part.TheVariants as part
 use Rattle.rr_flat.specs.declared.design.Driver.{Driver}
 use Rattle.rr_flat.specs.declared.design.Block.{Block}
 use Rattle.rr_flatten.specs.declared.items.Walked.{Walked as DeclaredWalked}
-use Rattle.rr_flatten.specs.Kept.{IsSame, Keeps}
+use Rattle.rr_loop_rules.specs.Rules.{LoopNames}
+use Rattle.rr_flatten.specs.Kept.{IsSame, HasLoops, Keeps}
 use Rattle.rr_flat.specs.Sound.{IsExpression, AreExpressions, IsScope, names_at}
 use Rattle.rr_flatten.specs.Tables.{place_of}
 use Rattle.rr_flat.specs.View.{Design, plain_flat, plain_driver, plain_block}
@@ -48,26 +49,41 @@ combined_one d x = rw (map-append plain_block d.combinational (x ∷ []), length
 -- what stays
 
 pub same_twice : (a b c : DeclaredWalked) → IsSame a b → IsSame b c → IsSame a c
-same_twice a b c h i = record { scopes = i.scopes ∙ h.scopes; signals = i.signals ∙ h.signals; bits = i.bits ∙ h.bits }
+same_twice a b c h i = record { scopes = i.scopes ∙ h.scopes; signals = i.signals ∙ h.signals; bits = i.bits ∙ h.bits; loops = i.loops ∙ h.loops }
 
-pub same_keeps : (n : ℕ) (a b : DeclaredWalked) → a.bits ≤ 65536 → IsSame a b → Keeps n a b
-same_keeps n a b le h = record { grown = rw h.scopes (omega arith); few = rw h.bits le; same = λ j lt. ap (λ s. names_at s j) h.scopes }
+pub same_loops : (a b : DeclaredWalked) → HasLoops a → IsSame a b → HasLoops b
+same_loops a b l h = rw (h.loops, h.scopes) l
+
+pub same_keeps : (n : ℕ) (a b : DeclaredWalked) → a.bits ≤ 65536 → HasLoops a → IsSame a b → Keeps n a b
+same_keeps n a b le l h = record { grown = rw h.scopes (omega arith); few = rw h.bits le; loops = same_loops a b l h; same = λ j lt. ap (λ s. names_at s j) h.scopes }
 
 pub keeps_twice : (n : ℕ) (a b c : DeclaredWalked) → Keeps n a b → Keeps n b c → Keeps n a c
-keeps_twice n a b c h i = record { grown = omega (arith, h.grown, i.grown); few = i.few; same = λ j lt. i.same j lt ∙ h.same j lt }
+keeps_twice n a b c h i = record { grown = omega (arith, h.grown, i.grown); few = i.few; loops = i.loops; same = λ j lt. i.same j lt ∙ h.same j lt }
 
 pub keeps_fewer : (n m : ℕ) (a b : DeclaredWalked) → n ≤ m → Keeps m a b → Keeps n a b
-keeps_fewer n m a b le h = record { grown = h.grown; few = h.few; same = λ j lt. h.same j (omega (arith, lt, le)) }
+keeps_fewer n m a b le h = record { grown = h.grown; few = h.few; loops = h.loops; same = λ j lt. h.same j (omega (arith, lt, le)) }
 
-pub keeps_named : (n : ℕ) (old new : DeclaredWalked) (x : Names) → n < length old.flat.scopes → old.bits ≤ 65536 → new.flat.scopes ≡ set old.flat.scopes n x → new.bits ≡ old.bits → Keeps n old new
-keeps_named n old new x lt le e b = record {
+pub keeps_named : (n : ℕ) (old new : DeclaredWalked) (x : Names) → n < length old.flat.scopes → old.bits ≤ 65536 → HasLoops old → new.flat.scopes ≡ set old.flat.scopes n x → new.bits ≡ old.bits
+    → new.loops.items ≡ old.loops.items → Keeps n old new
+keeps_named n old new x lt le l e b k = record {
   grown = rw (e, length-set old.flat.scopes n x) (omega arith);
   few = rw b le;
+  loops = rw (k, e, length-set old.flat.scopes n x) l;
   same = λ j below. ap (λ s. names_at s j) e ∙ get_or-set_other old.flat.scopes n j x [] (λ q. absurd (omega (arith, q, below)));
 }
 
-pub keeps_itself : (n : ℕ) (a : DeclaredWalked) → a.bits ≤ 65536 → Keeps n a a
-keeps_itself n a le = record { grown = omega arith; few = le; same = λ j lt. refl }
+pub keeps_itself : (n : ℕ) (a : DeclaredWalked) → a.bits ≤ 65536 → HasLoops a → Keeps n a a
+keeps_itself n a le l = record { grown = omega arith; few = le; loops = l; same = λ j lt. refl }
+
+-- one instance more, and the names of its loops
+pub keeps_opened : (old new : DeclaredWalked) (x : Names) (y : LoopNames) → HasLoops old → new.flat.scopes ≡ old.flat.scopes ++ x ∷ [] → new.loops.items ≡ old.loops.items ++ y ∷ [] → new.bits ≤ 65536
+    → Keeps (length old.flat.scopes) old new
+keeps_opened old new x y l e k le = record {
+  grown = rw (e, length-append old.flat.scopes (x ∷ [])) (omega arith);
+  few = le;
+  loops = rw (k, e, length-append old.loops.items (y ∷ []), length-append old.flat.scopes (x ∷ [])) (ap (λ n. n + 1) l);
+  same = λ j lt. ap (λ s. names_at s j) e ∙ get_or_append_left old.flat.scopes (x ∷ []) [] j lt;
+}
 
 pub keeps_on : (n m : ℕ) (a b c : DeclaredWalked) → n ≡ m → Keeps m a b → Keeps n b c → Keeps m a c
 keeps_on n m a b c e h i = keeps_twice m a b c h (subst (λ k. Keeps k b c) e i)

@@ -6,4 +6,8 @@ pub mod Grown
 pub mod Walks
 pub mod Ends
 pub mod HeadOf
+pub mod Gives
 pub mod WalkOf
+pub mod Unfolded
+pub mod Blocks
+pub mod Limits

@@ -11,8 +11,8 @@ use Rattle.rr_declarations.specs.Values.{constant}
 use Rattle.rr_flat.specs.declared.fault.FlatFault.{FlatFault}
 use Rattle.rr_flat.specs.declared.fault.FlatFault.TheVariants.{PortMismatch}
 use Rattle.rr_flat.proofs.Lists.{rest}
-use Rattle.rr_flatten.specs.Walk.{fold_trees, noted, with_override, Checked, check_position, check_port}
-use Rattle.rr_flat.specs.Shapes.{shape_faults}
+use Rattle.rr_loop_rules.specs.Rules.{LoopNames}
+use Rattle.rr_flatten.specs.Walk.{fold_trees, noted, expression_faults, with_override, Checked, check_position, check_port}
 use denote.Ref.{Bor}
 
 pub trees_more : {S : Type 0} (step : S → Tree → S) (s : S) (xs : List Expr) (i : ℕ) (x : Expr) → i < length xs → x ≡ get_or xs i x
@@ -44,16 +44,16 @@ pub position_past : (names : Names) (free : List (Bor (List ℕ))) (place : ℕ)
 unfolding check_position
 position_past names free place over c next t le e = rw (texts_past free place le, texts_past free (place + 1) (omega arith), e) refl
 
-pub port_there : (names : Names) (ports : List (Bor (List ℕ))) (place : ℕ) (over : Bool) (found next : Option FlatFault) (t : Tree) → place < length ports
-    → next ≡ noted found (shape_faults names t)
-    → record { left = drop (place + 1) (texts ports); over = over; found = next } ≡ check_port names (record { left = drop place (texts ports); over = over; found = found }) t
+pub port_there : (loops : LoopNames) (names : Names) (ports : List (Bor (List ℕ))) (place : ℕ) (over : Bool) (found next : Option FlatFault) (t : Tree) → place < length ports
+    → next ≡ noted found (expression_faults loops names t)
+    → record { left = drop (place + 1) (texts ports); over = over; found = next } ≡ check_port loops names (record { left = drop place (texts ports); over = over; found = found }) t
 unfolding check_port
-port_there names ports place over found next t lt e =
+port_there loops names ports place over found next t lt e =
     let n : place < length (texts ports) = simp length-map lt in
     rw (rest (texts ports) place [] n, e) refl
 
-pub port_past : (names : Names) (ports : List (Bor (List ℕ))) (place : ℕ) (over : Bool) (found next : Option FlatFault) (t : Tree) → length ports ≤ place
-    → next ≡ noted (noted found (shape_faults names t)) (fault_if (not over) (PortMismatch (first t)))
-    → record { left = drop (place + 1) (texts ports); over = true; found = next } ≡ check_port names (record { left = drop place (texts ports); over = over; found = found }) t
+pub port_past : (loops : LoopNames) (names : Names) (ports : List (Bor (List ℕ))) (place : ℕ) (over : Bool) (found next : Option FlatFault) (t : Tree) → length ports ≤ place
+    → next ≡ noted (noted found (expression_faults loops names t)) (fault_if (not over) (PortMismatch (first t)))
+    → record { left = drop (place + 1) (texts ports); over = true; found = next } ≡ check_port loops names (record { left = drop place (texts ports); over = over; found = found }) t
 unfolding check_port
-port_past names ports place over found next t le e = rw (texts_past ports place le, texts_past ports (place + 1) (omega arith), e) refl
+port_past loops names ports place over found next t le e = rw (texts_past ports place le, texts_past ports (place + 1) (omega arith), e) refl

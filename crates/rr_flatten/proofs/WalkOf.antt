@@ -21,9 +21,12 @@ use Rattle.rr_flat.specs.Signals.{with_name}
 use Rattle.rr_flat.specs.Signals.{Text, Signal, signal_at, no_signal}
 use Rattle.rr_flat.specs.Plain.{Side, Written, Whole, Driver, Flat}
 use Rattle.rr_flatten.specs.Tables.{place_of, add_module, port_names}
-use Rattle.rr_flatten.specs.Walk.{Walked, scope_at, with_driver, assign, net_driver, net_value, net_with, net, with_block, always, with_initial, initial, join_port, join_at, join, join_value, join_named, join_positions, joined, Enter, module_at, checked, with_instance, instance_of, item, opened, begin, enter_by, enter, nothing, is_way, is_top_port, top_ports, finished, top_place, enter_top, flat_of}
+use Rattle.rr_loop_rules.specs.Rules.{LoopNames, loop_names}
+use Rattle.rr_unfold.specs.Unfold.{unfold_statement}
+use Rattle.rr_flatten.specs.Walk.{Walked, scope_at, loops_at, with_driver, assign, net_driver, net_value, net_with, net, with_block, always, initial, join_port, join_at, join, join_value, join_named, join_positions, joined, Enter, module_at, checked, with_instance, instance_of, item, opened, begin, enter_by, enter, nothing, is_way, is_top_port, top_ports, finished, top_place, enter_top, flat_by, flat_of}
 use Rattle.rr_flat.proofs.Lists.{all_index}
 use Rattle.rr_flat.specs.Elaborated.{DrivesOwn, IsTopInput, IsSound}
+use Rattle.rr_flatten.proofs.Gives.{always_gives, initial_gives}
 use Rattle.rr_flatten.proofs.HeadOf.{ok_is, not_ok, settled_is, first_ok, each_keeps, fold_keeps, all_append, all_weaker, Entries, entries_with, Between, HeadOf, head_of}
 
 -- a signal of instance k
@@ -97,12 +100,12 @@ after_block i (Edges list commas) s at w g = (record { scopes = g.0.scopes; driv
 after_block i (Levels list commas) s at w g = (record { scopes = g.0.scopes; drivers = g.0.drivers }, g.1)
 
 after_always : (i : ℕ) (events : EventControl) (s : Statement) (at : ℕ) (w t : Walked) → Good i w → always i events s at w ≡ Ok t → Good i t
-unfolding always
-after_always i events s at w t g e = subst (Good i) (settled_is _ (with_block i events s at w) t e) (after_block i events s at w g)
+after_always i events s at w t g e =
+    let r = always_gives i events s at w t e in
+    subst (Good i) r.1.1 (after_block i events (unfold_statement (scope_at w i) [] s) at (record w { count = r.0 }) g)
 
 after_initial : (i : ℕ) (s : Statement) (at : ℕ) (w t : Walked) → Good i w → initial i s at w ≡ Ok t → Good i t
-unfolding initial
-after_initial i s at w t g e = subst (Good i) (settled_is _ (with_initial i s at w) t e) (record { scopes = g.0.scopes; drivers = g.0.drivers }, g.1)
+after_initial i s at w t g e = subst (Good i) (initial_gives i s at w t e).1.1 (record { scopes = g.0.scopes; drivers = g.0.drivers }, g.1)
 
 -- connections: instance k is one below the top
 abbrev Joined : ℕ → ℕ → Walked → Type 0
@@ -171,7 +174,7 @@ after_instance : (source : List ModuleDeclaration) (above : List ℕ) (i : ℕ) 
 unfolding instance_of
 after_instance source above i sub at over None s x w t g e = absurd (not_ok _ t e)
 after_instance source above i sub at over (Some k) s x w t g e =
-    let r = first_ok (checked above (scope_at w i) (module_at source k) k at over x) _ t e in
+    let r = first_ok (checked (loops_at w i) above (scope_at w i) (module_at source k) k at over x) _ t e in
     let u = first_ok (sub k r.0 (with_instance i x.text w)) _ t r.1.1 in
     let n = named i x.text w g in
     let f = s k r.0 (with_instance i x.text w) u.0 n.0 u.1.0 in
@@ -216,8 +219,8 @@ local_new ss more k (entity.Signal id range signed) a h =
     )
 local_new ss more k entity.Instance a h = tt
 
-after_opened : (k : ℕ) (h : Head) (w : Walked) → Fine w.flat → HeadOf (length w.flat.scopes) (length w.flat.signals) h → Fine (opened k h w).flat
-after_opened k h w f o =
+after_opened : (k : ℕ) (h : Head) (names : LoopNames) (w : Walked) → Fine w.flat → HeadOf (length w.flat.scopes) (length w.flat.signals) h → Fine (opened k h names w).flat
+after_opened k h names w f o =
     let ss = w.flat.signals in
     let more = h.signals in
     let scopes = w.flat.scopes in
@@ -240,13 +243,14 @@ after_opened k h w f o =
 after_begin : (source : List ModuleDeclaration) (k : ℕ) (given : Names) (w t : Walked) → Fine w.flat → begin source k given w ≡ Ok t → Fine t.flat × (length t.flat.scopes ≡ length w.flat.scopes + 1)
 unfolding begin
 after_begin source k given w t f e =
-    let r = first_ok (first_fault_or (fault_if (not (nat_lt (length w.flat.scopes) 256)) (TooMany InstanceCount 257)) w) (λ w. and_then (head (length w.flat.scopes) (length w.flat.signals) w.bits given (module_at source k)) (λ h. Ok (opened k h w))) t e in
+    let names = loop_names (module_at source k) in
+    let r = first_ok (first_fault_or (fault_if (not (nat_lt (length w.flat.scopes) 256)) (TooMany InstanceCount 257)) w) (λ w. and_then (head (length w.flat.scopes) (length w.flat.signals) w.bits given (module_at source k)) (λ h. Ok (opened k h names w))) t e in
     let same : w ≡ r.0 = settled_is (first_of (fault_if (not (nat_lt (length w.flat.scopes) 256)) (TooMany InstanceCount 257))) w r.0 r.1.0 in
     let fine : Fine r.0.flat = subst (λ v. Fine v.flat) same f in
-    let s = first_ok (head (length r.0.flat.scopes) (length r.0.flat.signals) r.0.bits given (module_at source k)) (λ h. Ok (opened k h r.0)) t r.1.1 in
+    let s = first_ok (head (length r.0.flat.scopes) (length r.0.flat.signals) r.0.bits given (module_at source k)) (λ h. Ok (opened k h names r.0)) t r.1.1 in
     let h = head_of (length r.0.flat.scopes) (length r.0.flat.signals) r.0.bits given (module_at source k) s.0 s.1.0 in
-    let last : opened k s.0 r.0 ≡ t = ok_is (opened k s.0 r.0) t s.1.1 in (
-      subst (λ v. Fine v.flat) last (after_opened k s.0 r.0 fine h),
+    let last : opened k s.0 names r.0 ≡ t = ok_is (opened k s.0 names r.0) t s.1.1 in (
+      subst (λ v. Fine v.flat) last (after_opened k s.0 names r.0 fine h),
       ap (λ (v : Walked). length v.flat.scopes) (sym last) ∙ length-append r.0.flat.scopes (s.0.scope ∷ []) ∙ ap (λ (v : Walked). length v.flat.scopes + 1) (sym same),
     )
 
@@ -264,12 +268,12 @@ unfolding enter
 after_enter source table zero above k given w t f e = absurd (not_ok _ t e)
 after_enter source table (suc levels) above k given w t f e = after_enter_by source table (enter source table levels) (after_enter source table levels) above k given w t f e
 
-nothing_fine : (at : ℕ) → Fine (nothing at).flat
-nothing_fine at = record { scopes = λ k l. absurd (omega arith); drivers = tt }
+nothing_fine : (limit : Option ℕ) (at : ℕ) → Fine (nothing limit at).flat
+nothing_fine limit at = record { scopes = λ k l. absurd (omega arith); drivers = tt }
 
-after_top : (source : List ModuleDeclaration) (table : Names) (o : Option ℕ) (w : Walked) → enter_top source table o ≡ Ok w → Fine w.flat
-after_top source table None w e = absurd (not_ok _ w e)
-after_top source table (Some k) w e = (after_enter source table 16 [] k [] (nothing (module_at source k).token) w (nothing_fine (module_at source k).token) e).0
+after_top : (limit : Option ℕ) (source : List ModuleDeclaration) (table : Names) (o : Option ℕ) (w : Walked) → enter_top limit source table o ≡ Ok w → Fine w.flat
+after_top limit source table None w e = absurd (not_ok _ w e)
+after_top limit source table (Some k) w e = (after_enter source table 16 [] k [] (nothing limit (module_at source k).token) w (nothing_fine limit (module_at source k).token) e).0
 
 -- The inputs of the top
 
@@ -304,12 +308,15 @@ top_at (s ∷ ss) more k h =
     top_one more s ss k (is_top_port true s) h refl
     (subst (λ all. Tops all (top_ports true (k + 1) ss)) (sym (append_one more s ss)) (top_at ss (more ++ s ∷ []) (k + 1) (length-append more (s ∷ []) ∙ omega (arith, h))))
 
-pub sound : (source : SourceText) (top : Option Text) (flat : Flat) → flat_of source top ≡ Ok flat → IsSound flat
-unfolding flat_of
-sound source top flat e =
-    let r = first_ok (each add_module source.modules []) (λ table. and_then (enter_top source.modules table (top_place source.modules table top)) (λ w. Ok (finished source.modules w.flat))) flat e in
-    let s = first_ok (enter_top source.modules r.0 (top_place source.modules r.0 top)) (λ w. Ok (finished source.modules w.flat)) flat r.1.1 in
-    let f = after_top source.modules r.0 (top_place source.modules r.0 top) s.0 s.1.0 in
+pub sound_by : (limit : Option ℕ) (source : SourceText) (top : Option Text) (flat : Flat) → flat_by limit source top ≡ Ok flat → IsSound flat
+unfolding flat_by
+sound_by limit source top flat e =
+    let r = first_ok (each add_module source.modules []) (λ table. and_then (enter_top limit source.modules table (top_place source.modules table top)) (λ w. Ok (finished source.modules w.flat))) flat e in
+    let s = first_ok (enter_top limit source.modules r.0 (top_place source.modules r.0 top)) (λ w. Ok (finished source.modules w.flat)) flat r.1.1 in
+    let f = after_top limit source.modules r.0 (top_place source.modules r.0 top) s.0 s.1.0 in
     subst IsSound (ok_is (finished source.modules s.0.flat) flat s.1.1) (record { drivers = f.drivers; inputs = top_at s.0.flat.signals [] 0 refl })
+
+pub sound : (source : SourceText) (top : Option Text) (flat : Flat) → flat_of source top ≡ Ok flat → IsSound flat
+sound source top flat e = sound_by None source top flat e
 
 pub ruleset flat_designs = (sound)

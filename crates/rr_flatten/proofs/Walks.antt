@@ -17,7 +17,9 @@ use Rattle.rr_flat.specs.declared.fault.FlatFault.{FlatFault}
 use Rattle.rr_flat.specs.declared.fault.FlatFault.TheVariants.{UnknownModule, TooMany}
 use Rattle.rr_flatten.specs.Tables.{place_of}
 use Rattle.rr_flat.specs.View.{Design, plain_flat}
-use Rattle.rr_flatten.specs.Walk.{Walked, Enter, scope_at, module_at, assign, net, always, initial, checked, with_instance, joined, instance_of, item, begin, enter, enter_by, opened, nothing}
+use Rattle.rr_loop_rules.specs.Rules.{LoopNames}
+use Rattle.rr_unfold.specs.Unfold.{Count, no_turns}
+use Rattle.rr_flatten.specs.Walk.{Walked, Enter, scope_at, loops_at, module_at, assign, net, always, initial, checked, with_instance, joined, instance_of, item, begin, enter, enter_by, opened, nothing}
 
 -- the count of instances
 
@@ -33,13 +35,14 @@ starts_plain : (ss : List Signal) → map (λ (s : plain.Signal). s.start) (map 
 starts_plain [] = refl
 starts_plain (s ∷ ss) = ap (λ (ns : List ℕ). s.start ∷ ns) (starts_plain ss)
 
-pub opened_is : (d : Design) (h : Opening) (old owner : ℕ)
-    → record { flat = plain_flat (record d { signals = d.signals ++ h.signals; starts = d.starts ++ map (λ s. s.start) h.signals; scopes = d.scopes ++ h.scope ∷ []; owners = d.owners ++ owner ∷ [] }); bits = h.bits }
-    ≡ opened owner (plain_head h) (record { flat = plain_flat d; bits = old })
-opened_is d h old owner = rw (map-append plain_signal d.signals h.signals, starts_plain h.signals) refl
+pub opened_is : (d : Design) (h : Opening) (old owner : ℕ) (limit : Option ℕ) (count : Count) (loops : List LoopNames) (names : LoopNames)
+    → record { flat = plain_flat (record d { signals = d.signals ++ h.signals; starts = d.starts ++ map (λ s. s.start) h.signals; scopes = d.scopes ++ h.scope ∷ []; owners = d.owners ++ owner ∷ [] }); bits = h.bits; limit = limit; count = count; loops = loops ++ names ∷ [] }
+    ≡ opened owner (plain_head h) names (record { flat = plain_flat d; bits = old; limit = limit; count = count; loops = loops })
+opened_is d h old owner limit count loops names = rw (map-append plain_signal d.signals h.signals, starts_plain h.signals) refl
 
-pub start_is : (d : Design) (top at : ℕ) → plain_flat d ≡ (nothing top).flat → top ≡ at → record { flat = plain_flat d; bits = 0 } ≡ nothing at
-start_is d top at e t = rw (e, t) refl
+pub start_is : (d : Design) (limit : Option ℕ) (top at : ℕ) (count : Count) (loops : List LoopNames) → plain_flat d ≡ (nothing limit top).flat → top ≡ at → count ≡ no_turns → loops ≡ []
+    → record { flat = plain_flat d; bits = 0; limit = limit; count = count; loops = loops } ≡ nothing limit at
+start_is d limit top at count loops e t n l = rw (e, t, n, l) refl
 
 -- levels
 
@@ -115,19 +118,19 @@ unfolding instance_of
 instance_unknown source above i sub at over x w o e = rw e refl
 
 pub inside_refuses : (source : List ModuleDeclaration) (above : List ℕ) (i : ℕ) (sub : Enter) (at : ℕ) (over : Option Connections) (x : ModuleInstance) (w : Walked) (k : ℕ) (own : ModuleDeclaration) (fault : FlatFault) → own ≡ module_at source k
-    → Refuses (checked above (scope_at w i) own k at over x) fault → Refuses (instance_of source above i sub at over (Some k) x w) fault
+    → Refuses (checked (loops_at w i) above (scope_at w i) own k at over x) fault → Refuses (instance_of source above i sub at over (Some k) x w) fault
 unfolding instance_of
 inside_refuses source above i sub at over x w k own fault is (inl memory) = inl memory
 inside_refuses source above i sub at over x w k own fault is (inr e) = inr (rw (← is, e) refl)
 
 pub inside_sub_refuses : (source : List ModuleDeclaration) (above : List ℕ) (i : ℕ) (sub : Enter) (at : ℕ) (over : Option Connections) (x : ModuleInstance) (w named : Walked) (k : ℕ) (own : ModuleDeclaration) (given : Names) (fault : FlatFault) → own ≡ module_at source k
-    → checked above (scope_at w i) own k at over x ≡ Ok given → named ≡ with_instance i x.text w → Refuses (sub k given named) fault → Refuses (instance_of source above i sub at over (Some k) x w) fault
+    → checked (loops_at w i) above (scope_at w i) own k at over x ≡ Ok given → named ≡ with_instance i x.text w → Refuses (sub k given named) fault → Refuses (instance_of source above i sub at over (Some k) x w) fault
 unfolding instance_of
 inside_sub_refuses source above i sub at over x w named k own given fault is c n (inl memory) = inl memory
 inside_sub_refuses source above i sub at over x w named k own given fault is c n (inr e) = inr (rw (← is, c, ← n, e) refl)
 
 pub inside_walks : (source : List ModuleDeclaration) (above : List ℕ) (i : ℕ) (sub : Enter) (at : ℕ) (over : Option Connections) (x : ModuleInstance) (w named next last : Walked) (k inner : ℕ) (own : ModuleDeclaration) (given : Names) → own ≡ module_at source k
-    → checked above (scope_at w i) own k at over x ≡ Ok given → named ≡ with_instance i x.text w → sub k given named ≡ Ok next → inner ≡ length w.flat.scopes → last ≡ joined i inner own x.connections next
+    → checked (loops_at w i) above (scope_at w i) own k at over x ≡ Ok given → named ≡ with_instance i x.text w → sub k given named ≡ Ok next → inner ≡ length w.flat.scopes → last ≡ joined i inner own x.connections next
     → instance_of source above i sub at over (Some k) x w ≡ Ok last
 unfolding instance_of
 inside_walks source above i sub at over x w named next last k inner own given is c n e there j = rw (← is, c, ← n, e, ← there, j) refl

@@ -1,5 +1,5 @@
 -- The flat design of a source, or its first fault (IEEE 1364-2005 section 12).
-use Rattle.std.specs.Prelude.{ℕ, zero, suc, ◌+◌, Bool, true, false, not, List, [], ◌∷◌, ◌++◌, length, map, fold, Option, Some, None, Result, Ok, Err, is_some, is_none, nat_eq, nat_lt, ◌&&◌, if◌then◌else◌, slice_index_or, slice_set}
+use Rattle.std.specs.Prelude.{ℕ, zero, suc, ◌+◌, Bool, true, false, not, List, [], ◌∷◌, ◌++◌, length, map, fold, Option, Some, None, Result, Ok, Err, option_to_list, is_some, is_none, nat_eq, nat_lt, ◌&&◌, if◌then◌else◌, slice_index_or, slice_set}
 use Rattle.std.specs.List.{list_any}
 use Rattle.rr_syntax.specs.Tree.{Tree, Trees, End, More, Statement, DeclaredName, NetAssignment, EdgeEvent, EventControl, Star, Edges, Levels, NamedConnection, Connections, Positions, ModuleInstance, ModuleItem, Ports, Nets, Variables, Integers, Parameters, Assigns, Always, Initial, Instances, ModuleDeclaration, SourceText}
 use Rattle.rr_syntax.specs.Tree.{Names as Named}
@@ -12,7 +12,9 @@ use Rattle.rr_flat.specs.declared.signal.Port.TheVariants.{Inner, Input, Output}
 use Rattle.rr_flat.specs.declared.fault.Limit.TheVariants.{Instances as InstanceCount, Depth}
 use Rattle.rr_flat.specs.declared.fault.FlatFault.{FlatFault}
 use Rattle.rr_flat.specs.declared.fault.FlatFault.TheVariants.{NoTop, UnknownModule, SelfInstance, NameTwice, UnknownName, PortMismatch, TooMany}
-use Rattle.rr_flat.specs.Faults.{sooner, faults_in, fault_if, fault_or, first_fault_or, and_then, each}
+use Rattle.rr_flat.specs.Faults.{sooner, earliest_of, faults_in, fault_if, fault_or, first_fault_or, and_then, each}
+use Rattle.rr_loop_rules.specs.Rules.{LoopNames, loop_names, stray, strays, part_strays, loop_faults}
+use Rattle.rr_unfold.specs.Unfold.{Count, no_turns, counted, unfold_statement}
 use Rattle.rr_starts.specs.Starts.{initial_faults, started}
 use Rattle.rr_declarations.specs.Values.{constant}
 use Rattle.rr_flat.specs.Signals.{with_name}
@@ -24,13 +26,20 @@ use Rattle.rr_flat.specs.Plain.{Side, Written, Whole, Flat, no_design}
 use Rattle.rr_flat.specs.declared.design.Part.TheVariants as part
 use Rattle.rr_flatten.specs.Tables.{place_of, add_module, instantiated_by, last_free, parameter_table, open_names, port_names, name_set, at_place}
 
--- the design so far, and its flat bits
+-- the design so far, and its flat bits; how many tokens the bodies of loops may have in all their turns, if there is such a
+-- limit, and the turns and tokens so far; and the names of the loops of each instance
 pub record Walked : Type 0 where
   pub flat : Flat
   pub bits : ℕ
+  pub limit : Option ℕ
+  pub count : Count
+  pub loops : List LoopNames
 
 abbrev pub scope_at : Walked → ℕ → Names
 scope_at w i = slice_index_or w.flat.scopes i []
+
+abbrev pub loops_at : Walked → ℕ → LoopNames
+loops_at w i = slice_index_or w.loops i []
 
 -- Event controls
 
@@ -40,17 +49,18 @@ is_useless (entity.Constant bits signed) = false
 is_useless (entity.Signal id range signed) = false
 is_useless entity.Instance = true
 
-abbrev pub edge_faults : Names → EdgeEvent → List FlatFault
-edge_faults names e = fault_if (is_useless (meant names e.text)) (UnknownName e.token)
+-- the name of a loop stands in loops only
+abbrev pub edge_faults : LoopNames → Names → EdgeEvent → List FlatFault
+edge_faults loops names e = stray loops [] e.token e.text ++ fault_if (is_useless (meant names e.text)) (UnknownName e.token)
 
-unfoldable pub edges_faults : Names → List EdgeEvent → List FlatFault
-edges_faults names [] = []
-edges_faults names (e ∷ es) = edge_faults names e ++ edges_faults names es
+unfoldable pub edges_faults : LoopNames → Names → List EdgeEvent → List FlatFault
+edges_faults loops names [] = []
+edges_faults loops names (e ∷ es) = edge_faults loops names e ++ edges_faults loops names es
 
-unfoldable pub event_faults : Names → EventControl → List FlatFault
-event_faults names (Star brackets) = []
-event_faults names (Edges list commas) = edges_faults names list
-event_faults names (Levels list commas) = list_faults names list
+unfoldable pub event_faults : LoopNames → Names → EventControl → List FlatFault
+event_faults loops names (Star brackets) = []
+event_faults loops names (Edges list commas) = edges_faults loops names list
+event_faults loops names (Levels list commas) = part_strays loops [] list ++ list_faults names list
 
 -- Drivers and blocks
 
@@ -62,10 +72,14 @@ with_driver target value at w = record w {
   };
 }
 
+-- the faults of an expression that stands in no loop
+abbrev pub expression_faults : LoopNames → Names → Tree → List FlatFault
+expression_faults loops names t = strays loops [] t ++ shape_faults names t
+
 -- a continuous assignment
 unfoldable pub assign : ℕ → NetAssignment → Walked → Result Walked FlatFault
 assign i p w =
-    first_fault_or (shape_faults (scope_at w i) p.target ++ shape_faults (scope_at w i) p.value)
+    first_fault_or (expression_faults (loops_at w i) (scope_at w i) p.target ++ expression_faults (loops_at w i) (scope_at w i) p.value)
     (with_driver (Written p.target i) (Written p.value i) (first p.target) w)
 
 -- to the net of that number
@@ -74,7 +88,7 @@ net_driver i at t None w = w
 net_driver i at t (Some id) w = with_driver (Whole id) (Written t i) at w
 
 unfoldable pub net_value : ℕ → ℕ → Text → Tree → Walked → Result Walked FlatFault
-net_value i at name t w = first_fault_or (shape_faults (scope_at w i) t) (net_driver i at t (place_of (lookup name (scope_at w i))) w)
+net_value i at name t w = first_fault_or (expression_faults (loops_at w i) (scope_at w i) t) (net_driver i at t (place_of (lookup name (scope_at w i))) w)
 
 abbrev pub net_with : ℕ → ℕ → Text → Option Tree → Walked → Result Walked FlatFault
 net_with i at name None w = Ok w
@@ -106,8 +120,13 @@ with_block i (Star brackets) s at w = combined (record { body = s; edges = []; s
 with_block i (Edges list commas) s at w = clocked (record { body = s; edges = list; scope = i; token = at }) w
 with_block i (Levels list commas) s at w = combined (record { body = s; edges = []; scope = i; token = at }) w
 
+-- loops are unfolded first (section 9.6): their turns are counted, and the body of the block is the unfolded statement; of two of
+-- its faults at one token the one of the earlier turn counts
 unfoldable pub always : ℕ → EventControl → Statement → ℕ → Walked → Result Walked FlatFault
-always i events s at w = first_fault_or (event_faults (scope_at w i) events ++ statement_faults (scope_at w i) s) (with_block i events s at w)
+always i events s at w =
+    and_then (counted w.limit (loops_at w i) (scope_at w i) [] s w.count) (λ c.
+    first_fault_or (loop_faults (loops_at w i) [] s ++ (event_faults (loops_at w i) (scope_at w i) events ++ option_to_list (earliest_of (statement_faults (scope_at w i) (unfold_statement (scope_at w i) [] s)))))
+    (with_block i events (unfold_statement (scope_at w i) [] s) at (record w { count = c })))
 
 -- an `initial` item, which sets starting values (section 9.9.1)
 abbrev pub with_initial : ℕ → Statement → ℕ → Walked → Walked
@@ -120,7 +139,10 @@ with_initial i s at w = record w {
 }
 
 unfoldable pub initial : ℕ → Statement → ℕ → Walked → Result Walked FlatFault
-initial i s at w = first_fault_or (initial_faults (scope_at w i) s) (with_initial i s at w)
+initial i s at w =
+    and_then (counted w.limit (loops_at w i) (scope_at w i) [] s w.count) (λ c.
+    first_fault_or (loop_faults (loops_at w i) [] s ++ option_to_list (earliest_of (initial_faults (scope_at w i) (unfold_statement (scope_at w i) [] s))))
+    (with_initial i (unfold_statement (scope_at w i) [] s) at (record w { count = c })))
 
 -- Overrides
 
@@ -190,9 +212,9 @@ overrides m names found (Some (Named list)) = fold (check_override (parameter_ta
 
 -- Connections
 
-abbrev pub value_faults : Names → Option Tree → List FlatFault
-value_faults names None = []
-value_faults names (Some t) = shape_faults names t
+abbrev pub value_faults : LoopNames → Names → Option Tree → List FlatFault
+value_faults loops names None = []
+value_faults loops names (Some t) = expression_faults loops names t
 
 -- what was found of connections so far: the first fault, and the names that were connected
 pub record Connected : Type 0 where
@@ -200,9 +222,9 @@ pub record Connected : Type 0 where
   pub seen : Names
 
 -- a connection by name: 14 is a name that is no port, or is connected twice
-unfoldable pub check_connection : Names → Names → Connected → NamedConnection → Connected
-check_connection ports names c n = record {
-  found = noted (noted (noted c.found (fault_if (is_none (lookup n.text ports)) (PortMismatch n.token))) (twice_faults n.token n.text c.seen)) (value_faults names n.value);
+unfoldable pub check_connection : LoopNames → Names → Names → Connected → NamedConnection → Connected
+check_connection loops ports names c n = record {
+  found = noted (noted (noted c.found (fault_if (is_none (lookup n.text ports)) (PortMismatch n.token))) (twice_faults n.token n.text c.seen)) (value_faults loops names n.value);
   seen = at_place c.seen n.text 0;
 }
 
@@ -213,16 +235,17 @@ pub record Joining : Type 0 where
   pub found : Option FlatFault
 
 -- the first one too many is 14
-abbrev pub place_port : Names → List Text → Joining → Tree → Joining
-place_port names [] j t = record j { over = true; found = noted (noted j.found (shape_faults names t)) (fault_if (not j.over) (PortMismatch (first t))) }
-place_port names (n ∷ ns) j t = record j { left = ns; found = noted j.found (shape_faults names t) }
+abbrev pub place_port : LoopNames → Names → List Text → Joining → Tree → Joining
+place_port loops names [] j t = record j { over = true; found = noted (noted j.found (expression_faults loops names t)) (fault_if (not j.over) (PortMismatch (first t))) }
+place_port loops names (n ∷ ns) j t = record j { left = ns; found = noted j.found (expression_faults loops names t) }
 
-unfoldable pub check_port : Names → Joining → Tree → Joining
-check_port names j t = place_port names j.left j t
+unfoldable pub check_port : LoopNames → Names → Joining → Tree → Joining
+check_port loops names j t = place_port loops names j.left j t
 
-unfoldable pub connections : ModuleDeclaration → Names → Option FlatFault → Connections → Option FlatFault
-connections m names found (Positions ts) = (fold_trees (check_port names) (record { left = port_names m; over = false; found = found }) ts).found
-connections m names found (Named list) = (fold (check_connection (name_set (port_names m)) names) (record { found = found; seen = [] }) list).found
+-- the names of loops are those of the module around
+unfoldable pub connections : LoopNames → ModuleDeclaration → Names → Option FlatFault → Connections → Option FlatFault
+connections loops m names found (Positions ts) = (fold_trees (check_port loops names) (record { left = port_names m; over = false; found = found }) ts).found
+connections loops m names found (Named list) = (fold (check_connection loops (name_set (port_names m)) names) (record { found = found; seen = [] }) list).found
 
 -- from the expression to an input port, from an output port to the expression
 abbrev pub join_port : Port → ℕ → ℕ → Tree → Walked → Walked
@@ -266,12 +289,12 @@ no_module = record { text = []; token = 0; params = []; header = None; groups = 
 abbrev pub module_at : List ModuleDeclaration → ℕ → ModuleDeclaration
 module_at source k = slice_index_or source k no_module
 
--- the values that an instance gives to the parameters of its module, or its first fault; above are the modules that are
--- being walked, at is the token of the module's name
-unfoldable pub checked : List ℕ → Names → ModuleDeclaration → ℕ → ℕ → Option Connections → ModuleInstance → Result Names FlatFault
-checked above names m k at over x =
+-- the values that an instance gives to the parameters of its module, or its first fault; loops are the names of the loops of the
+-- module around, above the modules that are being walked, at is the token of the module's name
+unfoldable pub checked : LoopNames → List ℕ → Names → ModuleDeclaration → ℕ → ℕ → Option Connections → ModuleInstance → Result Names FlatFault
+checked loops above names m k at over x =
     let o = overrides m names (noted None (fault_if (list_any (nat_eq k) above) (SelfInstance at))) over in
-    fault_or (connections m names (noted o.found (fault_if (is_some (lookup x.text names)) (NameTwice x.token))) x.connections) o.given
+    fault_or (connections loops m names (noted o.found (fault_if (is_some (lookup x.text names)) (NameTwice x.token))) x.connections) o.given
 
 -- the name of an instance is in the one name space
 abbrev pub with_instance : ℕ → Text → Walked → Walked
@@ -280,7 +303,7 @@ with_instance i name w = record w { flat = record w.flat { scopes = slice_set w.
 unfoldable pub instance_of : List ModuleDeclaration → List ℕ → ℕ → Enter → ℕ → Option Connections → Option ℕ → ModuleInstance → Walked → Result Walked FlatFault
 instance_of source above i sub at over None x w = Err (UnknownModule at)
 instance_of source above i sub at over (Some k) x w =
-    and_then (checked above (scope_at w i) (module_at source k) k at over x) (λ given.
+    and_then (checked (loops_at w i) above (scope_at w i) (module_at source k) k at over x) (λ given.
     and_then (sub k given (with_instance i x.text w)) (λ inside.
     Ok (joined i (length w.flat.scopes) (module_at source k) x.connections inside)))
 
@@ -296,8 +319,9 @@ item source table above i sub (Always events s at) w = always i events s at w
 item source table above i sub (Initial s at) w = initial i s at w
 item source table above i sub (Instances m at over list) w = each (instance_of source above i sub at over (place_of (lookup m table))) list w
 
-abbrev pub opened : ℕ → Head → Walked → Walked
-opened k h w = record {
+-- the head of an instance of module k, and the names of the loops of the module
+abbrev pub opened : ℕ → Head → LoopNames → Walked → Walked
+opened k h names w = record w {
   flat = record w.flat {
     signals = w.flat.signals ++ h.signals;
     starts = w.flat.starts ++ map (λ s. s.start) h.signals;
@@ -305,6 +329,7 @@ opened k h w = record {
     owners = w.flat.owners ++ k ∷ [];
   };
   bits = h.bits;
+  loops = w.loops ++ names ∷ [];
 }
 
 -- one more instance: its head
@@ -312,7 +337,7 @@ unfoldable pub begin : List ModuleDeclaration → Enter
 begin source k given w =
     and_then (first_fault_or (fault_if (not (nat_lt (length w.flat.scopes) 256)) (TooMany InstanceCount 257)) w) (λ w.
     and_then (head (length w.flat.scopes) (length w.flat.signals) w.bits given (module_at source k)) (λ h.
-    Ok (opened k h w)))
+    Ok (opened k h (loop_names (module_at source k)) w)))
 
 -- one more instance, and then the items of its module
 unfoldable pub enter_by : List ModuleDeclaration → Names → (List ℕ → Enter) → List ℕ → Enter
@@ -328,8 +353,8 @@ enter source table (suc levels) above k given w = enter_by source table (enter s
 -- The design
 
 -- no instances, where the name of the top has this token
-abbrev pub nothing : ℕ → Walked
-nothing at = record { flat = no_design at; bits = 0 }
+abbrev pub nothing : Option ℕ → ℕ → Walked
+nothing limit at = record { flat = no_design at; bits = 0; limit = limit; count = no_turns; loops = [] }
 
 -- an input or an output of the top
 abbrev pub is_way : Bool → Port → Bool
@@ -357,12 +382,17 @@ abbrev pub top_place : List ModuleDeclaration → Names → Option Text → Opti
 top_place source table None = last_free (fold instantiated_by [] source) 0 source None
 top_place source table (Some name) = place_of (lookup name table)
 
-abbrev pub enter_top : List ModuleDeclaration → Names → Option ℕ → Result Walked FlatFault
-enter_top source table None = Err NoTop
-enter_top source table (Some k) = enter source table 16 [] k [] (nothing (module_at source k).token)
+abbrev pub enter_top : Option ℕ → List ModuleDeclaration → Names → Option ℕ → Result Walked FlatFault
+enter_top limit source table None = Err NoTop
+enter_top limit source table (Some k) = enter source table 16 [] k [] (nothing limit (module_at source k).token)
 
-unfoldable pub flat_of : SourceText → Option Text → Result Flat FlatFault
-flat_of source top =
+-- where the bodies of loops have at most so many tokens in all their turns, if there is such a limit
+unfoldable pub flat_by : Option ℕ → SourceText → Option Text → Result Flat FlatFault
+flat_by limit source top =
     and_then (each add_module source.modules []) (λ table.
-    and_then (enter_top source.modules table (top_place source.modules table top)) (λ w.
+    and_then (enter_top limit source.modules table (top_place source.modules table top)) (λ w.
     Ok (finished source.modules w.flat)))
+
+-- the flat design of a source, whatever its loops unfold to
+abbrev pub flat_of : SourceText → Option Text → Result Flat FlatFault
+flat_of source top = flat_by None source top

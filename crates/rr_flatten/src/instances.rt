@@ -16,6 +16,7 @@ use crate::settings::{Checked, connections, overrides};
 use crate::tables::{place_of, port_names};
 use rr_expr::{Scope, first_token};
 use rr_flat::{FlatFault, Port, Side, note_if};
+use rr_loop_rules::LoopNames;
 use rr_syntax::{Connection, Conns, Expr, Instance, Module};
 use std::alloc::{AllocError, Global};
 
@@ -27,10 +28,12 @@ pub(crate) fn is_among(above: &[u32], owner: u32) -> bool
 }
 
 /// The values that an instance gives to the parameters of its module, or its first fault, where
-/// `above` are the modules that are being walked and `token` is that of the module's name.
+/// `loops` are the names of the loops of the module around, `above` are the modules that are being
+/// walked and `token` is that of the module's name.
 #[tactic(auto, unfolding(crate::specs::Walk::checked, rr_syntax::specs::View::plain_instance))]
 pub(crate) fn checked<'a>(
     alloc: Global,
+    loops: &LoopNames,
     above: &[u32],
     names: &Scope,
     own: &Module<'a>,
@@ -42,8 +45,8 @@ pub(crate) fn checked<'a>(
     requires formed { WellFormedConnections (plain_connections one.now.conns) }
     requires fit { FitLiteralsConnections (plain_connections one.now.conns) }
     ensures value { MatchResult result
-        (λ given. checked_of above.now names.now (plain_module own.now) owner token (plain_overrides over.now) (plain_instance one.now) ≡ Ok given)
-        (Refuses (checked_of above.now names.now (plain_module own.now) owner token (plain_overrides over.now) (plain_instance one.now))) }
+        (λ given. checked_of loops.now above.now names.now (plain_module own.now) owner token (plain_overrides over.now) (plain_instance one.now) ≡ Ok given)
+        (Refuses (checked_of loops.now above.now names.now (plain_module own.now) owner token (plain_overrides over.now) (plain_instance one.now))) }
     ensures connected { OnOk result (AreConnected names.now (plain_connections one.now.conns)) }
 {
     let found = note_if(None, is_among(above, owner), FlatFault::SelfInstance(token));
@@ -53,7 +56,7 @@ pub(crate) fn checked<'a>(
         names.find(one.name).is_some(),
         FlatFault::NameTwice(one.token),
     );
-    let found = connections(alloc, own, names, found, &one.conns)?;
+    let found = connections(alloc, own, loops, names, found, &one.conns)?;
     match found {
         Some(fault) => Err(fault),
         None => {

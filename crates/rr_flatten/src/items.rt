@@ -1,30 +1,39 @@
 //! Continuous assignments (IEEE 1364-2005 section 6.1) and procedures (section 9.9) of an instance.
-ghost use Rattle.std.specs.Prelude.{◌≡◌, ◌<◌, IsTrue, MatchResult, OnOk, IfSome, Ok, [], map, length};
+ghost use Rattle.std.specs.Prelude.{◌≡◌, ◌<◌, IsTrue, MatchResult, OnOk, IfOk, IfSome, Ok, [], map, length, slice_index_or};
 ghost use Rattle.std.specs.List.{AllByRecursion};
 ghost use Rattle.rr_syntax.specs.Expressions.{WellFormed, FitLiterals};
 ghost use Rattle.rr_syntax.specs.Statements.{WellFormedStatement, FitLiteralsStatement, is_initial};
 ghost use Rattle.rr_syntax.specs.Items.{WellFormedPair, FitLiteralsPair, WellFormedDeclarator, FitLiteralsDeclarator};
 ghost use Rattle.rr_syntax.specs.View.{plain, plain_pair, plain_declarator, plain_edge, plain_events, plain_statement};
 ghost use Rattle.rr_flat.specs.Faults.{Refuses, each};
-ghost use Rattle.rr_flatten.specs.Kept.{plain_walked, IsSame};
+ghost use Rattle.rr_unfold.specs.Unfold.{counted, unfold_statement};
+ghost use Rattle.rr_unfold.specs.View.{plain_counts};
+ghost use Rattle.rr_flatten.specs.Kept.{plain_walked, HasLoops, IsSame};
 ghost use Rattle.rr_flat.specs.Sound.{IsScope, IsExpression, IsSide, IsStatement, names_at};
 ghost use Rattle.rr_flat.specs.View.{plain_side};
 ghost use Rattle.rr_starts.specs.Starts.{initial_faults};
 ghost use Rattle.rr_flatten.specs.Walk.{with_driver, assign as assign_in, net as net_in, net_driver, net_value as net_value_in, combined, clocked, with_block, always as always_in, with_initial, initial as initial_in};
 
-use crate::notes::{note_events, note_shape, note_statement};
+use crate::notes::{note_events, note_expression, note_found, note_statement};
 use crate::tables::place_of;
+use bumpalo::Bump;
 use rr_expr::{Scope, first_token};
 use rr_flat::{Block, Driver, Flat, FlatFault, Initial, Side};
+use rr_loop_rules::{LoopNames, note_loop_faults};
 use rr_starts::{note_initial, set_starts};
 use rr_syntax::{Declarator, Event, Events, Expr, Pair, Stmt};
-use std::alloc::AllocError;
+use rr_unfold::{Counts, unfolded};
+use std::alloc::{AllocError, Global};
 
-/// A design in its walk, and its flat bits.
+/// A design in its walk, and its flat bits; how many tokens the bodies of loops may have in all their
+/// turns, if there is such a limit, and the turns so far; and the names of the loops of each instance.
 #[derive(Drop)]
 pub(crate) struct Walked<'a> {
     pub(crate) flat: Flat<'a>,
     pub(crate) bits: u64,
+    pub(crate) limit: Option<u64>,
+    pub(crate) counts: Counts,
+    pub(crate) loops: Vec<LoopNames<'a>>,
 }
 
 /// The names of an instance.
@@ -34,6 +43,15 @@ pub(crate) fn names_of<'w, 'a>(walked: &'w Walked<'a>, number: u32) -> &'w Scope
     ensures scope { IsScope walked.now.flat.signals result.now }
 {
     &walked.flat.scopes[number as usize]
+}
+
+/// The names of the loops of an instance.
+pub(crate) fn loops_of<'w, 'a>(walked: &'w Walked<'a>, number: u32) -> &'w LoopNames<'a>
+    requires there { number < length walked.now.flat.scopes }
+    requires loops { HasLoops walked.now }
+    ensures { result.now ≡ slice_index_or walked.now.loops.items number [] }
+{
+    &walked.loops[number as usize]
 }
 
 /// One more driver.
@@ -59,6 +77,7 @@ pub(crate) fn drive<'a>(
 #[tactic(auto, unfolding(crate::specs::Walk::assign, rr_syntax::specs::View::plain_pair))]
 fn assign<'a>(walked: &mut Walked<'a>, number: u32, pair: &Pair<'a>) -> Result<(), FlatFault>
     requires there { number < length walked.old.flat.scopes }
+    requires loops { HasLoops walked.old }
     requires formed { WellFormedPair (plain_pair pair.now) }
     requires fit { FitLiteralsPair (plain_pair pair.now) }
     ensures value { MatchResult result
@@ -67,8 +86,9 @@ fn assign<'a>(walked: &mut Walked<'a>, number: u32, pair: &Pair<'a>) -> Result<(
     ensures same { OnOk result (IsSame walked.old walked.new) }
 {
     let names = names_of(walked, number);
-    let found = note_shape(None, pair.target, names);
-    let found = note_shape(found, pair.value, names);
+    let loops = loops_of(walked, number);
+    let found = note_expression(None, pair.target, loops, names);
+    let found = note_expression(found, pair.value, loops, names);
     if let Some(fault) = found {
         return Err(fault);
     }
@@ -90,6 +110,7 @@ pub(crate) fn assigns<'a>(
     pairs: &[Pair<'a>],
 ) -> Result<(), FlatFault>
     requires there { number < length walked.old.flat.scopes }
+    requires loops { HasLoops walked.old }
     requires formed { AllByRecursion WellFormedPair (map plain_pair pairs.now) }
     requires fit { AllByRecursion FitLiteralsPair (map plain_pair pairs.now) }
     ensures value { MatchResult result
@@ -138,6 +159,7 @@ fn net_value<'a>(
     expr: &'a Expr<'a>,
 ) -> Result<(), FlatFault>
     requires there { number < length walked.old.flat.scopes }
+    requires loops { HasLoops walked.old }
     requires formed { WellFormed (plain expr.now) }
     requires fit { FitLiterals (plain expr.now) }
     ensures value { MatchResult result
@@ -146,8 +168,9 @@ fn net_value<'a>(
     ensures same { OnOk result (IsSame walked.old walked.new) }
 {
     let names = names_of(walked, number);
+    let loops = loops_of(walked, number);
     let id = place_of(names, name);
-    if let Some(fault) = note_shape(None, expr, names) {
+    if let Some(fault) = note_expression(None, expr, loops, names) {
         return Err(fault);
     }
     drive_net(walked, number, token, id, expr)?;
@@ -158,6 +181,7 @@ fn net_value<'a>(
 #[tactic(auto, unfolding(crate::specs::Walk::net, rr_syntax::specs::View::plain_declarator, rr_syntax::specs::View::plain_value, rr_syntax::specs::Items::WellFormedDeclarator, rr_syntax::specs::Items::FitLiteralsDeclarator, rr_syntax::specs::Items::WellFormedValue, rr_syntax::specs::Items::FitLiteralsValue))]
 fn net<'a>(walked: &mut Walked<'a>, number: u32, one: &Declarator<'a>) -> Result<(), FlatFault>
     requires there { number < length walked.old.flat.scopes }
+    requires loops { HasLoops walked.old }
     requires formed { WellFormedDeclarator (plain_declarator one.now) }
     requires fit { FitLiteralsDeclarator (plain_declarator one.now) }
     ensures value { MatchResult result
@@ -177,6 +201,7 @@ pub(crate) fn nets<'a>(
     list: &[Declarator<'a>],
 ) -> Result<(), FlatFault>
     requires there { number < length walked.old.flat.scopes }
+    requires loops { HasLoops walked.old }
     requires formed { AllByRecursion WellFormedDeclarator (map plain_declarator list.now) }
     requires fit { AllByRecursion FitLiteralsDeclarator (map plain_declarator list.now) }
     ensures value { MatchResult result
@@ -249,9 +274,36 @@ fn clock<'a>(
     })
 }
 
+/// The statement of an item of an instance in which each loop is the block of its turns (section 9.6);
+/// the turns are counted.
+fn without_loops<'a>(
+    alloc: Global,
+    arena: &'a Bump,
+    walked: &mut Walked<'a>,
+    number: u32,
+    body: &'a Stmt<'a>,
+) -> Result<&'a Stmt<'a>, FlatFault>
+    requires there { number < length walked.old.flat.scopes }
+    requires loops { HasLoops walked.old }
+    ensures value { MatchResult result
+        (λ _. counted walked.old.limit (slice_index_or walked.old.loops.items number []) (names_at walked.old.flat.scopes number) [] (plain_statement body.now) (plain_counts walked.old.counts) ≡ Ok (plain_counts walked.new.counts))
+        (Refuses (counted walked.old.limit (slice_index_or walked.old.loops.items number []) (names_at walked.old.flat.scopes number) [] (plain_statement body.now) (plain_counts walked.old.counts))) }
+    ensures made { IfOk result (λ s. plain_statement s.now ≡ unfold_statement (names_at walked.old.flat.scopes number) [] (plain_statement body.now)) }
+    ensures rest { OnOk result (plain_walked walked.new ≡ record (plain_walked walked.old) { count = plain_counts walked.new.counts }) }
+    ensures same { OnOk result (IsSame walked.old walked.new) }
+{
+    let names = names_of(walked, number);
+    let loops = loops_of(walked, number);
+    let mut counts = walked.counts;
+    let made = unfolded(body, loops, names, walked.limit, &mut counts, arena, alloc)?;
+    walked.counts = counts;
+    Ok(made)
+}
+
 /// An `always`.
-#[tactic(auto, unfolding(crate::specs::Walk::always))]
 pub(crate) fn always<'a>(
+    alloc: Global,
+    arena: &'a Bump,
     walked: &mut Walked<'a>,
     number: u32,
     events: &Events<'a>,
@@ -259,6 +311,7 @@ pub(crate) fn always<'a>(
     token: u32,
 ) -> Result<(), FlatFault>
     requires there { number < length walked.old.flat.scopes }
+    requires loops { HasLoops walked.old }
     requires formed { WellFormedStatement (plain_statement body.now) }
     requires fit { FitLiteralsStatement (plain_statement body.now) }
     ensures value { MatchResult result
@@ -266,13 +319,16 @@ pub(crate) fn always<'a>(
         (Refuses (always_in number (plain_events events.now) (plain_statement body.now) token (plain_walked walked.old))) }
     ensures same { OnOk result (IsSame walked.old walked.new) }
 {
+    let made = without_loops(alloc, arena, walked, number, body)?;
     let names = names_of(walked, number);
-    let found = note_events(None, events, names);
-    let found = note_statement(found, body, names);
+    let loops = loops_of(walked, number);
+    let found = note_loop_faults(alloc, None, loops, body)?;
+    let found = note_events(found, events, loops, names);
+    let found = note_found(found, note_statement(None, made, names));
     if let Some(fault) = found {
         return Err(fault);
     }
-    add_block(walked, number, events, body, token)?;
+    add_block(walked, number, events, made, token)?;
     Ok(())
 }
 
@@ -299,14 +355,16 @@ fn add_initial<'a>(
 }
 
 /// An `initial`.
-#[tactic(auto, unfolding(crate::specs::Walk::initial))]
 pub(crate) fn initial<'a>(
+    alloc: Global,
+    arena: &'a Bump,
     walked: &mut Walked<'a>,
     number: u32,
     body: &'a Stmt<'a>,
     token: u32,
 ) -> Result<(), FlatFault>
     requires there { number < length walked.old.flat.scopes }
+    requires loops { HasLoops walked.old }
     requires initial { IsTrue (is_initial (plain_statement body.now)) }
     requires formed { WellFormedStatement (plain_statement body.now) }
     requires fit { FitLiteralsStatement (plain_statement body.now) }
@@ -315,10 +373,14 @@ pub(crate) fn initial<'a>(
         (Refuses (initial_in number (plain_statement body.now) token (plain_walked walked.old))) }
     ensures same { OnOk result (IsSame walked.old walked.new) }
 {
+    let made = without_loops(alloc, arena, walked, number, body)?;
     let names = names_of(walked, number);
-    if let Some(fault) = note_initial(None, body, names) {
+    let loops = loops_of(walked, number);
+    let found = note_loop_faults(alloc, None, loops, body)?;
+    let found = note_found(found, note_initial(None, made, names));
+    if let Some(fault) = found {
         return Err(fault);
     }
-    add_initial(walked, number, body, token)?;
+    add_initial(walked, number, made, token)?;
     Ok(())
 }

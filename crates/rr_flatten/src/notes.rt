@@ -1,13 +1,14 @@
 //! The faults of expressions, statements and event lists in a scope.
-ghost use Rattle.std.specs.Prelude.{◌≡◌, map, fold};
+ghost use Rattle.std.specs.Prelude.{◌≡◌, map, fold, option_to_list};
 ghost use Rattle.rr_syntax.specs.View.{plain, plain_list, plain_statement, plain_statements, plain_arms, plain_edge, plain_events, plain_value};
 ghost use Rattle.rr_expr.specs.Scopes.{or_instance};
-ghost use Rattle.rr_flat.specs.Faults.{sooner};
+ghost use Rattle.rr_flat.specs.Faults.{earlier, sooner};
 ghost use Rattle.rr_flat.specs.Shapes.{shape as shape_in, shape_faults, list_faults, statement_faults, statements_faults, arms_faults};
-ghost use Rattle.rr_flatten.specs.Walk.{is_useless as useless, edge_faults, edges_faults, event_faults, value_faults};
+ghost use Rattle.rr_flatten.specs.Walk.{is_useless as useless, edge_faults, edges_faults, event_faults, expression_faults, value_faults};
 
 use rr_expr::{Entity, Scope, Shape, shape};
-use rr_flat::{FlatFault, note, note_if};
+use rr_flat::{FlatFault, note, note_earliest, note_if, sooner_of};
+use rr_loop_rules::{LoopNames, note_part_strays, note_stray, note_strays};
 use rr_syntax::{Arm, Event, Events, Expr, Stmt};
 
 /// The shape of an expression, or its first fault.
@@ -22,14 +23,27 @@ pub(crate) fn shape_of(expr: &Expr, names: &Scope) -> Result<Shape, FlatFault>
 }
 
 /// The first of a fault that was found, if any, and that of an expression.
-pub(crate) fn note_shape(found: Option<FlatFault>, expr: &Expr, names: &Scope) -> Option<FlatFault>
+fn note_shape(found: Option<FlatFault>, expr: &Expr, names: &Scope) -> Option<FlatFault>
     ensures { result ≡ fold sooner found (shape_faults names.now (plain expr.now)) }
 {
     note(found, &shape_of(expr, names))
 }
 
-/// The same of several expressions.
-pub(crate) fn note_list(found: Option<FlatFault>, list: &[Expr], names: &Scope) -> Option<FlatFault>
+/// The first of a fault that was found, if any, and those of an expression that stands in no loop.
+pub(crate) fn note_expression(
+    found: Option<FlatFault>,
+    expr: &Expr,
+    loops: &LoopNames,
+    names: &Scope,
+) -> Option<FlatFault>
+    ensures { result ≡ fold sooner found (expression_faults loops.now names.now (plain expr.now)) }
+{
+    let found = note_strays(found, loops, expr);
+    note_shape(found, expr, names)
+}
+
+/// The first of a fault that was found, if any, and those of several expressions.
+fn note_list(found: Option<FlatFault>, list: &[Expr], names: &Scope) -> Option<FlatFault>
     ensures { result ≡ fold sooner found (list_faults names.now (plain_list list.now)) }
 {
     let mut found = found;
@@ -39,7 +53,26 @@ pub(crate) fn note_list(found: Option<FlatFault>, list: &[Expr], names: &Scope) 
     found
 }
 
-/// The first of a fault that was found, if any, and those of the expressions of a statement.
+/// A fault that was found, if any, or that of an expression at an earlier token.
+fn earliest_shape(found: Option<FlatFault>, expr: &Expr, names: &Scope) -> Option<FlatFault>
+    ensures { result ≡ fold earlier found (shape_faults names.now (plain expr.now)) }
+{
+    note_earliest(found, &shape_of(expr, names))
+}
+
+/// The same of several expressions.
+fn earliest_list(found: Option<FlatFault>, list: &[Expr], names: &Scope) -> Option<FlatFault>
+    ensures { result ≡ fold earlier found (list_faults names.now (plain_list list.now)) }
+{
+    let mut found = found;
+    for expr in list.iter() {
+        found = earliest_shape(found, expr, names);
+    }
+    found
+}
+
+/// A fault that was found, if any, or the one of the expressions of a statement without loops at the
+/// earliest token: of several at one token, as the turns of a loop have them, the first.
 #[cycle(notes)]
 #[tactic(auto, using(crate::proofs::NotesOfNodes::statement_notes))]
 pub(crate) fn note_statement(
@@ -47,17 +80,17 @@ pub(crate) fn note_statement(
     stmt: &Stmt,
     names: &Scope,
 ) -> Option<FlatFault>
-    ensures { result ≡ fold sooner found (statement_faults names.now (plain_statement stmt.now)) }
+    ensures { result ≡ fold earlier found (statement_faults names.now (plain_statement stmt.now)) }
 {
     match stmt {
-        Stmt::Null => found,
+        Stmt::Null | Stmt::For { .. } => found,
         Stmt::Block { body, .. } => note_statements(found, body, names),
         Stmt::If {
             test,
             yes,
             no: None,
         } => {
-            let found = note_shape(found, test, names);
+            let found = earliest_shape(found, test, names);
             note_statement(found, yes, names)
         }
         Stmt::If {
@@ -65,24 +98,24 @@ pub(crate) fn note_statement(
             yes,
             no: Some(other),
         } => {
-            let found = note_shape(found, test, names);
+            let found = earliest_shape(found, test, names);
             let found = note_statement(found, yes, names);
             note_statement(found, other, names)
         }
         Stmt::Case { on, arms, .. } => {
-            let found = note_shape(found, on, names);
+            let found = earliest_shape(found, on, names);
             note_arms(found, arms, names)
         }
         Stmt::Assign { target, value, .. } => {
-            let found = note_shape(found, target, names);
-            note_shape(found, value, names)
+            let found = earliest_shape(found, target, names);
+            earliest_shape(found, value, names)
         }
     }
 }
 
 #[cycle(notes)]
 fn note_statements(found: Option<FlatFault>, body: &[Stmt], names: &Scope) -> Option<FlatFault>
-    ensures { result ≡ fold sooner found (statements_faults names.now (plain_statements body.now)) }
+    ensures { result ≡ fold earlier found (statements_faults names.now (plain_statements body.now)) }
 {
     let mut found = found;
     for stmt in body.iter() {
@@ -93,11 +126,11 @@ fn note_statements(found: Option<FlatFault>, body: &[Stmt], names: &Scope) -> Op
 
 #[cycle(notes)]
 fn note_arms(found: Option<FlatFault>, arms: &[Arm], names: &Scope) -> Option<FlatFault>
-    ensures { result ≡ fold sooner found (arms_faults names.now (plain_arms arms.now)) }
+    ensures { result ≡ fold earlier found (arms_faults names.now (plain_arms arms.now)) }
 {
     let mut found = found;
     for arm in arms.iter() {
-        found = note_list(found, arm.labels, names);
+        found = earliest_list(found, arm.labels, names);
         found = note_statement(found, arm.body, names);
     }
     found
@@ -112,11 +145,17 @@ fn is_useless(entity: Option<Entity>) -> bool
     }
 }
 
-/// The first of a fault that was found, if any, and that of an edge.
+/// The first of a fault that was found, if any, and those of an edge.
 #[tactic(auto, unfolding(rr_syntax::specs::View::plain_edge, rr_expr::specs::Scopes::meant))]
-fn note_edge(found: Option<FlatFault>, edge: &Event, names: &Scope) -> Option<FlatFault>
-    ensures { result ≡ fold sooner found (edge_faults names.now (plain_edge edge.now)) }
+fn note_edge(
+    found: Option<FlatFault>,
+    edge: &Event,
+    loops: &LoopNames,
+    names: &Scope,
+) -> Option<FlatFault>
+    ensures { result ≡ fold sooner found (edge_faults loops.now names.now (plain_edge edge.now)) }
 {
+    let found = note_stray(found, loops, edge.token, edge.name);
     note_if(
         found,
         is_useless(names.find(edge.name)),
@@ -124,12 +163,17 @@ fn note_edge(found: Option<FlatFault>, edge: &Event, names: &Scope) -> Option<Fl
     )
 }
 
-fn note_edges(found: Option<FlatFault>, edges: &[Event], names: &Scope) -> Option<FlatFault>
-    ensures { result ≡ fold sooner found (edges_faults names.now (map plain_edge edges.now)) }
+fn note_edges(
+    found: Option<FlatFault>,
+    edges: &[Event],
+    loops: &LoopNames,
+    names: &Scope,
+) -> Option<FlatFault>
+    ensures { result ≡ fold sooner found (edges_faults loops.now names.now (map plain_edge edges.now)) }
 {
     let mut found = found;
     for edge in edges.iter() {
-        found = note_edge(found, edge, names);
+        found = note_edge(found, edge, loops, names);
     }
     found
 }
@@ -139,28 +183,43 @@ fn note_edges(found: Option<FlatFault>, edges: &[Event], names: &Scope) -> Optio
 pub(crate) fn note_events(
     found: Option<FlatFault>,
     events: &Events,
+    loops: &LoopNames,
     names: &Scope,
 ) -> Option<FlatFault>
-    ensures { result ≡ fold sooner found (event_faults names.now (plain_events events.now)) }
+    ensures { result ≡ fold sooner found (event_faults loops.now names.now (plain_events events.now)) }
 {
     match events {
         Events::Star { .. } => found,
-        Events::Edges { list, .. } => note_edges(found, list, names),
-        Events::Levels { list, .. } => note_list(found, list, names),
+        Events::Edges { list, .. } => note_edges(found, list, loops, names),
+        Events::Levels { list, .. } => {
+            let found = note_part_strays(found, loops, list);
+            note_list(found, list, names)
+        }
     }
 }
 
-/// The first of a fault that was found, if any, and that of an expression, where there is one.
+/// The first of a fault that was found, if any, and those of an expression, where there is one.
 #[tactic(auto, unfolding(rr_syntax::specs::View::plain_value))]
 pub(crate) fn note_optional(
     found: Option<FlatFault>,
     value: &Option<&Expr>,
+    loops: &LoopNames,
     names: &Scope,
 ) -> Option<FlatFault>
-    ensures { result ≡ fold sooner found (value_faults names.now (plain_value value.now)) }
+    ensures { result ≡ fold sooner found (value_faults loops.now names.now (plain_value value.now)) }
 {
     match value {
         None => found,
-        Some(expr) => note_shape(found, expr, names),
+        Some(expr) => note_expression(found, expr, loops, names),
+    }
+}
+
+/// The first of two faults, each if there is one.
+pub(crate) fn note_found(found: Option<FlatFault>, other: Option<FlatFault>) -> Option<FlatFault>
+    ensures { result ≡ fold sooner found (option_to_list other) }
+{
+    match other {
+        None => found,
+        Some(fault) => sooner_of(found, fault),
     }
 }

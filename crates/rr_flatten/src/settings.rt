@@ -4,12 +4,13 @@ ghost use Rattle.rr_syntax.specs.View.{plain, plain_list, plain_value, plain_con
 ghost use Rattle.rr_flatten.specs.View.{plain_checked, plain_connected};
 ghost use Rattle.rr_flatten.specs.Walk.{noted, with_value as with_value_in, parameter_faults, with_override as with_override_in, check_override as check_override_in, fold_trees, check_position as check_position_in, nothing_checked, overrides as overrides_of, check_connection as check_connection_in, check_port as check_port_in, connections as connections_of};
 
-use crate::notes::{note_optional, note_shape};
+use crate::notes::{note_expression, note_optional};
 use crate::tables::{name_set, open_names, parameter_table, port_names, put, put_place};
 use rr_bits::Bits;
 use rr_declarations::constant_of;
 use rr_expr::{Entity, Scope, first_token};
 use rr_flat::{FlatFault, note, note_if, sooner_of};
+use rr_loop_rules::LoopNames;
 use rr_syntax::{Connection, Conns, Expr, Module};
 use std::alloc::{AllocError, Global};
 
@@ -182,10 +183,11 @@ impl<'a> Connected<'a> {
     fn check_connection(
         &mut self,
         ports: &Scope,
+        loops: &LoopNames,
         names: &Scope,
         one: &Connection<'a>,
     ) -> Result<(), AllocError>
-        ensures { OnOk result (plain_connected self.new ≡ check_connection_in ports.now names.now (plain_connected self.old) (plain_connection one.now)) }
+        ensures { OnOk result (plain_connected self.new ≡ check_connection_in loops.now ports.now names.now (plain_connected self.old) (plain_connection one.now)) }
     {
         let found = note_if(
             self.found,
@@ -197,20 +199,21 @@ impl<'a> Connected<'a> {
             self.seen.find(one.name).is_some(),
             FlatFault::PortMismatch(one.token),
         );
-        self.found = note_optional(found, &one.value, names);
+        self.found = note_optional(found, &one.value, loops, names);
         put_place(&mut self.seen, one.name, 0)
     }
 
     fn check_connections(
         &mut self,
         ports: &Scope,
+        loops: &LoopNames,
         names: &Scope,
         list: &[Connection<'a>],
     ) -> Result<(), AllocError>
-        ensures { OnOk result (plain_connected self.new ≡ fold (check_connection_in ports.now names.now) (plain_connected self.old) (map plain_connection list.now)) }
+        ensures { OnOk result (plain_connected self.new ≡ fold (check_connection_in loops.now ports.now names.now) (plain_connected self.old) (map plain_connection list.now)) }
     {
         for one in list.iter() {
-            self.check_connection(ports, names, one)?;
+            self.check_connection(ports, loops, names, one)?;
         }
         Ok(())
     }
@@ -221,15 +224,16 @@ impl<'a> Connected<'a> {
 #[tactic(auto, unfolding(crate::specs::Walk::check_port))]
 fn check_port(
     found: Option<FlatFault>,
+    loops: &LoopNames,
     names: &Scope,
     ports: &[&str],
     place: usize,
     over: bool,
     expr: &Expr,
 ) -> (Option<FlatFault>, bool)
-    ensures { record { left = drop (place + 1) (texts ports.now); over = result.1; found = result.0 } ≡ check_port_in names.now (record { left = drop place (texts ports.now); over = over; found = found }) (plain expr.now) }
+    ensures { record { left = drop (place + 1) (texts ports.now); over = result.1; found = result.0 } ≡ check_port_in loops.now names.now (record { left = drop place (texts ports.now); over = over; found = found }) (plain expr.now) }
 {
-    let found = note_shape(found, expr, names);
+    let found = note_expression(found, expr, loops, names);
     if place < ports.len() {
         return (found, over);
     }
@@ -239,16 +243,17 @@ fn check_port(
 
 fn check_ports(
     found: Option<FlatFault>,
+    loops: &LoopNames,
     names: &Scope,
     ports: &[&str],
     list: &[Expr],
 ) -> Option<FlatFault>
-    ensures { result ≡ (fold_trees (check_port_in names.now) (record { left = texts ports.now; over = false; found = found }) (plain_list list.now)).found }
+    ensures { result ≡ (fold_trees (check_port_in loops.now names.now) (record { left = texts ports.now; over = false; found = found }) (plain_list list.now)).found }
 {
     let mut found = found;
     let mut over = false;
     for (place, expr) in list.iter().enumerate() {
-        let next = check_port(found, names, ports, place, over, expr);
+        let next = check_port(found, loops, names, ports, place, over, expr);
         found = next.0;
         over = next.1;
     }
@@ -282,27 +287,29 @@ pub(crate) fn overrides<'a>(
     }
 }
 
-/// The first of a fault that was found, if any, and those of the connections of an instance.
+/// The first of a fault that was found, if any, and those of the connections of an instance, where
+/// `loops` are the names of the loops of the module around.
 #[tactic(auto, unfolding(crate::specs::Walk::connections, rr_syntax::specs::View::plain_connections))]
 pub(crate) fn connections<'a>(
     alloc: Global,
     own: &Module<'a>,
+    loops: &LoopNames,
     names: &Scope,
     found: Option<FlatFault>,
     conns: &Conns<'a>,
 ) -> Result<Option<FlatFault>, AllocError>
-    ensures { IfOk result (λ f. f ≡ connections_of (plain_module own.now) names.now found (plain_connections conns.now)) }
+    ensures { IfOk result (λ f. f ≡ connections_of loops.now (plain_module own.now) names.now found (plain_connections conns.now)) }
 {
     let ports = port_names(alloc, own)?;
     match conns {
-        Conns::Positions(list) => Ok(check_ports(found, names, ports.as_slice(), list)),
+        Conns::Positions(list) => Ok(check_ports(found, loops, names, ports.as_slice(), list)),
         Conns::Names(list) => {
             let table = name_set(alloc, ports.as_slice())?;
             let mut connected = Connected {
                 found,
                 seen: Scope::new(alloc),
             };
-            connected.check_connections(&table, names, list)?;
+            connected.check_connections(&table, loops, names, list)?;
             Ok(connected.found)
         }
     }

@@ -8,15 +8,17 @@ ghost use Rattle.rr_flat.specs.View.{plain_signal};
 ghost use Rattle.rr_declarations.specs.Sound.{ArePlaces};
 ghost use Rattle.rr_flatten.specs.Kept.{plain_walked, modules_of, IsReady};
 ghost use Rattle.rr_flat.specs.View.{plain_flat};
-ghost use Rattle.rr_flatten.specs.Walk.{nothing, is_top_port, top_ports as top_ports_in, reached_from, finished, top_place as top_place_in, enter_top, flat_of};
+ghost use Rattle.rr_flatten.specs.Walk.{nothing, is_top_port, top_ports as top_ports_in, reached_from, finished, top_place as top_place_in, enter_top, flat_by};
 
 use crate::instances::is_among;
 use crate::items::Walked;
 use crate::tables::{last_free, module_table, place_of};
 use crate::walk::{Walk, enter, module_at};
+use bumpalo::Bump;
 use rr_expr::Scope;
 use rr_flat::{Flat, FlatFault, Port, Signal};
 use rr_syntax::{Module, Source};
+use rr_unfold::Counts;
 use std::alloc::{AllocError, Global};
 
 /// Whether a signal is an input or an output of the top.
@@ -101,18 +103,24 @@ fn top_place(
     }
 }
 
+/// The tokens that the bodies of all loops may have together in all their turns.
+const UNFOLDED_TOKENS: u64 = 1048576;
+
 /// The walk from the top with that place.
 fn walk_from<'a>(walk: &Walk<'a>, owner: u32) -> Result<Walked<'a>, FlatFault>
     requires ready { IsReady walk.now }
     requires owner { owner < length walk.now.modules.now }
     ensures { MatchResult result
-        (λ walked. enter_top (modules_of walk.now) walk.now.table (Some owner) ≡ Ok (plain_walked walked))
-        (Refuses (enter_top (modules_of walk.now) walk.now.table (Some owner))) }
+        (λ walked. enter_top (Some 1048576) (modules_of walk.now) walk.now.table (Some owner) ≡ Ok (plain_walked walked))
+        (Refuses (enter_top (Some 1048576) (modules_of walk.now) walk.now.table (Some owner))) }
 {
     let own = module_at(walk, owner);
     let mut walked = Walked {
         flat: Flat::new(walk.alloc, own.token),
         bits: 0,
+        limit: Some(UNFOLDED_TOKENS),
+        counts: Counts::none(),
+        loops: Vec::new(walk.alloc),
     };
     let given = Scope::new(walk.alloc);
     enter(walk, &mut walked, &[], owner, &given, 16)?;
@@ -120,18 +128,19 @@ fn walk_from<'a>(walk: &Walk<'a>, owner: u32) -> Result<Walked<'a>, FlatFault>
 }
 
 /// The walk of a source from its top.
-#[tactic(auto, unfolding(crate::specs::Walk::flat_of, rr_syntax::specs::View::plain_source))]
+#[tactic(auto, unfolding(crate::specs::Walk::flat_by, rr_syntax::specs::View::plain_source))]
 fn walked_from_top<'a>(
     alloc: Global,
     source: &Source<'a>,
     top: Option<&str>,
+    arena: &'a Bump,
 ) -> Result<Flat<'a>, FlatFault>
     requires few { length source.now.modules.now < 2 ^ 32 }
     requires formed { WellFormedSource (plain_source source.now) }
     requires fit { FitLiteralsSource (plain_source source.now) }
     ensures { MatchResult result
-        (λ flat. flat_of (plain_source source.now) (option_map (λ n. n.now) top.entry) ≡ Ok (plain_flat flat))
-        (Refuses (flat_of (plain_source source.now) (option_map (λ n. n.now) top.entry))) }
+        (λ flat. flat_by (Some 1048576) (plain_source source.now) (option_map (λ n. n.now) top.entry) ≡ Ok (plain_flat flat))
+        (Refuses (flat_by (Some 1048576) (plain_source source.now) (option_map (λ n. n.now) top.entry))) }
 {
     let table = module_table(alloc, source.modules)?;
     match top_place(alloc, &table, source.modules, top)? {
@@ -139,6 +148,7 @@ fn walked_from_top<'a>(
         Some(owner) => {
             let walk = Walk {
                 alloc,
+                arena,
                 modules: source.modules,
                 table,
             };
@@ -152,21 +162,25 @@ fn walked_from_top<'a>(
 /// The flat design of a source (IEEE 1364-2005 section 12), or its first fault: two modules of one
 /// name, then no top, then the faults of the walk in its order, and of one item or declaration the
 /// fault at the earliest token, of two at one token the one with the lower number. The top is the
-/// module named `top`, or the last that no module instantiates. `Memory` says that memory ran out.
+/// module named `top`, or the last that no module instantiates. Each loop of a statement is the block
+/// of its turns (section 9.6), whose faults come before the others of its item; the bodies of loops
+/// have at most 1,048,576 tokens in all their turns. Statements that were made stand in the arena.
+/// `Memory` says that memory ran out.
 pub fn flatten<'a>(
     alloc: Global,
     source: &Source<'a>,
     top: Option<&str>,
+    arena: &'a Bump,
 ) -> Result<Flat<'a>, FlatFault>
     requires few { length source.now.modules.now < 2 ^ 32 }
     requires formed { WellFormedSource (plain_source source.now) }
     requires fit { FitLiteralsSource (plain_source source.now) }
     ensures answer { MatchResult result
-        (λ flat. flat_of (plain_source source.now) (option_map (λ n. n.now) top.entry) ≡ Ok (plain_flat flat))
-        (Refuses (flat_of (plain_source source.now) (option_map (λ n. n.now) top.entry))) }
+        (λ flat. flat_by (Some 1048576) (plain_source source.now) (option_map (λ n. n.now) top.entry) ≡ Ok (plain_flat flat))
+        (Refuses (flat_by (Some 1048576) (plain_source source.now) (option_map (λ n. n.now) top.entry))) }
     ensures sound { IfOk result (λ flat. IsSound (plain_flat flat)) }
 {
-    match walked_from_top(alloc, source, top) {
+    match walked_from_top(alloc, source, top, arena) {
         Ok(flat) => Ok(flat),
         Err(fault) => Err(fault),
     }

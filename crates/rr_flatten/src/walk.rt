@@ -5,23 +5,27 @@ ghost use Rattle.rr_syntax.specs.Items.{WellFormedConnections, FitLiteralsConnec
 ghost use Rattle.rr_syntax.specs.View.{plain_connections, plain_overrides, plain_instance, plain_item, plain_module};
 ghost use Rattle.rr_flat.specs.Faults.{Refuses, each};
 ghost use Rattle.rr_declarations.specs.View.{plain_head};
-ghost use Rattle.rr_flatten.specs.Kept.{plain_walked, modules_of, IsReady, Keeps};
+ghost use Rattle.rr_flatten.specs.Kept.{plain_walked, modules_of, HasLoops, IsReady, Keeps};
 ghost use Rattle.rr_flat.specs.Sound.{AreConnected, names_at};
 ghost use Rattle.rr_flatten.specs.Walk.{no_module, opened, begin as begin_in, with_instance, instance_of, item as item_in, enter as enter_in};
 
 use crate::instances::{checked, joined};
-use crate::items::{Walked, always, assigns, initial, names_of, nets};
+use crate::items::{Walked, always, assigns, initial, loops_of, names_of, nets};
 use crate::tables::place_of;
+use bumpalo::Bump;
 use rr_declarations::{Head, open_head};
 use rr_expr::Scope;
 use rr_flat::{FlatFault, Limit};
+use rr_loop_rules::{LoopNames, loop_names};
 use rr_syntax::{Conns, Instance, Item, Module};
 use std::alloc::{AllocError, Global};
 
-/// What stays the same over a walk: the modules, and their places by name.
+/// What stays the same over a walk: the modules, their places by name, and the arena of statements
+/// whose loops are unfolded.
 #[derive(Drop)]
 pub(crate) struct Walk<'a> {
     pub(crate) alloc: Global,
+    pub(crate) arena: &'a Bump,
     pub(crate) modules: &'a [Module<'a>],
     pub(crate) table: Scope<'a>,
 }
@@ -33,18 +37,25 @@ pub(crate) fn module_at<'a>(walk: &Walk<'a>, owner: u32) -> &'a Module<'a>
     &walk.modules[owner as usize]
 }
 
-/// The head of one more instance.
-fn open<'a>(walked: &mut Walked<'a>, owner: u32, head: Head<'a>) -> Result<(), AllocError>
+/// The head of one more instance, and the names of the loops of its module.
+fn open<'a>(
+    walked: &mut Walked<'a>,
+    owner: u32,
+    head: Head<'a>,
+    names: LoopNames<'a>,
+) -> Result<(), AllocError>
     requires instance { head.instance ≡ length walked.old.flat.scopes }
     requires base { head.base ≡ length walked.old.flat.signals }
     requires few { length walked.old.flat.scopes < 256 }
-    ensures value { OnOk result (plain_walked walked.new ≡ opened owner (plain_head head.entry) (plain_walked walked.old)) }
+    requires loops { HasLoops walked.old }
+    ensures value { OnOk result (plain_walked walked.new ≡ opened owner (plain_head head.entry) names.entry (plain_walked walked.old)) }
     ensures kept { OnOk result (Keeps (length walked.old.flat.scopes) walked.old walked.new) }
     ensures more { OnOk result (length walked.old.flat.scopes < length walked.new.flat.scopes) }
 {
     let bits = head.bits;
     let Head { signals, scope, .. } = head;
     walked.flat.open(owner, signals.as_slice(), scope)?;
+    walked.loops.push(names)?;
     walked.bits = bits;
     Ok(())
 }
@@ -66,6 +77,7 @@ fn begin<'a>(
 ) -> Result<u32, FlatFault>
     requires owner { owner < length walk.now.modules.now }
     requires few { walked.old.bits ≤ 65536 }
+    requires loops { HasLoops walked.old }
     ensures value { MatchResult result
         (λ _. begin_in (modules_of walk.now) owner given.now (plain_walked walked.old) ≡ Ok (plain_walked walked.new))
         (Refuses (begin_in (modules_of walk.now) owner given.now (plain_walked walked.old))) }
@@ -78,15 +90,17 @@ fn begin<'a>(
         return Err(FlatFault::TooMany(Limit::Instances, 257));
     }
     let base = walked.flat.signals.len();
+    let own = module_at(walk, owner);
     let head = open_head(
         walk.alloc,
         number as u32,
         base as u32,
         walked.bits,
         given,
-        module_at(walk, owner),
+        own,
     )?;
-    open(walked, owner, head)?;
+    let names = loop_names(walk.alloc, own)?;
+    open(walked, owner, head, names)?;
     Ok(number as u32)
 }
 
@@ -112,6 +126,7 @@ pub(crate) fn enter<'a>(
     requires ready { IsReady walk.now }
     requires owner { owner < length walk.now.modules.now }
     requires few { walked.old.bits ≤ 65536 }
+    requires loops { HasLoops walked.old }
     ensures value { MatchResult result
         (λ _. enter_in (modules_of walk.now) walk.now.table levels above.now owner given.now (plain_walked walked.old) ≡ Ok (plain_walked walked.new))
         (Refuses (enter_in (modules_of walk.now) walk.now.table levels above.now owner given.now (plain_walked walked.old))) }
@@ -149,6 +164,7 @@ fn items<'a>(
     requires fit { AllByRecursion FitLiteralsItem (map plain_item list.now) }
     requires there { number < length walked.old.flat.scopes }
     requires few { walked.old.bits ≤ 65536 }
+    requires loops { HasLoops walked.old }
     ensures value { MatchResult result
         (λ _. each (item_in (modules_of walk.now) walk.now.table above.now number (enter_in (modules_of walk.now) walk.now.table levels above.now)) (map plain_item list.now) (plain_walked walked.old) ≡ Ok (plain_walked walked.new))
         (Refuses (each (item_in (modules_of walk.now) walk.now.table above.now number (enter_in (modules_of walk.now) walk.now.table levels above.now)) (map plain_item list.now) (plain_walked walked.old))) }
@@ -176,6 +192,7 @@ fn item<'a>(
     requires fit { FitLiteralsItem (plain_item one.now) }
     requires there { number < length walked.old.flat.scopes }
     requires few { walked.old.bits ≤ 65536 }
+    requires loops { HasLoops walked.old }
     ensures value { MatchResult result
         (λ _. item_in (modules_of walk.now) walk.now.table above.now number (enter_in (modules_of walk.now) walk.now.table levels above.now) (plain_item one.now) (plain_walked walked.old) ≡ Ok (plain_walked walked.new))
         (Refuses (item_in (modules_of walk.now) walk.now.table above.now number (enter_in (modules_of walk.now) walk.now.table levels above.now) (plain_item one.now) (plain_walked walked.old))) }
@@ -188,8 +205,12 @@ fn item<'a>(
             events,
             body,
             token,
-        } => always(walked, number, events, *body, *token),
-        Item::Initial { body, token } => initial(walked, number, *body, *token),
+        } => always(
+            walk.alloc, walk.arena, walked, number, events, *body, *token,
+        ),
+        Item::Initial { body, token } => {
+            initial(walk.alloc, walk.arena, walked, number, *body, *token)
+        }
         Item::Instances {
             module,
             token,
@@ -226,6 +247,7 @@ fn instances<'a>(
     requires fit { AllByRecursion FitLiteralsInstance (map plain_instance list.now) }
     requires there { number < length walked.old.flat.scopes }
     requires few { walked.old.bits ≤ 65536 }
+    requires loops { HasLoops walked.old }
     ensures value { MatchResult result
         (λ _. each (instance_of (modules_of walk.now) above.now number (enter_in (modules_of walk.now) walk.now.table levels above.now) token (plain_overrides over.now) owner) (map plain_instance list.now) (plain_walked walked.old) ≡ Ok (plain_walked walked.new))
         (Refuses (each (instance_of (modules_of walk.now) above.now number (enter_in (modules_of walk.now) walk.now.table levels above.now) token (plain_overrides over.now) owner) (map plain_instance list.now) (plain_walked walked.old))) }
@@ -255,6 +277,7 @@ fn instance<'a>(
     requires fit { FitLiteralsInstance (plain_instance one.now) }
     requires there { number < length walked.old.flat.scopes }
     requires few { walked.old.bits ≤ 65536 }
+    requires loops { HasLoops walked.old }
     ensures value { MatchResult result
         (λ _. instance_of (modules_of walk.now) above.now number (enter_in (modules_of walk.now) walk.now.table levels above.now) token (plain_overrides over.now) owner (plain_instance one.now) (plain_walked walked.old) ≡ Ok (plain_walked walked.new))
         (Refuses (instance_of (modules_of walk.now) above.now number (enter_in (modules_of walk.now) walk.now.table levels above.now) token (plain_overrides over.now) owner (plain_instance one.now) (plain_walked walked.old))) }
@@ -286,6 +309,7 @@ fn inside<'a>(
     requires fit { FitLiteralsInstance (plain_instance one.now) }
     requires there { number < length walked.old.flat.scopes }
     requires few { walked.old.bits ≤ 65536 }
+    requires loops { HasLoops walked.old }
     ensures value { MatchResult result
         (λ _. instance_of (modules_of walk.now) above.now number (enter_in (modules_of walk.now) walk.now.table levels above.now) token (plain_overrides over.now) (Some owner) (plain_instance one.now) (plain_walked walked.old) ≡ Ok (plain_walked walked.new))
         (Refuses (instance_of (modules_of walk.now) above.now number (enter_in (modules_of walk.now) walk.now.table levels above.now) token (plain_overrides over.now) (Some owner) (plain_instance one.now) (plain_walked walked.old))) }
@@ -294,6 +318,7 @@ fn inside<'a>(
     let own = module_at(walk, owner);
     let given = checked(
         walk.alloc,
+        loops_of(walked, number),
         above,
         names_of(walked, number),
         own,
@@ -316,6 +341,7 @@ fn name_instance<'a>(
 ) -> Result<u32, AllocError>
     requires there { number < length walked.old.flat.scopes }
     requires few { walked.old.bits ≤ 65536 }
+    requires loops { HasLoops walked.old }
     requires connected { AreConnected (names_at walked.old.flat.scopes number) (plain_connections one.now.conns) }
     ensures value { OnOk result (plain_walked walked.new ≡ with_instance number one.now.name.now (plain_walked walked.old)) }
     ensures number { IfOk result (λ k. k ≡ length walked.old.flat.scopes) }

@@ -1,6 +1,7 @@
 pub mod Sets
 pub mod Lists
 pub mod ScalarNodes
+pub mod AnywhereNodes
 pub mod AssignedNodes
 pub mod Rising
 pub mod Before

@@ -1,3 +1,4 @@
+pub mod Anywhere
 pub mod Names
 pub mod Candidates
 pub mod Guards

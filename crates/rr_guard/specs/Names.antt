@@ -7,6 +7,7 @@ use Rattle.rr_flat.specs.Reads.{Assigned, assigned_by}
 use Rattle.rr_flat.specs.Signals.{Text}
 use Rattle.rr_flat.specs.Targets.{part_name}
 use Rattle.rr_change_places.specs.Spots.{has_edges}
+use Rattle.rr_guard.specs.Anywhere.{anywhere_at_edges}
 
 -- Declarations
 
@@ -50,7 +51,7 @@ firsts xs = fold with_first [] xs
 
 -- Clocked blocks
 
--- what an `always` with edges assigns
+-- what an `always` with edges assigns outside its loops
 unfoldable pub assigned_at_edges : ModuleItem → List Assigned
 assigned_at_edges (Ports p) = []
 assigned_at_edges (Nets signed range list) = []
@@ -89,9 +90,9 @@ is_now name a = a.now && bytes_eq (part_name a.part) name
 abbrev pub is_later : Text → Assigned → Bool
 is_later name a = not a.now && is_text name (whole_name a.part)
 
--- whether a clocked block of a module writes a name so
+-- whether a clocked block of a module writes a name so: by `=` in a loop or outside, by `<=` outside its loops
 abbrev pub writes_now : ModuleDeclaration → Text → Bool
-writes_now m name = list_any (is_now name) (flat_map assigned_at_edges m.items)
+writes_now m name = list_any (is_now name) (flat_map anywhere_at_edges m.items)
 
 abbrev pub writes_later : ModuleDeclaration → Text → Bool
 writes_later m name = list_any (is_later name) (flat_map assigned_at_edges m.items)

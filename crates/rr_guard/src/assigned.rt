@@ -1,4 +1,4 @@
-//! What the clocked blocks of a module assign.
+//! What the clocked blocks of a module assign outside their loops.
 
 ghost use Rattle.std.specs.Prelude.{◌≡◌, ◌++◌, ◌||◌, IfOk, OnOk, flat_map, map, option_map};
 ghost use Rattle.std.specs.List.{list_any};
@@ -42,7 +42,8 @@ fn add_item<'a>(list: &mut Vec<Target<'a>>, item: &'a Item<'a>) -> Result<(), Al
     }
 }
 
-/// The names and selects that the clocked blocks of a module assign, in the order of the text.
+/// The names and selects that the clocked blocks of a module assign outside their loops, in the order of
+/// the text.
 pub(crate) fn assigned_at_edges<'a>(
     alloc: Global,
     module: &Module<'a>,

@@ -9,6 +9,7 @@ ghost use Rattle.rr_flat.specs.Signals.{Text};
 ghost use Rattle.rr_guard.specs.Candidates.{AreGuardNames, AreUses, Rising, chosen as chosen_of, may_be};
 ghost use Rattle.rr_guard.specs.Names.{first_names, names_at};
 
+use crate::anywhere::anywhere_at_edges;
 use crate::assigned::{assigned_at_edges, written_later, written_now};
 use crate::declared::{first_declarations, scalars};
 use crate::texts::TextSet;
@@ -17,7 +18,7 @@ use rr_syntax::{Module, ModulePlace, Named};
 use std::alloc::{AllocError, Global};
 
 /// The names of a module that are its clock in some instance, those that its clocked blocks write by
-/// `=`, and those that they write by `<=`.
+/// `=`, and those that they write by `<=` outside their loops.
 #[derive(Drop)]
 pub(crate) struct Uses<'a> {
     pub(crate) clocks: TextSet<'a>,
@@ -65,10 +66,13 @@ fn uses_of<'a>(
 ) -> Result<Uses<'a>, AllocError>
     ensures { IfOk result (λ u. AreUses (plain_module «module».now) (texts place.now.clocks.now) u) }
 {
-    let targets = assigned_at_edges(alloc, module)?;
+    // What a loop writes by `=` is read at once as elsewhere, so its name is no guard; but a loop may
+    // have no turn, so what it writes by `<=` makes no name a guard.
+    let targets = anywhere_at_edges(alloc, module)?;
+    let outside_loops = assigned_at_edges(alloc, module)?;
     let clocks = set_of(alloc, place.clocks)?;
     let at_once = written_now(alloc, targets.as_slice())?;
-    let later = written_later(alloc, targets.as_slice())?;
+    let later = written_later(alloc, outside_loops.as_slice())?;
     Ok(Uses {
         clocks,
         at_once,
@@ -77,7 +81,7 @@ fn uses_of<'a>(
 }
 
 /// Whether a guard may be a name: one that is no clock, that no clocked block writes by `=`, and that,
-/// outside of clocked blocks, one writes by `<=`.
+/// outside of clocked blocks, one writes by `<=` in no loop.
 fn may_guard(uses: &Uses, name: &str, clocked: bool) -> bool
     ensures { result ≡ may_be uses.now clocked name.now }
 {

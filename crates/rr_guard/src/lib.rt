@@ -3,6 +3,7 @@
 //! stands on `rr_change_places`' conditions and `rr_text_names`' lists of targets.
 #![tactic(auto)]
 
+mod anywhere;
 mod assigned;
 mod candidates;
 mod declared;

@@ -3,15 +3,15 @@
 ghost use Rattle.std.specs.Prelude.{◌≡◌, ◌<◌, ◌^◌, ◌++◌, ◌∷◌, [], length, IfOk};
 ghost use Rattle.rr_syntax.specs.Expressions.{spell};
 ghost use Rattle.rr_syntax.specs.Statements.{spell_arms, spell_statement, spell_statements};
-ghost use Rattle.rr_syntax.specs.Tree.{Assign, Block, Case, CaseItem, If, IfElse};
-ghost use Rattle.rr_syntax.specs.View.{plain, plain_arm, plain_arms, plain_label, plain_list, plain_statement, plain_statements};
+ghost use Rattle.rr_syntax.specs.Tree.{Assign, Block, Case, CaseItem, For, If, IfElse};
+ghost use Rattle.rr_syntax.specs.View.{plain, plain_arm, plain_arms, plain_label, plain_list, plain_loop, plain_statement, plain_statements};
 ghost use Rattle.rr_instance.specs.Instances.{instance_arms, instance_statement, instance_statements};
 
 use crate::expression::{condition, expression_instance, expression_instances};
 use bumpalo::Bump;
 use bumpalo::collections::into_bump_slice;
 use rr_choice::{Choice, SiteList};
-use rr_syntax::{Arm, Expr, Keyword, Named, Stmt};
+use rr_syntax::{Arm, Expr, Head, Keyword, Named, Stmt};
 use std::alloc::AllocError;
 
 /// A block.
@@ -86,6 +86,15 @@ pub(crate) fn assign<'a>(
 {
     let value = arena.try_alloc(value)?;
     Ok(Stmt::Assign { target, now, value })
+}
+
+/// A loop.
+#[tactic(auto, unfolding(rr_syntax::specs::View::plain_statement))]
+fn for_loop<'a>(head: Head<'a>, body: Stmt<'a>, arena: &'a Bump) -> Result<Stmt<'a>, AllocError>
+    ensures { IfOk result (λ r. plain_statement r ≡ For (plain_loop head.entry) (plain_statement body.entry)) }
+{
+    let body = arena.try_alloc(body)?;
+    Ok(Stmt::For { head, body })
 }
 
 /// An arm of a `case`.
@@ -170,6 +179,11 @@ pub(crate) fn statement<'a>(
         Stmt::Assign { target, now, value } => {
             let value = expression_instance(value, sites, choice, arena)?;
             let whole = assign(target, *now, value, arena)?;
+            Ok(whole)
+        }
+        Stmt::For { head, body } => {
+            let body = statement(body, sites, choice, arena)?;
+            let whole = for_loop(*head, body, arena)?;
             Ok(whole)
         }
     }

@@ -2,7 +2,7 @@
 use Rattle.std.proofs.Common.{◌≡◌, ℕ, ◌==◌, Bool, true, false, ◌&&◌, if◌then◌else◌, List, [], ◌∷◌, map, get_or, Option, Some, None, refl, sym, ◌∙◌, ap, ap₂, subst}
 use Rattle.rr_syntax.specs.declared.token.Number.{Number}
 use Rattle.rr_syntax.specs.Words.{mark_not, mark_logical_and, mark_logical_or}
-use Rattle.rr_syntax.specs.Tree.{Tree, Trees, Name, Literal, Bit, Part, Indexed, Unary, Binary, Cond, Concat, Repeat, Cast, Paren, End, More, Identifier, Statement, Statements, Arm, Arms, Null, Block, If, IfElse, Case, Assign, Done, Then, CaseItem, NoArms, MoreArms, Range, PortDeclaration, ParameterDeclaration, EventControl, DeclaredName, NetAssignment, NamedConnection, Connections, Positions, Names, ModuleInstance, ModuleItem, Ports, Nets, Variables, Integers, Parameters, Assigns, Always, Initial, Instances, ModuleDeclaration, SourceText, IsSame, IsSameStatement, IsSameItem, bare, bare_parts, bare_statement, bare_statements, bare_arm, bare_arms, bare_label, bare_value, bare_declarator, bare_pair, bare_connection, bare_connections, bare_instance, bare_item, bare_module, bare_source}
+use Rattle.rr_syntax.specs.Tree.{Tree, Trees, Name, Literal, Bit, Part, Indexed, Unary, Binary, Cond, Concat, Repeat, Cast, Paren, End, More, Identifier, Statement, Statements, Arm, Arms, Null, Block, If, IfElse, Case, Assign, For, Done, Then, CaseItem, NoArms, MoreArms, Range, PortDeclaration, ParameterDeclaration, EventControl, DeclaredName, NetAssignment, NamedConnection, Connections, Positions, Names, ModuleInstance, ModuleItem, Ports, Nets, Variables, Integers, Parameters, Assigns, Always, Initial, Instances, ModuleDeclaration, SourceText, IsSame, IsSameStatement, IsSameItem, bare, bare_parts, bare_statement, bare_statements, bare_arm, bare_arms, bare_label, bare_value, bare_declarator, bare_pair, bare_connection, bare_connections, bare_instance, bare_item, bare_module, bare_source}
 use Rattle.rr_expr.specs.declared.operators.Infix.TheVariants.{Either}
 use Rattle.rr_expr.specs.Faults.{takes_constants}
 use Rattle.rr_expr.specs.Operators.{infixes}
@@ -92,6 +92,7 @@ module _ (ss : List Site) (ps : List Pick) where
     statement_exists (IfElse c t e) = (test_exists c, (statement_exists t, statement_exists e))
     statement_exists (Case kind on arms) = (refl, (tree_exists on, arms_exist arms))
     statement_exists (Assign t now e) = (refl, (refl, tree_exists e))
+    statement_exists (For h t) = (refl, statement_exists t)
 
     statements_exist : (ts : Statements) → StandInOrder ss ps ts (instance_statements ss ps ts)
     statements_exist Done = tt
@@ -248,6 +249,7 @@ module _ (ss : List Site) (ps : List Pick) where
     statement_same (IfElse c t e) (IfElse d u f) h = three IfElse (tested_same c d h.0) (statement_same t u h.1.0) (statement_same e f h.1.1)
     statement_same (Case kind on arms) (Case word by list) h = three Case h.0 (tree_same on by h.1.0) (arms_same arms list h.1.1)
     statement_same (Assign t now e) (Assign u blocking f) h = three Assign h.0 h.1.0 (tree_same e f h.1.1)
+    statement_same (For head t) (For other u) h = both For h.0 (statement_same t u h.1)
     statement_same t u h = absurd h
 
     statements_same : (ts us : Statements) → StandInOrder ss ps ts us → bare_statements us ≡ bare_statements (instance_statements ss ps ts)

@@ -2,7 +2,7 @@
 -- has the form of the site's kind, everywhere else the same node. The token numbers of the second tree are free.
 use Rattle.std.specs.Prelude.{◌≡◌, ℕ, Bool, true, false, ◌&&◌, List, [], ◌∷◌, map, get_or, Option, Some, None}
 use Rattle.rr_syntax.specs.declared.token.Number.{Number}
-use Rattle.rr_syntax.specs.Tree.{Tree, Trees, Name, Literal, Bit, Part, Indexed, Unary, Binary, Cond, Concat, Repeat, Cast, Paren, End, More, Statement, Statements, Arm, Arms, Null, Block, If, IfElse, Case, Assign, Done, Then, CaseItem, NoArms, MoreArms, DeclaredName, NetAssignment, NamedConnection, Connections, Positions, Names, ModuleInstance, ModuleItem, Ports, Nets, Variables, Integers, Parameters, Assigns, Always, Initial, Instances, ModuleDeclaration, SourceText, IsSame, IsSameStatement, IsSameItem, IsSameSource, bare_label, bare_range, bare_port, bare_parameter, bare_header, bare_events, bare_overrides}
+use Rattle.rr_syntax.specs.Tree.{Tree, Trees, Name, Literal, Bit, Part, Indexed, Unary, Binary, Cond, Concat, Repeat, Cast, Paren, End, More, Statement, Statements, Arm, Arms, Null, Block, If, IfElse, Case, Assign, For, Done, Then, CaseItem, NoArms, MoreArms, DeclaredName, NetAssignment, NamedConnection, Connections, Positions, Names, ModuleInstance, ModuleItem, Ports, Nets, Variables, Integers, Parameters, Assigns, Always, Initial, Instances, ModuleDeclaration, SourceText, IsSame, IsSameStatement, IsSameItem, IsSameSource, bare_label, bare_loop, bare_range, bare_port, bare_parameter, bare_header, bare_events, bare_overrides}
 use Rattle.rr_expr.specs.declared.operators.Infix.TheVariants.{Either}
 use Rattle.rr_expr.specs.Faults.{takes_constants}
 use Rattle.rr_expr.specs.Operators.{infixes}
@@ -64,7 +64,7 @@ unfoldable mutual
 abbrev pub StandsTest : List Site → List Pick → Tree → Tree → Type 0
 StandsTest ss ps test u = IsTest (find_pick (is_guard_of test) ss ps) (Stands ss ps test) u
 
--- statements; targets stay
+-- statements; targets stay, and what a loop tells of its name
 unfoldable mutual
   pub StandsStatement : List Site → List Pick → Statement → Statement → Type 0
   StandsStatement ss ps Null Null = Unit {0}
@@ -73,6 +73,7 @@ unfoldable mutual
   StandsStatement ss ps (IfElse c t e) (IfElse d u f) = StandsTest ss ps c d × (StandsStatement ss ps t u × StandsStatement ss ps e f)
   StandsStatement ss ps (Case kind on arms) (Case word by list) = (word ≡ kind) × (Stands ss ps on by × StandInArms ss ps arms list)
   StandsStatement ss ps (Assign t now e) (Assign u blocking f) = IsSame u t × ((blocking ≡ now) × Stands ss ps e f)
+  StandsStatement ss ps (For h t) (For g u) = (bare_loop g ≡ bare_loop h) × StandsStatement ss ps t u
   StandsStatement ss ps t u = ⊥
 
   pub StandInOrder : List Site → List Pick → Statements → Statements → Type 0

@@ -302,3 +302,55 @@ endmodule",
     );
     Ok(())
 }
+
+/// A loop over a condition and an assignment.
+const LOOP: &str = "module m(input clk, input s, output reg [3:0] q);
+  integer i;
+  always @(posedge clk)
+    for (i = 0; i < 4; i = i + 1)
+      if (s) q <= q + 4'd2;
+endmodule
+";
+
+/// A site of each kind in and round a loop, each one for all turns; and a literal of a loop's head, which
+/// stays whatever is chosen at its token.
+#[test]
+fn sites_of_loops(rt: HostRuntime) -> Result<(), Fail> {
+    let arena = Bump::new(rt.alloc());
+    let names = ["s"];
+    assert!(rt;
+        makes(
+            rt.alloc(),
+            LOOP,
+            &[
+                overwrite(28, "q", 4, &names),
+                guard(46, 1, &names),
+                literal(52, 4)
+            ],
+            &[on(9, 1, 0), on(0, 0, 0), on(1, 0, 0)],
+            "module m(input clk, input s, output reg [3:0] q);
+  integer i;
+  always @(posedge clk) begin
+    for (i = 0; i < 4; i = i + 1)
+      if ( ! ( s ) ) q <= q +  4'h1 ; if ( s ) q <= 4'h9 ; end
+endmodule",
+            &arena,
+        )?
+    );
+    assert!(rt;
+        makes(
+            rt.alloc(),
+            LOOP,
+            &[literal(36, 32), literal(52, 4)],
+            &[on(7, 0, 0), on(1, 0, 0)],
+            "module m(input clk, input s, output reg [3:0] q);
+  integer i;
+  always @(posedge clk)
+    for (i = 0; i < 4; i = i + 1)
+      if (s) q <= q +  4'h1 ;
+endmodule",
+            &arena,
+        )?
+    );
+    Ok(())
+}

@@ -7,7 +7,7 @@ ghost use Rattle.rr_syntax.specs.View.{plain_source};
 use bumpalo::Bump;
 use rr_lex::lex;
 use rr_parse::parse;
-use rr_syntax::{Expr, Item, MARKS, Mark, Number, Source, Stmt};
+use rr_syntax::{Arm, Expr, Head, Item, MARKS, Mark, Number, Source, Stmt};
 use std::alloc::{AllocError, Global};
 use std::test::Fail;
 
@@ -94,19 +94,26 @@ fn put_list(parts: &[Expr], out: &mut String<Global>) -> Result<(), AllocError> 
     out.push_str("}")
 }
 
-/// Writes a statement, each block in braces and each part of an `if` in square brackets; of a `case`
-/// its selector and its arms.
+/// Writes what a loop tells of its name.
+fn put_head(head: &Head, out: &mut String<Global>) -> Result<(), AllocError> {
+    out.push_str(head.name)?;
+    out.push_str("=")?;
+    put(head.start, out)?;
+    out.push_str(";")?;
+    put(head.test, out)?;
+    out.push_str(";")?;
+    out.push_str(head.step_name)?;
+    out.push_str("=")?;
+    put(head.step, out)
+}
+
+/// Writes a statement, each block in braces and each part of an `if` and each body of a loop in square
+/// brackets; of a `case` its selector and its arms.
 #[cycle(put_statement)]
 fn put_statement(stmt: &Stmt, out: &mut String<Global>) -> Result<(), AllocError> {
     match stmt {
         Stmt::Null => out.push_str(";"),
-        Stmt::Block { body, .. } => {
-            out.push_str("{")?;
-            for part in body.iter() {
-                put_statement(part, out)?;
-            }
-            out.push_str("}")
-        }
+        Stmt::Block { body, .. } => put_block(body, out),
         Stmt::If { test, yes, no } => {
             out.push_str("if ")?;
             put(test, out)?;
@@ -125,12 +132,7 @@ fn put_statement(stmt: &Stmt, out: &mut String<Global>) -> Result<(), AllocError
         Stmt::Case { on, arms, .. } => {
             out.push_str("case ")?;
             put(on, out)?;
-            for arm in arms.iter() {
-                out.push_str("|")?;
-                put_list(arm.labels, out)?;
-                put_statement(arm.body, out)?;
-            }
-            Ok(())
+            put_arms(arms, out)
         }
         Stmt::Assign { target, now, value } => {
             put(target, out)?;
@@ -138,7 +140,33 @@ fn put_statement(stmt: &Stmt, out: &mut String<Global>) -> Result<(), AllocError
             put(value, out)?;
             out.push_str(";")
         }
+        Stmt::For { head, body } => {
+            out.push_str("for ")?;
+            put_head(head, out)?;
+            out.push_str("[")?;
+            put_statement(body, out)?;
+            out.push_str("]")
+        }
     }
+}
+
+#[cycle(put_statement)]
+fn put_block(body: &[Stmt], out: &mut String<Global>) -> Result<(), AllocError> {
+    out.push_str("{")?;
+    for part in body.iter() {
+        put_statement(part, out)?;
+    }
+    out.push_str("}")
+}
+
+#[cycle(put_statement)]
+fn put_arms(arms: &[Arm], out: &mut String<Global>) -> Result<(), AllocError> {
+    for arm in arms.iter() {
+        out.push_str("|")?;
+        put_list(arm.labels, out)?;
+        put_statement(arm.body, out)?;
+    }
+    Ok(())
 }
 
 /// Writes what an item drives or assigns.

@@ -3,7 +3,7 @@ use Rattle.std.proofs.Common.{◌≡◌, ℕ, ◌+◌, ◌==◌, ◌<◌, ◌≤
 use Rattle.std.specs.List.{AllByRecursion, flat_map}
 use Rattle.std.proofs.lemmas.Bool.{eq-eqb, ne_eqb}
 use Rattle.rr_syntax.specs.Words.{Word, Named, Reserved, Marked, keyword_always, keyword_assign, keyword_endmodule, keyword_module, keyword_wire, mark_open_parenthesis, mark_close_parenthesis, mark_comma, mark_semicolon, mark_dot, mark_at, mark_equals, mark_less_or_equal}
-use Rattle.rr_syntax.specs.Tree.{Tree, Statement, Null, Block, If, IfElse, Case, Assign, DeclaredName, NetAssignment, NamedConnection, Connections, Positions, Names, ModuleInstance, ModuleItem, Ports, Nets, Variables, Integers, Parameters, Assigns, Always, Initial, Instances, ModuleDeclaration, SourceText}
+use Rattle.rr_syntax.specs.Tree.{Tree, Statement, Null, Block, If, IfElse, Case, Assign, For, DeclaredName, NetAssignment, NamedConnection, Connections, Positions, Names, ModuleInstance, ModuleItem, Ports, Nets, Variables, Integers, Parameters, Assigns, Always, Initial, Instances, ModuleDeclaration, SourceText}
 use Rattle.rr_syntax.specs.Expressions.{spell}
 use Rattle.rr_syntax.specs.Statements.{spell_statement}
 use Rattle.rr_syntax.specs.Items.{spell_each, spell_separated, spell_all, spell_type, spell_value, spell_declarator, spell_pair, spell_events, spell_optional, spell_connection, spell_connections, spell_overrides, spell_instance, spell_item, spell_parameters, spell_ports, spell_module, spell_source, WellFormedValue, WellFormedDeclarator, WellFormedPair, WellFormedConnection, WellFormedConnections, WellFormedInstance, WellFormedItem, WellFormedModule, WellFormedSource, NumberedEach, NumberedSeparated, NumberedAll, NumberedValue, NumberedDeclarator, NumberedPair, NumberedConnection, NumberedConnections, NumberedInstance, NumberedItem, NumberedModule, NumberedSource}
@@ -25,6 +25,7 @@ some_token (If c t) = omega arith
 some_token (IfElse c t u) = omega arith
 some_token (Case kind on arms) = omega arith
 some_token (Assign t now e) = omega (arith, length-append (spell t) (Marked (cond now mark_equals mark_less_or_equal) ∷ (spell e ++ (Marked mark_semicolon ∷ []))))
+some_token (For h t) = omega arith
 
 -- from a place on, so many tokens has the first body among these items that begins there
 abbrev Agrees : (ℕ → ℕ) → ℕ → List ModuleItem → Type 0

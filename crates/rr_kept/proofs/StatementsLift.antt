@@ -1,10 +1,10 @@
 -- The pieces of statements lift, and those of the bodies of `always`.
 use Rattle.std.proofs.Common.{◌≡◌, ℕ, ◌+◌, ◌&&◌, ◌%◌, ◌^◌, Bool, true, false, cond, if◌then◌else◌, List, [], ◌∷◌, length, Option, Some, None, unwrap_or, refl, ◌∙◌, ap, subst, arith}
 use Rattle.std.proofs.lemmas.Bool.{eqb-true}
-use Rattle.rr_syntax.specs.Words.{Word, Reserved, Marked, keyword_begin, keyword_else, keyword_end, keyword_endcase, keyword_if, mark_open_parenthesis, mark_close_parenthesis, mark_colon, mark_semicolon, mark_equals, mark_less_or_equal}
-use Rattle.rr_syntax.specs.Tree.{Trees, End, More, Statement, Statements, Arm, Arms, Null, Block, If, IfElse, Case, Assign, Done, Then, CaseItem, NoArms, MoreArms}
+use Rattle.rr_syntax.specs.Words.{Word, Reserved, Marked, keyword_begin, keyword_else, keyword_end, keyword_endcase, keyword_for, keyword_if, mark_open_parenthesis, mark_close_parenthesis, mark_colon, mark_semicolon, mark_equals, mark_less_or_equal}
+use Rattle.rr_syntax.specs.Tree.{Trees, End, More, Statement, Statements, Arm, Arms, Null, Block, If, IfElse, Case, Assign, For, Done, Then, CaseItem, NoArms, MoreArms}
 use Rattle.rr_syntax.specs.Expressions.{spell, WellFormed, WellFormedMore}
-use Rattle.rr_syntax.specs.Statements.{spell_label, spell_labels, spell_statement, spell_statements, spell_arm, spell_arms, WellFormedStatement, WellFormedStatements, WellFormedArm, WellFormedArms, NumberedLabels, NumberedStatement, NumberedStatements, NumberedArm, NumberedArms}
+use Rattle.rr_syntax.specs.Statements.{spell_label, spell_labels, spell_loop, spell_statement, spell_statements, spell_arm, spell_arms, WellFormedStatement, WellFormedStatements, WellFormedArm, WellFormedArms, NumberedLabels, NumberedStatement, NumberedStatements, NumberedArm, NumberedArms}
 use Rattle.rr_lex.specs.Patch.{new_literal, new_keyword}
 use Rattle.rr_choice.specs.declared.pick.Pick.{Pick}
 use Rattle.rr_choice.specs.Sites as sites
@@ -56,6 +56,8 @@ module _ (T P : ℕ → Type 0) (size : ℕ → ℕ) where
       statement_lifts (Assign t now e) at w n =
           join (words (spell t))
           (keep (Marked (cond now mark_equals mark_less_or_equal)) (join (tree_lifts T P size ss allow ps e (at + length (spell t) + 1) w.2 n.1) (keep (Marked mark_semicolon) none)))
+      statement_lifts (For h t) at w n =
+          keep (Reserved keyword_for) (join (words (spell_loop h)) (statement_lifts t (at + 1 + length (spell_loop h)) w.1 n.1))
 
       pub statements_lift : (ts : Statements) (at : ℕ) → WellFormedStatements ts → NumberedStatements ts at → Lifts T P at (statements_pieces ss ps ts) (spell_statements ts)
       statements_lift Done at w n = none

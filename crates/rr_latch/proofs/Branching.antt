@@ -7,10 +7,11 @@ use Rattle.rr_syntax.specs.declared.token.Keyword.{Keyword}
 use Rattle.rr_syntax.specs.declared.tree.Arm.{Arm as Branch}
 use Rattle.rr_syntax.specs.declared.tree.Expr.{Expr}
 use Rattle.rr_syntax.specs.declared.tree.Named.{Named}
+use Rattle.rr_syntax.specs.declared.tree.Head.{Head}
 use Rattle.rr_syntax.specs.declared.tree.Stmt.{Stmt}
 use Rattle.rr_syntax.specs.declared.tree.Stmt.TheVariants as stmt
-use Rattle.rr_syntax.specs.Tree.{Tree, Trees, Identifier, Statement, Statements, Arms, Null, Block as Sequence, If, IfElse, Case, Assign, Done, Then, CaseItem, NoArms, MoreArms}
-use Rattle.rr_syntax.specs.View.{plain, plain_list, plain_statement, plain_statements, plain_arm, plain_arms, plain_label}
+use Rattle.rr_syntax.specs.Tree.{Tree, Trees, Identifier, LoopHead, Statement, Statements, Arms, Null, Block as Sequence, If, IfElse, Case, Assign, For, Done, Then, CaseItem, NoArms, MoreArms}
+use Rattle.rr_syntax.specs.View.{plain, plain_list, plain_statement, plain_statements, plain_arm, plain_arms, plain_label, plain_loop}
 use Rattle.rr_syntax.proofs.Rows.{plain_block, plain_case}
 use Rattle.rr_expr.specs.declared.types.Bit.{Bit}
 use Rattle.rr_expr.specs.Faults.{fault}
@@ -75,6 +76,11 @@ unfolding plain_statement immediate
 counted-Assign true target now value = ap (λ z. Assign (plain target.now) z (plain value.now)) (sym (or_true now))
 counted-Assign false target now value = ap (λ z. Assign (plain target.now) z (plain value.now)) (sym (or_false now))
 
+pub counted-For : (later : Bool) (head : Head) (a : Bor Stmt) → counted later (plain_statement (stmt.For head a)) ≡ For (plain_loop head) (counted later (plain_statement a.now))
+unfolding plain_statement immediate
+counted-For true head a = refl
+counted-For false head a = refl
+
 counted-Done : (later : Bool) → counted_all later (plain_statements []) ≡ Done
 unfolding plain_statements immediate
 counted-Done true = refl
@@ -116,6 +122,14 @@ ran-Null s f a = record { set = λ b. refl; log = logged_none a f f (λ b. refl)
 pub noted-Null : (s : Names) (f : Bit → Bool) (e : Early) → Noted (ReadEarly s f Null) e e
 unfolding ReadEarly
 noted-Null s f e = noted_none (λ b. ⊥) e (λ b r. r)
+
+pub ran-For : (s : Names) (head : LoopHead) (t : Statement) (f : Bit → Bool) (a : List Bit) → RanBy s (For head t) f f a a
+unfolding known
+ran-For s head t f a = record { set = λ b. refl; log = logged_none a f f (λ b. refl) }
+
+pub noted-For : (s : Names) (head : LoopHead) (t : Statement) (f : Bit → Bool) (e : Early) → Noted (ReadEarly s f (For head t)) e e
+unfolding ReadEarly
+noted-For s head t f e = noted_none (λ b. ⊥) e (λ b r. r)
 
 pub ran-Block : (s : Names) (label : Option Identifier) (ts : Statements) (f g : Bit → Bool) (a b : List Bit) → Ran (known_all s f ts) f g a b → RanBy s (Sequence label ts) f g a b
 unfolding known

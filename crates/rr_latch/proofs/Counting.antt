@@ -1,6 +1,6 @@
 -- What statements write where each `<=` counts as `=`.
 use Rattle.std.proofs.Common.{◌≡◌, ◌∙◌, sym, ap, Bool, true, false, ◌||◌, refl}
-use Rattle.rr_syntax.specs.Tree.{Statement, Statements, Arm, Arms, Null, Block as Sequence, If, IfElse, Case, Assign, Done, Then, CaseItem, NoArms, MoreArms}
+use Rattle.rr_syntax.specs.Tree.{Statement, Statements, Arm, Arms, Null, Block as Sequence, If, IfElse, Case, Assign, For, Done, Then, CaseItem, NoArms, MoreArms}
 use Rattle.rr_expr.specs.declared.types.Bit.{Bit}
 use Rattle.rr_expr.specs.Scopes.{Names}
 use Rattle.rr_flat.specs.Reads.{writes, write_any, arm_writes, arms_write}
@@ -33,6 +33,7 @@ mutual
   immediate_writes s (Case kind on arms) b = immediate_by_arms s arms b
   immediate_writes s (Assign t true e) b = sym (or_false (writes_target s t b))
   immediate_writes s (Assign t false e) b = refl
+  immediate_writes s (For head t) b = refl
 
   immediate_any : (s : Names) (ts : Statements) (b : Bit) → write_any true s (immediate_all ts) b ≡ (write_any true s ts b || write_any false s ts b)
   immediate_any s Done b = refl

@@ -1,7 +1,7 @@
 -- Definite assignment: what is assigned stays so, and two ways to say that a bit is read too early.
 use Rattle.std.proofs.Common.{◌≡◌, ◌∙◌, ap, inl, inr, Bool, true, false, not, ◌||◌, refl}
 use Rattle.std.proofs.lemmas.Bool.{and_from, both_ways}
-use Rattle.rr_syntax.specs.Tree.{Statement, Statements, Arm, Arms, Null, Block as Sequence, If, IfElse, Case, Assign, Done, Then, CaseItem, NoArms, MoreArms}
+use Rattle.rr_syntax.specs.Tree.{Statement, Statements, Arm, Arms, Null, Block as Sequence, If, IfElse, Case, Assign, For, Done, Then, CaseItem, NoArms, MoreArms}
 use Rattle.rr_expr.specs.declared.types.Bit.{Bit}
 use Rattle.rr_expr.specs.Reading.{NamesBit, NamesBits}
 use Rattle.rr_expr.specs.Scopes.{Names}
@@ -28,6 +28,7 @@ mutual
   known_kept s f (Case kind on arms) b h = and_from (known_arms s f arms b) (has_default arms || f b) (known_arms_kept s f arms b h) (ap (λ z. has_default arms || z) h ∙ or_true (has_default arms))
   known_kept s f (Assign t true e) b h = ap (λ z. z || assigns_target s t b) h
   known_kept s f (Assign t false e) b h = h
+  known_kept s f (For head t) b h = h
 
   known_all_kept : (s : Names) (f : Bit → Bool) (ts : Statements) (b : Bit) → f b ≡ true → known_all s f ts b ≡ true
   known_all_kept s f Done b h = h
@@ -60,6 +61,7 @@ mutual
   not_early s f (Case kind on arms) b k (inr r) = no_arm_early s f arms b k.1 r
   not_early s f (Assign t now e) b k (inl r) = clash (TargetReads s t) f b k.0 r
   not_early s f (Assign t now e) b k (inr r) = clash (NamesBit s e) f b k.1 r
+  not_early s f (For head t) b k r = r
 
   none_early : (s : Names) (f : Bit → Bool) (ts : Statements) (b : Bit) → AllReadKnown s f ts → AnyReadEarly s f ts b → ⊥
   none_early s f Done b k r = r
@@ -95,6 +97,7 @@ mutual
       (read_so (NamesBit s c) f (λ b r. h b (inl r)), (reads_known s f t (λ b r. h b (inr (inl r))), reads_known s f u (λ b r. h b (inr (inr r)))))
   reads_known s f (Case kind on arms) h = (read_so (NamesBit s on) f (λ b r. h b (inl r)), arms_read_known s f arms (λ b r. h b (inr r)))
   reads_known s f (Assign t now e) h = (read_so (TargetReads s t) f (λ b r. h b (inl r)), read_so (NamesBit s e) f (λ b r. h b (inr r)))
+  reads_known s f (For head t) h = tt
 
   all_read_known : (s : Names) (f : Bit → Bool) (ts : Statements) → ((b : Bit) → AnyReadEarly s f ts b → ⊥) → AllReadKnown s f ts
   all_read_known s f Done h = tt
@@ -131,6 +134,7 @@ mutual
   early_unknown s f (Case kind on arms) b (inr r) = arms_unknown s f arms b r
   early_unknown s f (Assign t now e) b (inl r) = r.1
   early_unknown s f (Assign t now e) b (inr r) = r.1
+  early_unknown s f (For head t) b r = absurd r
 
   any_unknown : (s : Names) (f : Bit → Bool) (ts : Statements) (b : Bit) → AnyReadEarly s f ts b → f b ≡ false
   any_unknown s f Done b r = absurd r

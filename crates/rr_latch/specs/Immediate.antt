@@ -1,6 +1,6 @@
 -- A statement in which each `<=` that assigns (IEEE 1364-2005 section 9.2.2) is `=` (section 9.2.1).
 use Rattle.std.specs.Prelude.{true}
-use Rattle.rr_syntax.specs.Tree.{Statement, Statements, Arm, Arms, Null, Block, If, IfElse, Case, Assign, Done, Then, CaseItem, NoArms, MoreArms}
+use Rattle.rr_syntax.specs.Tree.{Statement, Statements, Arm, Arms, Null, Block, If, IfElse, Case, Assign, For, Done, Then, CaseItem, NoArms, MoreArms}
 
 unfoldable mutual
   pub immediate : Statement → Statement
@@ -10,6 +10,7 @@ unfoldable mutual
   immediate (IfElse c t u) = IfElse c (immediate t) (immediate u)
   immediate (Case kind on arms) = Case kind on (immediate_arms arms)
   immediate (Assign t now e) = Assign t true e
+  immediate (For h t) = For h (immediate t)
 
   pub immediate_all : Statements → Statements
   immediate_all Done = Done

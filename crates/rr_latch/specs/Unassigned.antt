@@ -1,7 +1,7 @@
 -- Bits that a combinational block keeps (IEEE 1364-2005 sections 9.2.1, 9.4, 9.5): read before they are assigned on some
 -- path, or left without a value at its end.
 use Rattle.std.specs.Prelude.{◌≡◌, ℕ, ◌<◌, ◌⊎◌, length, Bool, true, false}
-use Rattle.rr_syntax.specs.Tree.{Statement, Statements, Arm, Arms, Null, Block as Sequence, If, IfElse, Case, Assign, Done, Then, CaseItem, NoArms, MoreArms}
+use Rattle.rr_syntax.specs.Tree.{Statement, Statements, Arm, Arms, Null, Block as Sequence, If, IfElse, Case, Assign, For, Done, Then, CaseItem, NoArms, MoreArms}
 use Rattle.rr_expr.specs.declared.types.Bit.{Bit}
 use Rattle.rr_expr.specs.Reading.{NamesBit, NamesBits}
 use Rattle.rr_expr.specs.Scopes.{Names}
@@ -20,6 +20,7 @@ unfoldable mutual
   ReadEarly s before (IfElse c t u) b = (NamesBit s c b × (before b ≡ false)) ⊎ (ReadEarly s before t b ⊎ ReadEarly s before u b)
   ReadEarly s before (Case kind on arms) b = (NamesBit s on b × (before b ≡ false)) ⊎ ArmsReadEarly s before arms b
   ReadEarly s before (Assign t now e) b = (TargetReads s t b × (before b ≡ false)) ⊎ (NamesBit s e b × (before b ≡ false))
+  ReadEarly s before (For h t) b = ⊥
 
   pub AnyReadEarly : Names → (Bit → Bool) → Statements → Bit → Type 0
   AnyReadEarly s before Done b = ⊥

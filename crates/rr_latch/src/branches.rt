@@ -36,6 +36,7 @@ pub(crate) fn run(
 {
     match stmt {
         Stmt::Null => Ok(()),
+        Stmt::For { .. } => Ok(()),
         Stmt::Block { body, .. } => run_all(alloc, body, names, later, path, early),
         Stmt::If { test, yes, no } => {
             read(alloc, test, names, &path.unassigned, early)?;

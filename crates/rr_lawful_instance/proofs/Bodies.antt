@@ -6,7 +6,7 @@ use Rattle.std.specs.List.{AllByRecursion, Contains}
 use Rattle.std.proofs.Math.Logic.{⊎_elim}
 use Rattle.std.proofs.lemmas.Bool.{and_from, both_ways}
 use Rattle.rr_syntax.specs.declared.token.Number.{Number}
-use Rattle.rr_syntax.specs.Tree.{Tree, Trees, Name, Literal, Bit as BitSelect, Part, Indexed, Unary, Binary, Cond, Concat, Repeat, Cast, Paren, End, More, Statement, Statements, Arm, Arms, Null, Block as Sequence, If, IfElse, Case, Assign, Done, Then, CaseItem, NoArms, MoreArms}
+use Rattle.rr_syntax.specs.Tree.{Tree, Trees, Name, Literal, Bit as BitSelect, Part, Indexed, Unary, Binary, Cond, Concat, Repeat, Cast, Paren, End, More, Statement, Statements, Arm, Arms, Null, Block as Sequence, If, IfElse, Case, Assign, For, Done, Then, CaseItem, NoArms, MoreArms}
 use Rattle.rr_expr.specs.declared.types.Bit.{Bit}
 use Rattle.rr_expr.specs.Reading.{IsBitOf, NamesBit}
 use Rattle.rr_expr.specs.Scopes.{Names, meant}
@@ -137,6 +137,7 @@ module _ (P : Text → Type 0) where
         both IsNamedTarget (assigned_by t) (assigned_by u) (targets_named t p.0) (targets_named u p.1)
     targets_named (Case kind on arms) h = targets_named_arms arms (parts (OfText P) (names_in on) (names_of_arms arms) h).1
     targets_named (Assign t now e) h = assigned_named now (target_parts t) (part_named t (parts (OfText P) (names_in t) (names_in e) h).0)
+    targets_named (For head t) h = tt
 
     targets_named_all : (ts : Statements) → AllByRecursion (OfText P) (names_of_all ts) → AllByRecursion IsNamedTarget (assigned_by_all ts)
     targets_named_all Done h = tt

@@ -31,12 +31,12 @@ use Rattle.rr_lawful_instance.proofs.Made.{made}
 use Rattle.rr_lawful_instance.proofs.Whole.{lawful, ordered}
 
 pub listed_are_sites : ListedAreSites
-listed_are_sites source top flat word ss e t r = (listed source top flat word ss e r, listed_fit source flat word ss t r)
+listed_are_sites source top flat word ss e t r = (listed source top flat word ss e r, listed_fit source top flat word ss e t r)
 
 pub stays_lawful : InstancesStayLawful
 stays_lawful source top flat word clock rising steps ss ps e l o r =
     let sites = listed source top flat word ss e r in (
-      instances_flatten ss ps source top flat e (listed_fit source flat word ss l.targets r),
+      instances_flatten ss ps source top flat e (listed_fit source top flat word ss e l.targets r),
       lawful flat word ss ps sites l,
       (ordered clock rising steps flat word ss ps sites (l.one_writer, o)).1,
     )

@@ -36,7 +36,7 @@ use Rattle.rr_choice.specs.Sites as sites
 use Rattle.rr_choice.specs.Sites.{Site}
 use Rattle.rr_lawful_instance.specs.AreSites.{MayGuard, MayGuardElsewhere, IsClock, IsTargetOf}
 use Rattle.rr_lawful_instance.specs.Listed.{IsRight, AreRight, StandsIn, item_at, item_start, items_before}
-use Rattle.rr_flat_instance.specs.Owned.{start_of, InEach}
+use Rattle.rr_flat_instance.specs.Owned.{start_of, InEach, IsFree, IsNumberAt}
 use Rattle.rr_flat_instance.specs.Places.{HasWidth}
 use Rattle.rr_syntax.specs.Items as S
 use Rattle.rr_syntax.specs.Expressions as E
@@ -50,6 +50,9 @@ use Rattle.rr_flatten.specs.Tables.{add_module, instantiated_by, last_free}
 use Rattle.rr_flatten.specs.Tables as T
 use Rattle.rr_flat.specs.Shapes as Sh
 use Rattle.rr_flatten.specs.Walk as W
+use Rattle.rr_loop_rules.specs.Rules as R
+use Rattle.rr_loop_names.specs.Turns as L
+use Rattle.rr_unfold.specs.Unfold as U
 use Rattle.rr_declarations.specs.Parameters as P
 use Rattle.rr_declarations.specs.Declarations as D
 use Rattle.rr_declarations.specs.Values as V
@@ -57,7 +60,7 @@ use Rattle.rr_declarations.specs.Heads as H
 use Rattle.rr_expr.specs.Faults as F
 use Rattle.rr_expr.specs.Values as X
 use Rattle.rr_bits.specs.Words.{number, tabulate, word}
-use Rattle.rr_flatten.specs.Walk.{begin, enter, enter_by, flat_of, reached_from, top_ports}
+use Rattle.rr_flatten.specs.Walk.{begin, enter, enter_by, flat_by, flat_of, reached_from, top_ports}
 
 abbrev c : Text
 c = 99 ∷ []
@@ -123,7 +126,7 @@ flat = record {
 }
 
 elaborated : flat_of source None ≡ Ok flat
-unfolding flat_of each add_module lookup last_free instantiated_by enter enter_by begin head parameters declared brackets declarations numbered signals_in_order with_signals top_ports reached_from T.instantiated_by_item P.add_item_parameters D.declare_ports V.range_in D.declare D.declare_new D.know_ports D.declare_item D.know_item D.known D.know_port_item H.with_inner H.with_ports H.with_port W.item W.assign Sh.shape F.fault meant W.always W.event_faults W.edges_faults Sh.statement_faults number tabulate word X.form X.value X.widths F.first
+unfolding flat_by each add_module lookup last_free instantiated_by enter enter_by begin head parameters declared brackets declarations numbered signals_in_order with_signals top_ports reached_from T.instantiated_by_item P.add_item_parameters D.declare_ports V.range_in D.declare D.declare_new D.know_ports D.declare_item D.know_item D.known D.know_port_item H.with_inner H.with_ports H.with_port W.item W.assign Sh.shape F.fault meant W.always W.event_faults W.edges_faults Sh.statement_faults number tabulate word X.form X.value X.widths F.first R.loop_names R.loops_of_item R.loops_in R.integers_of_item R.strays R.target_strays R.loop_faults L.turned L.put_tree L.put_target U.counted U.unfold_statement
 elaborated = refl
 
 -- The design is lawful
@@ -441,11 +444,21 @@ tokens = (
   tt,
 )
 
+-- its literal is the number at its token
+number_there : IsNumberAt (S.spell_source source) 38 1 false
+unfolding S.spell_source S.spell_all S.spell_module spell_ports spell_parameters spell_item S.spell_separated S.spell_each S.spell_value S.spell_declarator S.spell_pair S.spell_port S.spell_dir S.spell_type S.spell_where S.spell_range S.spell_identifier S.spell_events S.spell_edges S.spell_edge S.spell_more_edges E.spell St.spell_statement
+number_there = record { number = one; there = refl; width = refl; signed = refl; known = refl }
+
+-- it has no loops
+free_q : IsFree source.modules 0 q
+unfolding R.loop_names R.integers_of_item
+free_q = refl
+
 right : AreRight source flat None the_sites
 right = record {
   formed = formed;
   numbered = tokens;
-  each = (first_guard, ((overwrite, width), (second_guard, (tt, tt))));
+  each = (first_guard, ((overwrite, width), (second_guard, (number_there, tt))));
 }
   where
     first_guard : IsRight source flat None 0 20 (sites.Guard 0 1 (q ∷ []))
@@ -472,8 +485,8 @@ right = record {
       target = tt;
     }
 
-    width : InEach flat 0 (λ names. HasWidth names q 1)
-    width = λ i l o. at_first (λ i. HasWidth (scope_at flat i) q 1) (record { shape = rw name_q refl; width = refl }) i l
+    width : InEach flat 0 (λ names. HasWidth names q 1 × IsFree source.modules 0 q)
+    width = λ i l o. at_first (λ i. HasWidth (scope_at flat i) q 1 × IsFree source.modules 0 q) (record { shape = rw name_q refl; width = refl }, free_q) i l
 
 pub met : LawsAreMet
 met = (source, (None, (flat, (None, (Some 0, (true, (step.Driver 0 ∷ [], (the_sites, (elaborated, lawful, ordered, right, (refl, refl, refl))))))))))

@@ -13,7 +13,7 @@ use Rattle.rr_flatten.specs.Walk.{module_at, flat_of}
 use Rattle.rr_flat.specs.Lawful.{RightTargets}
 use Rattle.rr_flat.specs.Writers.{scope_at, driver_at, block_at, no_driver, no_block}
 use Rattle.rr_flat.proofs.Lists.{all_index}
-use Rattle.rr_flat_instance.specs.Owned.{start_of, IsWithin, IsDeclared, KindFits, SiteFits}
+use Rattle.rr_flat_instance.specs.Owned.{start_of, IsWithin, IsFree, IsDeclared, KindFits, SiteFits}
 use Rattle.rr_flat_instance.specs.Places.{IsNameOfItem, owner_at, SitesFit}
 use Rattle.rr_flat_instance.proofs.Listed.{one_module, listed_sites_fit}
 use Rattle.rr_flat_instance.proofs.Spans as span
@@ -28,6 +28,7 @@ use Rattle.rr_change_places.specs.Spots.{has_edges, is_clocked}
 use Rattle.rr_lawful_instance.specs.Listed.{MayGuardIf, MayGuardIn, items_of, no_item, item_at, items_before, item_start, StandsIn, TargetFits, IsRight, KindIsRight, AreRight}
 use Rattle.rr_lawful_instance.proofs.Placed.{item_right, module_there, item_is}
 use Rattle.rr_lawful_instance.proofs.Origins.{SideFrom, BlockFrom, From, origins}
+use Rattle.rr_lawful_instance.proofs.Unfolded.{brings_same, all_still_stand, scalar_is_free}
 
 -- Where items stand
 
@@ -189,16 +190,16 @@ module _ (source : SourceText) (flat : Flat) (word : Option Text) (ss : List Sit
 
   block_fits : (clocked : Bool) (block : Block) → BlockFrom source.modules ss clocked flat.owners block → BlockFits (MayGuardIf clocked flat word block.scope) ss block
   unfolding IsNameOfItem
-  block_fits clocked block (l, (events, (at, (c, q)))) =
+  block_fits clocked block (l, (events, (at, (s, (c, q, u))))) =
       let e = o.even in
       let there : block.scope < length flat.scopes = omega (arith, l, e) in
-      let is : item_at source.modules (owner_at flat block.scope) c.0 ≡ Always events block.body at = item_is source.modules (owner_at flat block.scope) (Always events block.body at) c in
+      let is : item_at source.modules (owner_at flat block.scope) c.0 ≡ Always events s at = item_is source.modules (owner_at flat block.scope) (Always events s at) c in
       record {
         names = λ name h.
             let may : MayGuardIf (has_edges events) flat word block.scope name =
-            subst (λ y. MayGuardIf (is_clocked y) flat word block.scope name) is (item_names source flat word block.scope c.0 there c.1 ss r name (subst (IsNameOfItem ss name) (sym is) h)) in
+            subst (λ y. MayGuardIf (is_clocked y) flat word block.scope name) is (item_names source flat word block.scope c.0 there c.1 ss r name (subst (IsNameOfItem ss name) (sym is) (brings_same ss s block.body u name h))) in
             subst (λ z. MayGuardIf z flat word block.scope name) q may;
-        targets = targets_stand source flat word block.scope c.0 there c.1 ss r events block.body at is;
+        targets = all_still_stand ss s block.body u (targets_stand source flat word block.scope c.0 there c.1 ss r events s at is);
       }
 
   pub all_fit : AreSitesOf flat word ss
@@ -217,15 +218,19 @@ may_scalar : (b : Bool) (flat : Flat) (word : Option Text) (i : ℕ) (name : Tex
 may_scalar true flat word i name m = (m.signal, (m.signed, m.scalar))
 may_scalar false flat word i name m = (m.guard.signal, (m.guard.signed, m.guard.scalar))
 
-module _ (source : SourceText) (flat : Flat) (word : Option Text) where
+module _ (source : SourceText) (top : Option Text) (flat : Flat) (word : Option Text) (design : flat_of source top ≡ Ok flat) where
   declared : (owner token : ℕ) (kind : SiteKind) → IsRight source flat word owner token kind → IsDeclared source flat owner token (guard_names kind)
   declared owner token kind f = record {
     within = stands_within source.modules owner f.item token f.stands;
-    scalars = λ i l o j d m. may_scalar (is_clocked (item_at source.modules owner f.item)) flat word i (slice_index_or (guard_names kind) j d) (f.names i l o j d m);
+    scalars = λ i l o j d m. scalar_here i l o j d m;
+    free = λ i l o j d m. subst (λ (k : ℕ). IsFree source.modules k (slice_index_or (guard_names kind) j d)) o (scalar_is_free source top flat design i l (slice_index_or (guard_names kind) j d) (scalar_here i l o j d m));
   }
+    where
+      scalar_here : (i : ℕ) → i < length flat.scopes → owner_at flat i ≡ owner → (j : ℕ) (d : Text) → j < length (guard_names kind) → IsScalar (scope_at flat i) (slice_index_or (guard_names kind) j d)
+      scalar_here i l o j d m = may_scalar (is_clocked (item_at source.modules owner f.item)) flat word i (slice_index_or (guard_names kind) j d) (f.names i l o j d m)
 
-  site_fits : (token : ℕ) (kind : SiteKind) → KindIsRight source flat word token kind → KindFits source flat token kind
-  site_fits token (sites.Literal width signed) f = tt
+  pub site_fits : (token : ℕ) (kind : SiteKind) → KindIsRight source flat word token kind → KindFits source flat token kind
+  site_fits token (sites.Literal width signed) f = f
   site_fits token (sites.Guard owner extent names) f = declared owner token (sites.Guard owner extent names) f
   site_fits token (sites.Overwrite owner target width now names) f = (declared owner token (sites.Overwrite owner target width now names) f.0, f.1)
 
@@ -233,5 +238,5 @@ module _ (source : SourceText) (flat : Flat) (word : Option Text) where
   each_fits [] h = tt
   each_fits (s ∷ ss) h = (site_fits s.token s.kind h.0, each_fits ss h.1)
 
-pub listed_fit : (source : SourceText) (flat : Flat) (word : Option Text) (ss : List Site) → RightTargets flat → AreRight source flat word ss → SitesFit ss source flat
-listed_fit source flat word ss t r = listed_sites_fit ss source flat (record { formed = r.formed; numbered = r.numbered; targets = t; each = each_fits source flat word ss r.each })
+pub listed_fit : (source : SourceText) (top : Option Text) (flat : Flat) (word : Option Text) (ss : List Site) → flat_of source top ≡ Ok flat → RightTargets flat → AreRight source flat word ss → SitesFit ss source flat
+listed_fit source top flat word ss e t r = listed_sites_fit ss source flat (record { formed = r.formed; numbered = r.numbered; targets = t; each = each_fits source top flat word e ss r.each })

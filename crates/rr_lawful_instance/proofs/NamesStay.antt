@@ -4,7 +4,7 @@ use Rattle.std.specs.Str.{bytes_eq}
 use Rattle.std.proofs.Math.Logic.{⊎_elim}
 use Rattle.std.proofs.lemmas.Bool.{or_cases, both_ways}
 use Rattle.rr_syntax.specs.declared.token.Number.{Number}
-use Rattle.rr_syntax.specs.Tree.{Tree, Trees, Name, Literal, Bit as BitSelect, Part, Indexed, Unary, Binary, Cond, Concat, Repeat, Cast, Paren, End, More, Identifier, Statement, Statements, Arm, Arms, Null, Block as Sequence, If, IfElse, Case, Assign, Done, Then, CaseItem, NoArms, MoreArms}
+use Rattle.rr_syntax.specs.Tree.{Tree, Trees, Name, Literal, Bit as BitSelect, Part, Indexed, Unary, Binary, Cond, Concat, Repeat, Cast, Paren, End, More, Identifier, Statement, Statements, Arm, Arms, Null, Block as Sequence, If, IfElse, Case, Assign, For, Done, Then, CaseItem, NoArms, MoreArms}
 use Rattle.rr_expr.specs.declared.operators.Infix.TheVariants.{Either}
 use Rattle.rr_expr.specs.Faults.{takes_constants}
 use Rattle.rr_expr.specs.Operators.{infixes}
@@ -103,6 +103,7 @@ module _ (name : Text) where
           (grown (names_of t) (names_of u) (names_of (instance_statement ss ps t)) (names_of (instance_statement ss ps u)) (stands_of t) (stands_of u)) h
       stands_of (Case kind on arms) h = grown (names_in on) (names_of_arms arms) (names_in (instance_tree ss ps on)) (names_of_arms (instance_arms ss ps arms)) (stands on) (stands_of_arms arms) h
       stands_of (Assign t now e) h = grown (names_in t) (names_in e) (names_in t) (names_in (instance_tree ss ps e)) (λ q. q) (stands e) h
+      stands_of (For head t) h = h
 
       stands_of_all : (ts : Statements) → Among (names_of_all ts) → Among (names_of_all (instance_statements ss ps ts))
       stands_of_all Done h = h

@@ -15,7 +15,10 @@ use Rattle.rr_declarations.specs.Heads.{Head}
 use Rattle.rr_flat.specs.Signals.{with_name, Text, signal_at}
 use Rattle.rr_flat.specs.Plain.{Side, Written, Whole, Driver, Block, Flat}
 use Rattle.rr_flatten.specs.Tables.{place_of, add_module, port_names}
-use Rattle.rr_flatten.specs.Walk.{Walked, Enter, scope_at, module_at, with_driver, with_block, assign, net_driver, net_value, net_with, net, always, with_initial, initial, with_instance, join_port, join_at, join, join_value, join_named, join_positions, joined, instance_of, item, opened, enter_by, enter, nothing, finished, top_place, enter_top, flat_of}
+use Rattle.rr_flatten.specs.Walk.{Walked, Enter, scope_at, module_at, with_driver, with_block, assign, net_driver, net_value, net_with, net, always, with_initial, initial, with_instance, join_port, join_at, join, join_value, join_named, join_positions, joined, instance_of, item, opened, enter_by, enter, nothing, finished, top_place, enter_top, flat_by, flat_of}
+use Rattle.rr_flatten.proofs.Gives.{always_gives, initial_gives}
+use Rattle.rr_loop_rules.specs.Rules.{LoopNames, loop_names}
+use Rattle.rr_unfold.specs.Unfold.{unfold_statement}
 use Rattle.rr_flatten.proofs.HeadOf.{ok_is, not_ok, settled_is, first_ok, fold_over, all_append, all_weaker}
 use Rattle.rr_flat_instance.specs.Places.{Somewhere, IsNameOfValue, IsNameOfNet, IsNameOfPair, IsNameOfConnection, IsNameOfConnections, IsNameOfInstance, IsNameOfItem}
 use Rattle.rr_flat_instance.proofs.Grown.{EnterGrows, began, inside, entered, enter_grows}
@@ -41,6 +44,10 @@ unfolding Somewhere
 all_parts Q R [] h = tt
 all_parts Q R (x ∷ xs) h = (λ name q. h name (inl q), all_parts Q R xs (λ name q. h name (inr q)))
 
+-- a statement is another one in which loops are unfolded in some scope
+abbrev pub IsUnfolded : Statement → Statement → Type 0
+IsUnfolded s body = (names : Names) × (body ≡ unfold_statement names [] s)
+
 module _ (ms : List ModuleDeclaration) (ss : List Site) where
   abbrev owner_in : List ℕ → ℕ → ℕ
   owner_in owners i = slice_index_or owners i 0
@@ -56,9 +63,11 @@ module _ (ms : List ModuleDeclaration) (ss : List Site) where
   abbrev pub DriverFrom : List ℕ → Driver → Type 0
   DriverFrom owners d = SideFrom owners d.value
 
+  -- its body is that of the item, in which loops are unfolded
   abbrev pub BlockFrom : Bool → List ℕ → Block → Type 0
   BlockFrom clocked owners b =
-      (b.scope < length owners) × ((events : EventControl) × ((at : ℕ) × (Contains (items_of ms (owner_in owners b.scope)) (Always events b.body at) × (has_edges events ≡ clocked))))
+      (b.scope < length owners) × ((events : EventControl) × ((at : ℕ) × ((s : Statement) ×
+      (Contains (items_of ms (owner_in owners b.scope)) (Always events s at) × (has_edges events ≡ clocked) × IsUnfolded s b.body))))
 
   pub record From (flat : Flat) : Type 0 where
     pub even : length flat.owners ≡ length flat.scopes
@@ -110,53 +119,54 @@ module _ (ms : List ModuleDeclaration) (ss : List Site) where
   unfolding net
   after_net i k x q n w t b g e = after_net_with i k x q n.token n.text n.value w t b g e
 
-  after_block : (i k : ℕ) (events : EventControl) (s : Statement) (at : ℕ) (w : Walked) → Contains (items_of ms k) (Always events s at) → Good i k w → Good i k (with_block i events s at w)
-  after_block i k (Star brackets) s at w c g = (
+  after_block : (i k : ℕ) (events : EventControl) (s body : Statement) (at : ℕ) (w : Walked) → Contains (items_of ms k) (Always events s at) → IsUnfolded s body → Good i k w → Good i k (with_block i events body at w)
+  after_block i k (Star brackets) s body at w c u g = (
     record {
       even = g.0.even;
       drivers = g.0.drivers;
       clocked = g.0.clocked;
-      combinational = all_append (BlockFrom false w.flat.owners) w.flat.combinational (record { body = s; edges = []; scope = i; token = at } ∷ []) g.0.combinational
-          ((g.1, (Star brackets, (at, (subst (λ m. Contains (items_of ms m) (Always (Star brackets) s at)) (sym g.2) c, refl)))), tt);
+      combinational = all_append (BlockFrom false w.flat.owners) w.flat.combinational (record { body = body; edges = []; scope = i; token = at } ∷ []) g.0.combinational
+          ((g.1, (Star brackets, (at, (s, (subst (λ m. Contains (items_of ms m) (Always (Star brackets) s at)) (sym g.2) c, refl, u))))), tt);
     },
     g.1,
     g.2,
   )
-  after_block i k (Edges list commas) s at w c g = (
+  after_block i k (Edges list commas) s body at w c u g = (
     record {
       even = g.0.even;
       drivers = g.0.drivers;
-      clocked = all_append (BlockFrom true w.flat.owners) w.flat.clocked (record { body = s; edges = list; scope = i; token = at } ∷ []) g.0.clocked
-          ((g.1, (Edges list commas, (at, (subst (λ m. Contains (items_of ms m) (Always (Edges list commas) s at)) (sym g.2) c, refl)))), tt);
+      clocked = all_append (BlockFrom true w.flat.owners) w.flat.clocked (record { body = body; edges = list; scope = i; token = at } ∷ []) g.0.clocked
+          ((g.1, (Edges list commas, (at, (s, (subst (λ m. Contains (items_of ms m) (Always (Edges list commas) s at)) (sym g.2) c, refl, u))))), tt);
       combinational = g.0.combinational;
     },
     g.1,
     g.2,
   )
-  after_block i k (Levels list commas) s at w c g = (
+  after_block i k (Levels list commas) s body at w c u g = (
     record {
       even = g.0.even;
       drivers = g.0.drivers;
       clocked = g.0.clocked;
-      combinational = all_append (BlockFrom false w.flat.owners) w.flat.combinational (record { body = s; edges = []; scope = i; token = at } ∷ []) g.0.combinational
-          ((g.1, (Levels list commas, (at, (subst (λ m. Contains (items_of ms m) (Always (Levels list commas) s at)) (sym g.2) c, refl)))), tt);
+      combinational = all_append (BlockFrom false w.flat.owners) w.flat.combinational (record { body = body; edges = []; scope = i; token = at } ∷ []) g.0.combinational
+          ((g.1, (Levels list commas, (at, (s, (subst (λ m. Contains (items_of ms m) (Always (Levels list commas) s at)) (sym g.2) c, refl, u))))), tt);
     },
     g.1,
     g.2,
   )
 
   after_always : (i k : ℕ) (events : EventControl) (s : Statement) (at : ℕ) (w t : Walked) → Contains (items_of ms k) (Always events s at) → Good i k w → always i events s at w ≡ Ok t → Good i k t
-  unfolding always
-  after_always i k events s at w t c g e = subst (Good i k) (settled_is _ (with_block i events s at w) t e) (after_block i k events s at w c g)
+  after_always i k events s at w t c g e =
+      let r = always_gives i events s at w t e in
+      subst (Good i k) r.1.1 (after_block i k events s (unfold_statement (scope_at w i) [] s) at (record w { count = r.0 }) c (scope_at w i, refl) g)
 
   -- an `initial` item is neither a driver nor a block
   after_initial : (i k : ℕ) (s : Statement) (at : ℕ) (w t : Walked) → Good i k w → initial i s at w ≡ Ok t → Good i k t
-  unfolding initial
-  after_initial i k s at w t g e = subst (Good i k) (settled_is _ (with_initial i s at w) t e) (
-    record { even = g.0.even; drivers = g.0.drivers; clocked = g.0.clocked; combinational = g.0.combinational },
-    g.1,
-    g.2,
-  )
+  after_initial i k s at w t g e =
+      let r = initial_gives i s at w t e in
+      let body : Statement = unfold_statement (scope_at w i) [] s in
+      let more : Good i k (with_initial i body at (record w { count = r.0 })) =
+      (record { even = g.0.even; drivers = g.0.drivers; clocked = g.0.clocked; combinational = g.0.combinational }, g.1, g.2) in
+      subst (Good i k) r.1.1 more
 
   -- Connections
 
@@ -251,12 +261,12 @@ module _ (ms : List ModuleDeclaration) (ss : List Site) where
   side_before owners more (Whole id) f = tt
 
   block_before : (clocked : Bool) (owners more : List ℕ) (b : Block) → BlockFrom clocked owners b → BlockFrom clocked (owners ++ more) b
-  block_before clocked owners more b (l, (events, (at, f))) =
+  block_before clocked owners more b (l, (events, (at, (s, f)))) =
       let o = later_owner owners (owners ++ more) b.scope (owner_in owners b.scope) (more, refl) (l, refl) in
-      (o.0, (events, (at, (subst (λ m. Contains (items_of ms m) (Always events b.body at)) (sym o.1) f.0, f.1))))
+      (o.0, (events, (at, (s, (subst (λ m. Contains (items_of ms m) (Always events s at)) (sym o.1) f.0, f.1, f.2)))))
 
-  after_opened : (k : ℕ) (h : Head) (w : Walked) → From w.flat → Good (length w.flat.scopes) k (opened k h w)
-  after_opened k h w f =
+  after_opened : (k : ℕ) (h : Head) (names : LoopNames) (w : Walked) → From w.flat → Good (length w.flat.scopes) k (opened k h names w)
+  after_opened k h names w f =
       let z : length w.flat.scopes - length w.flat.owners ≡ 0 = let e = f.even in omega (arith, e) in (
         record {
           even = length-append w.flat.owners (k ∷ []) ∙ (ap (λ (n : ℕ). n + 1) f.even ∙ sym (length-append w.flat.scopes (h.scope ∷ [])));
@@ -274,22 +284,22 @@ module _ (ms : List ModuleDeclaration) (ss : List Site) where
       let b = began ms k given w r.mid r.began in
       let i = length w.flat.scopes in
       (each_over (Contains (items_of ms k)) (Good i k) (item ms table (above ++ k ∷ []) i (sub (above ++ k ∷ []))) (λ x u v c p h. after_item table (above ++ k ∷ []) i k (sub (above ++ k ∷ [])) (gs (above ++ k ∷ [])) (s (above ++ k ∷ [])) x u v c p h)
-      (items_of ms k) r.mid t (by_element (Contains (items_of ms k)) (items_of ms k) (λ x c. c)) (subst (Good i k) b.is (after_opened k b.top w f)) r.walked).0
+      (items_of ms k) r.mid t (by_element (Contains (items_of ms k)) (items_of ms k) (λ x c. c)) (subst (Good i k) b.is (after_opened k b.top (loop_names (module_at ms k)) w f)) r.walked).0
 
   after_enter : (table : Names) (levels : ℕ) (above : List ℕ) → Enters (enter ms table levels above)
   unfolding enter
   after_enter table zero above k given w t f e = absurd (not_ok _ t e)
   after_enter table (suc levels) above k given w t f e = after_enter_by table (enter ms table levels) (enter_grows ms table levels) (after_enter table levels) above k given w t f e
 
-  after_top : (table : Names) (o : Option ℕ) (w : Walked) → enter_top ms table o ≡ Ok w → From w.flat
+  after_top : (table : Names) (o : Option ℕ) (w : Walked) → enter_top None ms table o ≡ Ok w → From w.flat
   after_top table None w e = absurd (not_ok _ w e)
   after_top table (Some k) w e =
-      after_enter table 16 [] k [] (nothing (module_at ms k).token) w (record { even = refl; drivers = tt; clocked = tt; combinational = tt }) e
+      after_enter table 16 [] k [] (nothing None (module_at ms k).token) w (record { even = refl; drivers = tt; clocked = tt; combinational = tt }) e
 
 pub origins : (ss : List Site) (source : SourceText) (top : Option Text) (flat : Flat) → flat_of source top ≡ Ok flat → From source.modules ss flat
-unfolding flat_of
+unfolding flat_by
 origins ss source top flat e =
-    let r = first_ok (each add_module source.modules []) (λ table. and_then (enter_top source.modules table (top_place source.modules table top)) (λ w. Ok (finished source.modules w.flat))) flat e in
-    let s = first_ok (enter_top source.modules r.0 (top_place source.modules r.0 top)) (λ w. Ok (finished source.modules w.flat)) flat r.1.1 in
+    let r = first_ok (each add_module source.modules []) (λ table. and_then (enter_top None source.modules table (top_place source.modules table top)) (λ w. Ok (finished source.modules w.flat))) flat e in
+    let s = first_ok (enter_top None source.modules r.0 (top_place source.modules r.0 top)) (λ w. Ok (finished source.modules w.flat)) flat r.1.1 in
     let f = after_top source.modules ss r.0 (top_place source.modules r.0 top) s.0 s.1.0 in
     subst (From source.modules ss) (ok_is (finished source.modules s.0.flat) flat s.1.1) (record { even = f.even; drivers = f.drivers; clocked = f.clocked; combinational = f.combinational })

@@ -5,7 +5,7 @@ use mathlib.Core.Path.{fun_ext}
 use Rattle.std.specs.List.{AllByRecursion}
 use Rattle.std.proofs.Math.Logic.{⊎_elim}
 use Rattle.std.proofs.lemmas.Bool.{and_parts, and_from}
-use Rattle.rr_syntax.specs.Tree.{End, More, Identifier, Statement, Statements, Arm, Arms, Null, Block as Sequence, If, IfElse, Case, Assign, Done, Then, CaseItem, NoArms, MoreArms}
+use Rattle.rr_syntax.specs.Tree.{End, More, Identifier, Statement, Statements, Arm, Arms, Null, Block as Sequence, If, IfElse, Case, Assign, For, Done, Then, CaseItem, NoArms, MoreArms}
 use Rattle.rr_expr.specs.declared.types.Bit.{Bit}
 use Rattle.rr_expr.specs.Reading.{IsBitOf}
 use Rattle.rr_expr.specs.Scopes.{Names, meant}
@@ -36,6 +36,7 @@ module _ (ss : List Site) (ps : List Pick) where
     assigned_same (IfElse c t u) = λ i. assigned_same t i ++ assigned_same u i
     assigned_same (Case kind on arms) = assigned_same_arms arms
     assigned_same (Assign t now e) = refl
+    assigned_same (For head t) = refl
 
     assigned_same_all : (ts : Statements) → assigned_by_all (instance_statements ss ps ts) ≡ assigned_by_all ts
     assigned_same_all Done = refl
@@ -61,6 +62,7 @@ module _ (ss : List Site) (ps : List Pick) where
     writes_same true s (Assign t false e) b = refl
     writes_same false s (Assign t true e) b = refl
     writes_same false s (Assign t false e) b = refl
+    writes_same now s (For head t) b = refl
 
     writes_same_all : (now : Bool) (s : Names) (ts : Statements) (b : Bit) → write_any now s (instance_statements ss ps ts) b ≡ write_any now s ts b
     writes_same_all now s Done b = refl
@@ -87,6 +89,7 @@ module _ (ss : List Site) (ps : List Pick) where
         and_from (labels_fit (instance_statement ss ps t)) (labels_fit (instance_statement ss ps u)) (fits_stays t p.0) (fits_stays u p.1)
     fits_stays (Case kind on arms) h = fits_stays_arms kind arms h
     fits_stays (Assign t now e) h = h
+    fits_stays (For head t) h = h
 
     fits_stays_all : (ts : Statements) → all_fit ts ≡ true → all_fit (instance_statements ss ps ts) ≡ true
     fits_stays_all Done h = h
@@ -140,6 +143,7 @@ module _ (ss : List Site) (ps : List Pick) where
       names_of_instance (Assign t now e) n h =
           let p = split (names_in t) (names_in e) h in
           join (names_in t) (names_in (instance_tree ss ps e)) p.0 (names_in_instance P ss ps e n p.1)
+      names_of_instance (For head t) n h = h
 
       names_of_instances : (ts : Statements) → ((name : Text) → IsGuardNameOfAll ss ts name → P name) → AllOf (names_of_all ts) → AllOf (names_of_all (instance_statements ss ps ts))
       names_of_instances Done n h = h
@@ -182,6 +186,7 @@ module _ (ss : List Site) (ps : List Pick) where
       names_read_instance (Assign t now e) n h =
           let p = split (index_names t) (names_in e) h in
           join (index_names t) (names_in (instance_tree ss ps e)) p.0 (names_in_instance P ss ps e n p.1)
+      names_read_instance (For head t) n h = h
 
       names_read_instances : (ts : Statements) → ((name : Text) → IsGuardNameOfAll ss ts name → P name) → AllOf (names_read_by ts) → AllOf (names_read_by (instance_statements ss ps ts))
       names_read_instances Done n h = h
@@ -221,6 +226,7 @@ module _ (ss : List Site) (ps : List Pick) where
       reads_of_instance (Case kind on arms) n h = λ b r.
           ⊎_elim (has_bits s P ss ps on (λ x k. n x (inl k)) (λ d q. h d (inl q)) b) (reads_of_instance_arms arms (λ x k. n x (inr k)) (λ d q. h d (inr q)) b) r
       reads_of_instance (Assign t now e) n h = λ b r. ⊎_elim (λ q. h b (inl q)) (has_bits s P ss ps e n (λ d q. h d (inr q)) b) r
+      reads_of_instance (For head t) n h = h
 
       reads_of_instances : (ts : Statements) → ((name : Text) → IsGuardNameOfAll ss ts name → GuardBits name) → ((b : Bit) → StatementsRead s ts b → P b) → (b : Bit) → StatementsRead s (instance_statements ss ps ts) b → P b
       reads_of_instances Done n h = h
@@ -257,6 +263,7 @@ module _ (ss : List Site) (ps : List Pick) where
     known_same s before (Case kind on arms) b = λ i. known_same_arms s before arms b i && (default_same_arms arms i || before b)
     known_same s before (Assign t true e) b = refl
     known_same s before (Assign t false e) b = refl
+    known_same s before (For head t) b = refl
 
     known_same_all : (s : Names) (before : Bit → Bool) (ts : Statements) (b : Bit) → known_all s before (instance_statements ss ps ts) b ≡ known_all s before ts b
     known_same_all s before Done b = refl
@@ -283,6 +290,7 @@ mutual
       and_from (known_arms s before arms b) (has_default arms || before b) (known_grows_arms s before arms b h) (or_right (has_default arms) (before b) h)
   known_grows s before (Assign t true e) b h = or_left (before b) (assigns_target s t b) h
   known_grows s before (Assign t false e) b h = h
+  known_grows s before (For head t) b h = h
 
   known_grows_all : (s : Names) (before : Bit → Bool) (ts : Statements) (b : Bit) → before b ≡ true → known_all s before ts b ≡ true
   known_grows_all s before Done b h = h
@@ -322,6 +330,7 @@ module _ (ss : List Site) (ps : List Pick) (s : Names) (base : Bit → Bool) whe
       reads_stay_known_arms before g arms (λ x k. n x (inr k)) h.1,
     )
     reads_stay_known before g (Assign t now e) n h = (h.0, has_bits s (λ b. before b ≡ true) ss ps e (λ x k b o. g b (n x k b o)) h.1)
+    reads_stay_known before g (For head t) n h = h
 
     reads_stay_known_all : (before : Bit → Bool) → Grown before → (ts : Statements) → ((name : Text) → IsGuardNameOfAll ss ts name → IsBase name) → AllReadKnown s before ts → AllReadKnown s before (instance_statements ss ps ts)
     reads_stay_known_all before g Done n h = h

@@ -2,7 +2,7 @@
 use Rattle.std.proofs.Common.{◌⊎◌, Bool, true, false, List, [], get_or, Option, Some, None}
 use Rattle.std.proofs.Math.Logic.{⊎_elim}
 use Rattle.std.proofs.lemmas.List.Elements.{All-nil}
-use Rattle.rr_syntax.specs.Tree.{Tree, Trees, Name, Literal, Bit as BitSelect, Part, Indexed, Unary, Binary, Cond, Concat, Repeat, Cast, Paren, End, More, Statement, Statements, Arm, Arms, Null, Block as Sequence, If, IfElse, Case, Assign, Done, Then, CaseItem, NoArms, MoreArms}
+use Rattle.rr_syntax.specs.Tree.{Tree, Trees, Name, Literal, Bit as BitSelect, Part, Indexed, Unary, Binary, Cond, Concat, Repeat, Cast, Paren, End, More, Statement, Statements, Arm, Arms, Null, Block as Sequence, If, IfElse, Case, Assign, For, Done, Then, CaseItem, NoArms, MoreArms}
 use Rattle.rr_expr.specs.declared.operators.Infix.TheVariants.{Either}
 use Rattle.rr_expr.specs.Faults.{takes_constants}
 use Rattle.rr_expr.specs.Operators.{infixes}
@@ -125,6 +125,7 @@ mutual
   no_guard_of (IfElse c t u) name h = ⊎_elim (λ k. ⊎_elim (λ q. q) (no_guard c name) k) (λ k. ⊎_elim (no_guard_of t name) (no_guard_of u name) k) h
   no_guard_of (Case kind on arms) name h = ⊎_elim (no_guard on name) (no_guard_of_arms arms name) h
   no_guard_of (Assign t now e) name h = no_guard e name h
+  no_guard_of (For head t) name h = no_guard_of t name h
 
   no_guard_of_all : (ts : Statements) (name : Text) → IsGuardNameOfAll [] ts name → ⊥
   no_guard_of_all Done name h = h

@@ -2,7 +2,7 @@
 use Rattle.std.proofs.Common.{◌≡◌, Bool, true, false, ◌||◌, cond, List, [], ◌∷◌, refl, sym}
 use Rattle.std.specs.List.{AllByRecursion}
 use Rattle.std.proofs.lemmas.Bool.{both_ways}
-use Rattle.rr_syntax.specs.Tree.{Tree, Statement, Statements, Arm, Arms, Null, Block as Sequence, If, IfElse, Case, Assign, Done, Then, CaseItem, NoArms, MoreArms}
+use Rattle.rr_syntax.specs.Tree.{Tree, Statement, Statements, Arm, Arms, Null, Block as Sequence, If, IfElse, Case, Assign, For, Done, Then, CaseItem, NoArms, MoreArms}
 use Rattle.rr_expr.specs.declared.types.Bit.{Bit}
 use Rattle.rr_expr.specs.Scopes.{Names, meant}
 use Rattle.rr_expr.specs.Values.{nowhere}
@@ -38,6 +38,7 @@ mutual
   targets_write true s b W (Assign t false e) h = parts_write true s b W false (target_parts t) (λ q w. absurd (both_ways true (sym q) refl))
   targets_write false s b W (Assign t true e) h = parts_write false s b W true (target_parts t) (λ q w. absurd (both_ways true q refl))
   targets_write false s b W (Assign t false e) h = parts_write false s b W false (target_parts t) (λ q w. h w)
+  targets_write now s b W (For head t) h = tt
 
   targets_write_all : (now : Bool) (s : Names) (b : Bit) (W : Type 0) (ts : Statements) → (write_any now s ts b ≡ true → W) → AllByRecursion (λ a. a.now ≡ now → may_write s (a.part ∷ []) b ≡ true → W) (assigned_by_all ts)
   targets_write_all now s b W Done h = tt

@@ -2,13 +2,13 @@
 -- target of an overwrite stands in the `always` whose body it follows.
 use Rattle.std.specs.Prelude.{ℕ, zero, suc, ◌+◌, ◌<◌, ◌≤◌, ◌≡◌, List, [], ◌∷◌, length, Bool, true, false, Option, slice_index_or}
 use Rattle.std.specs.List.{All, AllByRecursion}
-use Rattle.rr_syntax.specs.Items.{spell_item, spell_parameters, spell_ports, WellFormedSource, NumberedSource}
+use Rattle.rr_syntax.specs.Items.{spell_item, spell_parameters, spell_ports, spell_source, WellFormedSource, NumberedSource}
 use Rattle.rr_syntax.specs.Tree.{ModuleItem, Ports, Nets, Variables, Integers, Parameters, Assigns, Always, Initial, Instances, ModuleDeclaration, SourceText}
 use Rattle.rr_change_places.specs.Spots.{is_clocked}
 use Rattle.rr_flat.specs.Signals.{Text}
 use Rattle.rr_flat.specs.Plain.{Flat}
 use Rattle.rr_flatten.specs.Walk.{module_at}
-use Rattle.rr_flat_instance.specs.Owned.{start_of, InEach}
+use Rattle.rr_flat_instance.specs.Owned.{start_of, InEach, IsFree, IsNumberAt}
 use Rattle.rr_flat_instance.specs.Places.{HasWidth, owner_at}
 use Rattle.rr_choice.specs.Sites as sites
 use Rattle.rr_choice.specs.Sites.{SiteKind, Site, guard_names}
@@ -67,12 +67,12 @@ pub record IsRight (source : SourceText) (flat : Flat) (word : Option Text) (own
   pub names : (i : ℕ) → i < length flat.scopes → owner_at flat i ≡ owner → All (MayGuardIn (item_at source.modules owner item) flat word i) (guard_names kind)
   pub target : TargetFits (item_at source.modules owner item) kind
 
--- by kind: a literal brings nothing, and a variable has the width of its overwrite
+-- by kind: a literal stands where a number does, and brings nothing; a variable has the width of its overwrite, and names no loop
 abbrev pub KindIsRight : SourceText → Flat → Option Text → ℕ → SiteKind → Type 0
-KindIsRight source flat word token (sites.Literal width signed) = Unit {0}
+KindIsRight source flat word token (sites.Literal width signed) = IsNumberAt (spell_source source) token width signed
 KindIsRight source flat word token (sites.Guard owner extent names) = IsRight source flat word owner token (sites.Guard owner extent names)
 KindIsRight source flat word token (sites.Overwrite owner target width now names) =
-    IsRight source flat word owner token (sites.Overwrite owner target width now names) × InEach flat owner (λ scope. HasWidth scope target width)
+    IsRight source flat word owner token (sites.Overwrite owner target width now names) × InEach flat owner (λ scope. HasWidth scope target width × IsFree source.modules owner target)
 
 -- of a source that is well-formed and whose leaves have the numbers of their tokens
 pub record AreRight (source : SourceText) (flat : Flat) (word : Option Text) (ss : List Site) : Type 0 where

@@ -3,10 +3,10 @@ use Rattle.std.proofs.Common.{◌≡◌, ℕ, ◌+◌, Bool, true, false, nat_eq
 use Rattle.std.specs.List.{list_any}
 use Rattle.std.proofs.lemmas.List.{append_assoc}
 use Rattle.std.proofs.lemmas.Nat.{pow_pos}
-use Rattle.rr_syntax.specs.Words.{Word, Named, Reserved, Marked, keyword_always, keyword_begin, keyword_else, keyword_end, keyword_endcase, keyword_endmodule, keyword_if, keyword_module, mark_open_parenthesis, mark_close_parenthesis, mark_at, mark_semicolon, mark_equals, mark_less_or_equal}
-use Rattle.rr_syntax.specs.Tree.{Statement, Statements, Arm, Arms, Null, Block, If, IfElse, Case, Assign, Done, Then, CaseItem, NoArms, MoreArms, EventControl, Star, Edges, Levels, ModuleItem, Ports, Nets, Variables, Integers, Parameters, Assigns, Always, Initial, Instances, ModuleDeclaration, SourceText}
+use Rattle.rr_syntax.specs.Words.{Word, Named, Reserved, Marked, keyword_always, keyword_begin, keyword_else, keyword_end, keyword_endcase, keyword_endmodule, keyword_for, keyword_if, keyword_module, mark_open_parenthesis, mark_close_parenthesis, mark_at, mark_semicolon, mark_equals, mark_less_or_equal}
+use Rattle.rr_syntax.specs.Tree.{Statement, Statements, Arm, Arms, Null, Block, If, IfElse, Case, Assign, For, Done, Then, CaseItem, NoArms, MoreArms, EventControl, Star, Edges, Levels, ModuleItem, Ports, Nets, Variables, Integers, Parameters, Assigns, Always, Initial, Instances, ModuleDeclaration, SourceText}
 use Rattle.rr_syntax.specs.Expressions.{spell}
-use Rattle.rr_syntax.specs.Statements.{spell_label, spell_labels, spell_statement, spell_statements, spell_arm, spell_arms}
+use Rattle.rr_syntax.specs.Statements.{spell_label, spell_labels, spell_loop, spell_statement, spell_statements, spell_arm, spell_arms}
 use Rattle.rr_syntax.specs.Items.{spell_all, spell_events, spell_item, spell_module, spell_parameters, spell_ports, spell_source}
 use Rattle.rr_lex.specs.Numbers.{digit, is_wild, is_x, is_z, number, one_more, plain_literal}
 use Rattle.rr_lex.specs.Patch.{New, new_decimal, new_keyword, new_mark, new_name}
@@ -64,6 +64,7 @@ mutual
       has_join (kept (spell t)) (Replaced (Marked mark_less_or_equal) (new_mark mark_equals) ∷ kept (spell e ++ (Marked mark_semicolon ∷ []))) (spell t) (Marked mark_less_or_equal ∷ (spell e ++ (Marked mark_semicolon ∷ []))) (has_words (spell t))
       (has_join (Replaced (Marked mark_less_or_equal) (new_mark mark_equals) ∷ []) (kept (spell e ++ (Marked mark_semicolon ∷ []))) (Marked mark_less_or_equal ∷ []) (spell e ++ (Marked mark_semicolon ∷ []))
       (record { printed = Marked mark_equals ∷ []; makes = replace (Marked mark_less_or_equal) (new_mark mark_equals) (λ _. tt) }) (has_words (spell e ++ (Marked mark_semicolon ∷ []))))
+  statement_has (For h t) = has_join (kept (Reserved keyword_for ∷ spell_loop h)) (immediate_pieces t) (Reserved keyword_for ∷ spell_loop h) (spell_statement t) (has_words (Reserved keyword_for ∷ spell_loop h)) (statement_has t)
 
   pub statements_have : (ts : Statements) → Has (all_immediate_pieces ts) (spell_statements ts)
   statements_have Done = has_none

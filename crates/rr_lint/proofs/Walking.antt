@@ -5,14 +5,15 @@ use Rattle.std.proofs.lemmas.List.{append_assoc, take_more, length-append}
 use Rattle.rr_syntax.specs.declared.token.Keyword.{Keyword}
 use Rattle.rr_syntax.specs.declared.tree.Arm.{Arm as Branch}
 use Rattle.rr_syntax.specs.declared.tree.Expr.{Expr}
+use Rattle.rr_syntax.specs.declared.tree.Head.{Head}
 use Rattle.rr_syntax.specs.declared.tree.Named.{Named}
 use Rattle.rr_syntax.specs.declared.tree.Stmt.{Stmt}
 use Rattle.rr_syntax.specs.declared.tree.Stmt.TheVariants as stmt
-use Rattle.rr_syntax.specs.Words.{Word, Reserved, Marked, keyword_begin, keyword_if, keyword_end, keyword_else, keyword_endcase, mark_semicolon, mark_open_parenthesis, mark_close_parenthesis, mark_equals, mark_less_or_equal}
+use Rattle.rr_syntax.specs.Words.{Word, Reserved, Marked, keyword_begin, keyword_for, keyword_if, keyword_end, keyword_else, keyword_endcase, mark_semicolon, mark_open_parenthesis, mark_close_parenthesis, mark_equals, mark_less_or_equal}
 use Rattle.rr_syntax.specs.Tree.{Statement}
 use Rattle.rr_syntax.specs.Expressions.{spell}
-use Rattle.rr_syntax.specs.Statements.{spell_label, spell_labels, spell_statement}
-use Rattle.rr_syntax.specs.View.{plain, plain_list, plain_label, plain_statement, plain_statements, plain_arm, plain_arms}
+use Rattle.rr_syntax.specs.Statements.{spell_label, spell_labels, spell_loop, spell_statement}
+use Rattle.rr_syntax.specs.View.{plain, plain_list, plain_label, plain_loop, plain_statement, plain_statements, plain_arm, plain_arms}
 use Rattle.rr_syntax.proofs.Lengths.{body_len, cases_len}
 use Rattle.rr_syntax.proofs.Rows.{plain_block, plain_case}
 use Rattle.rr_lex.specs.Patch.{new_mark}
@@ -97,6 +98,12 @@ made_Assign o o' k m s t false v q n h =
     (h ∙ ap (λ (l : List Change). o ++ l)
     (sym (kept_first k (spell (plain t.now)) (Replaced (Marked mark_less_or_equal) (new_mark mark_equals) ∷ kept E) ∙ ap (λ (j : ℕ). changes j (Replaced (Marked mark_less_or_equal) (new_mark mark_equals) ∷ kept E)) (sym n)
     ∙ ap (λ (l : List Change). record { place = m; over = true; new = new_mark mark_equals } ∷ l) (kept_none (m + 1) E))))
+
+pub made_For : (o o' : List Change) (k m : ℕ) (s : Stmt) (head : Head) (t : Bor Stmt) → s ≡ stmt.For head t → m ≡ k + 1 + length (spell_loop (plain_loop head)) → o' ≡ o ++ changes m (S t) → Made o o' k s
+unfolding plain_statement immediate_pieces
+made_For o o' k m s head t q n h =
+    at_node o o' k s (stmt.For head t) q
+    (h ∙ ap (λ (l : List Change). o ++ l) (sym (kept_first k (Reserved keyword_for ∷ spell_loop (plain_loop head)) (S t) ∙ ap (λ (j : ℕ). changes j (S t)) (omega (arith, n)))))
 
 -- the mark of an assignment
 pub mark_now : (o : List Change) (k : ℕ) (now : Bool) → now ≡ true → o ≡ o ++ changes k (mark_pieces now)

@@ -1,5 +1,5 @@
 //! The edits that mend a source.
-ghost use Rattle.std.specs.Prelude.{◌≡◌, ◌<◌, ◌^◌, length, Ok, Option, MatchResult, IfOk};
+ghost use Rattle.std.specs.Prelude.{◌≡◌, ◌<◌, ◌^◌, length, Ok, Option, Some, MatchResult, IfOk};
 ghost use Rattle.std.specs.List.{All};
 ghost use Rattle.rr_syntax.specs.Items.{NumberedSource};
 ghost use Rattle.rr_syntax.specs.View.{plain_source};
@@ -9,7 +9,7 @@ ghost use Rattle.rr_edit.specs.Edits.{InOrder, IsPlaced};
 ghost use Rattle.rr_edit.specs.View.{plain_edits};
 ghost use Rattle.rr_grammar.specs.Trees.{Spells};
 ghost use Rattle.rr_lex.specs.Tokens.{lexemes, words_of, AreTokens};
-ghost use Rattle.rr_flatten.specs.Walk.{flat_of};
+ghost use Rattle.rr_flatten.specs.Walk.{flat_by};
 ghost use Rattle.rr_lint.specs.Edited.{AreLintEdits};
 ghost use Rattle.rr_lint_names.specs.Faults.{IsMemory};
 
@@ -38,7 +38,7 @@ pub fn edits(
     requires tokens { AreTokens bytes.now (lexemes tokens.now) }
     requires tree { Spells (words_of (lexemes tokens.now)) (plain_source source.now) }
     requires numbered { NumberedSource (plain_source source.now) }
-    requires design { (top : Option Text) × (flat_of (plain_source source.now) top ≡ Ok (plain_flat flat.now)) }
+    requires design { (top : Option Text) × (flat_by (Some 1048576) (plain_source source.now) top ≡ Ok (plain_flat flat.now)) }
     ensures made { MatchResult result (λ es. AreLintEdits (lexemes tokens.now) (plain_source source.now) (plain_flat flat.now) (plain_edits es.items)) IsMemory }
     ensures order { IfOk result (λ es. InOrder 0 (length bytes.now) (plain_edits es.items)) }
     ensures placed { IfOk result (λ es. All (IsPlaced bytes.now) (plain_edits es.items)) }

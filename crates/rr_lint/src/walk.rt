@@ -8,7 +8,7 @@ ghost use Rattle.rr_lint_print.specs.Pieces.{all_immediate_pieces, arms_immediat
 
 use crate::lengths::{label_len, labels_len};
 use rr_patch::{Added, Change, Fixed};
-use rr_syntax::{Arm, Stmt, expression_len};
+use rr_syntax::{Arm, Stmt, expression_len, loop_len};
 use std::alloc::AllocError;
 
 /// One change more.
@@ -79,6 +79,10 @@ pub(crate) fn statement<'a>(
             let mark = at + expression_len(target);
             assignment(out, mark, *now)?;
             Ok(mark + 1 + expression_len(value) + 1)
+        }
+        Stmt::For { head, body } => {
+            let next = statement(body, at + 1 + loop_len(head), out)?;
+            Ok(next)
         }
     }
 }

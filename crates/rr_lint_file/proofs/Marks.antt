@@ -11,7 +11,8 @@ use Rattle.rr_edit.specs.Edits.{Edit}
 use Rattle.rr_patch.specs.Edits.{byte_edits}
 use Rattle.rr_respell.specs.Pieces.{Piece, edits, kept}
 use Rattle.rr_respell.specs.Printing.{all_pieces}
-use Rattle.rr_lint_laws.specs.Mended.{Marks, cleared_by, each_once, target_names}
+use Rattle.rr_lint_laws.specs.Ever.{ever_names}
+use Rattle.rr_lint_laws.specs.Mended.{Marks, cleared_by, each_once}
 use Rattle.rr_lint_print.specs.Pieces.{body_pieces, defaulted_pieces, immediate_pieces, item_pieces, lint_edits, mended_pieces, module_pieces, modules_pieces, source_pieces}
 use Rattle.rr_lint.specs.Edited.{AreLintEdits}
 
@@ -21,7 +22,7 @@ filter_same p q h (x ∷ xs) = ap₂ (λ (b : Bool) (l : _). if b then x ∷ l e
 
 module _ (m n : Marks) (h : (token : ℕ) (name : List ℕ) → m token name ≡ n token name) where
   cleared_same : (token : ℕ) (body : Statement) → cleared_by m token body ≡ cleared_by n token body
-  cleared_same token body = filter_same (m token) (n token) (h token) (each_once (target_names body))
+  cleared_same token body = filter_same (m token) (n token) (h token) (each_once (ever_names body))
 
   mended_same : (token : ℕ) (body : Statement) → mended_pieces m token body ≡ mended_pieces n token body
   mended_same token body = ap (λ (names : List (List ℕ)). defaulted_pieces names (immediate_pieces body)) (cleared_same token body)

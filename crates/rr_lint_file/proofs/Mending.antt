@@ -1,11 +1,13 @@
 -- What holds of a file that was mended.
-use Rattle.std.proofs.Common.{◌≡◌, ◌∙◌, ℕ, true, List, [], Option, refl, sym, ap, subst, All}
+use Rattle.std.proofs.Common.{◌≡◌, ◌∙◌, ℕ, true, List, [], Option, Ok, refl, sym, ap, subst, All}
 use Rattle.rr_syntax.specs.Tree.{SourceText}
 use Rattle.rr_directive.specs.Expand.{IsExpansion}
 use Rattle.rr_lex.specs.Patch.{Edit as TokenEdit}
 use Rattle.rr_edit.specs.Edits.{AreEdits, Edit, edited}
 use Rattle.rr_edit.specs.Lifted.{lifted, lifts}
 use Rattle.rr_flat.specs.Signals.{Text}
+use Rattle.rr_flatten.specs.Walk.{flat_of}
+use Rattle.rr_flatten.proofs.Limits.{design_stays}
 use Rattle.rr_grammar.specs.Trees.{IsTree}
 use Rattle.rr_lift.proofs.Lifts.{lift_expands, nothing_lifts}
 use Rattle.rr_map.specs.Printed.{ExpandsTo}
@@ -34,6 +36,10 @@ module _ (file : List ℕ) (top : Option Text) (out : List ℕ) (a : IsMendedFil
   lint : IsLint a.read.source a.has.flat mended
   unfolding mended
   lint = record { marks = a.has.edits.marks; latched = a.has.edits.latched; is = refl }
+
+  -- its design, whatever its loops unfold to
+  its_design : flat_of a.read.source top ≡ Ok a.has.flat
+  its_design = design_stays 1048576 a.read.source top a.has.flat a.has.design.flat
 
   token_edits : List TokenEdit
   token_edits = lint_edits a.has.flat.reached a.has.edits.marks a.read.source
@@ -70,7 +76,7 @@ module _ (file : List ℕ) (top : Option Text) (out : List ℕ) (a : IsMendedFil
   stays : IsClean a.read.source top → out ≡ file
   unfolding mended token_edits
   stays c =
-      let same : mended ≡ a.read.source = clean_stays a.read.source mended top a.has.flat a.has.design.text.spells.tree.spells.well a.has.design.flat c lint in
+      let same : mended ≡ a.read.source = clean_stays a.read.source mended top a.has.flat a.has.design.text.spells.tree.spells.well its_design c lint in
       let none : a.made ≡ [] = made_are ∙ nothing_put a.read.tokens a.has.flat.reached a.has.edits.marks a.read.source same in
       a.made_in.1 ∙ (ap (λ (es : List Edit). lifted a.read.origins es 0 file) none ∙ nothing_lifts file a.read.origins)
 
@@ -84,7 +90,7 @@ module _ (file : List ℕ) (top : Option Text) (out : List ℕ) (a : IsMendedFil
     lint = lint;
     text = its_text;
     printed = expands;
-    clean = lint_cleans a.read.source mended top a.has.flat a.has.design.flat lint;
+    clean = lint_cleans a.read.source mended top a.has.flat a.has.design.text.spells.numbered its_design lint;
     unchanged = stays;
   }
 

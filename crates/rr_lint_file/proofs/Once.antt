@@ -1,5 +1,5 @@
 -- A file is mended in one way, or refused for one reason.
-use Rattle.std.proofs.Common.{◌≡◌, ◌⊎◌, ◌∙◌, ℕ, true, List, [], ◌∷◌, ◌++◌, Option, None, inl, inr, refl, sym, ap, subst, All}
+use Rattle.std.proofs.Common.{◌≡◌, ◌⊎◌, ◌∙◌, ℕ, true, List, [], ◌∷◌, ◌++◌, Option, None, Some, inl, inr, refl, sym, ap, subst, All}
 use Rattle.std.proofs.lemmas.Bool.{false≢true}
 use Rattle.std.proofs.lemmas.List.Elements.{All-head, All-tail}
 use Rattle.rr_syntax.specs.Tree.{SourceText}
@@ -11,7 +11,7 @@ use Rattle.rr_lex.specs.Tokens.{Lexeme}
 use Rattle.rr_flat.specs.Lawful.{RightLabels, RightTargets}
 use Rattle.rr_flat.specs.Plain.{Flat}
 use Rattle.rr_flat.specs.Signals.{Text}
-use Rattle.rr_flatten.specs.Walk.{flat_of}
+use Rattle.rr_flatten.specs.Walk.{flat_by}
 use Rattle.rr_flatten.proofs.HeadOf.{ok_is}
 use Rattle.rr_elaborate.specs.Designs.{IsDesign, IsDesignOf}
 use Rattle.rr_elaborate.proofs.Once.{one_design, one_text as one_tree}
@@ -78,7 +78,7 @@ module _ (file : List ℕ) (top : Option Text) where
       let texts = one_expansion file a.text b.text a.origins b.origins p.expansion q.expansion in
       let design : IsDesignOf b.text a.tokens a.source top p.flat = subst (λ (t : List ℕ). IsDesignOf t a.tokens a.source top p.flat) texts.0 p.design in
       let trees = one_tree b.text a.tokens b.tokens a.source b.source design.text q.design.text in
-      let flats : p.flat ≡ q.flat = ok_is p.flat q.flat (sym design.flat ∙ (ap (λ (t : SourceText). flat_of t top) trees.1 ∙ q.design.flat)) in
+      let flats : p.flat ≡ q.flat = ok_is p.flat q.flat (sym design.flat ∙ (ap (λ (t : SourceText). flat_by (Some 1048576) t top) trees.1 ∙ q.design.flat)) in
       let edits : AreLintEdits b.tokens b.source q.flat made =
       subst (λ (f : Flat). AreLintEdits b.tokens b.source f made) flats
       (subst (λ (t : SourceText). AreLintEdits b.tokens t p.flat made) trees.1 (subst (λ (ts : List Lexeme). AreLintEdits ts a.source p.flat made) trees.0 p.edits)) in

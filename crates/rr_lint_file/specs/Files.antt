@@ -40,7 +40,7 @@ pub record IsMendedFile (file : List ℕ) (top : Option Text) (out : List ℕ) :
   pub has : HasEdits file top read made
   pub made_in : IsMadeIn file read.origins made out
 
--- 1 to 16: the file expands to a text that has no flat design
+-- 1 to 16 and 37: the file expands to a text that has no flat design
 pub record HasNoFlat (file : List ℕ) (top : Option Text) (refusal : Refusal) : Type 0 where
   pub text : List ℕ
   pub origins : List Origin

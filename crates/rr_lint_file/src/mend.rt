@@ -101,8 +101,8 @@ fn mend_text<'a>(alloc: Global, file: &[u8], read: &FileText<'_>) -> Result<Vec<
 /// The file of at most 1,048,576 bytes in which two faults of the combinational blocks of its design are
 /// mended, with a top, given or not: each `<=` that assigns becomes `=`, and a block that keeps a bit of a
 /// variable clears the variable first (IEEE 1364-2005 sections 9.2 and 9.9.2). Nothing else changes. Or the
-/// first refusal: of the directives (38 to 40, 16), of the text and its elaboration (1 to 16), of targets and
-/// labels (24, 25), and that a change cannot be made in the file itself (43).
+/// first refusal: of the directives (38 to 40, 16), of the text and its elaboration (1 to 16, 37), of targets
+/// and labels (24, 25), and that a change cannot be made in the file itself (43).
 pub fn mend_file<'a>(
     alloc: Global,
     bytes: &[u8],

@@ -91,7 +91,7 @@ fn checked<'a>(
 }
 
 /// The design of a file of at most 1,048,576 bytes, whose directives are expanded, with a top, where its
-/// targets and labels are right; or the first refusal (38 to 40, 1 to 16, 24, 25).
+/// targets and labels are right; or the first refusal (38 to 40, 1 to 16, 37, 24, 25).
 pub(crate) fn file_text<'a>(
     alloc: Global,
     bytes: &[u8],

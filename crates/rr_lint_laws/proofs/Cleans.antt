@@ -1,13 +1,13 @@
 -- A mended source has neither of the two faults.
-use Rattle.std.proofs.Common.{◌≡◌, ◌∙◌, sym, subst, inl, inr, ◌⊎◌, ℕ, ◌+◌, ◌<◌, Bool, true, false, not, cond, ◌&&◌, ◌||◌, List, [], ◌∷◌, ◌++◌, length, map, Option, Ok, refl, nat_eq, if◌then◌else◌, arith}
+use Rattle.std.proofs.Common.{◌≡◌, ◌∙◌, sym, ap, subst, inl, inr, ◌⊎◌, ℕ, ◌+◌, ◌<◌, Bool, true, false, not, cond, ◌&&◌, ◌||◌, List, [], ◌∷◌, ◌++◌, length, map, Option, None, Ok, refl, nat_eq, if◌then◌else◌, arith}
 use Rattle.std.specs.List.{AllByRecursion, filter, list_any}
 use Rattle.std.specs.Str.{bytes_eq}
 use Rattle.std.proofs.lemmas.Bool.{and_from, both_ways, or_cases, or_left, or_right}
-use Rattle.std.proofs.lemmas.List.{get_or-map, length-map}
 use Rattle.std.proofs.lemmas.List.Elements.{All-from_recursion}
 use Rattle.std.proofs.lemmas.List.Folds.{list_any-append}
 use Rattle.std.proofs.lemmas.Slice.Eq.{bytes_eq-Decides}
-use Rattle.rr_syntax.specs.Tree.{Tree, Trees, Name, Bit as BitSelect, Part, Indexed, Concat, End, More, Statement, Statements, Arm, Arms, Null, Block, If, IfElse, Case, Assign, Done, Then, CaseItem, NoArms, MoreArms, EventControl, Star, Edges, Levels, ModuleItem, Always, ModuleDeclaration, SourceText}
+use Rattle.rr_syntax.specs.Tree.{Tree, Trees, Name, Bit as BitSelect, Part, Indexed, Concat, End, More, Statement, Statements, Arm, Arms, Null, Block, If, IfElse, Case, Assign, For, Done, Then, CaseItem, NoArms, MoreArms, EventControl, Star, Edges, Levels, ModuleItem, Always, ModuleDeclaration, SourceText}
+use Rattle.rr_syntax.specs.Items.{NumberedSource}
 use Rattle.rr_expr.specs.declared.types.Bit.{Bit}
 use Rattle.rr_expr.specs.Scopes.{Names, meant}
 use Rattle.rr_flat.specs.Latches.{NoLatch}
@@ -19,17 +19,22 @@ use Rattle.rr_flat.specs.Signals.{Text}
 use Rattle.rr_flat.specs.Targets.{is_bit_of, is_constant, may_write, part_name, target_bits, target_parts, targets_parts}
 use Rattle.rr_flat.specs.Writers.{block_at, no_block, scope_at}
 use Rattle.rr_flat.proofs.Bits.{bits_of_name, one_of_name}
+use Rattle.rr_unfold.specs.Unfold.{unfold_statement}
 use Rattle.rr_latch.specs.Immediate.{immediate, immediate_all, immediate_arm, immediate_arms}
 use Rattle.rr_latch.specs.Unassigned.{KeepsBit}
 use Rattle.rr_flatten.specs.Walk.{flat_of, module_at}
 use Rattle.rr_flatten.proofs.HeadOf.{all_append}
-use Rattle.rr_body_laws.specs.Bodies.{block_with, body_with, flat_with, item_with, module_with, source_with}
+use Rattle.rr_body_laws.specs.Bodies.{IsFlatWith, body_with, item_with, module_with, source_with}
+use Rattle.rr_body_laws.proofs.Blocks.{changed_at, changed_length}
 use Rattle.rr_body_laws.proofs.Tables.{module_changed}
 use Rattle.rr_body_laws.proofs.Whole.{bodies_elaborate}
 use Rattle.rr_lint_laws.specs.Clean.{AllImmediate, HasImmediate, IsClean, IsImmediate, IsImmediateAt}
+use Rattle.rr_lint_laws.specs.Ever.{ever_assigned, ever_assigned_all, ever_assigned_arm, ever_assigned_arms, ever_names}
 use Rattle.rr_lint_laws.specs.Mended.{IsLint, MarkLatched, Marks, all_cleared, cleared_by, each_once, mended_body, target_names, with_defaults}
 use Rattle.rr_lint_laws.proofs.Clearing.{is_of_any, no_latch_after}
-use Rattle.rr_lint_laws.proofs.Shapes.{mended_keeps}
+use Rattle.rr_lint_laws.proofs.Declaring.{marked_keeps}
+use Rattle.rr_lint_laws.proofs.EverNames.{unfolded_names}
+use Rattle.rr_lint_laws.proofs.Unfolds.{unfold_mended}
 
 -- each assignment of a mended body is `=`
 
@@ -42,39 +47,40 @@ parts_now [] = tt
 parts_now (t ∷ ts) = (refl, parts_now ts)
 
 mutual
-  unfolding assigned_by immediate
+  unfolding ever_assigned immediate
 
-  now_alone : (t : Statement) → AllByRecursion IsNow (assigned_by (immediate t))
+  now_alone : (t : Statement) → AllByRecursion IsNow (ever_assigned (immediate t))
   now_alone Null = tt
   now_alone (Block label ts) = all_now_alone ts
   now_alone (If c t) = now_alone t
-  now_alone (IfElse c t u) = all_append IsNow (assigned_by (immediate t)) (assigned_by (immediate u)) (now_alone t) (now_alone u)
+  now_alone (IfElse c t u) = all_append IsNow (ever_assigned (immediate t)) (ever_assigned (immediate u)) (now_alone t) (now_alone u)
   now_alone (Case kind on arms) = arms_now_alone arms
   now_alone (Assign t now e) = parts_now (target_parts t)
+  now_alone (For h t) = now_alone t
 
-  all_now_alone : (ts : Statements) → AllByRecursion IsNow (assigned_by_all (immediate_all ts))
+  all_now_alone : (ts : Statements) → AllByRecursion IsNow (ever_assigned_all (immediate_all ts))
   all_now_alone Done = tt
-  all_now_alone (Then t ts) = all_append IsNow (assigned_by (immediate t)) (assigned_by_all (immediate_all ts)) (now_alone t) (all_now_alone ts)
+  all_now_alone (Then t ts) = all_append IsNow (ever_assigned (immediate t)) (ever_assigned_all (immediate_all ts)) (now_alone t) (all_now_alone ts)
 
-  arm_now_alone : (a : Arm) → AllByRecursion IsNow (assigned_by_arm (immediate_arm a))
+  arm_now_alone : (a : Arm) → AllByRecursion IsNow (ever_assigned_arm (immediate_arm a))
   arm_now_alone (CaseItem labels colon t) = now_alone t
 
-  arms_now_alone : (arms : Arms) → AllByRecursion IsNow (assigned_by_arms (immediate_arms arms))
+  arms_now_alone : (arms : Arms) → AllByRecursion IsNow (ever_assigned_arms (immediate_arms arms))
   arms_now_alone NoArms = tt
-  arms_now_alone (MoreArms a rest) = all_append IsNow (assigned_by_arm (immediate_arm a)) (assigned_by_arms (immediate_arms rest)) (arm_now_alone a) (arms_now_alone rest)
+  arms_now_alone (MoreArms a rest) = all_append IsNow (ever_assigned_arm (immediate_arm a)) (ever_assigned_arms (immediate_arms rest)) (arm_now_alone a) (arms_now_alone rest)
 
-clears_now : (names : List (List ℕ)) (t : Statement) → AllByRecursion IsNow (assigned_by t) → AllByRecursion IsNow (assigned_by_all (all_cleared names t))
-unfolding assigned_by assigned_parts all_cleared target_parts
-clears_now [] t h = all_append IsNow (assigned_by t) [] h tt
+clears_now : (names : List (List ℕ)) (t : Statement) → AllByRecursion IsNow (ever_assigned t) → AllByRecursion IsNow (ever_assigned_all (all_cleared names t))
+unfolding ever_assigned assigned_parts all_cleared target_parts
+clears_now [] t h = all_append IsNow (ever_assigned t) [] h tt
 clears_now (name ∷ names) t h = (refl, clears_now names t h)
 
-defaults_now : (names : List (List ℕ)) (t : Statement) → AllByRecursion IsNow (assigned_by t) → AllByRecursion IsNow (assigned_by (with_defaults names t))
-unfolding assigned_by
+defaults_now : (names : List (List ℕ)) (t : Statement) → AllByRecursion IsNow (ever_assigned t) → AllByRecursion IsNow (ever_assigned (with_defaults names t))
+unfolding ever_assigned
 defaults_now [] t h = h
 defaults_now (name ∷ names) t h = clears_now (name ∷ names) t h
 
 mended_now : (marks : Marks) (token : ℕ) (t : Statement) → IsImmediate (mended_body marks token t)
-mended_now marks token t = All-from_recursion IsNow (assigned_by (mended_body marks token t)) (defaults_now (cleared_by marks token t) (immediate t) (now_alone t))
+mended_now marks token t = All-from_recursion IsNow (ever_assigned (mended_body marks token t)) (defaults_now (cleared_by marks token t) (immediate t) (now_alone t))
 
 body_now : (marks : Marks) (events : EventControl) (t : Statement) (token : ℕ) → IsImmediateAt events (body_with (mended_body marks) events t token)
 body_now marks (Star brackets) t token = mended_now marks token t
@@ -165,6 +171,7 @@ module _ (s : Names) (b : Bit) where
     ])
     written_named (Case kind on arms) e = arms_written_named arms e
     written_named (Assign t now x) e = parts_named now (target_parts t) (target_named t e)
+    written_named (For h t) e = absurd (cc)
 
     all_written_named : (ts : Statements) → write_any true s (immediate_all ts) b ≡ true → list_any of_assigned (assigned_by_all ts) ≡ true
     all_written_named Done e = absurd (cc)
@@ -233,28 +240,46 @@ any_once test (x ∷ xs) e = elim (or_cases (test x) (list_any test xs) e) [
 
 -- each kept bit is one of a name that is cleared
 
-covered : (s : Names) (marks : Marks) (token : ℕ) (t : Statement) (b : Bit) → ((name : List ℕ) → list_any (bytes_eq name) (target_names t) ≡ true → is_bit_of (meant s name) b ≡ true → marks token name ≡ true)
-    → KeepsBit s (immediate t) b → is_of_any s (cleared_by marks token t) b ≡ true
-covered s marks token t b h k =
+covered : (s : Names) (marks : Marks) (token : ℕ) (names : Names) (body flat_body : Statement) (b : Bit) → flat_body ≡ unfold_statement names [] body
+    → ((name : List ℕ) → list_any (bytes_eq name) (target_names flat_body) ≡ true → is_bit_of (meant s name) b ≡ true → marks token name ≡ true)
+    → KeepsBit s (immediate flat_body) b → is_of_any s (cleared_by marks token body) b ≡ true
+covered s marks token names body flat_body b is h k =
     let test : List ℕ → Bool = λ name. is_bit_of (meant s name) b in
-    any_filter test (marks token) (each_once (target_names t))
-    (any_once (λ name. marks token name && test name) (target_names t) (any_stronger test (marks token) (target_names t) h (names_named s b (assigned_by t) (written_named s b t k.written))))
+    let marked : List ℕ → Bool = λ name. marks token name && test name in
+    let unfolded : list_any marked (target_names flat_body) ≡ true =
+    any_stronger test (marks token) (target_names flat_body) h (names_named s b (assigned_by flat_body) (written_named s b flat_body k.written)) in
+    let written : list_any marked (ever_names body) ≡ true = unfolded_names marked names body (subst (λ (t : Statement). list_any marked (target_names t) ≡ true) is unfolded) in
+    any_filter test (marks token) (each_once (ever_names body)) (any_once marked (ever_names body) written)
 
-blocks_clean : (flat : Flat) (marks : Marks) → MarkLatched flat marks → NoLatches (flat_with (mended_body marks) flat)
-unfolding flat_with
-blocks_clean flat marks m k l =
+blocks_clean : (source : SourceText) (flat new : Flat) (marks : Marks) → MarkLatched flat marks → IsFlatWith (mended_body marks) source flat new → NoLatches new
+blocks_clean source flat new marks m w k l =
     let f = mended_body marks in
-    let inside : k < length flat.combinational = rw (length-map flat.combinational (block_with f)) at l in
+    let long = changed_length f source flat flat.combinational new.combinational w.blocks in
+    let inside : k < length flat.combinational = omega (arith, l, long) in
+    let c = changed_at f source flat flat.combinational new.combinational w.blocks k no_block inside in
     let block : plain.Block = block_at flat.combinational k in
     let s : Names = scope_at flat block.scope in
-    subst (λ (x : plain.Block). NoLatch (scope_at flat x.scope) x.body) (sym (get_or-map (block_with f) flat.combinational k no_block no_block inside))
-    (no_latch_after s (immediate block.body) (cleared_by marks block.token block.body) (λ b kept.
-    covered s marks block.token block.body b (λ name target named.
-    m.all block.token name (record { block = k; inside = inside; is = refl; target = target; bit = b; named = named; keeps = kept })) kept))
+    let list : List (List ℕ) = cleared_by marks block.token c.body in
+    let body : unfold_statement c.names [] (f block.token c.body) ≡ with_defaults list (immediate block.body) =
+    unfold_mended c.names marks block.token c.body ∙ ap (λ (t : Statement). with_defaults list (immediate t)) (sym c.was) in
+    let same : scope_at new block.scope ≡ s = ap (λ (x : Flat). scope_at x block.scope) w.others in
+    let clean : NoLatch s (with_defaults list (immediate block.body)) = no_latch_after s (immediate block.body) list (λ b kept.
+    covered s marks block.token c.names c.body block.body b c.was (λ name target named.
+    m.all block.token name (record { block = k; inside = inside; is = refl; target = target; bit = b; named = named; keeps = kept })) kept) in
+    subst (λ (x : plain.Block). NoLatch (scope_at new x.scope) x.body) (sym c.is)
+    (subst (λ (z : Names). NoLatch z (unfold_statement c.names [] (f block.token c.body))) (sym same) (subst (λ (t : Statement). NoLatch s t) (sym body) clean))
 
-pub lint_cleans : (source mended : SourceText) (top : Option Text) (flat : Flat) → flat_of source top ≡ Ok flat → IsLint source flat mended → IsClean mended top
-unfolding flat_with
-lint_cleans source mended top flat e l =
+pub lint_cleans : (source mended : SourceText) (top : Option Text) (flat : Flat) → NumberedSource source → flat_of source top ≡ Ok flat → IsLint source flat mended → IsClean mended top
+lint_cleans source mended top flat numbered e l =
     let f = mended_body l.marks in
+    let r = bodies_elaborate None f source top flat e (marked_keeps source top flat e numbered l.marks l.latched) in
+    let new : Flat = r.0 in
+    let w : IsFlatWith f source flat new = r.1.1 in
+    let reached : new.reached ≡ flat.reached = ap (λ (x : Flat). x.reached) w.others in
     subst (λ (x : SourceText). IsClean x top) (sym l.is)
-    (record { flat = flat_with f flat; design = bodies_elaborate f source top flat (mended_keeps l.marks) e; immediate = source_now source flat.reached l.marks; no_latches = blocks_clean flat l.marks l.latched })
+    (record {
+      flat = new;
+      design = r.1.0;
+      immediate = subst (λ (numbers : List ℕ). AllImmediate numbers (source_with flat.reached f source)) (sym reached) (source_now source flat.reached l.marks);
+      no_latches = blocks_clean source flat new l.marks l.latched w;
+    })

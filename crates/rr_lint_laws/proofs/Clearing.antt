@@ -3,7 +3,7 @@ use Rattle.std.proofs.Common.{◌≡◌, ◌∙◌, sym, ap, subst, inl, inr, Bo
 use Rattle.std.specs.List.{list_any}
 use Rattle.std.proofs.lemmas.Bool.{both_ways, true_from_ne_false}
 use Rattle.std.proofs.Math.Bool.{or-false, or_assoc}
-use Rattle.rr_syntax.specs.Tree.{Name, Statement, Statements, Arm, Arms, Null, Block as Sequence, If, IfElse, Case, Assign, Done, Then, CaseItem, NoArms, MoreArms}
+use Rattle.rr_syntax.specs.Tree.{Name, Statement, Statements, Arm, Arms, Null, Block as Sequence, If, IfElse, Case, Assign, For, Done, Then, CaseItem, NoArms, MoreArms}
 use Rattle.rr_expr.specs.declared.types.Bit.{Bit}
 use Rattle.rr_expr.specs.Reading.{NamesBit, NamesBits}
 use Rattle.rr_expr.specs.Scopes.{Names, meant}
@@ -29,6 +29,7 @@ mutual
   known_alone s f g (Case kind on arms) b h = λ k. arms_known_alone s f g arms b h k && (has_default arms || h k)
   known_alone s f g (Assign t true e) b h = λ k. h k || assigns_target s t b
   known_alone s f g (Assign t false e) b h = h
+  known_alone s f g (For head t) b h = h
 
   all_known_alone : (s : Names) (f g : Bit → Bool) (ts : Statements) (b : Bit) → f b ≡ g b → known_all s f ts b ≡ known_all s g ts b
   all_known_alone s f g Done b h = h
@@ -56,6 +57,7 @@ mutual
   early_alone s f g (Case kind on arms) b h (inr r) = inr (arms_early_alone s f g arms b h r)
   early_alone s f g (Assign t now e) b h (inl r) = inl (r.0, sym h ∙ r.1)
   early_alone s f g (Assign t now e) b h (inr r) = inr (r.0, sym h ∙ r.1)
+  early_alone s f g (For head t) b h r = r
 
   any_early_alone : (s : Names) (f g : Bit → Bool) (ts : Statements) (b : Bit) → f b ≡ g b → AnyReadEarly s f ts b → AnyReadEarly s g ts b
   any_early_alone s f g Done b h r = r
@@ -87,6 +89,7 @@ mutual
       (assigned (NamesBit s c) f (λ b r. h b (inl r)), (reads_known s f t (λ b r. h b (inr (inl r))), reads_known s f u (λ b r. h b (inr (inr r)))))
   reads_known s f (Case kind on arms) h = (assigned (NamesBit s on) f (λ b r. h b (inl r)), arms_read_known s f arms (λ b r. h b (inr r)))
   reads_known s f (Assign t now e) h = (assigned (TargetReads s t) f (λ b r. h b (inl r)), assigned (NamesBit s e) f (λ b r. h b (inr r)))
+  reads_known s f (For head t) h = tt
 
   all_read_known : (s : Names) (f : Bit → Bool) (ts : Statements) → ((b : Bit) → AnyReadEarly s f ts b → ⊥) → AllReadKnown s f ts
   all_read_known s f Done h = tt

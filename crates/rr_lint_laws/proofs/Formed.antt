@@ -1,7 +1,7 @@
 -- A mended source keeps the rules of the syntax.
 use Rattle.std.proofs.Common.{◌≡◌, ◌∙◌, ap, subst, sym, ℕ, suc, ◌+◌, ◌≤◌, Bool, true, false, List, [], ◌∷◌, map, refl, nat_eq, if◌then◌else◌}
 use Rattle.std.specs.List.{AllByRecursion, list_any}
-use Rattle.rr_syntax.specs.Tree.{End, More, Statement, Statements, Arm, Arms, Null, Block, If, IfElse, Case, Assign, Done, Then, CaseItem, NoArms, MoreArms, EventControl, Star, Edges, Levels, ModuleItem, Always, ModuleDeclaration, SourceText}
+use Rattle.rr_syntax.specs.Tree.{End, More, Statement, Statements, Arm, Arms, Null, Block, If, IfElse, Case, Assign, For, Done, Then, CaseItem, NoArms, MoreArms, EventControl, Star, Edges, Levels, ModuleItem, Always, ModuleDeclaration, SourceText}
 use Rattle.rr_syntax.specs.Expressions.{WellFormed, is_target}
 use Rattle.rr_syntax.specs.Statements.{is_open, defaults, HasArms, WellFormedStatement, WellFormedStatements, WellFormedArm, WellFormedArms}
 use Rattle.rr_syntax.specs.Items.{WellFormedItem, WellFormedModule, WellFormedSource}
@@ -18,6 +18,7 @@ open_stays (If c t) = refl
 open_stays (IfElse c t u) = open_stays u
 open_stays (Case kind on arms) = refl
 open_stays (Assign t now e) = refl
+open_stays (For h t) = open_stays t
 
 -- arms keep their labels
 defaults_stay : (arms : Arms) → defaults (immediate_arms arms) ≡ defaults arms
@@ -41,6 +42,7 @@ mutual
   statement_formed (IfElse c t u) h = (h.0, statement_formed t h.1, open_stays t ∙ h.2, statement_formed u h.3)
   statement_formed (Case kind on arms) h = (h.0, h.1, arms_stay arms h.2, arms_formed arms h.3)
   statement_formed (Assign t now e) h = h
+  statement_formed (For head t) h = (h.0, statement_formed t h.1)
 
   statements_formed : (ts : Statements) → WellFormedStatements ts → WellFormedStatements (immediate_all ts)
   statements_formed Done h = tt

@@ -1,6 +1,10 @@
 pub mod Formed
 pub mod One
+pub mod Unfolds
+pub mod EverNames
+pub mod Numbers
 pub mod Shapes
+pub mod Declaring
 pub mod Stays
 pub mod Clearing
 pub mod Cleans

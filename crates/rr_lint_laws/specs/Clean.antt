@@ -4,13 +4,13 @@ use Rattle.std.specs.List.{AllByRecursion, list_any}
 use Rattle.rr_syntax.specs.Tree.{Statement, EventControl, Star, Edges, Levels, ModuleItem, Ports, Nets, Variables, Integers, Parameters, Assigns, Always, Initial, Instances, SourceText}
 use Rattle.rr_flat.specs.Lawful.{NoLatches}
 use Rattle.rr_flat.specs.Plain.{Flat}
-use Rattle.rr_flat.specs.Reads.{assigned_by}
 use Rattle.rr_flat.specs.Signals.{Text}
 use Rattle.rr_flatten.specs.Walk.{flat_of, module_at}
+use Rattle.rr_lint_laws.specs.Ever.{ever_assigned}
 
--- a body that assigns by `=` alone (IEEE 1364-2005 section 9.2.1)
+-- a body that assigns by `=` alone, in its loops too (IEEE 1364-2005 sections 9.2.1 and 9.6)
 abbrev pub IsImmediate : Statement → Type 0
-IsImmediate body = All (λ a. a.now ≡ true) (assigned_by body)
+IsImmediate body = All (λ a. a.now ≡ true) (ever_assigned body)
 
 -- where it waits for no edge
 abbrev pub IsImmediateAt : EventControl → Statement → Type 0

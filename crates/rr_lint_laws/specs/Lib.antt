@@ -1,3 +1,4 @@
+pub mod Ever
 pub mod Mended
 pub mod Clean
 pub mod Laws

@@ -15,8 +15,9 @@ use Rattle.rr_instance.specs.Instances.{fresh}
 use Rattle.rr_latch.specs.Immediate.{immediate}
 use Rattle.rr_latch.specs.Unassigned.{KeepsBit}
 use Rattle.rr_body_laws.specs.Bodies.{source_with}
+use Rattle.rr_lint_laws.specs.Ever.{ever_names}
 
--- the names that a body assigns, whole or in part, in the order of the text
+-- the names that a body of a flat design assigns, whole or in part, in the order of the text
 abbrev pub target_names : Statement → List (List ℕ)
 target_names body = map (λ a. part_name a.part) (assigned_by body)
 
@@ -42,14 +43,15 @@ with_defaults (name ∷ names) body = Block None (all_cleared (name ∷ names) b
 abbrev pub Marks : Type 0
 Marks = ℕ → List ℕ → Bool
 
--- those of its targets, in the order of the text
+-- those of its targets, in loops or not, in the order of the text
 abbrev pub cleared_by : Marks → ℕ → Statement → List (List ℕ)
-cleared_by marks token body = filter (marks token) (each_once (target_names body))
+cleared_by marks token body = filter (marks token) (each_once (ever_names body))
 
 abbrev pub mended_body : Marks → ℕ → Statement → Statement
 mended_body marks token body = with_defaults (cleared_by marks token body) (immediate body)
 
--- in the block of some instance, which has this token, a bit of a variable that it assigns is kept where it assigns by `=` alone
+-- in the block of some instance, which has this token, a bit of a variable that it assigns is kept where it assigns by `=` alone; its
+-- loops are unfolded there (section 9.6), so that a loop that has no turn in that instance assigns nothing
 pub record IsLatched (flat : Flat) (token : ℕ) (name : List ℕ) : Type 0 where
   pub block : ℕ
   pub inside : block < length flat.combinational

@@ -2,4 +2,5 @@ pub mod Lists
 pub mod Noting
 pub mod Latching
 pub mod Once
+pub mod EverOfNodes
 pub mod Waiting

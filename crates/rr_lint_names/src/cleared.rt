@@ -6,10 +6,11 @@ ghost use Rattle.rr_syntax.specs.View.{plain_statement, texts};
 ghost use Rattle.rr_lint_laws.specs.Mended.{cleared_by};
 ghost use Rattle.rr_lint_names.specs.Latched.{marks};
 
+use crate::ever::add_ever_assigned;
 use crate::noted::Noted;
 use rr_guard::TextSet;
 use rr_syntax::Stmt;
-use rr_text_names::{add_assigned_targets, identifier_of};
+use rr_text_names::identifier_of;
 use std::alloc::{AllocError, Global};
 
 /// Adds a name to others, where it is noted and has not been seen.
@@ -30,8 +31,8 @@ fn add_name<'a>(
     Ok(())
 }
 
-/// The names that the `always` with a token and a body clears: those of its targets that are noted, each
-/// once, in the order of its first targets.
+/// The names that the `always` with a token and a body clears: those of its targets, in loops or not, that
+/// are noted, each once, in the order of its first targets.
 pub fn cleared_names<'a>(
     alloc: Global,
     noted: &Noted,
@@ -41,7 +42,7 @@ pub fn cleared_names<'a>(
     ensures { IfOk result (λ names. texts names.items ≡ cleared_by (marks noted.now) token (plain_statement body.now)) }
 {
     let mut targets = Vec::new(alloc);
-    add_assigned_targets(&mut targets, body)?;
+    add_ever_assigned(&mut targets, body)?;
     let mut seen = TextSet::new(alloc);
     let mut names = Vec::new(alloc);
     for target in targets.iter() {

@@ -6,6 +6,7 @@
 
 mod cleared;
 mod edges;
+mod ever;
 mod fault;
 mod latched_names;
 mod lows;

@@ -5,7 +5,7 @@ use Rattle.std.proofs.lemmas.Bool.{false≢true}
 use Rattle.rr_syntax.specs.declared.tree.Dir.{Dir}
 use Rattle.rr_syntax.specs.declared.tree.Dir.TheVariants as dir
 use Rattle.rr_syntax.specs.Words.{Word, Named, Reserved, Marked, keyword_always, keyword_begin, keyword_end, keyword_endmodule, keyword_module, mark_at, mark_semicolon, mark_equals}
-use Rattle.rr_syntax.specs.Tree.{Tree, Name, Literal, Bit, Part, Indexed, Unary, Binary, Cond, Concat, Repeat, Cast, Paren, Statement, Null, Block, If, IfElse, Case, Assign, EventControl, Star, Edges, Levels, ModuleItem, Ports, Nets, Variables, Integers, Parameters, Assigns, Always, Initial, Instances, ModuleDeclaration, SourceText}
+use Rattle.rr_syntax.specs.Tree.{Tree, Name, Literal, Bit, Part, Indexed, Unary, Binary, Cond, Concat, Repeat, Cast, Paren, Statement, Null, Block, If, IfElse, Case, Assign, For, EventControl, Star, Edges, Levels, ModuleItem, Ports, Nets, Variables, Integers, Parameters, Assigns, Always, Initial, Instances, ModuleDeclaration, SourceText}
 use Rattle.rr_syntax.specs.Expressions.{spell, is_target}
 use Rattle.rr_syntax.specs.Statements.{spell_statement, WellFormedStatement}
 use Rattle.rr_syntax.specs.Items.{spell_all, spell_dir, spell_events, spell_item, spell_module, spell_parameter, spell_parameters, spell_port, spell_ports, spell_source, WellFormedItem, WellFormedModule, WellFormedSource}
@@ -119,6 +119,7 @@ statement_opens (If c t) h more = refl
 statement_opens (IfElse c t u) h more = refl
 statement_opens (Case kind on arms) h more = refl
 statement_opens (Assign t now e) h more = joined_open (spell t) _ more (target_opens t h.0)
+statement_opens (For head t) h more = refl
 
 -- no item does
 dir_opens : (d : Dir) (more : List Word) → Opens (spell_dir d ++ more)

@@ -1,10 +1,10 @@
 -- The words of the pieces of a mended source, part by part, and what stands in the place of a token.
 use Rattle.std.proofs.Common.{◌≡◌, ℕ, ◌+◌, Bool, true, false, if◌then◌else◌, nat_eq, List, [], ◌∷◌, ◌++◌, map, refl, sym, ◌∙◌, ap, append_assoc, append-nil}
 use Rattle.std.specs.List.{list_any}
-use Rattle.rr_syntax.specs.Words.{Word, Named, Digits, Reserved, Marked, keyword_always, keyword_begin, keyword_else, keyword_end, keyword_endcase, keyword_endmodule, keyword_if, keyword_module, mark_open_parenthesis, mark_close_parenthesis, mark_at, mark_semicolon, mark_equals, mark_less_or_equal}
-use Rattle.rr_syntax.specs.Tree.{Tree, Statement, Statements, Arm, Arms, Null, Block, If, IfElse, Case, Assign, Done, Then, CaseItem, NoArms, MoreArms, EventControl, Star, Edges, Levels, ModuleItem, Ports, Nets, Variables, Integers, Parameters, Assigns, Always, Initial, Instances, ModuleDeclaration, SourceText}
+use Rattle.rr_syntax.specs.Words.{Word, Named, Digits, Reserved, Marked, keyword_always, keyword_begin, keyword_else, keyword_end, keyword_endcase, keyword_endmodule, keyword_for, keyword_if, keyword_module, mark_open_parenthesis, mark_close_parenthesis, mark_at, mark_semicolon, mark_equals, mark_less_or_equal}
+use Rattle.rr_syntax.specs.Tree.{Tree, Statement, Statements, Arm, Arms, Null, Block, If, IfElse, Case, Assign, For, Done, Then, CaseItem, NoArms, MoreArms, EventControl, Star, Edges, Levels, ModuleItem, Ports, Nets, Variables, Integers, Parameters, Assigns, Always, Initial, Instances, ModuleDeclaration, SourceText}
 use Rattle.rr_syntax.specs.Expressions.{spell}
-use Rattle.rr_syntax.specs.Statements.{spell_label, spell_labels, spell_statement, spell_statements, spell_arm, spell_arms}
+use Rattle.rr_syntax.specs.Statements.{spell_label, spell_labels, spell_loop, spell_statement, spell_statements, spell_arm, spell_arms}
 use Rattle.rr_syntax.specs.Items.{spell_all, spell_events, spell_item, spell_module, spell_parameters, spell_ports, spell_source}
 use Rattle.rr_lex.specs.Numbers.{plain_literal}
 use Rattle.rr_lex.specs.Patch.{New, new_keyword, new_mark, new_words}
@@ -98,6 +98,7 @@ module _ (P : New → Type 0) where
         (join (words P (headed kind on)) (join (arms_mend arms) (words P (Reserved keyword_endcase ∷ []))))
     statement_mends (Assign t true e) = words P (spell_statement (Assign t true e))
     statement_mends (Assign t false e) = join (words P (spell t)) (join (equals P) (words P (spell e ++ (Marked mark_semicolon ∷ []))))
+    statement_mends (For h t) = join (words P (Reserved keyword_for ∷ spell_loop h)) (statement_mends t)
 
     statements_mend : (ts : Statements) → Mends P (all_immediate_pieces ts) (spell_statements ts) (spell_statements (immediate_all ts))
     statements_mend Done = none P

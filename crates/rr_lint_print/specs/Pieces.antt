@@ -2,10 +2,10 @@
 -- that assigns there, and new tokens round a body that clears variables first.
 use Rattle.std.specs.Prelude.{ℕ, ◌+◌, true, false, nat_eq, List, [], ◌∷◌, ◌++◌, if◌then◌else◌}
 use Rattle.std.specs.List.{list_any}
-use Rattle.rr_syntax.specs.Words.{Named, Reserved, Marked, keyword_always, keyword_begin, keyword_else, keyword_end, keyword_endcase, keyword_endmodule, keyword_if, keyword_module, mark_open_parenthesis, mark_close_parenthesis, mark_at, mark_semicolon, mark_equals, mark_less_or_equal}
-use Rattle.rr_syntax.specs.Tree.{Statement, Statements, Arm, Arms, Null, Block, If, IfElse, Case, Assign, Done, Then, CaseItem, NoArms, MoreArms, EventControl, Star, Edges, Levels, ModuleItem, Ports, Nets, Variables, Integers, Parameters, Assigns, Always, Initial, Instances, ModuleDeclaration, SourceText}
+use Rattle.rr_syntax.specs.Words.{Named, Reserved, Marked, keyword_always, keyword_begin, keyword_else, keyword_end, keyword_endcase, keyword_endmodule, keyword_for, keyword_if, keyword_module, mark_open_parenthesis, mark_close_parenthesis, mark_at, mark_semicolon, mark_equals, mark_less_or_equal}
+use Rattle.rr_syntax.specs.Tree.{Statement, Statements, Arm, Arms, Null, Block, If, IfElse, Case, Assign, For, Done, Then, CaseItem, NoArms, MoreArms, EventControl, Star, Edges, Levels, ModuleItem, Ports, Nets, Variables, Integers, Parameters, Assigns, Always, Initial, Instances, ModuleDeclaration, SourceText}
 use Rattle.rr_syntax.specs.Expressions.{spell}
-use Rattle.rr_syntax.specs.Statements.{spell_label, spell_labels, spell_statement}
+use Rattle.rr_syntax.specs.Statements.{spell_label, spell_labels, spell_loop, spell_statement}
 use Rattle.rr_syntax.specs.Items.{spell_events, spell_item, spell_module, spell_parameters, spell_ports}
 use Rattle.rr_lex.specs.Patch.{New, Edit, new_decimal, new_keyword, new_mark, new_name, patched}
 use Rattle.rr_lex.specs.Tokens.{Lexeme}
@@ -13,7 +13,7 @@ use Rattle.rr_respell.specs.Pieces.{Piece, Replaced, edits, kept, puts}
 use Rattle.rr_respell.specs.Printing.{all_pieces}
 use Rattle.rr_lint_laws.specs.Mended.{Marks, cleared_by}
 
--- a statement in which each `<=` that assigns becomes `=`
+-- a statement in which each `<=` that assigns becomes `=`; a loop's head stays
 unfoldable mutual
   pub immediate_pieces : Statement → List Piece
   immediate_pieces Null = kept (spell_statement Null)
@@ -29,6 +29,7 @@ unfoldable mutual
   immediate_pieces (Assign t true e) = kept (spell_statement (Assign t true e))
   immediate_pieces (Assign t false e) =
       kept (spell t) ++ (Replaced (Marked mark_less_or_equal) (new_mark mark_equals) ∷ kept (spell e ++ (Marked mark_semicolon ∷ [])))
+  immediate_pieces (For h t) = kept (Reserved keyword_for ∷ spell_loop h) ++ immediate_pieces t
 
   pub all_immediate_pieces : Statements → List Piece
   all_immediate_pieces Done = []

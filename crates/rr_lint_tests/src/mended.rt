@@ -7,7 +7,7 @@ use std::test::Fail;
 /// A design, and the same mended.
 type Case = (&'static str, &'static str);
 
-const MENDED: [Case; 16] = [
+const MENDED: [Case; 21] = [
     // A `case` that leaves two values out.
     (
         "module m(input [1:0] s, output reg y);\n  always @*\n    case (s)\n      2'd0: y = 1'b0;\n      2'd1: y = 1'b1;\n    endcase\nendmodule\n",
@@ -81,6 +81,30 @@ const MENDED: [Case; 16] = [
     (
         "module m(input e, input a, output reg q = 1'b1, output reg y);\n  reg [1:0] s = (2'd1 <= 2'd2);\n  initial begin y = 1'b1; s = 2'd2; end\n  always @* if (e) q <= a;\n  always @* y = s[1];\nendmodule\n",
         "module m(input e, input a, output reg q = 1'b1, output reg y);\n  reg [1:0] s = (2'd1 <= 2'd2);\n  initial begin y = 1'b1; s = 2'd2; end\n  always @* begin q = 0 ;  if (e) q  =  a; end \n  always @* y = s[1];\nendmodule\n",
+    ),
+    // `<=` in a loop; each bit is assigned in one of its turns.
+    (
+        "module m(input [3:0] a, output reg [3:0] y);\n  integer i;\n  always @* for (i = 0; i < 4; i = i + 1) y[i] <= a[i];\nendmodule\n",
+        "module m(input [3:0] a, output reg [3:0] y);\n  integer i;\n  always @* for (i = 0; i < 4; i = i + 1) y[i]  =  a[i];\nendmodule\n",
+    ),
+    // A variable that the turns of loops keep is cleared once, before them, in the order of the text.
+    (
+        "module m(input [3:0] a, input e, output reg [3:0] y, output reg z);\n  integer i, j;\n  always @* begin\n    for (i = 0; i < 2; i = i + 1) for (j = 0; j < 2; j = j + 1) if (e) y[2 * i + j] <= a[j];\n    if (e) z = a[0];\n  end\nendmodule\n",
+        "module m(input [3:0] a, input e, output reg [3:0] y, output reg z);\n  integer i, j;\n  always @* begin y = 0 ; z = 0 ;  begin\n    for (i = 0; i < 2; i = i + 1) for (j = 0; j < 2; j = j + 1) if (e) y[2 * i + j]  =  a[j];\n    if (e) z = a[0];\n  end end \nendmodule\n",
+    ),
+    // A loop that has no turn in one instance of two, and in the one alone.
+    (
+        "module n #(parameter N = 0) (input e, input a, output reg [1:0] y); integer i; always @* for (i = 0; i < N; i = i + 1) if (e) y[i] = a; endmodule\nmodule m(input e, input a, output [1:0] y, output [1:0] z); n u(.e(e), .a(a), .y(y)); n #(.N(2)) v(.e(e), .a(a), .y(z)); endmodule\n",
+        "module n #(parameter N = 0) (input e, input a, output reg [1:0] y); integer i; always @* begin y = 0 ;  for (i = 0; i < N; i = i + 1) if (e) y[i] = a; end  endmodule\nmodule m(input e, input a, output [1:0] y, output [1:0] z); n u(.e(e), .a(a), .y(y)); n #(.N(2)) v(.e(e), .a(a), .y(z)); endmodule\n",
+    ),
+    (
+        "module n #(parameter N = 0) (input e, input a, output reg [1:0] y); integer i; always @* for (i = 0; i < N; i = i + 1) if (e) y[i] = a; endmodule\nmodule m(input e, input a, output [1:0] y); n u(.e(e), .a(a), .y(y)); endmodule\n",
+        "module n #(parameter N = 0) (input e, input a, output reg [1:0] y); integer i; always @* for (i = 0; i < N; i = i + 1) if (e) y[i] = a; endmodule\nmodule m(input e, input a, output [1:0] y); n u(.e(e), .a(a), .y(y)); endmodule\n",
+    ),
+    // Loops of clocked blocks and of `initial` items stay.
+    (
+        "module m(input clk, input [1:0] d, output reg [1:0] q);\n  integer i;\n  initial for (i = 0; i < 2; i = i + 1) q = 2'd1;\n  always @(posedge clk) for (i = 0; i < 2; i = i + 1) q[i] <= d[i];\nendmodule\n",
+        "module m(input clk, input [1:0] d, output reg [1:0] q);\n  integer i;\n  initial for (i = 0; i < 2; i = i + 1) q = 2'd1;\n  always @(posedge clk) for (i = 0; i < 2; i = i + 1) q[i] <= d[i];\nendmodule\n",
     ),
     // No `always` at all.
     (

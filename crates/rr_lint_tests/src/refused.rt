@@ -12,7 +12,7 @@ type Case = (
     &'static Refusal<'static>,
 );
 
-const REFUSED: [Case; 14] = [
+const REFUSED: [Case; 15] = [
     // An edit that a macro hides, at the backtick of its use; one before it lifts.
     (
         "`define N <=\nmodule m(input a, output reg y, output reg z); always @* z <= a; always @* y `N a; endmodule\n",
@@ -66,6 +66,12 @@ const REFUSED: [Case; 14] = [
         "module m(input a, output reg y); always @* case (a) 1'bx: y <= a; endcase endmodule\n",
         &None,
         &Refusal::At(Fault::WildLabel, 52),
+    ),
+    // The name of a loop that its body assigns.
+    (
+        "module m(input a, output reg y); integer i; always @* for (i = 0; i < 2; i = i + 1) i = a; endmodule\n",
+        &None,
+        &Refusal::At(Fault::BadLoop, 84),
     ),
     (
         "module m(input a, output reg y); always @* y <= a; endmodule\n",

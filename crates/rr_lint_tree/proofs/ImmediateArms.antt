@@ -4,11 +4,12 @@ use denote.Ref.{Bor}
 use Rattle.rr_syntax.specs.declared.token.Keyword.{Keyword}
 use Rattle.rr_syntax.specs.declared.tree.Arm.{Arm as Branch}
 use Rattle.rr_syntax.specs.declared.tree.Expr.{Expr}
+use Rattle.rr_syntax.specs.declared.tree.Head.{Head}
 use Rattle.rr_syntax.specs.declared.tree.Named.{Named}
 use Rattle.rr_syntax.specs.declared.tree.Stmt.{Stmt, the_lemmas}
 use Rattle.rr_syntax.specs.declared.tree.Stmt.TheVariants as stmt
-use Rattle.rr_syntax.specs.Tree.{Block, If, IfElse, Case}
-use Rattle.rr_syntax.specs.View.{plain, plain_label, plain_statement, plain_statements, plain_arms}
+use Rattle.rr_syntax.specs.Tree.{Block, If, IfElse, Case, For}
+use Rattle.rr_syntax.specs.View.{plain, plain_label, plain_loop, plain_statement, plain_statements, plain_arms}
 use Rattle.rr_syntax.proofs.Rows.{plain_block, plain_case}
 use Rattle.rr_latch.specs.Immediate.{immediate, immediate_all, immediate_arms}
 
@@ -36,4 +37,8 @@ pub immediate-Assign : (t : Bor Expr) (now : Bool) (e : Bor Expr) → plain_stat
 unfolding plain_statement immediate
 immediate-Assign t now e = refl
 
-pub ruleset arms = (the_lemmas, immediate-Null, immediate-Block, immediate-If, immediate-IfElse, immediate-Case, immediate-Assign)
+pub immediate-For : (head : Head) (t : Bor Stmt) → immediate (plain_statement (stmt.For head t)) ≡ For (plain_loop head) (immediate (plain_statement t.now))
+unfolding plain_statement immediate
+immediate-For head t = refl
+
+pub ruleset arms = (the_lemmas, immediate-Null, immediate-Block, immediate-If, immediate-IfElse, immediate-Case, immediate-Assign, immediate-For)

@@ -1,11 +1,11 @@
 //! The tree of a source in which two faults of its combinational blocks are mended.
-ghost use Rattle.std.specs.Prelude.{◌≡◌, ℕ, List, Option, Ok, map, nat_eq, if◌then◌else◌, IfOk, MatchResult};
+ghost use Rattle.std.specs.Prelude.{◌≡◌, ℕ, List, Option, Some, Ok, map, nat_eq, if◌then◌else◌, IfOk, MatchResult};
 ghost use Rattle.std.specs.List.{list_any};
 ghost use Rattle.indexmap.specs.IndexSet.{contains};
 ghost use Rattle.rr_syntax.specs.View.{plain_item, plain_module, plain_source, plain_statement, texts};
 ghost use Rattle.rr_flat.specs.Signals.{Text};
 ghost use Rattle.rr_flat.specs.View.{plain_flat};
-ghost use Rattle.rr_flatten.specs.Walk.{flat_of};
+ghost use Rattle.rr_flatten.specs.Walk.{flat_by};
 ghost use Rattle.rr_body_laws.specs.Bodies.{item_with, module_with, modules_with, source_with};
 ghost use Rattle.rr_lint_laws.specs.Mended.{cleared as cleared_of, mended_body, with_defaults as with_defaults_of, IsLint};
 ghost use Rattle.rr_lint_names.specs.Faults.{IsMemory};
@@ -205,7 +205,7 @@ pub fn lint<'a>(
     flat: &Flat<'a>,
     arena: &'a Bump,
 ) -> Result<&'a Source<'a>, LintFault>
-    requires design { (top : Option Text) × (flat_of (plain_source source.now) top ≡ Ok (plain_flat flat.now)) }
+    requires design { (top : Option Text) × (flat_by (Some 1048576) (plain_source source.now) top ≡ Ok (plain_flat flat.now)) }
     ensures mended { MatchResult result (λ s. IsLint (plain_source source.now) (plain_flat flat.now) (plain_source s.now)) IsMemory }
 {
     let noted = latched(alloc, flat)?;

@@ -1,12 +1,12 @@
 //! Statements in which each `<=` that assigns is `=`, as trees.
 ghost use Rattle.std.specs.Prelude.{◌≡◌, ◌++◌, ◌∷◌, [], IfOk};
-ghost use Rattle.rr_syntax.specs.Tree.{Block, Case, CaseItem, If, IfElse};
-ghost use Rattle.rr_syntax.specs.View.{plain, plain_arm, plain_arms, plain_label, plain_list, plain_statement, plain_statements};
+ghost use Rattle.rr_syntax.specs.Tree.{Block, Case, CaseItem, For, If, IfElse};
+ghost use Rattle.rr_syntax.specs.View.{plain, plain_arm, plain_arms, plain_label, plain_list, plain_loop, plain_statement, plain_statements};
 ghost use Rattle.rr_latch.specs.Immediate.{immediate as immediate_of, immediate_all, immediate_arms as immediate_arms_of};
 
 use bumpalo::Bump;
 use bumpalo::collections::into_bump_slice;
-use rr_syntax::{Arm, Expr, Keyword, Named, Stmt};
+use rr_syntax::{Arm, Expr, Head, Keyword, Named, Stmt};
 use std::alloc::AllocError;
 
 /// A block.
@@ -57,6 +57,15 @@ fn case<'a>(kind: Keyword, on: &'a Expr<'a>, arms: &'a [Arm<'a>]) -> Stmt<'a>
     Stmt::Case { kind, on, arms }
 }
 
+/// A loop.
+#[tactic(auto, unfolding(rr_syntax::specs::View::plain_statement))]
+fn for_each<'a>(head: Head<'a>, body: Stmt<'a>, arena: &'a Bump) -> Result<Stmt<'a>, AllocError>
+    ensures { IfOk result (λ r. plain_statement r ≡ For (plain_loop head.entry) (plain_statement body.entry)) }
+{
+    let body = arena.try_alloc(body)?;
+    Ok(Stmt::For { head, body })
+}
+
 /// An arm of a `case`.
 #[tactic(auto, unfolding(rr_syntax::specs::View::plain_arm))]
 fn arm_of<'a>(
@@ -94,7 +103,8 @@ fn add_arm<'a>(list: &mut Vec<Arm<'a>, &'a Bump>, arm: Arm<'a>) -> Result<(), Al
     Ok(())
 }
 
-/// A statement in which each `<=` that assigns is `=`. It shares its expressions with the old one.
+/// A statement in which each `<=` that assigns is `=`. It shares its expressions with the old one, and the
+/// heads of its loops.
 #[cycle(immediate_statements)]
 #[tactic(auto, using(crate::proofs::ImmediateArms::arms))]
 pub(crate) fn immediate<'a>(stmt: &Stmt<'a>, arena: &'a Bump) -> Result<Stmt<'a>, AllocError>
@@ -134,6 +144,11 @@ pub(crate) fn immediate<'a>(stmt: &Stmt<'a>, arena: &'a Bump) -> Result<Stmt<'a>
             now: true,
             value: *value,
         }),
+        Stmt::For { head, body } => {
+            let body = immediate(body, arena)?;
+            let whole = for_each(*head, body, arena)?;
+            Ok(whole)
+        }
     }
 }
 

@@ -3,7 +3,7 @@ use Rattle.std.proofs.Common.{◌≡◌, Bool, true, false, cond, ◌||◌, List
 use Rattle.std.specs.List.{AllByRecursion}
 use Rattle.std.proofs.lemmas.Bool.{both_ways, or_cases}
 use Rattle.std.proofs.lemmas.List.Elements.{recursion_from_All}
-use Rattle.rr_syntax.specs.Tree.{Tree, Statement, Statements, Arm, Arms, Null, Block as Sequence, If, IfElse, Case, Assign, Done, Then, CaseItem, NoArms, MoreArms}
+use Rattle.rr_syntax.specs.Tree.{Tree, Statement, Statements, Arm, Arms, Null, Block as Sequence, If, IfElse, Case, Assign, For, Done, Then, CaseItem, NoArms, MoreArms}
 use Rattle.rr_syntax.specs.View.{plain_statement}
 use Rattle.rr_expr.specs.declared.types.Bit.{Bit}
 use Rattle.rr_expr.specs.Scopes.{Names, meant}
@@ -39,6 +39,7 @@ mutual
   writes_named now s (If c t) b h = writes_named now s t b h
   writes_named now s (IfElse c t u) b h = elim (or_cases (writes now s t b) (writes now s u b) h) [ inl i ↦ writes_named now s t b i | inr i ↦ writes_named now s u b i ]
   writes_named now s (Case kind on arms) b h = arms_named now s arms b h
+  writes_named now s (For head t) b h = absurd (both_ways false refl h)
   writes_named true s (Assign t true e) b h = may_named s (target_parts t) b h
   writes_named true s (Assign t false e) b h = absurd (both_ways false refl h)
   writes_named false s (Assign t true e) b h = absurd (both_ways false refl h)

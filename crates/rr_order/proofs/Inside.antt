@@ -4,7 +4,7 @@ use Rattle.std.proofs.lemmas.Bool.{cases_Bool, and_parts, and_from, eqb-true, eq
 use Rattle.std.proofs.lemmas.List.{get_or-map, length-map}
 use Rattle.std.proofs.lemmas.List.Elements.{All-get_or}
 use Rattle.std.specs.Prelude.{bytes_eq}
-use Rattle.rr_syntax.specs.Tree.{Tree, Trees, Name, Literal, Bit as BitSelect, Part, Indexed, Unary, Binary, Cond, Concat, Repeat, Cast, Paren, End, More, Statement, Statements, Arm, Arms, Null, Block as Sequence, If, IfElse, Case, Assign, Done, Then, CaseItem, NoArms, MoreArms}
+use Rattle.rr_syntax.specs.Tree.{Tree, Trees, Name, Literal, Bit as BitSelect, Part, Indexed, Unary, Binary, Cond, Concat, Repeat, Cast, Paren, End, More, Statement, Statements, Arm, Arms, Null, Block as Sequence, If, IfElse, Case, Assign, For, Done, Then, CaseItem, NoArms, MoreArms}
 use Rattle.rr_expr.specs.declared.types.Bit.{Bit}
 use Rattle.rr_expr.specs.declared.types.Entity.{Entity}
 use Rattle.rr_expr.specs.declared.types.Entity.TheVariants.{Constant, Signal, Instance}
@@ -148,6 +148,7 @@ mutual
   read_of s (IfElse c t u) b h = elim h [ inl x ↦ named_of s c b x | inr x ↦ elim x [ inl y ↦ read_of s t b y | inr y ↦ read_of s u b y ] ]
   read_of s (Case kind on arms) b h = elim h [ inl x ↦ named_of s on b x | inr x ↦ arms_read_of s arms b x ]
   read_of s (Assign t now e) b h = elim h [ inl x ↦ indices_of s t b x | inr x ↦ named_of s e b x ]
+  read_of s (For head t) b h = absurd h
 
   all_read_of : (s : Names) (ts : Statements) (b : Bit) → StatementsRead s ts b → Of s b
   all_read_of s Done b h = absurd h
@@ -180,6 +181,7 @@ mutual
   write_of now s (If c t) b h = write_of now s t b h
   write_of now s (IfElse c t u) b h = elim (or_cases (writes now s t b) (writes now s u b) h) [ inl x ↦ write_of now s t b x | inr x ↦ write_of now s u b x ]
   write_of now s (Case kind on arms) b h = arms_write_of now s arms b h
+  write_of now s (For head t) b h = absurd (both_ways false refl h)
   write_of true s (Assign t true e) b h = may_of s (target_parts t) b h
   write_of true s (Assign t false e) b h = absurd (both_ways false refl h)
   write_of false s (Assign t true e) b h = absurd (both_ways false refl h)

@@ -5,6 +5,7 @@ use Rattle.rr_syntax.specs.declared.token.Keyword.{Keyword}
 use Rattle.rr_syntax.specs.declared.tree.Arm.{Arm as Branch}
 use Rattle.rr_syntax.specs.declared.tree.Expr.{Expr}
 use Rattle.rr_syntax.specs.declared.tree.Named.{Named}
+use Rattle.rr_syntax.specs.declared.tree.Head.{Head}
 use Rattle.rr_syntax.specs.declared.tree.Stmt.{Stmt}
 use Rattle.rr_syntax.specs.declared.tree.Stmt.TheVariants as stmt
 use Rattle.rr_syntax.specs.Tree.{Statement}
@@ -28,6 +29,10 @@ shaped-Test s t y (Some n) h = (shaped-IfElse s t y n h).0
 pub reads-Null : (s : Names) (ps : List Piece) → Grown ps ps (StatementReads s (plain_statement stmt.Null))
 unfolding plain_statement StatementReads
 reads-Null s ps = grown_none ps (StatementReads s (plain_statement stmt.Null)) (λ b r. r)
+
+pub reads-For : (s : Names) (head : Head) (body : Bor Stmt) (ps : List Piece) → Grown ps ps (StatementReads s (plain_statement (stmt.For head body)))
+unfolding plain_statement StatementReads
+reads-For s head body ps = grown_none ps (StatementReads s (plain_statement (stmt.For head body))) (λ b r. r)
 
 pub reads-Block : (s : Names) (label : Option Named) (body : Bor (List Stmt)) (ps qs : List Piece) → Grown ps qs (StatementsRead s (plain_statements body.now)) → Grown ps qs (StatementReads s (plain_statement (stmt.Block label body)))
 unfolding StatementReads

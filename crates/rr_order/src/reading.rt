@@ -25,6 +25,7 @@ pub(crate) fn add_read_bits(
 {
     match stmt {
         Stmt::Null => Ok(()),
+        Stmt::For { .. } => Ok(()),
         Stmt::Block { body, .. } => add_read_by_all(alloc, list, body, names),
         Stmt::If { test, yes, no } => {
             add_named_bits(alloc, list, test, names)?;

@@ -3,13 +3,13 @@ use Rattle.std.specs.Prelude.{ℕ, ◌<◌, List, [], ◌∷◌, codes, length, 
 use Rattle.std.specs.List.{list_any}
 use Rattle.std.specs.Str.{bytes_eq}
 use Rattle.rr_syntax.specs.declared.token.Token.{Token}
-use Rattle.rr_syntax.specs.Words.{Word, Named, System, Digits, Reserved, Marked, words, mark_hash, mark_open_parenthesis, keyword_always, keyword_assign, keyword_begin, keyword_case, keyword_casex, keyword_casez, keyword_default, keyword_else, keyword_end, keyword_endcase, keyword_endmodule, keyword_if, keyword_initial, keyword_input, keyword_integer, keyword_localparam, keyword_module, keyword_negedge, keyword_or, keyword_output, keyword_parameter, keyword_posedge, keyword_reg, keyword_signed, keyword_wire}
+use Rattle.rr_syntax.specs.Words.{Word, Named, System, Digits, Reserved, Marked, words, mark_hash, mark_open_parenthesis, keyword_always, keyword_assign, keyword_begin, keyword_case, keyword_casex, keyword_casez, keyword_default, keyword_else, keyword_end, keyword_endcase, keyword_endmodule, keyword_for, keyword_if, keyword_initial, keyword_input, keyword_integer, keyword_localparam, keyword_module, keyword_negedge, keyword_or, keyword_output, keyword_parameter, keyword_posedge, keyword_reg, keyword_signed, keyword_wire}
 
 -- the reserved words in the rules of the grammar (IEEE 1364-2005 annex A)
 abbrev pub used : List ℕ
 used =
     keyword_always ∷ keyword_assign ∷ keyword_begin ∷ keyword_case ∷ keyword_casex ∷ keyword_casez ∷ keyword_default ∷ keyword_else ∷
-    keyword_end ∷ keyword_endcase ∷ keyword_endmodule ∷ keyword_if ∷ keyword_initial ∷ keyword_input ∷ keyword_integer ∷ keyword_localparam ∷
+    keyword_end ∷ keyword_endcase ∷ keyword_endmodule ∷ keyword_for ∷ keyword_if ∷ keyword_initial ∷ keyword_input ∷ keyword_integer ∷ keyword_localparam ∷
     keyword_module ∷ keyword_negedge ∷ keyword_or ∷ keyword_output ∷ keyword_parameter ∷ keyword_posedge ∷ keyword_reg ∷ keyword_signed ∷ keyword_wire ∷ []
 
 unfoldable pub is_used : ℕ → Bool

@@ -8,7 +8,7 @@ use rr_parse_expr::is_mark;
 use rr_syntax::{Keyword, Kind, Mark, Token};
 
 /// The reserved words that the grammar uses (IEEE 1364-2005 annexes A and B).
-const USED: [u8; 25] = [
+const USED: [u8; 26] = [
     Keyword::ALWAYS.0,
     Keyword::ASSIGN.0,
     Keyword::BEGIN.0,
@@ -20,6 +20,7 @@ const USED: [u8; 25] = [
     Keyword::END.0,
     Keyword::ENDCASE.0,
     Keyword::ENDMODULE.0,
+    Keyword::FOR.0,
     Keyword::IF.0,
     Keyword::INITIAL.0,
     Keyword::INPUT.0,

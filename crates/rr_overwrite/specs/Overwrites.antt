@@ -33,8 +33,8 @@ unfoldable pub first_targets : List Target → List Target
 first_targets [] = []
 first_targets (x ∷ xs) = x ∷ filter (λ y. not (bytes_eq y.text x.text)) (first_targets xs)
 
--- the variables that stand as whole targets in a statement, in the order of their first such targets; the parts of a
--- concatenated target count as targets (IEEE 1364-2005 section 9.2)
+-- the variables that stand as whole targets in a statement, in no loop of it, in the order of their first such targets; the
+-- parts of a concatenated target count as targets (IEEE 1364-2005 section 9.2)
 unfoldable pub targets_of : Statement → List Target
 targets_of s = first_targets (flat_map whole_target (assigned_by s))
 

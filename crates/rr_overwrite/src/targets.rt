@@ -1,4 +1,4 @@
-//! The variables that a body assigns as a whole.
+//! The variables that a body assigns as a whole outside its loops.
 
 ghost use Rattle.std.specs.Prelude.{◌≡◌, ◌++◌, IfOk, OnOk, filter, flat_map, map};
 ghost use Rattle.rr_syntax.specs.View.{plain_statement};
@@ -56,7 +56,8 @@ fn first_targets<'a>(
     Ok(list)
 }
 
-/// The variables that stand as whole targets in a statement, in the order of their first such targets.
+/// The variables that stand as whole targets in a statement, in no loop of it, in the order of their first
+/// such targets: a loop may have no turn.
 #[tactic(auto, using(crate::proofs::FirstTargets::targets_are))]
 pub(crate) fn targets_of<'a>(
     alloc: Global,

@@ -7,6 +7,7 @@ use Rattle.rr_syntax.specs.declared.token.Number.{Number}
 use Rattle.rr_syntax.specs.declared.tree.Arm.{Arm}
 use Rattle.rr_syntax.specs.declared.tree.Expr.{Expr, the_lemmas}
 use Rattle.rr_syntax.specs.declared.tree.Expr.TheVariants as expr
+use Rattle.rr_syntax.specs.declared.tree.Head.{Head}
 use Rattle.rr_syntax.specs.declared.tree.Named.{Named}
 use Rattle.rr_syntax.specs.declared.tree.Stmt.{Stmt, the_lemmas as stmt_lemmas}
 use Rattle.rr_syntax.specs.declared.tree.Stmt.TheVariants as stmt
@@ -86,7 +87,11 @@ pub form-Assign : (t : Bor Expr) (now : Bool) (v : Bor Expr) → is_initial (pla
 unfolding is_initial plain_statement
 form-Assign t now v = refl
 
-pub ruleset forms = (stmt_lemmas, form-Null, form-Block, form-If, form-Case, form-Assign)
+pub form-For : (h : Head) (s : Bor Stmt) → is_initial (plain_statement (stmt.For h s)) ≡ is_initial (plain_statement s.now)
+unfolding is_initial plain_statement
+form-For h s = refl
+
+pub ruleset forms = (stmt_lemmas, form-Null, form-Block, form-If, form-Case, form-Assign, form-For)
 
 pub initial_start : (ss : List Stmt) → are_initial (plain_statements (take 0 ss)) ≡ true
 unfolding is_initial plain_statements

@@ -7,9 +7,9 @@ use Rattle.rr_syntax.specs.declared.token.Token.{Token}
 use Rattle.rr_syntax.specs.declared.tree.Dir.{Dir}
 use Rattle.rr_syntax.specs.declared.tree.Dir.TheVariants as dir
 use Rattle.rr_syntax.specs.Words.{Word, Named, System, Digits, Marked, Reserved, words, keyword_case, keyword_casex, keyword_casez, keyword_localparam, keyword_negedge, keyword_parameter, keyword_posedge, keyword_signed, mark_equals, mark_hash, mark_less_or_equal, mark_open_parenthesis, mark_part_down, mark_part_up}
-use Rattle.rr_syntax.specs.Tree.{Tree, Trees, Name, Literal, Bit, Part, Indexed, Unary, Binary, Cond, Concat, Repeat, Cast, Paren, End, More, Identifier, Statement, Statements, Arm, Arms, Null, Block, If, IfElse, Case, Assign, Done, Then, CaseItem, NoArms, MoreArms, Range, PortDeclaration, ParamAssignment, ParameterDeclaration, DeclaredName, NetAssignment, EdgeEvent, EventControl, Star, Edges, Levels, NamedConnection, Connections, Positions, Names, ModuleInstance, ModuleItem, Ports, Nets, Variables, Integers, Parameters, Assigns, Always, Initial, Instances, ModuleDeclaration, SourceText}
+use Rattle.rr_syntax.specs.Tree.{Tree, Trees, Name, Literal, Bit, Part, Indexed, Unary, Binary, Cond, Concat, Repeat, Cast, Paren, End, More, Identifier, LoopHead, Statement, Statements, Arm, Arms, Null, Block, If, IfElse, Case, Assign, For, Done, Then, CaseItem, NoArms, MoreArms, Range, PortDeclaration, ParamAssignment, ParameterDeclaration, DeclaredName, NetAssignment, EdgeEvent, EventControl, Star, Edges, Levels, NamedConnection, Connections, Positions, Names, ModuleInstance, ModuleItem, Ports, Nets, Variables, Integers, Parameters, Assigns, Always, Initial, Instances, ModuleDeclaration, SourceText}
 use Rattle.rr_syntax.specs.Expressions.{spell, spell_parts, spell_more, WellFormed, WellFormedParts, WellFormedMore, infix_level, is_prefix}
-use Rattle.rr_syntax.specs.Statements.{spell_label, spell_labels, spell_statement, spell_statements, spell_arm, spell_arms, is_case, WellFormedStatement, WellFormedStatements, WellFormedArm, WellFormedArms}
+use Rattle.rr_syntax.specs.Statements.{spell_label, spell_labels, spell_loop, spell_statement, spell_statements, spell_arm, spell_arms, is_case, WellFormedLoop, WellFormedStatement, WellFormedStatements, WellFormedArm, WellFormedArms}
 use Rattle.rr_syntax.specs.Items as items
 use Rattle.rr_syntax.specs.Items.{spell_each, spell_separated, spell_all, spell_where, spell_identifier, spell_range, spell_type, spell_dir, spell_port, spell_assignment, spell_parameter, spell_value, spell_declarator, spell_pair, spell_edge, spell_more_edges, spell_edges, spell_more_levels, spell_levels, spell_events, spell_optional, spell_connection, spell_connections, spell_overrides, spell_instance, spell_item, spell_parameters, spell_ports, spell_module, spell_source, separator, WellFormedRange, WellFormedPort, WellFormedAssignment, WellFormedParameter, WellFormedValue, WellFormedDeclarator, WellFormedPair, WellFormedEvents, WellFormedConnection, WellFormedConnections, WellFormedOverrides, WellFormedInstance, WellFormedItem, WellFormedHead, WellFormedModule, WellFormedSource}
 use Rattle.rr_outside_words.specs.Profile.{is_used, is_cast, opens, is_outside, has_no_rule, NoneOutside}
@@ -139,6 +139,11 @@ now_mark : (b : Bool) → nat_eq (cond b mark_equals mark_less_or_equal) mark_ha
 now_mark true = refl
 now_mark false = refl
 
+loop_head : (h : LoopHead) → WellFormedLoop h → Ruled (spell_loop h)
+unfolding spell_loop WellFormedLoop
+loop_head h w =
+    mark _ refl (name h.text (mark _ refl (joined (expression h.start w.0) (mark _ refl (joined (expression h.test w.1) (mark _ refl (name h.step_text (mark _ refl (joined (expression h.step w.2) (mark _ refl none))))))))))
+
 mutual
   unfolding spell_statement WellFormedStatement is_used
 
@@ -149,6 +154,7 @@ mutual
   statement (IfElse t s u) w = keyword _ refl (mark _ refl (joined (expression t w.0) (mark _ refl (joined (statement s w.1) (keyword _ refl (statement u w.3))))))
   statement (Case kind t bs) w = keyword kind (case_used kind w.0) (mark _ refl (joined (expression t w.1) (mark _ refl (joined (arms bs w.3) (keyword _ refl none)))))
   statement (Assign t now v) w = joined (expression t w.1) (mark _ (now_mark now) (joined (expression v w.2) (mark _ refl none)))
+  statement (For h s) w = keyword _ refl (joined (loop_head h w.0) (statement s w.1))
 
   statements : (ss : Statements) → WellFormedStatements ss → Ruled (spell_statements ss)
   statements Done w = none

@@ -31,7 +31,7 @@ fn is_name(expr: &Expr) -> bool
     }
 }
 
-/// Whether a statement is `;`, a block of such statements, or sets a whole variable by `=`.
+/// Whether a statement is `;`, a block or a loop of such statements, or sets a whole variable by `=`.
 #[tactic(auto, using(crate::proofs::InitialForms::forms))]
 #[cycle(initials)]
 fn is_initial(stmt: &Stmt) -> bool
@@ -42,6 +42,7 @@ fn is_initial(stmt: &Stmt) -> bool
         Stmt::Block { body, .. } => are_initial(body),
         Stmt::If { .. } | Stmt::Case { .. } => false,
         Stmt::Assign { target, now, .. } => *now && is_name(target),
+        Stmt::For { body, .. } => is_initial(body),
     }
 }
 

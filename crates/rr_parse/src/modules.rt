@@ -5,15 +5,15 @@ ghost use Rattle.rr_syntax.specs.View.{plain_module, plain_parameter};
 ghost use Rattle.rr_grammar.specs.Formats.{repeated};
 ghost use Rattle.rr_grammar.specs.ModuleForms.{group_ports as groups_of, heads as heads_of, name_ports as names_of, one_module as module_of, port_list as port_list_of, ports_in as ports_of};
 ghost use Rattle.rr_parse.specs.Answer.{Answers};
+ghost use Rattle.rr_parse.specs.Chains.{AnswersAll};
 ghost use Rattle.rr_parse.specs.Trees.{plain_list_by, plain_port_list};
 
 use crate::declarations::{heads, names};
 use crate::items::items;
-use crate::lists::all;
 use crate::ports::{begins_port, ports};
 use crate::tokens::{mark, name, word};
 use bumpalo::collections::into_bump_slice;
-use rr_parse_expr::{Input, ParseFault, Piece, is_mark};
+use rr_parse_expr::{Input, ParseFault, Piece, add, is_mark};
 use rr_syntax::{Group, Keyword, Mark, Module, Named, Params};
 
 /// The depth of an expression in the brackets of a module: the module is one level, and the node
@@ -147,10 +147,34 @@ fn module<'a>(input: Input<'a>, from: u32) -> Result<Piece<Module<'a>>, ParseFau
     })
 }
 
+/// Modules, as long as one follows. A loop of its own, since a function that is handed in as elsewhere would make the check of the
+/// largest of the parts too long.
+fn each_module<'a>(input: Input<'a>) -> Result<Piece<&'a [Module<'a>]>, ParseFault>
+    requires short { length input.tokens.now < 2 ^ 32 }
+    ensures { AnswersAll (λ at o. Answers (module_of 498 497) plain_module input.entry.tokens.now at o) input.entry.tokens.now 0 result }
+{
+    let mut list = Vec::new(input.arena);
+    let mut next = 0;
+    loop {
+        match module(input, next) {
+            Ok(more) => {
+                add(&mut list, more.value)?;
+                next = more.next;
+            }
+            Err(ParseFault::Memory) => return Err(ParseFault::Memory),
+            Err(_) => break,
+        }
+    }
+    Ok(Piece {
+        value: into_bump_slice(list),
+        next,
+    })
+}
+
 /// Modules, with nothing between.
 pub(crate) fn modules<'a>(input: Input<'a>) -> Result<Piece<&'a [Module<'a>]>, ParseFault>
     requires short { length input.tokens.now < 2 ^ 32 }
     ensures { Answers (repeated (module_of 498 497)) (plain_list_by plain_module) input.entry.tokens.now 0 result }
 {
-    all(input.tokens, 0, input.arena, |at| module(input, at))
+    each_module(input)
 }

@@ -30,7 +30,7 @@ pub closed_before : (t : Tree) → WellFormed t → (limit : ℕ) → depth t �
 unfolding mark rest
 closed_before t w limit d m e left = closed-some (reads limit) m (spell t ++ (Marked m ∷ left)) (bare t, Marked m ∷ left) (before_mark t w limit d (Marked m ∷ left) e) refl
 
-follow-close : follow_level mark_close_parenthesis ≡ 0
+pub follow-close : follow_level mark_close_parenthesis ≡ 0
 unfolding follow_level infix_level
 follow-close = refl
 

@@ -6,7 +6,7 @@ use Rattle.rr_syntax.specs.declared.tree.Expr.{Expr}
 use Rattle.rr_syntax.specs.declared.tree.Stmt.{Stmt}
 use Rattle.rr_syntax.specs.declared.tree.Stmt.TheVariants as stmt
 use Rattle.rr_syntax.specs.declared.tree.Arm.{Arm as Branch}
-use Rattle.rr_syntax.specs.Words.{Word, words, keyword_begin, keyword_default, keyword_else, keyword_endcase, keyword_if, mark_colon, mark_semicolon, mark_equals, mark_less_or_equal}
+use Rattle.rr_syntax.specs.Words.{Word, words, keyword_begin, keyword_default, keyword_else, keyword_endcase, keyword_for, keyword_if, mark_colon, mark_semicolon, mark_equals, mark_less_or_equal}
 use Rattle.rr_syntax.specs.Tree.{Tree, Trees, End, More, Statement, Arm, Arms, Null, If, IfElse, Case, Assign, CaseItem, NoArms, MoreArms, bare, bare_parts, bare_statement, bare_arm, bare_arms}
 use Rattle.rr_syntax.specs.Expressions.{spell, spell_more, Numbered, is_target, unary_level}
 use Rattle.rr_syntax.specs.Statements.{spell_labels, spell_statement, spell_arm, spell_arms, is_case, defaults, NumberedLabels, NumberedStatement, NumberedArm, NumberedArms}
@@ -23,10 +23,10 @@ use Rattle.rr_parse_stmt.specs.declared.expressions.Placed.{Placed}
 use Rattle.rr_parse_stmt.specs.declared.expressions.LabelList.{LabelList}
 use Rattle.rr_parse_stmt.specs.declared.nodes.Piece.{Piece}
 use Rattle.rr_parse_stmt.specs.declared.nodes.ArmPiece.{ArmPiece}
-use Rattle.rr_parse_stmt.specs.Reading.{keyword, snoc_arm, block, tested, after_then, conditional, labels, default_arm, labelled_arm, arm_by, arms, cases, sign, assigned, target, assignment, statement_by, below_statement, below_arm}
+use Rattle.rr_parse_stmt.specs.Reading.{keyword, snoc_arm, block, tested, after_then, conditional, looped, labels, default_arm, labelled_arm, arm_by, arms, cases, sign, assigned, target, assignment, statement_by, below_statement, below_arm}
 use Rattle.rr_parse_stmt.specs.Answer.{IsPiece, IsArmPiece, FindsTree, FindsTarget, AnswersTarget, FindsLabels, FindsStatement, FindsArm, FindsArms}
 use Rattle.rr_parse_stmt.specs.Loops.{at_most_one, Armed}
-use Rattle.rr_parse_stmt.proofs.Steps.{statement-below, arm-below, if-then, if-open, then-alone, then-else, then-open, default-colon, default-alone, labelled-some, arm-default, arm-labelled, go_on, arms-step, case-some, assigned-now, assigned-later, target-is, target-not, assignment-some, assignment-none, by-null, by-begin, by-if, by-case, by-assignment}
+use Rattle.rr_parse_stmt.proofs.Steps.{statement-below, arm-below, if-then, if-open, then-alone, then-else, then-open, default-colon, default-alone, labelled-some, arm-default, arm-labelled, go_on, arms-step, case-some, assigned-now, assigned-later, target-is, target-not, assignment-some, assignment-none, by-null, by-begin, by-if, by-for, by-case, by-assignment}
 use denote.Ref.{Bor}
 use Rattle.rr_parse_stmt.proofs.Answered.{keyword_inside}
 
@@ -60,10 +60,10 @@ len-If t s = simp (statement_spellings, length-append) (omega arith)
 len-IfElse : (t : Tree) (s u : Statement) → length (spell_statement (IfElse t s u)) ≡ 4 + length (spell t) + length (spell_statement s) + length (spell_statement u)
 len-IfElse t s u = simp (statement_spellings, length-append) (omega arith)
 
-at_next : (n m : ℕ) (t : Tree) → n ≡ m → Numbered t n → Numbered t m
+pub at_next : (n m : ℕ) (t : Tree) → n ≡ m → Numbered t n → Numbered t m
 at_next n m t e h = let P : ℕ → Type 0 = λ (k : ℕ). Numbered t k in subst P e h
 
-at_place : (n m : ℕ) (s : Statement) → n ≡ m → NumberedStatement s n → NumberedStatement s m
+pub at_place : (n m : ℕ) (s : Statement) → n ≡ m → NumberedStatement s n → NumberedStatement s m
 at_place n m s e h = let P : ℕ → Type 0 = λ (k : ℕ). NumberedStatement s k in subst P e h
 
 pub if_reads : (T : List Token) (from room : ℕ) (t : Placed) (s : Piece) → FindsTree T (from + 1 + 1) 1 (tested (expressions.below room) (drop (from + 1) (words T))) t → FindsStatement T t.next (below_statement room (drop t.next (words T))) s →
@@ -524,11 +524,14 @@ module _ (room from : ℕ) (T : List Token) (h : 0 < room) (m : mark (drop from 
   pub is_if : keyword (drop from (words T)) ≡ keyword_if → below_statement room (drop from (words T)) ≡ conditional (expressions.below (room - 1)) (below_statement (room - 1)) (drop (from + 1) (words T))
   is_if k = below_all room (drop from (words T)) h ∙ by-if (expressions.below (room - 1)) (below_statement (room - 1)) (below_arm (room - 1)) (drop from (words T)) front k ∙ ap (conditional (expressions.below (room - 1)) (below_statement (room - 1))) (rest_drop (words T) from)
 
+  pub is_for : keyword (drop from (words T)) ≡ keyword_for → below_statement room (drop from (words T)) ≡ looped (expressions.below (room - 1)) (below_statement (room - 1)) (drop (from + 1) (words T))
+  is_for k = below_all room (drop from (words T)) h ∙ by-for (expressions.below (room - 1)) (below_statement (room - 1)) (below_arm (room - 1)) (drop from (words T)) front k ∙ ap (looped (expressions.below (room - 1)) (below_statement (room - 1))) (rest_drop (words T) from)
+
   pub is_case_at : is_case (keyword (drop from (words T))) ≡ true → below_statement room (drop from (words T)) ≡ cases (expressions.below (room - 1)) (below_arm (room - 1)) (keyword (drop from (words T))) (drop (from + 1) (words T))
   is_case_at k = below_all room (drop from (words T)) h ∙ by-case (expressions.below (room - 1)) (below_statement (room - 1)) (below_arm (room - 1)) (drop from (words T)) front k ∙ ap (cases (expressions.below (room - 1)) (below_arm (room - 1)) (keyword (drop from (words T)))) (rest_drop (words T) from)
 
-  pub is_assignment : (keyword (drop from (words T)) ≡ keyword_begin → ⊥) → (keyword (drop from (words T)) ≡ keyword_if → ⊥) → is_case (keyword (drop from (words T))) ≡ false → below_statement room (drop from (words T)) ≡ assignment (expressions.below (room - 1)) (drop from (words T))
-  is_assignment a b k = below_all room (drop from (words T)) h ∙ by-assignment (expressions.below (room - 1)) (below_statement (room - 1)) (below_arm (room - 1)) (drop from (words T)) front (not_equal (keyword (drop from (words T))) keyword_begin a) (not_equal (keyword (drop from (words T))) keyword_if b) k
+  pub is_assignment : (keyword (drop from (words T)) ≡ keyword_begin → ⊥) → (keyword (drop from (words T)) ≡ keyword_if → ⊥) → (keyword (drop from (words T)) ≡ keyword_for → ⊥) → is_case (keyword (drop from (words T))) ≡ false → below_statement room (drop from (words T)) ≡ assignment (expressions.below (room - 1)) (drop from (words T))
+  is_assignment a b c k = below_all room (drop from (words T)) h ∙ by-assignment (expressions.below (room - 1)) (below_statement (room - 1)) (below_arm (room - 1)) (drop from (words T)) front (not_equal (keyword (drop from (words T))) keyword_begin a) (not_equal (keyword (drop from (words T))) keyword_if b) (not_equal (keyword (drop from (words T))) keyword_for c) k
 
 -- ---- the two kinds of arms
 

@@ -1,21 +1,21 @@
 -- Whatever is well-formed is read: the reading function finds each statement that ends where it ends.
 use Rattle.std.proofs.Common.{◌≡◌, ℕ, zero, suc, ◌+◌, ◌≤◌, ◌<◌, List, [], ◌∷◌, ◌++◌, length, refl, ap, ◌∙◌, sym, arith, Bool, true, false, cond, nat_eq, Option, Some, None, length-append, append_assoc}
 use Rattle.std.proofs.lemmas.Bool.Decides.{nat_tests, Decides-eqb}
-use Rattle.rr_syntax.specs.Words.{Word, Named, Marked, Reserved, keyword_begin, keyword_default, keyword_else, keyword_end, keyword_endcase, keyword_if, mark_open_parenthesis, mark_close_parenthesis, mark_comma, mark_colon, mark_semicolon, mark_equals, mark_less_or_equal}
-use Rattle.rr_syntax.specs.Tree.{Tree, Trees, End, More, Identifier, Statement, Statements, Arm, Arms, Null, Block, If, IfElse, Case, Assign, Done, Then, CaseItem, NoArms, MoreArms, bare, bare_parts, bare_identifier, bare_label, bare_statement, bare_statements, bare_arm, bare_arms}
+use Rattle.rr_syntax.specs.Words.{Word, Named, Marked, Reserved, keyword_begin, keyword_default, keyword_else, keyword_end, keyword_endcase, keyword_for, keyword_if, mark_open_parenthesis, mark_close_parenthesis, mark_comma, mark_colon, mark_semicolon, mark_equals, mark_less_or_equal}
+use Rattle.rr_syntax.specs.Tree.{Tree, Trees, End, More, Identifier, LoopHead, Statement, Statements, Arm, Arms, Null, Block, If, IfElse, Case, Assign, For, Done, Then, CaseItem, NoArms, MoreArms, bare, bare_parts, bare_identifier, bare_label, bare_loop, bare_statement, bare_statements, bare_arm, bare_arms}
 use Rattle.rr_syntax.specs.Expressions.{depth, height, WellFormed, WellFormedMore, spell, spell_more, is_target, unary_level}
-use Rattle.rr_syntax.specs.Statements.{is_open, spell_label, spell_labels, spell_statement, spell_statements, spell_arm, spell_arms, is_case, HasColon, defaults, HasArms, WellFormedStatement, WellFormedStatements, WellFormedArm, WellFormedArms, depth_statement, height_statements, depth_arm, height_arms}
+use Rattle.rr_syntax.specs.Statements.{is_open, spell_label, spell_labels, spell_loop, spell_statement, spell_statements, spell_arm, spell_arms, is_case, HasColon, defaults, HasArms, WellFormedLoop, WellFormedStatement, WellFormedStatements, WellFormedArm, WellFormedArms, depth_loop, depth_statement, height_statements, depth_arm, height_arms}
 use Rattle.rr_syntax.proofs.BareExpressions.{is_target-bare}
-use Rattle.rr_syntax.proofs.Equations.{spellings, statement_spellings, more-End, more-More, labels-End, statement-Null, arms-NoArms, statements-Done}
+use Rattle.rr_syntax.proofs.Equations.{spellings, statement_spellings, loop-Head, more-End, more-More, labels-End, statement-Null, arms-NoArms, statements-Done}
 use Rattle.rr_parse_expr.specs.Reading.{Found, mark, rest, snoc, reads, nothing}
 use Rattle.rr_parse_expr.proofs.Facts.{follow_level, follow-colon, follow-comma}
 use Rattle.rr_parse_expr.proofs.Complete.{appended, appended-snoc, appended-End}
-use Rattle.rr_parse_stmt.specs.Reading.{keyword, no_word, name, label, snoc_statement, snoc_arm, body, labels_after, labels, arms, assigned, statement, arm, below_statement, below_arm, no_statement, no_arm}
+use Rattle.rr_parse_stmt.specs.Reading.{keyword, no_word, name, label, snoc_statement, snoc_arm, body, setting, head, labels_after, labels, arms, assigned, statement, arm, below_statement, below_arm, no_statement, no_arm}
 use Rattle.rr_parse_stmt.specs.Exact.{Closes}
 use Rattle.rr_syntax.proofs.Nonempty.{spell_statement-some, spell_arm-some}
 use Rattle.rr_parse_expr.specs.Reading as expressions
-use Rattle.rr_parse_stmt.proofs.Steps.{statement-below, body-end, body-next, label-none, label-some, block-some, if-then, then-alone, then-else, labels-end, labels-comma, labels-first, default-colon, default-alone, labelled-some, arm-default, arm-labelled, go_on, arms-step, case-some, assigned-now, assigned-later, assignment-target, by-null, by-begin, by-if, by-case, by-assignment}
-use Rattle.rr_parse_stmt.proofs.Before.{before_mark, closed_before, tested_before, target_before, follow-semicolon, follow-equals, follow-less_or_equal, keyword_spell, target_mark}
+use Rattle.rr_parse_stmt.proofs.Steps.{statement-below, body-end, body-next, label-none, label-some, block-some, if-then, then-alone, then-else, setting-some, head-start, start-some, looped-some, labels-end, labels-comma, labels-first, default-colon, default-alone, labelled-some, arm-default, arm-labelled, go_on, arms-step, case-some, assigned-now, assigned-later, assignment-target, by-null, by-begin, by-if, by-for, by-case, by-assignment}
+use Rattle.rr_parse_stmt.proofs.Before.{before_mark, closed_before, tested_before, target_before, follow-semicolon, follow-equals, follow-less_or_equal, follow-close, keyword_spell, target_mark}
 
 -- ---- words
 
@@ -33,6 +33,13 @@ words-Case kind t list left = simp (statement_spellings, append_assoc)
 
 pub words-Assign : (t : Tree) (now : Bool) (v : Tree) (left : List Word) → spell_statement (Assign t now v) ++ left ≡ spell t ++ (Marked (cond now mark_equals mark_less_or_equal) ∷ (spell v ++ (Marked mark_semicolon ∷ left)))
 words-Assign t now v left = simp (statement_spellings, append_assoc)
+
+pub words-Loop : (h : LoopHead) (left : List Word) → spell_loop h ++ left ≡
+    Marked mark_open_parenthesis ∷ (Named h.text ∷ (Marked mark_equals ∷ (spell h.start ++ (Marked mark_semicolon ∷ (spell h.test ++ (Marked mark_semicolon ∷ (Named h.step_text ∷ (Marked mark_equals ∷ (spell h.step ++ (Marked mark_close_parenthesis ∷ left))))))))))
+words-Loop h left = simp (loop-Head, append_assoc)
+
+pub words-For : (h : LoopHead) (s : Statement) (left : List Word) → spell_statement (For h s) ++ left ≡ Reserved keyword_for ∷ (spell_loop h ++ (spell_statement s ++ left))
+words-For h s left = simp (statement_spellings, append_assoc)
 
 pub words-Arm : (ts : Trees) (c : Bool) (s : Statement) (left : List Word) → spell_arm (CaseItem ts c s) ++ left ≡ spell_labels ts c ++ (spell_statement s ++ left)
 words-Arm ts c s left = simp (statement_spellings, append_assoc)
@@ -69,6 +76,7 @@ statement_front (Case kind t list) w left =
 statement_front (Assign t now v) w left =
     let last : List Word = Marked (cond now mark_equals mark_less_or_equal) ∷ (spell v ++ (Marked mark_semicolon ∷ left)) in
     rw words-Assign (by_word (spell t ++ last) no_word (keyword_spell t last) (target_mark t w.0 last).1 refl refl refl)
+statement_front (For h s) w left = rw words-For (by_word (Reserved keyword_for ∷ (spell_loop h ++ (spell_statement s ++ left))) keyword_for refl refl refl refl refl)
 
 -- labels begin with `default` or an expression
 labels_front : (ts : Trees) (c : Bool) (left : List Word) → (nat_eq (keyword (spell_labels ts c ++ left)) keyword_else ≡ false) × (nat_eq (keyword (spell_labels ts c ++ left)) keyword_endcase ≡ false)
@@ -277,9 +285,29 @@ assign_read t now v h w x k d e left =
     let ws : List Word = spell t ++ last in
     let m = target_mark t h last in
     let kw : keyword ws ≡ no_word = keyword_spell t last in
-    let one = by-assignment (reads k) (statement k) (arm k) ws m.0 (rw kw refl) (rw kw refl) (rw kw refl) in
+    let one = by-assignment (reads k) (statement k) (arm k) ws m.0 (rw kw refl) (rw kw refl) (rw kw refl) (rw kw refl) in
     let et = target_before t w h k d last (assign_follow now (spell v ++ (Marked mark_semicolon ∷ left))) in
     rw words-Assign (one ∙ assignment-target (reads k) ws (bare t, last) et (is_target-bare t ∙ h) ∙ assigned_read now (bare t) v x k e left)
+
+-- a name that is set before a mark
+setting_read : (s : List ℕ) (t : Tree) → WellFormed t → (k : ℕ) → depth t ≤ k → (m : ℕ) → follow_level m ≡ 0 → (left : List Word) →
+    setting (reads k) m (Named s ∷ (Marked mark_equals ∷ (spell t ++ (Marked m ∷ left)))) ≡ Some (record { text = s; value = bare t }, left)
+unfolding mark rest name
+setting_read s t w k d m e left =
+    let last : List Word = Marked mark_equals ∷ (spell t ++ (Marked m ∷ left)) in
+    setting-some (reads k) m (Named s ∷ last) (record { token = 0; text = s }, last) (bare t, left) refl refl (closed_before t w k d m e left)
+
+-- the head of a loop
+head_read : (h : LoopHead) → WellFormedLoop h → (k : ℕ) → depth_loop h ≤ k → (left : List Word) → head (reads k) (spell_loop h ++ left) ≡ Some (bare_loop h, left)
+unfolding WellFormedLoop depth_loop bare_loop mark rest
+head_read h w k d left =
+    let third : List Word = Named h.step_text ∷ (Marked mark_equals ∷ (spell h.step ++ (Marked mark_close_parenthesis ∷ left))) in
+    let second : List Word = spell h.test ++ (Marked mark_semicolon ∷ third) in
+    let all : List Word = Marked mark_open_parenthesis ∷ (Named h.text ∷ (Marked mark_equals ∷ (spell h.start ++ (Marked mark_semicolon ∷ second)))) in
+    let a = setting_read h.text h.start w.0 k (omega (arith, d)) mark_semicolon follow-semicolon second in
+    let t = closed_before h.test w.1 k (omega (arith, d)) mark_semicolon follow-semicolon third in
+    let b = setting_read h.step_text h.step w.2 k (omega (arith, d)) mark_close_parenthesis follow-close left in
+    rw words-Loop (head-start (reads k) all (record { text = h.text; value = bare h.start }, second) refl a ∙ start-some (reads k) (record { text = h.text; value = bare h.start }) second (bare h.test, third) (record { text = h.step_text; value = bare h.step }, left) t b)
 
 has_more : (t : Tree) (ts : Trees) (c : Bool) → HasColon (More t ts) c → c ≡ true
 has_more t ts c h = h
@@ -360,6 +388,12 @@ mutual
       rw words-Case (by-case (reads k) (statement k) (arm k) (Reserved kind ∷ all) refl w.0 ∙ case-some (reads k) (arm k) kind all (bare t, after) (bare_arms (MoreArms a list), left) et ea)
   reads_statement (Assign t now v) w zero d left c = absurd (omega (arith, d))
   reads_statement (Assign t now v) w (suc k) d left c = assign_read t now v w.0 w.1 w.2 k (omega (arith, d)) (omega (arith, d)) left
+  reads_statement (For h s) w zero d left c = absurd (omega (arith, d))
+  reads_statement (For h s) w (suc k) d left c =
+      let after : List Word = spell_statement s ++ left in
+      let eh = head_read h w.0 k (omega (arith, d)) after in
+      let es = reads_statement s w.1 k (omega (arith, d)) left c in
+      rw words-For (by-for (reads k) (statement k) (arm k) (Reserved keyword_for ∷ (spell_loop h ++ after)) refl refl ∙ looped-some (reads k) (statement k) (spell_loop h ++ after) (bare_loop h, after) (bare_statement s, left) eh es)
 
   reads_body : (ss : Statements) → WellFormedStatements ss → (k : ℕ) → height_statements ss ≤ suc k → (fuel : ℕ) → count_statements ss < fuel → (have : Statements) (left : List Word) →
       body (statement k) fuel have (spell_statements ss ++ (Reserved keyword_end ∷ left)) ≡ Some (joined_statements have ss, left)

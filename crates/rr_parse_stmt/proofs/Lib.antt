@@ -7,6 +7,7 @@ pub mod Exactly
 pub mod FromExpressions
 pub mod FrontWords
 pub mod Labels
+pub mod LoopHeads
 pub mod Names
 pub mod Sound
 pub mod Steps

@@ -1,18 +1,18 @@
 -- What is read is well-formed, within the depth, without token numbers, spelled by the words that were taken, and ends there.
 use Rattle.std.proofs.Common.{◌≡◌, ℕ, zero, suc, ◌≤◌, ◌<◌, List, [], ◌∷◌, ◌++◌, length, refl, ap, ◌∙◌, sym, arith, Bool, true, false, cond, nat_eq, nat_le, Option, Some, None, inl, inr, append_assoc, subst}
 use Rattle.std.proofs.lemmas.Bool.Decides.{Decides-eqb, nat_tests}
-use Rattle.rr_syntax.specs.Words.{Word, Named, System, Digits, Marked, Reserved, keyword_begin, keyword_default, keyword_else, keyword_end, keyword_endcase, keyword_if, mark_open_parenthesis, mark_close_parenthesis, mark_comma, mark_colon, mark_semicolon, mark_equals, mark_less_or_equal}
-use Rattle.rr_syntax.specs.Tree.{Tree, Trees, End, More, Identifier, Statement, Statements, Arm, Arms, Null, Block, If, IfElse, Case, Assign, Done, Then, CaseItem, NoArms, MoreArms, bare, bare_parts, bare_identifier, bare_label, bare_statement, bare_statements, bare_arm, bare_arms}
+use Rattle.rr_syntax.specs.Words.{Word, Named, System, Digits, Marked, Reserved, keyword_begin, keyword_default, keyword_else, keyword_end, keyword_endcase, keyword_for, keyword_if, mark_open_parenthesis, mark_close_parenthesis, mark_comma, mark_colon, mark_semicolon, mark_equals, mark_less_or_equal}
+use Rattle.rr_syntax.specs.Tree.{Tree, Trees, End, More, Identifier, LoopHead, Statement, Statements, Arm, Arms, Null, Block, If, IfElse, Case, Assign, For, Done, Then, CaseItem, NoArms, MoreArms, bare, bare_parts, bare_identifier, bare_label, bare_loop, bare_statement, bare_statements, bare_arm, bare_arms}
 use Rattle.rr_syntax.specs.Expressions.{depth, height, WellFormed, WellFormedMore, spell, spell_more, is_target, unary_level}
-use Rattle.rr_syntax.specs.Statements.{is_open, spell_label, spell_labels, spell_statement, spell_statements, spell_arm, spell_arms, is_case, HasColon, defaults, WellFormedStatement, WellFormedStatements, WellFormedArm, WellFormedArms, depth_statement, height_statements, depth_arm, height_arms}
+use Rattle.rr_syntax.specs.Statements.{is_open, spell_label, spell_labels, spell_loop, spell_statement, spell_statements, spell_arm, spell_arms, is_case, HasColon, defaults, WellFormedLoop, WellFormedStatement, WellFormedStatements, WellFormedArm, WellFormedArms, depth_loop, depth_statement, height_statements, depth_arm, height_arms}
 use Rattle.rr_syntax.proofs.Equations.{spellings, statement_spellings, more-End, statement-Null, statements-Done}
-use Rattle.rr_parse_expr.specs.Reading.{Reader, mapped, chain, mark, rest, no_mark, closed, snoc, reads, nothing}
+use Rattle.rr_parse_expr.specs.Reading.{Reader, mapped, chain, mark, rest, no_mark, expect, closed, snoc, reads, nothing}
 use Rattle.rr_parse_expr.proofs.Climbs.{mapped_tells, chain_tells, if_tells, if_splits, expect_tells, closed_tells}
 use Rattle.rr_parse_expr.proofs.Complete.{appended, appended-snoc, appended-End}
 use Rattle.rr_parse_expr.proofs.Sound.{Fits, reads_sound}
-use Rattle.rr_parse_stmt.specs.Reading.{keyword, no_word, StatementReader, ArmReader, name, label, labelled, snoc_statement, snoc_arm, body, block, tested, after_then, conditional, labels_after, labels, default_arm, labelled_arm, arm_by, arms, cases, assigned, only_target, target, assignment, statement_by, statement, arm, no_statement, no_arm}
+use Rattle.rr_parse_stmt.specs.Reading.{keyword, no_word, StatementReader, ArmReader, name, label, labelled, snoc_statement, snoc_arm, body, block, tested, after_then, conditional, NamedValue, named_value, setting, loop_head, after_start, head, looped, labels_after, labels, default_arm, labelled_arm, arm_by, arms, cases, assigned, only_target, target, assignment, statement_by, statement, arm, no_statement, no_arm}
 use Rattle.rr_parse_stmt.specs.Exact.{Closes}
-use Rattle.rr_parse_stmt.proofs.Complete.{words-Block, words-If, words-IfElse, words-Case, words-Assign, words-Arm, words-Then, words-Arms, words-More, appended_statements, appended_snoc_statement, appended_Done, appended_arms, appended_snoc_arm}
+use Rattle.rr_parse_stmt.proofs.Complete.{words-Block, words-If, words-IfElse, words-Case, words-Assign, words-Loop, words-For, words-Arm, words-Then, words-Arms, words-More, appended_statements, appended_snoc_statement, appended_Done, appended_arms, appended_snoc_arm}
 
 -- what the readers of expressions keep
 abbrev SoundReader : Reader → ℕ → Type 0
@@ -222,6 +222,73 @@ conditional_sound e sub limit r s ws p q =
             closes = λ o k. let z : nat_eq (keyword b.0.1) keyword_else ≡ true = (Decides-eqb (keyword b.0.1) keyword_else).1 k in cc (z, h.0);
           })
     ]
+
+-- ---- for
+
+record SettingFits (limit m : ℕ) (ws : List Word) (v : NamedValue) (left : List Word) : Type 0 where
+  well : WellFormed v.value
+  deeper : depth v.value < limit
+  bared : bare v.value ≡ v.value
+  spelled : ws ≡ Named v.text ∷ (Marked mark_equals ∷ (spell v.value ++ (Marked m ∷ left)))
+
+setting_sound : (e : Reader) (limit : ℕ) → SoundReader e limit → (m : ℕ) → m < no_mark → (ws : List Word) (p : NamedValue × List Word) → setting e m ws ≡ Some p → SettingFits limit m ws p.0 p.1
+unfolding setting
+setting_sound e limit s m h ws p q =
+    let a = chain_tells (name ws) (λ i left. expect mark_equals (λ after. mapped (named_value i) (closed e m after)) left) p q in
+    let b = expect_tells mark_equals (λ after. mapped (named_value a.0.0) (closed e m after)) a.0.1 p a.2 in
+    let c = mapped_tells (named_value a.0.0) (closed e m (rest a.0.1)) p b.1 in
+    let n = name_sound ws a.0 a.1 in
+    let f = closed_sound e limit s m h (rest a.0.1) c.0 c.1 in
+    let one : SettingFits limit m ws (named_value a.0.0 c.0.0) c.0.1 = record {
+      well = f.well;
+      deeper = f.deeper;
+      bared = f.bared;
+      spelled = n.0 ∙ ap (λ (x : List Word). Named a.0.0.text ∷ x) (marked mark_equals a.0.1 b.0 (omega arith) ∙ ap (λ (x : List Word). Marked mark_equals ∷ x) f.spelled);
+    } in
+    let P : NamedValue → Type 0 = λ (x : NamedValue). SettingFits limit m ws x c.0.1 in
+    let Q : List Word → Type 0 = λ (x : List Word). SettingFits limit m ws p.0 x in
+    subst Q c.3 (subst P c.2 one)
+
+record HeadFits (limit : ℕ) (ws : List Word) (h : LoopHead) (left : List Word) : Type 0 where
+  well : WellFormedLoop h
+  deeper : depth_loop h < limit
+  bared : bare_loop h ≡ h
+  spelled : ws ≡ spell_loop h ++ left
+
+head_sound : (e : Reader) (limit : ℕ) → SoundReader e limit → (ws : List Word) (p : LoopHead × List Word) → head e ws ≡ Some p → HeadFits limit ws p.0 p.1
+unfolding head after_start WellFormedLoop depth_loop bare_loop
+head_sound e limit s ws p q =
+    let o = expect_tells mark_open_parenthesis (λ after. chain (setting e mark_semicolon after) (after_start e)) ws p q in
+    let a = chain_tells (setting e mark_semicolon (rest ws)) (after_start e) p o.1 in
+    let t = chain_tells (closed e mark_semicolon a.0.1) (λ t left. mapped (loop_head a.0.0 t) (setting e mark_close_parenthesis left)) p a.2 in
+    let b = mapped_tells (loop_head a.0.0 t.0.0) (setting e mark_close_parenthesis t.0.1) p t.2 in
+    let f = setting_sound e limit s mark_semicolon (omega arith) (rest ws) a.0 a.1 in
+    let g = closed_sound e limit s mark_semicolon (omega arith) a.0.1 t.0 t.1 in
+    let k = setting_sound e limit s mark_close_parenthesis (omega arith) t.0.1 b.0 b.1 in
+    let one : HeadFits limit ws (loop_head a.0.0 t.0.0 b.0.0) b.0.1 = record {
+      well = (f.well, g.well, k.well);
+      deeper = omega (arith, f.deeper, g.deeper, k.deeper);
+      bared = ap (λ (x : Tree). loop_head (record { text = a.0.0.text; value = x }) (bare t.0.0) (record { text = b.0.0.text; value = bare b.0.0.value })) f.bared ∙ ap (λ (x : Tree). loop_head a.0.0 x (record { text = b.0.0.text; value = bare b.0.0.value })) g.bared ∙ ap (λ (x : Tree). loop_head a.0.0 t.0.0 (record { text = b.0.0.text; value = x })) k.bared;
+      spelled = marked mark_open_parenthesis ws o.0 (omega arith) ∙ ap (λ (x : List Word). Marked mark_open_parenthesis ∷ x) (f.spelled ∙ ap (λ (x : List Word). Named a.0.0.text ∷ (Marked mark_equals ∷ (spell a.0.0.value ++ (Marked mark_semicolon ∷ x)))) (g.spelled ∙ ap (λ (x : List Word). spell t.0.0 ++ (Marked mark_semicolon ∷ x)) k.spelled)) ∙ sym (words-Loop (loop_head a.0.0 t.0.0 b.0.0) b.0.1);
+    } in
+    let P : LoopHead → Type 0 = λ (x : LoopHead). HeadFits limit ws x b.0.1 in
+    let Q : List Word → Type 0 = λ (x : List Word). HeadFits limit ws p.0 x in
+    subst Q b.3 (subst P b.2 one)
+
+looped_sound : (e : Reader) (sub : StatementReader) (limit : ℕ) → SoundReader e limit → SoundStatements sub limit → (ws : List Word) (p : Statement × List Word) → looped e sub ws ≡ Some p → FitsStatement limit (Reserved keyword_for ∷ ws) p.0 p.1
+unfolding looped WellFormedStatement depth_statement bare_statement is_open
+looped_sound e sub limit r s ws p q =
+    let a = chain_tells (head e ws) (λ h left. mapped (For h) (sub left)) p q in
+    let c = mapped_tells (For a.0.0) (sub a.0.1) p a.2 in
+    let f = head_sound e limit r ws a.0 a.1 in
+    let g = s a.0.1 c.0 c.1 in
+    moved limit (Reserved keyword_for ∷ ws) (For a.0.0 c.0.0) c.0.1 p c.2 c.3 (record {
+      well = (f.well, g.1.well);
+      deep = omega (arith, f.deeper, g.0);
+      bared = ap (λ (x : LoopHead). For x (bare_statement c.0.0)) f.bared ∙ ap (For a.0.0) g.1.bared;
+      spelled = ap (λ (x : List Word). Reserved keyword_for ∷ x) (f.spelled ∙ ap (λ (x : List Word). spell_loop a.0.0 ++ x) g.1.spelled) ∙ sym (words-For a.0.0 c.0.0 c.0.1);
+      closes = g.1.closes;
+    })
 
 -- ---- case
 
@@ -446,15 +513,18 @@ assignment_sound e limit r ws p q =
 
 statement_by_sound : (e : Reader) (sub : StatementReader) (as_arm : ArmReader) (limit : ℕ) → SoundReader e limit → SoundStatements sub limit → SoundArms as_arm limit → (ws : List Word) (p : Statement × List Word) → statement_by e sub as_arm ws ≡ Some p → FitsStatement limit ws p.0 p.1
 unfolding statement_by WellFormedStatement depth_statement bare_statement is_open
-statement_by_sound e sub as_arm limit r s a ws p q = elim (if_splits (nat_eq (mark ws) mark_semicolon) (Some (Null, rest ws)) (cond (nat_eq (keyword ws) keyword_begin) (block sub (rest ws)) (cond (nat_eq (keyword ws) keyword_if) (conditional e sub (rest ws)) (cond (is_case (keyword ws)) (cases e as_arm (keyword ws) (rest ws)) (assignment e ws)))) p q) [
+statement_by_sound e sub as_arm limit r s a ws p q = elim (if_splits (nat_eq (mark ws) mark_semicolon) (Some (Null, rest ws)) (cond (nat_eq (keyword ws) keyword_begin) (block sub (rest ws)) (cond (nat_eq (keyword ws) keyword_if) (conditional e sub (rest ws)) (cond (nat_eq (keyword ws) keyword_for) (looped e sub (rest ws)) (cond (is_case (keyword ws)) (cases e as_arm (keyword ws) (rest ws)) (assignment e ws))))) p q) [
   | inl h ↦ at_pair limit ws Null (rest ws) p h.1 (record { well = tt; deep = omega arith; bared = refl; spelled = marked mark_semicolon ws (eq_of (mark ws) mark_semicolon h.0) (omega arith) ∙ rw statement-Null refl; closes = λ o. absurd cc })
-  | inr h ↦ elim (if_splits (nat_eq (keyword ws) keyword_begin) (block sub (rest ws)) (cond (nat_eq (keyword ws) keyword_if) (conditional e sub (rest ws)) (cond (is_case (keyword ws)) (cases e as_arm (keyword ws) (rest ws)) (assignment e ws))) p h.1) [
+  | inr h ↦ elim (if_splits (nat_eq (keyword ws) keyword_begin) (block sub (rest ws)) (cond (nat_eq (keyword ws) keyword_if) (conditional e sub (rest ws)) (cond (nat_eq (keyword ws) keyword_for) (looped e sub (rest ws)) (cond (is_case (keyword ws)) (cases e as_arm (keyword ws) (rest ws)) (assignment e ws)))) p h.1) [
     | inl g ↦ restated limit ws (Reserved keyword_begin ∷ rest ws) p (reserved keyword_begin ws (eq_of (keyword ws) keyword_begin g.0) (omega arith)) (block_sound sub limit s (rest ws) p g.1)
-    | inr g ↦ elim (if_splits (nat_eq (keyword ws) keyword_if) (conditional e sub (rest ws)) (cond (is_case (keyword ws)) (cases e as_arm (keyword ws) (rest ws)) (assignment e ws)) p g.1) [
+    | inr g ↦ elim (if_splits (nat_eq (keyword ws) keyword_if) (conditional e sub (rest ws)) (cond (nat_eq (keyword ws) keyword_for) (looped e sub (rest ws)) (cond (is_case (keyword ws)) (cases e as_arm (keyword ws) (rest ws)) (assignment e ws))) p g.1) [
       | inl k ↦ restated limit ws (Reserved keyword_if ∷ rest ws) p (reserved keyword_if ws (eq_of (keyword ws) keyword_if k.0) (omega arith)) (conditional_sound e sub limit r s (rest ws) p k.1)
-      | inr k ↦ elim (if_splits (is_case (keyword ws)) (cases e as_arm (keyword ws) (rest ws)) (assignment e ws) p k.1) [
-        | inl l ↦ restated limit ws (Reserved (keyword ws) ∷ rest ws) p (reserved (keyword ws) ws refl (case_less (keyword ws) l.0)) (cases_sound e as_arm limit r a (keyword ws) l.0 (rest ws) p l.1)
-        | inr l ↦ assignment_sound e limit r ws p l.1
+      | inr k ↦ elim (if_splits (nat_eq (keyword ws) keyword_for) (looped e sub (rest ws)) (cond (is_case (keyword ws)) (cases e as_arm (keyword ws) (rest ws)) (assignment e ws)) p k.1) [
+        | inl l ↦ restated limit ws (Reserved keyword_for ∷ rest ws) p (reserved keyword_for ws (eq_of (keyword ws) keyword_for l.0) (omega arith)) (looped_sound e sub limit r s (rest ws) p l.1)
+        | inr l ↦ elim (if_splits (is_case (keyword ws)) (cases e as_arm (keyword ws) (rest ws)) (assignment e ws) p l.1) [
+          | inl o ↦ restated limit ws (Reserved (keyword ws) ∷ rest ws) p (reserved (keyword ws) ws refl (case_less (keyword ws) o.0)) (cases_sound e as_arm limit r a (keyword ws) o.0 (rest ws) p o.1)
+          | inr o ↦ assignment_sound e limit r ws p o.1
+        ]
       ]
     ]
   ]

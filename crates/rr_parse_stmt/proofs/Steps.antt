@@ -1,13 +1,13 @@
 -- The equations of the reading function, a step at a time.
 use Rattle.std.proofs.Common.{◌≡◌, ◌≤◌, ℕ, zero, suc, List, length, refl, arith, true, false, cond, nat_eq, nat_le, Option, Some, None}
 use Rattle.std.proofs.lemmas.Bool.Decides.{nat_tests}
-use Rattle.rr_syntax.specs.Words.{Word, keyword_begin, keyword_default, keyword_else, keyword_end, keyword_endcase, keyword_if, mark_open_parenthesis, mark_close_parenthesis, mark_comma, mark_colon, mark_semicolon, mark_equals, mark_less_or_equal}
-use Rattle.rr_syntax.specs.Tree.{Tree, Trees, End, More, Identifier, Statement, Statements, Arm, Arms, Null, Block, If, IfElse, Case, Assign, Done, CaseItem, NoArms}
+use Rattle.rr_syntax.specs.Words.{Word, keyword_begin, keyword_default, keyword_else, keyword_end, keyword_endcase, keyword_for, keyword_if, mark_open_parenthesis, mark_close_parenthesis, mark_comma, mark_colon, mark_semicolon, mark_equals, mark_less_or_equal}
+use Rattle.rr_syntax.specs.Tree.{Tree, Trees, End, More, Identifier, LoopHead, Statement, Statements, Arm, Arms, Null, Block, If, IfElse, Case, Assign, For, Done, CaseItem, NoArms}
 use Rattle.rr_syntax.specs.Expressions.{is_target, unary_level}
 use Rattle.rr_syntax.specs.Statements.{is_case, defaults}
 use Rattle.rr_parse_expr.specs.Reading.{Found, Reader, mapped, chain, mark, rest, expect, closed, snoc}
 use Rattle.rr_parse_expr.specs.Reading as expressions
-use Rattle.rr_parse_stmt.specs.Reading.{keyword, StatementReader, ArmReader, name, label, snoc_statement, snoc_arm, body, block, tested, after_then, conditional, labels_after, labels, default_arm, labelled_arm, arm_by, arms, cases, assigned, target, assignment, statement_by, statement, arm, below_statement, below_arm}
+use Rattle.rr_parse_stmt.specs.Reading.{keyword, StatementReader, ArmReader, name, label, snoc_statement, snoc_arm, body, block, tested, after_then, conditional, NamedValue, named_value, setting, loop_head, after_start, head, looped, labels_after, labels, default_arm, labelled_arm, arm_by, arms, cases, assigned, target, assignment, statement_by, statement, arm, below_statement, below_arm}
 
 pub statement-below : (n : ℕ) (ws : List Word) → statement n ws ≡ statement_by (expressions.below n) (below_statement n) (below_arm n) ws
 unfolding statement expressions.below below_statement below_arm
@@ -95,6 +95,60 @@ then-else sub t s ws u e f = rw (e, f) refl
 pub then-open : (sub : StatementReader) (t : Tree) (s : Statement) (ws : List Word) → keyword ws ≡ keyword_else → sub (rest ws) ≡ None → after_then sub t s ws ≡ None
 unfolding after_then mapped
 then-open sub t s ws e f = rw (e, f) refl
+
+-- ---- for
+
+pub setting-some : (e : Reader) (m : ℕ) (ws : List Word) (i : Identifier × List Word) (t : Tree × List Word) → name ws ≡ Some i → mark i.1 ≡ mark_equals → closed e m (rest i.1) ≡ Some t → setting e m ws ≡ Some (named_value i.0 t.0, t.1)
+unfolding setting chain expect mapped
+setting-some e m ws i t f g h = rw (f, g, h) refl
+
+pub setting-none : (e : Reader) (m : ℕ) (ws : List Word) → name ws ≡ None → setting e m ws ≡ None
+unfolding setting chain
+setting-none e m ws f = rw f refl
+
+pub setting-other : (e : Reader) (m : ℕ) (ws : List Word) (i : Identifier × List Word) → name ws ≡ Some i → nat_eq (mark i.1) mark_equals ≡ false → setting e m ws ≡ None
+unfolding setting chain expect
+setting-other e m ws i f g = rw (f, g) refl
+
+pub setting-open : (e : Reader) (m : ℕ) (ws : List Word) (i : Identifier × List Word) → name ws ≡ Some i → mark i.1 ≡ mark_equals → closed e m (rest i.1) ≡ None → setting e m ws ≡ None
+unfolding setting chain expect mapped
+setting-open e m ws i f g h = rw (f, g, h) refl
+
+pub head-start : (e : Reader) (ws : List Word) (a : NamedValue × List Word) → mark ws ≡ mark_open_parenthesis → setting e mark_semicolon (rest ws) ≡ Some a → head e ws ≡ after_start e a.0 a.1
+unfolding head expect chain
+head-start e ws a m f = rw (m, f) refl
+
+pub head-other : (e : Reader) (ws : List Word) → nat_eq (mark ws) mark_open_parenthesis ≡ false → head e ws ≡ None
+unfolding head expect
+head-other e ws m = rw m refl
+
+pub head-none : (e : Reader) (ws : List Word) → mark ws ≡ mark_open_parenthesis → setting e mark_semicolon (rest ws) ≡ None → head e ws ≡ None
+unfolding head expect chain
+head-none e ws m f = rw (m, f) refl
+
+pub start-some : (e : Reader) (a : NamedValue) (ws : List Word) (t : Tree × List Word) (b : NamedValue × List Word) → closed e mark_semicolon ws ≡ Some t → setting e mark_close_parenthesis t.1 ≡ Some b → after_start e a ws ≡ Some (loop_head a t.0 b.0, b.1)
+unfolding after_start chain mapped
+start-some e a ws t b f g = rw (f, g) refl
+
+pub start-none : (e : Reader) (a : NamedValue) (ws : List Word) → closed e mark_semicolon ws ≡ None → after_start e a ws ≡ None
+unfolding after_start chain
+start-none e a ws f = rw f refl
+
+pub start-open : (e : Reader) (a : NamedValue) (ws : List Word) (t : Tree × List Word) → closed e mark_semicolon ws ≡ Some t → setting e mark_close_parenthesis t.1 ≡ None → after_start e a ws ≡ None
+unfolding after_start chain mapped
+start-open e a ws t f g = rw (f, g) refl
+
+pub looped-some : (e : Reader) (sub : StatementReader) (ws : List Word) (h : LoopHead × List Word) (s : Statement × List Word) → head e ws ≡ Some h → sub h.1 ≡ Some s → looped e sub ws ≡ Some (For h.0 s.0, s.1)
+unfolding looped chain mapped
+looped-some e sub ws h s f g = rw (f, g) refl
+
+pub looped-none : (e : Reader) (sub : StatementReader) (ws : List Word) → head e ws ≡ None → looped e sub ws ≡ None
+unfolding looped chain
+looped-none e sub ws f = rw f refl
+
+pub looped-open : (e : Reader) (sub : StatementReader) (ws : List Word) (h : LoopHead × List Word) → head e ws ≡ Some h → sub h.1 ≡ None → looped e sub ws ≡ None
+unfolding looped chain mapped
+looped-open e sub ws h f g = rw (f, g) refl
 
 -- ---- case
 
@@ -198,6 +252,9 @@ not_begin k h = grind (arith, nat_tests)
 not_if : (k : ℕ) → is_case k ≡ true → nat_eq k keyword_if ≡ false
 not_if k h = grind (arith, nat_tests)
 
+not_for : (k : ℕ) → is_case k ≡ true → nat_eq k keyword_for ≡ false
+not_for k h = grind (arith, nat_tests)
+
 module _ (e : Reader) (sub : StatementReader) (as_arm : ArmReader) (ws : List Word) where
   pub by-null : mark ws ≡ mark_semicolon → statement_by e sub as_arm ws ≡ Some (Null, rest ws)
   unfolding statement_by
@@ -211,13 +268,18 @@ module _ (e : Reader) (sub : StatementReader) (as_arm : ArmReader) (ws : List Wo
   unfolding statement_by
   by-if m k = rw (m, k) refl
 
+  pub by-for : nat_eq (mark ws) mark_semicolon ≡ false → keyword ws ≡ keyword_for → statement_by e sub as_arm ws ≡ looped e sub (rest ws)
+  unfolding statement_by
+  by-for m k = rw (m, k) refl
+
   pub by-case : nat_eq (mark ws) mark_semicolon ≡ false → is_case (keyword ws) ≡ true → statement_by e sub as_arm ws ≡ cases e as_arm (keyword ws) (rest ws)
   unfolding statement_by
   by-case m k =
       let a : nat_eq (keyword ws) keyword_begin ≡ false = not_begin (keyword ws) k in
       let b : nat_eq (keyword ws) keyword_if ≡ false = not_if (keyword ws) k in
-      rw (m, a, b, k) refl
+      let c : nat_eq (keyword ws) keyword_for ≡ false = not_for (keyword ws) k in
+      rw (m, a, b, c, k) refl
 
-  pub by-assignment : nat_eq (mark ws) mark_semicolon ≡ false → nat_eq (keyword ws) keyword_begin ≡ false → nat_eq (keyword ws) keyword_if ≡ false → is_case (keyword ws) ≡ false → statement_by e sub as_arm ws ≡ assignment e ws
+  pub by-assignment : nat_eq (mark ws) mark_semicolon ≡ false → nat_eq (keyword ws) keyword_begin ≡ false → nat_eq (keyword ws) keyword_if ≡ false → nat_eq (keyword ws) keyword_for ≡ false → is_case (keyword ws) ≡ false → statement_by e sub as_arm ws ≡ assignment e ws
   unfolding statement_by
-  by-assignment m a b k = rw (m, a, b, k) refl
+  by-assignment m a b c k = rw (m, a, b, c, k) refl

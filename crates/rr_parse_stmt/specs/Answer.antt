@@ -7,20 +7,22 @@ use Rattle.rr_syntax.specs.declared.tree.Stmt.{Stmt}
 use Rattle.rr_syntax.specs.declared.tree.Arm.{Arm as Branch}
 use Rattle.rr_syntax.specs.declared.tree.Named.{Named as NamedToken}
 use Rattle.rr_syntax.specs.Words.{Word, words, mark_colon}
-use Rattle.rr_syntax.specs.Tree.{Tree, Trees, More, Identifier, Statement, Statements, Arm, Arms, bare, bare_parts, bare_statement, bare_statements, bare_arm, bare_arms, bare_label}
+use Rattle.rr_syntax.specs.Tree.{Tree, Trees, More, Identifier, LoopHead, Statement, Statements, Arm, Arms, bare, bare_parts, bare_loop, bare_statement, bare_statements, bare_arm, bare_arms, bare_label}
 use Rattle.rr_syntax.specs.Expressions.{spell, spell_more, is_target, Numbered}
-use Rattle.rr_syntax.specs.Statements.{is_case, spell_label, spell_statement, spell_statements, spell_arm, spell_arms, NumberedLabel, NumberedLabels, NumberedStatement, NumberedStatements, NumberedArm, NumberedArms}
-use Rattle.rr_syntax.specs.View.{plain, plain_list, plain_label, plain_statement, plain_statements, plain_arm, plain_arms}
+use Rattle.rr_syntax.specs.Statements.{is_case, spell_label, spell_loop, spell_statement, spell_statements, spell_arm, spell_arms, NumberedLabel, NumberedLabels, NumberedLoop, NumberedStatement, NumberedStatements, NumberedArm, NumberedArms}
+use Rattle.rr_syntax.specs.View.{plain, plain_list, plain_label, plain_loop, plain_statement, plain_statements, plain_arm, plain_arms}
 use Rattle.rr_parse_expr.specs.declared.lists.Piece as Entry
 use Rattle.rr_parse_expr.specs.declared.expression.ParseFault.{ParseFault}
 use Rattle.rr_parse_expr.specs.declared.expression.ParseFault.TheVariants.{Unsupported, Syntax, Memory}
 use Rattle.rr_parse_expr.specs.Reading.{Found, mark}
 use Rattle.rr_parse_stmt.specs.declared.expressions.Placed.{Placed}
 use Rattle.rr_parse_stmt.specs.declared.expressions.LabelList as labelling
+use Rattle.rr_parse_stmt.specs.declared.heads.NamePiece.{NamePiece}
+use Rattle.rr_parse_stmt.specs.declared.heads.HeadPiece.{HeadPiece}
 use Rattle.rr_parse_stmt.specs.declared.nodes.Piece.{Piece}
 use Rattle.rr_parse_stmt.specs.declared.nodes.ArmPiece.{ArmPiece}
 use Rattle.rr_parse_stmt.specs.declared.nodes.LabelPiece.{LabelPiece}
-use Rattle.rr_parse_stmt.specs.Reading.{keyword, name}
+use Rattle.rr_parse_stmt.specs.Reading.{NamedValue, keyword, name}
 use denote.Ref.{Bor}
 
 -- this reserved word stands at the front, and begins a `case`
@@ -93,6 +95,29 @@ AnswersList tokens begin found (Ok p) = FindsList tokens begin found p
 AnswersList tokens begin found (Err (Syntax at)) = found ≡ None
 AnswersList tokens begin found (Err (Unsupported at)) = ⊥
 AnswersList tokens begin found (Err Memory) = Unit {0}
+
+-- a name, `=` and an expression from the token `begin` on, and the mark behind it
+pub record FindsSetting (tokens : List Token) (begin : ℕ) (found : Found NamedValue) (r : NamePiece) : Type 0 where
+  pub found_is : found ≡ Some (record { text = r.name.name.now; value = bare (plain r.value.expr.now) }, drop r.value.next (words tokens))
+  pub within : r.value.next ≤ length tokens
+  pub taken : r.value.next ≡ begin + 2 + length (spell (plain r.value.expr.now)) + 1
+  pub named : r.name.token ≡ begin
+  pub numbered : Numbered (plain r.value.expr.now) (begin + 2)
+
+abbrev pub AnswersSetting : List Token → ℕ → Found NamedValue → Option NamePiece → Type 0
+AnswersSetting tokens begin found None = found ≡ None
+AnswersSetting tokens begin found (Some r) = FindsSetting tokens begin found r
+
+-- the head of a loop, whose bracket opens at the token `begin`
+pub record FindsHead (tokens : List Token) (begin : ℕ) (found : Found LoopHead) (r : HeadPiece) : Type 0 where
+  pub found_is : found ≡ Some (bare_loop (plain_loop r.head), drop r.next (words tokens))
+  pub within : r.next ≤ length tokens
+  pub taken : r.next ≡ begin + length (spell_loop (plain_loop r.head))
+  pub numbered : NumberedLoop (plain_loop r.head) begin
+
+abbrev pub AnswersHead : List Token → ℕ → Found LoopHead → Option HeadPiece → Type 0
+AnswersHead tokens begin found None = found ≡ None
+AnswersHead tokens begin found (Some r) = FindsHead tokens begin found r
 
 -- this statement, and the token after it
 pub record IsPiece (s : Statement) (next : ℕ) (r : Piece) : Type 0 where

@@ -1,8 +1,8 @@
 -- Reading a statement from words (IEEE 1364-2005 section 9, annex A.6): a function that the reader computes. No public contract
 -- cites it. Its trees are bare: each token number is 0.
 use Rattle.std.specs.Prelude.{ℕ, zero, suc, List, [], ◌∷◌, length, Bool, true, false, if◌then◌else◌, ◌==◌, nat_le, Option, Some, None}
-use Rattle.rr_syntax.specs.Words.{Word, Named, System, Digits, Marked, Reserved, keyword_begin, keyword_default, keyword_else, keyword_end, keyword_endcase, keyword_if, mark_open_parenthesis, mark_close_parenthesis, mark_comma, mark_colon, mark_semicolon, mark_equals, mark_less_or_equal}
-use Rattle.rr_syntax.specs.Tree.{Tree, Trees, End, More, Identifier, Statement, Statements, Arm, Arms, Null, Block, If, IfElse, Case, Assign, Done, Then, CaseItem, NoArms, MoreArms}
+use Rattle.rr_syntax.specs.Words.{Word, Named, System, Digits, Marked, Reserved, keyword_begin, keyword_default, keyword_else, keyword_end, keyword_endcase, keyword_for, keyword_if, mark_open_parenthesis, mark_close_parenthesis, mark_comma, mark_colon, mark_semicolon, mark_equals, mark_less_or_equal}
+use Rattle.rr_syntax.specs.Tree.{Tree, Trees, End, More, Identifier, LoopHead, Statement, Statements, Arm, Arms, Null, Block, If, IfElse, Case, Assign, For, Done, Then, CaseItem, NoArms, MoreArms}
 use Rattle.rr_syntax.specs.Expressions.{is_target, unary_level}
 use Rattle.rr_syntax.specs.Statements.{is_case, defaults}
 use Rattle.rr_parse_expr.specs.Reading.{Found, Reader, mapped, chain, mark, rest, expect, closed, snoc, reads, nothing}
@@ -78,6 +78,33 @@ after_then sub t s ws = if keyword ws == keyword_else then mapped (IfElse t s) (
 unfoldable pub conditional : Reader → StatementReader → List Word → Found Statement
 conditional e sub ws = chain (tested e ws) (λ t left. chain (sub left) (λ s more. after_then sub t s more))
 
+-- a name and the expression that it is set to
+pub record NamedValue : Type 0 where
+  pub text : List ℕ
+  pub value : Tree
+
+abbrev pub named_value : Identifier → Tree → NamedValue
+named_value i t = record { text = i.text; value = t }
+
+-- a name, `=` and an expression, and this mark after it
+unfoldable pub setting : Reader → ℕ → List Word → Found NamedValue
+setting e m ws = chain (name ws) (λ i left. expect mark_equals (λ after. mapped (named_value i) (closed e m after)) left)
+
+abbrev pub loop_head : NamedValue → Tree → NamedValue → LoopHead
+loop_head a t b = record { token = 0; text = a.text; start = a.value; test = t; step_token = 0; step_text = b.text; step = b.value }
+
+-- the test and the step of a loop, up to its closing bracket
+unfoldable pub after_start : Reader → NamedValue → List Word → Found LoopHead
+after_start e a ws = chain (closed e mark_semicolon ws) (λ t left. mapped (loop_head a t) (setting e mark_close_parenthesis left))
+
+-- the head of a loop (section 9.6)
+unfoldable pub head : Reader → List Word → Found LoopHead
+head e ws = expect mark_open_parenthesis (λ after. chain (setting e mark_semicolon after) (after_start e)) ws
+
+-- after `for`
+unfoldable pub looped : Reader → StatementReader → List Word → Found Statement
+looped e sub ws = chain (head e ws) (λ h left. mapped (For h) (sub left))
+
 -- the labels after those that are there, up to the colon
 unfoldable pub labels_after : Reader → ℕ → Trees → List Word → Found Trees
 labels_after e zero have ws = None
@@ -136,7 +163,8 @@ statement_by e sub arm ws =
     if mark ws == mark_semicolon then Some (Null, rest ws)
     else (if keyword ws == keyword_begin then block sub (rest ws)
     else (if keyword ws == keyword_if then conditional e sub (rest ws)
-    else (if is_case (keyword ws) then cases e arm (keyword ws) (rest ws) else assignment e ws)))
+    else (if keyword ws == keyword_for then looped e sub (rest ws)
+    else (if is_case (keyword ws) then cases e arm (keyword ws) (rest ws) else assignment e ws))))
 
 abbrev pub no_statement : StatementReader
 no_statement ws = None

@@ -4,6 +4,7 @@
 #![tactic(auto)]
 
 mod expressions;
+mod heads;
 mod laws;
 mod nodes;
 mod parts;

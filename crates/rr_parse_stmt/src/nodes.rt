@@ -1,11 +1,12 @@
 //! Nodes of the tree, put into the arena.
 
 ghost use Rattle.std.specs.Prelude.{◌≡◌, [], IfOk};
-ghost use Rattle.rr_syntax.specs.Tree.{CaseItem, If, IfElse};
-ghost use Rattle.rr_syntax.specs.View.{plain, plain_list, plain_statement};
+ghost use Rattle.rr_syntax.specs.Tree.{CaseItem, For, If, IfElse};
+ghost use Rattle.rr_syntax.specs.View.{plain, plain_list, plain_loop, plain_statement};
 ghost use Rattle.rr_parse_stmt.specs.Answer.{IsArmPiece, IsPiece};
 
 use crate::expressions::Placed;
+use crate::heads::HeadPiece;
 use bumpalo::Bump;
 use bumpalo::collections::into_bump_slice;
 use rr_syntax::{Arm, Expr, Named, Stmt};
@@ -71,6 +72,25 @@ pub(crate) fn if_else<'a>(
     Ok(Piece {
         stmt,
         next: second.next,
+    })
+}
+
+/// A loop with this head.
+pub(crate) fn loop_over<'a>(
+    found: HeadPiece<'a>,
+    turn: Piece<'a>,
+    arena: &'a Bump,
+) -> Result<Piece<'a>, AllocError>
+    ensures { IfOk result (λ r. IsPiece (For (plain_loop found.entry.head) (plain_statement turn.entry.stmt)) turn.entry.next r) }
+{
+    let body = arena.try_alloc(turn.stmt)?;
+    let stmt = Stmt::For {
+        head: found.head,
+        body,
+    };
+    Ok(Piece {
+        stmt,
+        next: turn.next,
     })
 }
 

@@ -3,12 +3,15 @@
 ghost use Rattle.std.specs.Prelude.{◌≡◌, ◌≤◌, ◌<◌, ◌+◌, ◌^◌, [], suc, length, drop, cond, nat_eq, IfOk, Some};
 ghost use Rattle.rr_syntax.specs.Words.{words, keyword_else, mark_colon};
 ghost use Rattle.rr_parse_expr.specs.Reading.{below, mark as mark_of};
-ghost use Rattle.rr_parse_stmt.specs.Reading.{arms as arms_of, assignment as assignment_of, below_arm, below_statement, block as block_of, body as body_of, cases as cases_of, conditional as conditional_of, default_arm as default_of, keyword as keyword_of, label as label_of, labelled_arm as labelled_of, labels as labels_of, sign, target as target_of, tested as tested_of};
+ghost use Rattle.rr_parse_stmt.specs.Reading.{arms as arms_of, assignment as assignment_of, below_arm, below_statement, block as block_of, body as body_of, cases as cases_of, conditional as conditional_of, default_arm as default_of, head as head_of, keyword as keyword_of, label as label_of, labelled_arm as labelled_of, labels as labels_of, looped as looped_of, sign, target as target_of, tested as tested_of};
 ghost use Rattle.rr_syntax.specs.Tree.{Done, NoArms};
-ghost use Rattle.rr_parse_stmt.specs.Answer.{AnswersArm, AnswersArms, AnswersBody, AnswersLabel, AnswersStatement, FindsLabels, FindsStatement, FindsTarget, FindsTree};
+ghost use Rattle.rr_parse_stmt.specs.Answer.{AnswersArm, AnswersArms, AnswersBody, AnswersLabel, AnswersStatement, FindsHead, FindsLabels, FindsStatement, FindsTarget, FindsTree};
 
 use crate::expressions::{LabelList, Placed, closed, labels, target, tested};
-use crate::nodes::{ArmPiece, LabelPiece, Piece, case_item, if_alone, if_else, no_labels};
+use crate::heads::{HeadPiece, head};
+use crate::nodes::{
+    ArmPiece, LabelPiece, Piece, case_item, if_alone, if_else, loop_over, no_labels,
+};
 use crate::parts::{case_at, counted, sign_at};
 use bumpalo::Bump;
 use bumpalo::collections::into_bump_slice;
@@ -49,6 +52,8 @@ pub(crate) fn statement<'a>(
         block(tokens, from, room - 1, arena)
     } else if is_keyword(tokens, from, Keyword::IF) {
         conditional(tokens, from, room - 1, arena)
+    } else if is_keyword(tokens, from, Keyword::FOR) {
+        looped(tokens, from, room - 1, arena)
     } else {
         match case_at(tokens, from) {
             Some(kind) => cases(tokens, from, kind, room - 1, arena),
@@ -202,6 +207,45 @@ fn otherwise<'a>(
     match statement(tokens, first.next + 1, limit, arena)? {
         None => Ok(None),
         Some(second) => Ok(Some(if_else(test, first, second, arena)?)),
+    }
+}
+
+/// After `for`, which stands at `from`.
+#[cycle(statements)]
+fn looped<'a>(
+    tokens: &'a [Token<'a>],
+    from: u32,
+    limit: u32,
+    arena: &'a Bump,
+) -> Result<Option<Piece<'a>>, AllocError>
+    requires short { length tokens.now < 2 ^ 32 }
+    requires inside { from < length tokens.now }
+    requires shallow { limit ≤ 500 }
+    ensures { IfOk result (λ r. AnswersStatement tokens.now from (looped_of (below limit) (below_statement limit) (drop (from + 1) (words tokens.now))) r) }
+{
+    match head(tokens, from + 1, limit, arena)? {
+        None => Ok(None),
+        Some(found) => turn(tokens, from, found, limit, arena),
+    }
+}
+
+/// After the head of the `for` at `from`.
+#[cycle(statements)]
+fn turn<'a>(
+    tokens: &'a [Token<'a>],
+    from: u32,
+    found: HeadPiece<'a>,
+    limit: u32,
+    arena: &'a Bump,
+) -> Result<Option<Piece<'a>>, AllocError>
+    requires short { length tokens.now < 2 ^ 32 }
+    requires shallow { limit ≤ 500 }
+    requires head_read { FindsHead tokens.now (from + 1) (head_of (below limit) (drop (from + 1) (words tokens.now))) found }
+    ensures { IfOk result (λ r. AnswersStatement tokens.now from (looped_of (below limit) (below_statement limit) (drop (from + 1) (words tokens.now))) r) }
+{
+    match statement(tokens, found.next, limit, arena)? {
+        None => Ok(None),
+        Some(body) => Ok(Some(loop_over(found, body, arena)?)),
     }
 }
 

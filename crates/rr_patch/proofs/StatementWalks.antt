@@ -5,14 +5,15 @@ use Rattle.std.proofs.lemmas.List.{append_assoc, take_more, length-append}
 use Rattle.rr_syntax.specs.declared.token.Keyword.{Keyword}
 use Rattle.rr_syntax.specs.declared.tree.Arm.{Arm as Branch}
 use Rattle.rr_syntax.specs.declared.tree.Expr.{Expr}
+use Rattle.rr_syntax.specs.declared.tree.Head.{Head}
 use Rattle.rr_syntax.specs.declared.tree.Named.{Named}
 use Rattle.rr_syntax.specs.declared.tree.Stmt.{Stmt}
 use Rattle.rr_syntax.specs.declared.tree.Stmt.TheVariants as stmt
 use Rattle.rr_syntax.specs.Words.{Word, Reserved, Marked, keyword_end, keyword_else, keyword_endcase, mark_colon, mark_semicolon, mark_close_parenthesis, mark_equals, mark_less_or_equal}
 use Rattle.rr_syntax.specs.Tree.{End, Statement}
 use Rattle.rr_syntax.specs.Expressions.{spell, spell_parts, spell_more}
-use Rattle.rr_syntax.specs.Statements.{spell_label, spell_labels, spell_statement}
-use Rattle.rr_syntax.specs.View.{plain, plain_list, plain_label, plain_statement, plain_statements, plain_arm, plain_arms}
+use Rattle.rr_syntax.specs.Statements.{spell_label, spell_labels, spell_loop, spell_statement}
+use Rattle.rr_syntax.specs.View.{plain, plain_list, plain_label, plain_loop, plain_statement, plain_statements, plain_arm, plain_arms}
 use Rattle.rr_syntax.proofs.Lengths.{body_len, cases_len, parts_len}
 use Rattle.rr_syntax.proofs.Rows.{plain_block, plain_case}
 use Rattle.rr_choice.specs.declared.pick.Pick.{Pick}
@@ -114,6 +115,11 @@ module _ (ss : List Site) (ps : List Pick) where
       (h ∙ ap (λ (l : List Change). o ++ l)
       (sym (kept_last (k + length (spell (plain t.now)) + 1) (T v) (Marked mark_semicolon ∷ []))
       ∙ sym (kept_first k (spell (plain t.now)) (Kept (Marked (cond now mark_equals mark_less_or_equal)) ∷ (T v ++ kept (Marked mark_semicolon ∷ []))))))
+
+  pub made_For : (o o' : List Change) (k : ℕ) (s : Stmt) (h : Head) (t : Bor Stmt) → s ≡ stmt.For h t → o' ≡ o ++ changes (k + 1 + length (spell_loop (plain_loop h))) (S t) → Made o o' k s
+  unfolding plain_statement statement_pieces changes
+  made_For o o' k s h t q e =
+      at_node o o' k s (stmt.For h t) q (e ∙ ap (λ (l : List Change). o ++ l) (sym (kept_first (k + 1) (spell_loop (plain_loop h)) (S t))))
 
   -- one statement more
   statements_snoc : (body : List Stmt) (s : Stmt) → statements_pieces ss ps (plain_statements (body ++ s ∷ [])) ≡ statements_pieces ss ps (plain_statements body) ++ statement_pieces ss ps (plain_statement s)

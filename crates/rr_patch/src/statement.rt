@@ -9,7 +9,7 @@ ghost use Rattle.rr_respell.specs.Printing.{arms_pieces, label_pieces, statement
 use crate::change::Change;
 use crate::expression::{condition, expression, expressions};
 use rr_choice::{Choice, SiteList};
-use rr_syntax::{Arm, Expr, Named, Stmt, expression_len};
+use rr_syntax::{Arm, Expr, Named, Stmt, expression_len, loop_len};
 use std::alloc::AllocError;
 
 #[tactic(auto, unfolding(rr_syntax::specs::Statements::spell_label, rr_syntax::specs::View::plain_label))]
@@ -93,6 +93,10 @@ pub(crate) fn statement<'a>(
         Stmt::Assign { target, value, .. } => {
             let end = expression(value, at + expression_len(target) + 1, list, choice, out)?;
             Ok(end + 1)
+        }
+        Stmt::For { head, body } => {
+            let next = statement(body, at + 1 + loop_len(head), list, choice, out)?;
+            Ok(next)
         }
     }
 }

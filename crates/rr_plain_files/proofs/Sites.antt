@@ -14,6 +14,7 @@ use Rattle.rr_directive.proofs.Faults.{one_expansion}
 use Rattle.rr_directive.proofs.Plain.{plain_stays}
 use Rattle.rr_lex.specs.Tokens.{AreTokens, Lexeme, words_of}
 use Rattle.rr_flat.specs.Plain.{Flat}
+use Rattle.rr_flatten.proofs.Limits.{design_stays}
 use Rattle.rr_choice.specs.Sites as sites
 use Rattle.rr_choice.specs.Sites.{Site, SiteKind}
 use Rattle.rr_lawful_instance.specs.Listed.{IsRight, KindIsRight}
@@ -101,7 +102,7 @@ plain_keeps_all file top word read ss p h =
     let f = formed read.text read.tokens read.source top h.flat h.design in
     let spelled : spell_source read.source ≡ words_of read.tokens = h.design.text.spells.tree.spells.spelled in
     let exact = file_lists_are_exact file top word read ss h in
-    let are = right read.source top h.flat f n h.design.flat word h.clock h.rising h.are.0 h.lawful h.one_clock h.are.1 h.listed h.are.2 in
+    let are = right read.source top h.flat f n (design_stays 1048576 read.source top h.flat h.design.flat) word h.clock h.rising h.are.0 h.lawful h.one_clock h.are.1 h.listed h.are.2 in
     let kept : AllByRecursion (λ s. is_kept read.origins read.tokens read.source s ≡ true) h.listed =
     every_in (λ (s : Site). is_kept read.origins read.tokens read.source s ≡ true) h.listed (λ s c.
     (let is = (exact.each s).0 c in

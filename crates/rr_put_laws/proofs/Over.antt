@@ -1,10 +1,10 @@
 -- What a choice puts in the place of a token of a source is a literal.
 use Rattle.std.proofs.Common.{ℕ, ◌%◌, ◌^◌, ◌==◌, ◌&&◌, Bool, true, false, cond, if◌then◌else◌, List, [], ◌∷◌, ◌++◌, get_or, codes, Option, Some, None}
 use Rattle.rr_syntax.specs.declared.token.Number.{Number}
-use Rattle.rr_syntax.specs.Words.{Word, Named, System, Digits, Reserved, Marked, keyword_always, keyword_assign, keyword_begin, keyword_else, keyword_end, keyword_endcase, keyword_endmodule, keyword_if, keyword_module, keyword_wire, mark_open_parenthesis, mark_close_parenthesis, mark_open_brace, mark_close_brace, mark_comma, mark_semicolon, mark_colon, mark_dot, mark_at, mark_question, mark_equals, mark_not, mark_less_or_equal, mark_logical_and, mark_logical_or}
-use Rattle.rr_syntax.specs.Tree.{Tree, Trees, Name, Literal, Bit, Part, Indexed, Unary, Binary, Cond, Concat, Repeat, Cast, Paren, End, More, Statement, Statements, Arm, Arms, Null, Block, If, IfElse, Case, Assign, Done, Then, CaseItem, NoArms, MoreArms, DeclaredName, NetAssignment, NamedConnection, Connections, Positions, Names, ModuleInstance, ModuleItem, Ports, Nets, Variables, Integers, Parameters, Assigns, Always, Initial, Instances, ModuleDeclaration, SourceText}
+use Rattle.rr_syntax.specs.Words.{Word, Named, System, Digits, Reserved, Marked, keyword_always, keyword_assign, keyword_begin, keyword_else, keyword_end, keyword_endcase, keyword_endmodule, keyword_for, keyword_if, keyword_module, keyword_wire, mark_open_parenthesis, mark_close_parenthesis, mark_open_brace, mark_close_brace, mark_comma, mark_semicolon, mark_colon, mark_dot, mark_at, mark_question, mark_equals, mark_not, mark_less_or_equal, mark_logical_and, mark_logical_or}
+use Rattle.rr_syntax.specs.Tree.{Tree, Trees, Name, Literal, Bit, Part, Indexed, Unary, Binary, Cond, Concat, Repeat, Cast, Paren, End, More, Statement, Statements, Arm, Arms, Null, Block, If, IfElse, Case, Assign, For, Done, Then, CaseItem, NoArms, MoreArms, DeclaredName, NetAssignment, NamedConnection, Connections, Positions, Names, ModuleInstance, ModuleItem, Ports, Nets, Variables, Integers, Parameters, Assigns, Always, Initial, Instances, ModuleDeclaration, SourceText}
 use Rattle.rr_syntax.specs.Expressions.{spell}
-use Rattle.rr_syntax.specs.Statements.{spell_label, spell_labels}
+use Rattle.rr_syntax.specs.Statements.{spell_label, spell_labels, spell_loop}
 use Rattle.rr_syntax.specs.Items.{spell_type, spell_events, spell_overrides, spell_item, spell_parameters, spell_ports}
 use Rattle.rr_expr.specs.declared.operators.Infix.TheVariants.{Either}
 use Rattle.rr_expr.specs.Faults.{takes_constants}
@@ -204,6 +204,8 @@ module _ (P : New → Type 0) (literals : (w : ℕ) (signed : Bool) (v : ℕ) �
       statement_over (Assign t now e) =
           join P (kept (spell t)) _ (words P (spell t))
           (keep P (Marked (cond now mark_equals mark_less_or_equal)) _ (last (Marked mark_semicolon) (tree_pieces ss ps e) (tree_over e)))
+      statement_over (For h t) =
+          keep P (Reserved keyword_for) _ (join P (kept (spell_loop h)) (statement_pieces ss ps t) (words P (spell_loop h)) (statement_over t))
 
       statements_over : (ts : Statements) → Over P (statements_pieces ss ps ts)
       statements_over Done = none P

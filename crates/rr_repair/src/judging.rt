@@ -303,7 +303,7 @@ fn judge_sites<'b, 'a, R: Threads + Sync>(
 /// written, the rows of the table and the sites of the design, and, where the status is 0, the least number
 /// of changes. Its directives are expanded, and the
 /// changes are made in the file. Else the first refusal: of the directives (38 to 40 and 16), of the design
-/// (1 to 25), that more than 1,024 of its sites can be changed in the file (16), of the table (33, 26 to 32
+/// (1 to 25, 37), that more than 1,024 of its sites can be changed in the file (16), of the table (33, 26 to 32
 /// and 16, or of a dump 41, 42 and 16), and that the rows times the bits of all signals are more than
 /// 262,144 (16). Names in a refusal live in the arena.
 pub fn repair_counted<'b, 'a, R: Threads + Sync>(

@@ -84,3 +84,8 @@ pub(crate) const NAMES: &str =
 
 pub(crate) const NAMES_TABLE: &str =
     "far,go,load,d,q,r\n0,0,1,1,0,0\n1,1,1,1,0,0\n0,0,1,0,1,1\n1,1,1,0,1,1\n0,0,0,1,0,0\n1,1,0,1,0,0\n0,0,0,0,0,1\n";
+
+pub(crate) const ONES: &str =
+    "module m(input [3:0] a, output reg [2:0] y);\n  integer i;\n  always @* begin\n    y = 3'd0;\n    for (i = 0; i < 4; i = i + 1)\n      if (!a[i]) y = y + 3'd1;\n  end\nendmodule\n";
+
+pub(crate) const ONES_TABLE: &str = "a,y\n5,2\n0,0\n15,4\n1,1\n";

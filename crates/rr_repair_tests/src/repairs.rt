@@ -5,8 +5,8 @@ ghost use Rattle.std.specs.Prelude.{◌≡◌};
 use crate::designs::{
     CELLS, COPY, COPY_TABLE, COUNTER, COUNTER_TABLE, GATE, GATE_TABLE, INSTANCES, INSTANCES_TABLE,
     INVERTED, INVERTED_TABLE, JOINED_TABLE, LOAD, LOAD_TABLE, LOCK, LOCK_TABLE, MISSING,
-    MISSING_TABLE, NAMES, NAMES_TABLE, RESETS, RESETS_TABLE, SET, SET_TABLE, STEPS, STEPS_TABLE,
-    TWO, TWO_TABLE, VALUE, VALUE_TABLE, WIRE, WIRE_TABLE,
+    MISSING_TABLE, NAMES, NAMES_TABLE, ONES, ONES_TABLE, RESETS, RESETS_TABLE, SET, SET_TABLE,
+    STEPS, STEPS_TABLE, TWO, TWO_TABLE, VALUE, VALUE_TABLE, WIRE, WIRE_TABLE,
 };
 use bumpalo::Bump;
 use rr_endings::{Found, Refusal, Stop};
@@ -152,6 +152,53 @@ fn a_condition_is_guarded(rt: HostRuntime) -> Result<(), Fail> {
         "module m(input clk, input rst, output reg q);\n  always @(posedge clk)\n    if ( ! ( !rst ) ) q <= 1'b0;\n    else q <= ~q;\nendmodule\n";
     let notes = "repaired 1\nsite 1 guard 78 !(E)\nproposals 1\n";
     assert!(rt; prints(&rt, rt.alloc(), INVERTED, INVERTED_TABLE, out, notes, 0)?);
+    Ok(())
+}
+
+/// Whether the repair of a design by its table prints this and reports this first.
+fn mends<R: Threads + Sync>(
+    rt: &R,
+    alloc: Global,
+    design: &str,
+    table: &str,
+    out: &str,
+    notes: &str,
+) -> bool {
+    if design.len() > 1000 {
+        return false;
+    }
+    let arena = Bump::new(alloc);
+    match repair(
+        rt,
+        alloc,
+        design.as_bytes(),
+        table.as_bytes(),
+        &request(1000, 2),
+        &arena,
+    ) {
+        Err(_) => false,
+        Ok(found) => {
+            found.out.as_bytes() == out.as_bytes()
+                && found.notes.as_bytes().starts_with(notes.as_bytes())
+        }
+    }
+}
+
+/// In each turn the condition is that of its bit, and one change negates them all.
+#[test]
+fn a_condition_in_a_loop_is_negated(rt: HostRuntime) -> Result<(), Fail> {
+    let out =
+        "module m(input [3:0] a, output reg [2:0] y);\n  integer i;\n  always @* begin\n    y = 3'd0;\n    for (i = 0; i < 4; i = i + 1)\n      if ( ! ( !a[i] ) ) y = y + 3'd1;\n  end\nendmodule\n";
+    assert!(rt;
+        mends(
+            &rt,
+            rt.alloc(),
+            ONES,
+            ONES_TABLE,
+            out,
+            "repaired 1\nsite 2 guard 134 !(E)\n"
+        )
+    );
     Ok(())
 }
 

@@ -1,10 +1,13 @@
 -- What a repair prints, read and run again.
-use Rattle.std.specs.Prelude.{◌≡◌, ◌≢◌, ℕ, List, [], length, Bool, Option}
+use Rattle.std.specs.Prelude.{◌≡◌, ◌≢◌, ℕ, List, [], length, Bool, Option, Some, Err}
 use Rattle.rr_directive.specs.declared.origin.Origin.{Origin}
 use Rattle.rr_directive.specs.Expand.{IsExpansion, IsTaken}
 use Rattle.rr_syntax.specs.Tree.{SourceText}
 use Rattle.rr_lex.specs.Tokens.{Lexeme}
+use Rattle.rr_flat.specs.declared.fault.FlatFault.TheVariants.{TooMany}
+use Rattle.rr_flat.specs.declared.fault.Limit.TheVariants.{Unfolded}
 use Rattle.rr_flat.specs.Plain.{Flat}
+use Rattle.rr_flatten.specs.Walk.{flat_by}
 use Rattle.rr_elaborate.specs.Designs.{IsText}
 use Rattle.rr_trace.specs.Misses.{AgreeRows}
 use Rattle.rr_trace.specs.Tables.{Table}
@@ -34,11 +37,16 @@ pub record RunsRight (kind : TableKind) (bytes table : List ℕ) (top word : Opt
   pub printed : text ≡ table_text (ports_of flat clock) rows.inputs outputs
   pub agree : AgreeRows rows.expected outputs (length rows.expected)
 
--- The printed bytes expand to a text. Where that is read as a text, which is so where its tree is at most 500 deep, it has such a
--- run: no law and no table refuses it.
+-- the loops of a tree have bodies of at most 1,048,576 tokens in all their turns (section 9.6), so that no limit on these refuses it
+abbrev pub UnfoldsWithin : SourceText → Option (List ℕ) → Type 0
+UnfoldsWithin tree top = (count : ℕ) → flat_by (Some 1048576) tree top ≡ Err (TooMany Unfolded count) → ⊥
+
+-- The printed bytes expand to a text. Where that is read as a text, which is so where its tree is at most 500 deep, and the limit on
+-- the tokens of its loops does not refuse it, since a change may stand in the body of a loop, it has such a run: no law and no table
+-- refuses it.
 abbrev pub RunsAgain : Type 0
 RunsAgain = (w : PlainRequest) (design table : List ℕ) (answer : Answer) → IsMended w design table answer → (again : List ℕ) (origins : List Origin) → IsExpansion answer.out again origins →
-    (tokens : List Lexeme) (tree : SourceText) → IsText again tokens tree → (text : List ℕ) × RunsRight w.kind again table w.top w.clock text
+    (tokens : List Lexeme) (tree : SourceText) → IsText again tokens tree → UnfoldsWithin tree w.top → (text : List ℕ) × RunsRight w.kind again table w.top w.clock text
 
 -- and each run of it is such
 abbrev pub RunAgrees : Type 0
@@ -48,7 +56,7 @@ RunAgrees = (w : PlainRequest) (design table : List ℕ) (answer : Answer) → I
 -- The same of bytes that are printed where a repair is left open: no law and no table refuses them,
 abbrev pub FoundRunsAgain : Type 0
 FoundRunsAgain = (w : PlainRequest) (design table : List ℕ) (answer : Answer) → IsLeftOpen w design table answer → answer.out ≢ [] → (again : List ℕ) (origins : List Origin) → IsExpansion answer.out again origins →
-    (tokens : List Lexeme) (tree : SourceText) → IsText again tokens tree → (text : List ℕ) × RunsRight w.kind again table w.top w.clock text
+    (tokens : List Lexeme) (tree : SourceText) → IsText again tokens tree → UnfoldsWithin tree w.top → (text : List ℕ) × RunsRight w.kind again table w.top w.clock text
 
 -- and each run of their expansion is such
 abbrev pub FoundRunAgrees : Type 0
@@ -58,7 +66,7 @@ FoundRunAgrees = (w : PlainRequest) (design table : List ℕ) (answer : Answer) 
 -- The command `run` expands directives. Where the expansion of the printed bytes is within the limit, it gives such a run of them
 abbrev pub FileRunsAgain : Type 0
 FileRunsAgain = (w : PlainRequest) (design table : List ℕ) (answer : Answer) → IsMended w design table answer → (again : List ℕ) (origins : List Origin) → IsTaken answer.out again origins →
-    (tokens : List Lexeme) (tree : SourceText) → IsText again tokens tree →
+    (tokens : List Lexeme) (tree : SourceText) → IsText again tokens tree → UnfoldsWithin tree w.top →
     (text : List ℕ) × (IsFileRun w.kind answer.out table w.top w.clock text × RunsRight w.kind again table w.top w.clock text)
 
 -- and each run of them as a file is such
@@ -69,7 +77,7 @@ FileRunAgrees = (w : PlainRequest) (design table : List ℕ) (answer : Answer) �
 -- So it is with what is printed where a repair is left open
 abbrev pub FoundFileRunsAgain : Type 0
 FoundFileRunsAgain = (w : PlainRequest) (design table : List ℕ) (answer : Answer) → IsLeftOpen w design table answer → answer.out ≢ [] → (again : List ℕ) (origins : List Origin) → IsTaken answer.out again origins →
-    (tokens : List Lexeme) (tree : SourceText) → IsText again tokens tree →
+    (tokens : List Lexeme) (tree : SourceText) → IsText again tokens tree → UnfoldsWithin tree w.top →
     (text : List ℕ) × (IsFileRun w.kind answer.out table w.top w.clock text × RunsRight w.kind again table w.top w.clock text)
 
 abbrev pub FoundFileRunAgrees : Type 0

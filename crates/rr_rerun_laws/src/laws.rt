@@ -2,9 +2,9 @@
 ghost use Rattle.rr_rerun_laws.specs.Checks.{CheckAccepts, CheckAcceptsNone};
 ghost use Rattle.rr_rerun_laws.specs.Reruns.{FileRunAgrees, FileRunsAgain, FoundFileRunAgrees, FoundFileRunsAgain, FoundRunAgrees, FoundRunsAgain, RunAgrees, RunsAgain};
 
-/// Where a repair prints a file, and its expansion is read as a text, this has a run on the table of the
-/// repair, which agrees with each known cell; and every run of it does. So it is with the run of the printed
-/// bytes as a file, where their expansion is within the limit.
+/// Where a repair prints a file, and its expansion is read as a text whose loops unfold within the limit,
+/// this has a run on the table of the repair, which agrees with each known cell; and every run of it does.
+/// So it is with the run of the printed bytes as a file, where their expansion is within the limit.
 pub fn repair_then_run()
     ensures again { RunsAgain }
     ensures agrees { RunAgrees }
@@ -12,9 +12,10 @@ pub fn repair_then_run()
     ensures file_agrees { FileRunAgrees }
 {}
 
-/// Where a repair is left open and prints a file, and its expansion is read as a text, this has a run on the
-/// table of the repair, which agrees with each known cell; and every run of it does. So it is with the run of
-/// the printed bytes as a file, where their expansion is within the limit.
+/// Where a repair is left open and prints a file, and its expansion is read as a text whose loops unfold
+/// within the limit, this has a run on the table of the repair, which agrees with each known cell; and every
+/// run of it does. So it is with the run of the printed bytes as a file, where their expansion is within the
+/// limit.
 pub fn found_then_run()
     ensures again { FoundRunsAgain }
     ensures agrees { FoundRunAgrees }

@@ -3,10 +3,10 @@ use Rattle.std.proofs.Common.{◌≡◌, ◌⊎◌, inl, inr, ℕ, ◌%◌, ◌^
 use Rattle.std.proofs.lemmas.Bool.{eqb-true, cases_Bool}
 use Rattle.std.proofs.lemmas.List.{append_assoc}
 use Rattle.rr_syntax.specs.declared.token.Number.{Number}
-use Rattle.rr_syntax.specs.Words.{Word, Named, System, Digits, Reserved, Marked, keyword_always, keyword_assign, keyword_begin, keyword_default, keyword_else, keyword_end, keyword_endcase, keyword_endmodule, keyword_if, keyword_initial, keyword_module, keyword_reg, keyword_integer, keyword_signed, keyword_wire, mark_open_parenthesis, mark_close_parenthesis, mark_open_bracket, mark_close_bracket, mark_open_brace, mark_close_brace, mark_comma, mark_semicolon, mark_colon, mark_dot, mark_hash, mark_at, mark_question, mark_equals, mark_not, mark_less_or_equal, mark_logical_and, mark_logical_or, mark_part_up, mark_part_down}
-use Rattle.rr_syntax.specs.Tree.{Tree, Trees, Name, Literal, Bit, Part, Indexed, Unary, Binary, Cond, Concat, Repeat, Cast, Paren, End, More, Identifier, Range, Statement, Statements, Arm, Arms, Null, Block, If, IfElse, Case, Assign, Done, Then, CaseItem, NoArms, MoreArms, PortDeclaration, ParameterDeclaration, DeclaredName, NetAssignment, NamedConnection, Connections, Positions, Names, ModuleInstance, ModuleItem, Ports, Nets, Variables, Integers, Parameters, Assigns, Always, Initial, Instances, ModuleDeclaration, SourceText}
+use Rattle.rr_syntax.specs.Words.{Word, Named, System, Digits, Reserved, Marked, keyword_always, keyword_assign, keyword_begin, keyword_default, keyword_else, keyword_end, keyword_endcase, keyword_endmodule, keyword_for, keyword_if, keyword_initial, keyword_module, keyword_reg, keyword_integer, keyword_signed, keyword_wire, mark_open_parenthesis, mark_close_parenthesis, mark_open_bracket, mark_close_bracket, mark_open_brace, mark_close_brace, mark_comma, mark_semicolon, mark_colon, mark_dot, mark_hash, mark_at, mark_question, mark_equals, mark_not, mark_less_or_equal, mark_logical_and, mark_logical_or, mark_part_up, mark_part_down}
+use Rattle.rr_syntax.specs.Tree.{Tree, Trees, Name, Literal, Bit, Part, Indexed, Unary, Binary, Cond, Concat, Repeat, Cast, Paren, End, More, Identifier, Range, LoopHead, Statement, Statements, Arm, Arms, Null, Block, If, IfElse, Case, Assign, For, Done, Then, CaseItem, NoArms, MoreArms, PortDeclaration, ParameterDeclaration, DeclaredName, NetAssignment, NamedConnection, Connections, Positions, Names, ModuleInstance, ModuleItem, Ports, Nets, Variables, Integers, Parameters, Assigns, Always, Initial, Instances, ModuleDeclaration, SourceText}
 use Rattle.rr_syntax.specs.Expressions.{spell, spell_parts, WellFormed, WellFormedParts, WellFormedMore, is_prefix, prefixes}
-use Rattle.rr_syntax.specs.Statements.{spell_label, spell_labels, spell_statement, spell_statements, spell_arms, WellFormedStatement, WellFormedStatements, WellFormedArm, WellFormedArms}
+use Rattle.rr_syntax.specs.Statements.{spell_label, spell_labels, spell_loop, spell_statement, spell_statements, spell_arms, WellFormedStatement, WellFormedStatements, WellFormedArm, WellFormedArms}
 use Rattle.rr_syntax.specs.Items.{spell_separated, spell_where, spell_identifier, spell_declarator, spell_range, spell_type, spell_port, spell_parameter, spell_events, spell_connection, spell_connections, spell_overrides, spell_item, spell_parameters, spell_ports, WellFormedValue, WellFormedDeclarator, WellFormedPair, WellFormedConnection, WellFormedConnections, WellFormedInstance, WellFormedItem, WellFormedModule, WellFormedSource}
 use Rattle.rr_expr.specs.declared.operators.Infix.TheVariants.{Either}
 use Rattle.rr_expr.specs.Faults.{takes_constants}
@@ -75,6 +75,19 @@ tree_ended (Cast signed t) =
     ended_more (System (cond signed (codes "signed") (codes "unsigned"))) _ (ended_more (Marked mark_open_parenthesis) _ (ended_join (spell t) _ (ended (Marked mark_close_parenthesis) refl)))
 tree_ended (Paren t) = ended_more (Marked mark_open_parenthesis) _ (ended_join (spell t) _ (ended (Marked mark_close_parenthesis) refl))
 
+-- no head of a loop ends with a `*`
+loop_ended : (h : LoopHead) → Ended (spell_loop h)
+unfolding spell_loop
+loop_ended h =
+    ended_more (Marked mark_open_parenthesis) _
+    (ended_more (Named h.text) _
+    (ended_more (Marked mark_equals) _
+    (ended_join (spell h.start) _
+    (ended_more (Marked mark_semicolon) _
+    (ended_join (spell h.test) _
+    (ended_more (Marked mark_semicolon) _
+    (ended_more (Named h.step_text) _ (ended_more (Marked mark_equals) _ (ended_join (spell h.step) _ (ended (Marked mark_close_parenthesis) refl))))))))))
+
 -- none ends with a `*`
 statement_ended : (t : Statement) → Ended (spell_statement t)
 unfolding spell_statement
@@ -91,6 +104,7 @@ statement_ended (Case kind on arms) =
     (ended_more (Marked mark_open_parenthesis) _ (ended_join (spell on) _ (ended_more (Marked mark_close_parenthesis) _ (ended_join (spell_arms arms) _ (ended (Reserved keyword_endcase) refl)))))
 statement_ended (Assign t now e) =
     ended_join (spell t) _ (ended_more (Marked (cond now mark_equals mark_less_or_equal)) _ (ended_join (spell e) _ (ended (Marked mark_semicolon) refl)))
+statement_ended (For h t) = ended_more (Reserved keyword_for) _ (ended_join (spell_loop h) (spell_statement t) (statement_ended t))
 
 -- no statement begins with a closing bracket
 statement_opens : (t : Statement) → WellFormedStatement t → (more : List Word) → Opens (spell_statement t ++ more)
@@ -101,6 +115,7 @@ statement_opens (If c t) h more = refl
 statement_opens (IfElse c t u) h more = refl
 statement_opens (Case kind on arms) h more = refl
 statement_opens (Assign t now e) h more = joined_open (spell t) _ more (tree_opens t h.1)
+statement_opens (For head t) h more = refl
 
 literal_quiet : (found : Option (Site × Pick)) (n : Number) → Quiet (literal_pieces found n)
 literal_quiet None n = keep (Digits n) [] refl none
@@ -233,6 +248,8 @@ module _ (ss : List Site) (ps : List Pick) where
     statement_quiet (Assign t now e) h =
         join (kept (spell t)) _ (words (spell t) (tree_ended t))
         (keep (Marked (cond now mark_equals mark_less_or_equal)) _ (assigns_dark now) (join (tree_pieces ss ps e) _ (tree_quiet e h.2) (closed mark_semicolon refl)))
+    statement_quiet (For head t) h =
+        keep (Reserved keyword_for) _ refl (join (kept (spell_loop head)) (statement_pieces ss ps t) (words (spell_loop head) (loop_ended head)) (statement_quiet t h.1))
 
     statements_quiet : (ts : Statements) → WellFormedStatements ts → Quiet (statements_pieces ss ps ts)
     statements_quiet Done h = none

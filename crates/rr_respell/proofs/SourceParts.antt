@@ -1,10 +1,10 @@
 -- The pieces of statements, items, modules and sources.
 use Rattle.std.proofs.Common.{◌≡◌, ℕ, ◌%◌, ◌^◌, ◌==◌, ◌&&◌, Bool, true, false, cond, if◌then◌else◌, List, [], ◌∷◌, ◌++◌, map, Option, Some, None, refl, sym, ap, arith}
 use Rattle.std.proofs.lemmas.List.{append_assoc}
-use Rattle.rr_syntax.specs.Words.{Word, Named, Reserved, Marked, keyword_always, keyword_assign, keyword_begin, keyword_else, keyword_end, keyword_endcase, keyword_endmodule, keyword_if, keyword_module, keyword_wire, mark_open_parenthesis, mark_close_parenthesis, mark_comma, mark_semicolon, mark_colon, mark_dot, mark_at, mark_equals, mark_not, mark_less_or_equal}
-use Rattle.rr_syntax.specs.Tree.{Tree, Trees, Literal, End, More, Statement, Statements, Arm, Arms, Null, Block, If, IfElse, Case, Assign, Done, Then, CaseItem, NoArms, MoreArms, DeclaredName, NetAssignment, NamedConnection, Connections, Positions, Names, ModuleInstance, ModuleItem, Ports, Nets, Variables, Integers, Parameters, Assigns, Always, Initial, Instances, ModuleDeclaration, SourceText}
+use Rattle.rr_syntax.specs.Words.{Word, Named, Reserved, Marked, keyword_always, keyword_assign, keyword_begin, keyword_else, keyword_end, keyword_endcase, keyword_endmodule, keyword_for, keyword_if, keyword_module, keyword_wire, mark_open_parenthesis, mark_close_parenthesis, mark_comma, mark_semicolon, mark_colon, mark_dot, mark_at, mark_equals, mark_not, mark_less_or_equal}
+use Rattle.rr_syntax.specs.Tree.{Tree, Trees, Literal, End, More, Statement, Statements, Arm, Arms, Null, Block, If, IfElse, Case, Assign, For, Done, Then, CaseItem, NoArms, MoreArms, DeclaredName, NetAssignment, NamedConnection, Connections, Positions, Names, ModuleInstance, ModuleItem, Ports, Nets, Variables, Integers, Parameters, Assigns, Always, Initial, Instances, ModuleDeclaration, SourceText}
 use Rattle.rr_syntax.specs.Expressions.{spell}
-use Rattle.rr_syntax.specs.Statements.{spell_label, spell_labels, spell_statement, spell_statements, spell_arm, spell_arms}
+use Rattle.rr_syntax.specs.Statements.{spell_label, spell_labels, spell_loop, spell_statement, spell_statements, spell_arm, spell_arms}
 use Rattle.rr_syntax.specs.Items.{spell_each, spell_separated, spell_all, spell_type, spell_events, spell_overrides, spell_value, spell_declarator, spell_pair, spell_optional, spell_connection, spell_connections, spell_instance, spell_item, spell_parameters, spell_ports, spell_module, spell_source}
 use Rattle.rr_lex.specs.Patch as lex
 use Rattle.rr_lex.specs.Patch.{New, new_keyword, new_mark, new_name, new_words}
@@ -64,6 +64,7 @@ module _ (P : New → Type 0) (ss : List Site) (k : Allows P ss) where
           (join (tree_makes P ss k ps on) (keep (Marked mark_close_parenthesis) (join (arms_make arms) (keep (Reserved keyword_endcase) (none P))))))
       statement_makes (Assign t now e) =
           join (words P (spell t)) (keep (Marked (cond now mark_equals mark_less_or_equal)) (join (tree_makes P ss k ps e) (keep (Marked mark_semicolon) (none P))))
+      statement_makes (For h t) = keep (Reserved keyword_for) (join (words P (spell_loop h)) (statement_makes t))
 
       pub statements_make : (ts : Statements) → Makes P (statements_pieces ss ps ts) (spell_statements ts) (spell_statements (instance_statements ss ps ts))
       statements_make Done = none P

@@ -2,10 +2,10 @@
 -- literal that is switched on, and new tokens round each condition and each body of an `always` that is.
 use Rattle.std.specs.Prelude.{ℕ, ◌%◌, ◌^◌, ◌==◌, ◌&&◌, Bool, false, cond, if◌then◌else◌, List, [], ◌∷◌, ◌++◌, get_or, codes, Option, Some, None}
 use Rattle.rr_syntax.specs.declared.token.Number.{Number}
-use Rattle.rr_syntax.specs.Words.{Named, System, Digits, Reserved, Marked, keyword_always, keyword_assign, keyword_begin, keyword_else, keyword_end, keyword_endcase, keyword_endmodule, keyword_if, keyword_module, keyword_wire, mark_open_parenthesis, mark_close_parenthesis, mark_open_brace, mark_close_brace, mark_comma, mark_semicolon, mark_colon, mark_dot, mark_at, mark_question, mark_equals, mark_not, mark_less_or_equal, mark_logical_and, mark_logical_or}
-use Rattle.rr_syntax.specs.Tree.{Tree, Trees, Name, Literal, Bit, Part, Indexed, Unary, Binary, Cond, Concat, Repeat, Cast, Paren, End, More, Statement, Statements, Arm, Arms, Null, Block, If, IfElse, Case, Assign, Done, Then, CaseItem, NoArms, MoreArms, DeclaredName, NetAssignment, NamedConnection, Connections, Positions, Names, ModuleInstance, ModuleItem, Ports, Nets, Variables, Integers, Parameters, Assigns, Always, Initial, Instances, ModuleDeclaration, SourceText}
+use Rattle.rr_syntax.specs.Words.{Named, System, Digits, Reserved, Marked, keyword_always, keyword_assign, keyword_begin, keyword_else, keyword_end, keyword_endcase, keyword_endmodule, keyword_for, keyword_if, keyword_module, keyword_wire, mark_open_parenthesis, mark_close_parenthesis, mark_open_brace, mark_close_brace, mark_comma, mark_semicolon, mark_colon, mark_dot, mark_at, mark_question, mark_equals, mark_not, mark_less_or_equal, mark_logical_and, mark_logical_or}
+use Rattle.rr_syntax.specs.Tree.{Tree, Trees, Name, Literal, Bit, Part, Indexed, Unary, Binary, Cond, Concat, Repeat, Cast, Paren, End, More, Statement, Statements, Arm, Arms, Null, Block, If, IfElse, Case, Assign, For, Done, Then, CaseItem, NoArms, MoreArms, DeclaredName, NetAssignment, NamedConnection, Connections, Positions, Names, ModuleInstance, ModuleItem, Ports, Nets, Variables, Integers, Parameters, Assigns, Always, Initial, Instances, ModuleDeclaration, SourceText}
 use Rattle.rr_syntax.specs.Expressions.{spell}
-use Rattle.rr_syntax.specs.Statements.{spell_label, spell_labels}
+use Rattle.rr_syntax.specs.Statements.{spell_label, spell_labels, spell_loop}
 use Rattle.rr_syntax.specs.Items.{spell_type, spell_events, spell_overrides, spell_item, spell_parameters, spell_ports}
 use Rattle.rr_expr.specs.declared.operators.Infix.TheVariants.{Either}
 use Rattle.rr_expr.specs.Faults.{takes_constants}
@@ -91,7 +91,7 @@ unfoldable pub label_pieces : List Site → List Pick → Trees → Bool → Lis
 label_pieces ss ps End colon = kept (spell_labels End colon)
 label_pieces ss ps (More t ts) colon = part_pieces ss ps (More t ts) ++ (Kept (Marked mark_colon) ∷ [])
 
--- a statement inside an `always`; targets stay
+-- a statement inside an `always`; targets stay, and so does what a loop tells of its name
 unfoldable mutual
   pub statement_pieces : List Site → List Pick → Statement → List Piece
   statement_pieces ss ps Null = Kept (Marked mark_semicolon) ∷ []
@@ -111,6 +111,7 @@ unfoldable mutual
       (tree_pieces ss ps on ++ (Kept (Marked mark_close_parenthesis) ∷ (arms_pieces ss ps arms ++ (Kept (Reserved keyword_endcase) ∷ [])))))
   statement_pieces ss ps (Assign t now e) =
       kept (spell t) ++ (Kept (Marked (cond now mark_equals mark_less_or_equal)) ∷ (tree_pieces ss ps e ++ (Kept (Marked mark_semicolon) ∷ [])))
+  statement_pieces ss ps (For h t) = Kept (Reserved keyword_for) ∷ (kept (spell_loop h) ++ statement_pieces ss ps t)
 
   pub statements_pieces : List Site → List Pick → Statements → List Piece
   statements_pieces ss ps Done = []

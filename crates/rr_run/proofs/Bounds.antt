@@ -52,6 +52,7 @@ byte_of (flat.NotConstant at) = at
 byte_of (flat.PortMismatch at) = at
 byte_of (flat.TooWide at width) = at
 byte_of (flat.TooMany limit count) = 0
+byte_of (flat.BadLoop at) = at
 byte_of flat.Memory = 0
 
 placed_within : (n : ℕ) (ts : List Lexeme) (f : FlatFault) → ((k : ℕ) → start_of ts k ≤ n) → byte_of (placed ts f) ≤ n
@@ -65,6 +66,7 @@ placed_within n ts (flat.NotConstant at) l = l at
 placed_within n ts (flat.PortMismatch at) l = l at
 placed_within n ts (flat.TooWide at width) l = l at
 placed_within n ts (flat.TooMany limit count) l = omega arith
+placed_within n ts (flat.BadLoop at) l = l at
 placed_within n ts flat.Memory l = omega arith
 
 pub flaw_within : (bytes : List ℕ) (top : Option Text) (f : FlatFault) → IsFlawed bytes top f → byte_of f ≤ length bytes

@@ -34,6 +34,7 @@ of_flat (flat.NotConstant at) = At fault.NotConstant at
 of_flat (flat.PortMismatch at) = At fault.PortMismatch at
 of_flat (flat.TooWide at width) = At fault.TooWide at
 of_flat (flat.TooMany limit count) = TooMany limit count
+of_flat (flat.BadLoop at) = At fault.BadLoop at
 of_flat flat.Memory = NotUtf8
 
 abbrev pub of_design : DesignFault → Refusal
@@ -74,6 +75,7 @@ module _ (bytes : List ℕ) (top word : Option Text) where
   cause (At fault.TwoClocks at) r = late fault.TwoClocks at r refl
   cause (At fault.BadTarget at) r = late fault.BadTarget at r refl
   cause (At fault.WildLabel at) r = late fault.WildLabel at r refl
+  cause (At fault.BadLoop at) r = early (design.Flaw (flat.BadLoop at)) (λ e. cc) r refl
   cause (At fault.UnknownMacro at) r = absurd r
   cause (At fault.BadDirective at) r = absurd r
   cause (At fault.MacroLoop at) r = absurd r

@@ -71,6 +71,7 @@ module _ (file : List ℕ) (origins : List Origin) (taken : IsTaken file file or
     at_own fault.TwoClocks at r = kept fault.TwoClocks at (broken_within file top word fault.TwoClocks at r)
     at_own fault.BadTarget at r = kept fault.BadTarget at (broken_within file top word fault.BadTarget at r)
     at_own fault.WildLabel at r = kept fault.WildLabel at (broken_within file top word fault.WildLabel at r)
+    at_own fault.BadLoop at r = kept fault.BadLoop at (flaw_within file top (flat.BadLoop at) r)
     at_own fault.UnknownMacro at r = absurd r
     at_own fault.BadDirective at r = absurd r
     at_own fault.MacroLoop at r = absurd r

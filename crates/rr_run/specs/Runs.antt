@@ -104,6 +104,7 @@ IsAt bytes top word fault.ClockUse at = IsBroken bytes top word fault.ClockUse a
 IsAt bytes top word fault.TwoClocks at = IsBroken bytes top word fault.TwoClocks at
 IsAt bytes top word fault.BadTarget at = IsBroken bytes top word fault.BadTarget at
 IsAt bytes top word fault.WildLabel at = IsBroken bytes top word fault.WildLabel at
+IsAt bytes top word fault.BadLoop at = IsFlawed bytes top (flat.BadLoop at)
 IsAt bytes top word fault.UnknownMacro at = ⊥
 IsAt bytes top word fault.BadDirective at = ⊥
 IsAt bytes top word fault.MacroLoop at = ⊥

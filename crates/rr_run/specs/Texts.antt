@@ -31,6 +31,7 @@ fault_text fault.ClockUse = codes "22 ClockUse"
 fault_text fault.TwoClocks = codes "23 TwoClocks"
 fault_text fault.BadTarget = codes "24 BadTarget"
 fault_text fault.WildLabel = codes "25 WildLabel"
+fault_text fault.BadLoop = codes "37 BadLoop"
 fault_text fault.UnknownMacro = codes "38 UnknownMacro"
 fault_text fault.BadDirective = codes "39 BadDirective"
 fault_text fault.MacroLoop = codes "40 MacroLoop"
@@ -45,6 +46,8 @@ limit_text limit.Instances = codes "instances"
 limit_text limit.Depth = codes "depth"
 limit_text limit.FlatBits = codes "flatbits"
 limit_text limit.Work = codes "work"
+limit_text limit.Turns = codes "turns"
+limit_text limit.Unfolded = codes "unfolded"
 
 abbrev pub place_text : ℕ → ℕ → List ℕ
 place_text row column = codes " row " ++ (decimal row ++ (codes " column " ++ decimal column))

@@ -3,7 +3,7 @@ use rr_flat::Limit;
 use std::fmt;
 
 /// What is wrong with a design at one byte of its text or file: refusals 1 to 15, 17 to 25,
-/// 38 to 40 and 43.
+/// 37 to 40 and 43.
 #[derive(Clone, Copy, Debug, PartialEq, Eq)]
 pub enum Fault {
     /// A byte that begins no token (IEEE 1364-2005 section 3).
@@ -54,6 +54,8 @@ pub enum Fault {
     BadTarget,
     /// A label of `case` with x or z.
     WildLabel,
+    /// A loop that is not unfolded, or a name of one outside its loops (section 9.6).
+    BadLoop,
     /// A use of a name that is not defined (section 19.3).
     UnknownMacro,
     /// A directive without its name, with arguments, of a directive's name or with a directive in its
@@ -97,6 +99,7 @@ impl fmt::Display for Fault {
             Fault::TwoClocks => write!(f, "23 TwoClocks"),
             Fault::BadTarget => write!(f, "24 BadTarget"),
             Fault::WildLabel => write!(f, "25 WildLabel"),
+            Fault::BadLoop => write!(f, "37 BadLoop"),
             Fault::UnknownMacro => write!(f, "38 UnknownMacro"),
             Fault::BadDirective => write!(f, "39 BadDirective"),
             Fault::MacroLoop => write!(f, "40 MacroLoop"),
@@ -108,7 +111,7 @@ impl fmt::Display for Fault {
 /// Why two texts have no run. Bytes and columns count from 0, rows from 1: row 0 is the header.
 #[derive(Clone, Copy, Debug, PartialEq, Eq)]
 pub enum Refusal<'a> {
-    /// What is wrong with the design first, at this byte of its file (1 to 15, 17 to 25, 38 to
+    /// What is wrong with the design first, at this byte of its file (1 to 15, 17 to 25, 37 to
     /// 40, 43).
     At(Fault, u32),
     /// A count that passes its limit, with that count (16).
@@ -156,6 +159,8 @@ impl fmt::Display for Counted {
             Limit::Depth => write!(f, "depth"),
             Limit::FlatBits => write!(f, "flatbits"),
             Limit::Work => write!(f, "work"),
+            Limit::Turns => write!(f, "turns"),
+            Limit::Unfolded => write!(f, "unfolded"),
         }
     }
 }

@@ -114,8 +114,8 @@ fn fault_placed<'a>(expanded: &Expanded, size: u32, fault: RunFault<'a>) -> RunF
 
 /// The lawful design of a file of at most 1,048,576 bytes, whose directives are expanded, with a top and a
 /// word for the clock, each given or not; or the first refusal: of the directives (38 to 40, and 16 where
-/// they give more bytes and uses than 1,048,576), of the expanded text (1 to 16), then of the laws (11, 24,
-/// 25, 23, 22, 17 to 21). A byte of the expanded text is told at its place in the file: a byte of a use at
+/// they give more bytes and uses than 1,048,576), of the expanded text (1 to 16, 37), then of the laws (11,
+/// 24, 25, 23, 22, 17 to 21). A byte of the expanded text is told at its place in the file: a byte of a use at
 /// the backtick of the outermost use, and the end of the text as the length of the file.
 pub fn file_design<'a>(
     alloc: Global,

@@ -55,11 +55,12 @@ fn of_flaw<'a>(flaw: FlatFault) -> RunFault<'a>
         FlatFault::PortMismatch(byte) => at(Fault::PortMismatch, byte),
         FlatFault::TooWide(byte, _) => at(Fault::TooWide, byte),
         FlatFault::TooMany(limit, count) => RunFault::Refused(Refusal::TooMany(limit, count)),
+        FlatFault::BadLoop(byte) => at(Fault::BadLoop, byte),
         FlatFault::Memory => RunFault::Memory,
     }
 }
 
-/// The refusal of a text that has no flat design, for this reason (1 to 16).
+/// The refusal of a text that has no flat design, for this reason (1 to 16, 37).
 pub fn of_design<'a>(fault: DesignFault) -> RunFault<'a>
     ensures { (bytes : List ℕ) (top word : Option (List ℕ)) → RefusesText bytes top fault → StopsWhere (RefusesDesign bytes top word) result }
 {

@@ -58,7 +58,7 @@ fn run_on<'a>(
 
 /// The table, of this kind, with the outputs as they are: the run on its rows, from the state 0, of the
 /// design that the file expands to; or the first refusal, of the directives (38 to 40 and 16), then of the
-/// expanded design (1 to 25), with each byte of it told at its place in the file, and then of the table
+/// expanded design (1 to 25, 37), with each byte of it told at its place in the file, and then of the table
 /// (33, 26 to 32 and 16, or of a dump 41, 42 and 16).
 pub fn run_files<'a>(
     alloc: Global,

@@ -7,7 +7,7 @@ use std::test::Fail;
 /// A design with the name of its top, and the lines of its sites.
 type Case = (&'static str, &'static Option<&'static str>, &'static str);
 
-const CASES: [Case; 15] = [
+const CASES: [Case; 17] = [
     // A counter.
     (
         "module counter(input clk, input rst, output reg [3:0] q);\n  always @(posedge clk)\n    if (rst) q <= 4'd0;\n    else q <= q + 4'd2;\nendmodule\n",
@@ -55,6 +55,18 @@ const CASES: [Case; 15] = [
         "module m(input clk, input [3:0] a, output reg [3:0] y); integer i; always @(posedge clk) begin i = a; y <= i; end endmodule",
         &None,
         "0 overwrite 89 y guards 0\n",
+    ),
+    // In a loop, and none in its head.
+    (
+        "module m(input clk, input e, output reg [3:0] q, output reg p); integer i; always @(posedge clk) begin p <= e; for (i = 0; i < 4; i = i + 1) if (e) q[i] <= 1'b1; end endmodule",
+        &None,
+        "0 overwrite 97 p guards 2\n1 guard 145 guards 2\n2 literal 156 1'h1\n",
+    ),
+    // What a loop alone assigns is no overwrite, and by `=` no name of a guard.
+    (
+        "module m(input clk, input e, output reg q); reg t; integer i; always @(posedge clk) begin for (i = 0; i < 2; i = i + 1) t = e; if (t) q <= 1'b1; end endmodule",
+        &None,
+        "0 overwrite 84 q guards 2\n1 guard 131 guards 2\n2 literal 139 1'h1\n",
     ),
     // A range that names a parameter.
     (

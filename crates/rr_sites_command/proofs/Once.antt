@@ -1,5 +1,5 @@
 -- A text has one list of sites, or one refusal.
-use Rattle.std.proofs.Common.{◌≡◌, ◌∙◌, ℕ, Bool, List, [], Option, inl, inr, sym, ap, subst, arith, length, filter}
+use Rattle.std.proofs.Common.{◌≡◌, ◌∙◌, ℕ, Bool, List, [], Option, Some, inl, inr, sym, ap, subst, arith, length, filter}
 use Rattle.rr_syntax.specs.Tree.{SourceText}
 use Rattle.rr_directive.specs.declared.origin.Origin.{Origin}
 use Rattle.rr_directive.proofs.Faults.{one_expansion}
@@ -9,7 +9,7 @@ use Rattle.rr_flat.specs.Lawful.{Lawful}
 use Rattle.rr_flat.specs.Plain.{Flat}
 use Rattle.rr_flat.specs.Signals.{Text}
 use Rattle.rr_flat.specs.declared.fault.Limit.TheVariants as limit
-use Rattle.rr_flatten.specs.Walk.{flat_of}
+use Rattle.rr_flatten.specs.Walk.{flat_by}
 use Rattle.rr_flatten.proofs.HeadOf.{ok_is}
 use Rattle.rr_elaborate.specs.Designs.{IsDesignOf}
 use Rattle.rr_elaborate.proofs.Once.{one_text as one_tree}
@@ -34,7 +34,7 @@ module _ (bytes : List ℕ) (top word : Option Text) where
   pub one_list : (ts us : List Lexeme) (ss rs : List Site) → HasSites bytes top word ts ss → HasSites bytes top word us rs → (ts ≡ us) × (ss ≡ rs)
   one_list ts us ss rs a b =
       let both = one_tree bytes ts us a.source b.source a.design.text b.design.text in
-      let flats : a.flat ≡ b.flat = ok_is a.flat b.flat (sym a.design.flat ∙ (ap (λ (t : SourceText). flat_of t top) both.1 ∙ b.design.flat)) in
+      let flats : a.flat ≡ b.flat = ok_is a.flat b.flat (sym a.design.flat ∙ (ap (λ (t : SourceText). flat_by (Some 1048576) t top) both.1 ∙ b.design.flat)) in
       let clocks = one_clock b.flat word a.clock b.clock a.rising b.rising (subst (λ (f : Flat). OneClock f word a.clock a.rising) flats a.one_clock) b.one_clock in
       let are : AreSites b.source b.flat b.clock ss =
       subst (λ (c : Option ℕ). AreSites b.source b.flat c ss) clocks.0 (subst (λ (f : Flat). AreSites b.source f a.clock ss) flats (subst (λ (t : SourceText). AreSites t a.flat a.clock ss) both.1 a.are)) in

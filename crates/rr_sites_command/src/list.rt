@@ -152,7 +152,7 @@ fn list_file<'a>(
 /// The lines of the sites of a file of at most 1,048,576 bytes that can be changed in the file, with a top
 /// and a word for the clock, each given or not: `N literal OFFSET VALUE`, `N guard OFFSET guards G` and
 /// `N overwrite OFFSET NAME guards G`, numbered from 0, with places in the file; or the first refusal: of
-/// the directives (38 to 40 and 16), of the design (1 to 15, 16, 17 to 25), then that there are more than
+/// the directives (38 to 40 and 16), of the design (1 to 25, 37), then that there are more than
 /// 1,024 such sites (16).
 pub fn list_sites<'a>(
     alloc: Global,

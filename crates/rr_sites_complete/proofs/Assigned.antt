@@ -1,10 +1,10 @@
--- What is listed as assigned by a statement is what stands in it as a target.
+-- What is listed as assigned by a statement is what stands in it as a target outside its loops.
 use Rattle.std.proofs.Common.{◌≡◌, ◌⊎◌, inl, inr, ℕ, Bool, List, [], ◌∷◌, Contains, refl, sym, subst}
 use Rattle.std.proofs.lemmas.List.Elements.{Contains-append_left, Contains-append_right, Contains-append_cases}
-use Rattle.rr_syntax.specs.Tree.{Tree, Trees, Name, Literal, Bit, Part, Indexed, Unary, Binary, Cond, Concat, Repeat, Cast, Paren, End, More, Statement, Statements, Arm, Arms, Null, Block, If, IfElse, Case, Assign, Done, Then, CaseItem, NoArms, MoreArms}
+use Rattle.rr_syntax.specs.Tree.{Tree, Trees, Name, Literal, Bit, Part, Indexed, Unary, Binary, Cond, Concat, Repeat, Cast, Paren, End, More, Statement, Statements, Arm, Arms, Null, Block, If, IfElse, Case, Assign, For, Done, Then, CaseItem, NoArms, MoreArms}
 use Rattle.rr_flat.specs.Reads.{Assigned, assigned_parts, assigned_by, assigned_by_all, assigned_by_arm, assigned_by_arms}
 use Rattle.rr_flat.specs.Targets.{target_parts, targets_parts}
-use Rattle.rr_sites_complete.specs.Inside.{IsPart, first_part, later_part, IsOneOf, first_statement, later_statement, IsArm, first_arm, later_arm, StandsIn, itself_whole, in_block, in_if, in_true, in_false, in_case}
+use Rattle.rr_sites_complete.specs.Inside.{IsPart, first_part, later_part, IsOneOf, first_statement, later_statement, IsArm, first_arm, later_arm, StandsOutside, outside_itself, outside_in_block, outside_in_if, outside_in_true, outside_in_false, outside_in_case}
 use Rattle.rr_sites_complete.specs.Targets.{IsTarget, whole_target, in_braces, IsAssigned}
 use Rattle.rr_sites_complete.proofs.Lists.{head_in, tail_in, none_in, cases_in}
 
@@ -90,7 +90,7 @@ target_in {p} (in_braces i h) l = braced_in i p (target_in h l)
 
 -- Assignments
 
-abbrev one : Tree → Bool → Assigned
+abbrev pub one : Tree → Bool → Assigned
 one p now = record { part = p; now = now }
 
 pub parts_now : (now : Bool) (ts : List Tree) (a : Assigned) → Contains (assigned_parts now ts) a → Contains ts a.part × (a.now ≡ now)
@@ -101,7 +101,7 @@ parts_now now (t ∷ ts) a c = elim (cases_in (one t now) (assigned_parts now ts
   | inr d ↦ let r = parts_now now ts a d in (tail_in t ts a.part r.0, r.1)
 ]
 
-now_parts : (now : Bool) (ts : List Tree) (p : Tree) → Contains ts p → Contains (assigned_parts now ts) (one p now)
+pub now_parts : (now : Bool) (ts : List Tree) (p : Tree) → Contains ts p → Contains (assigned_parts now ts) (one p now)
 unfolding assigned_parts
 now_parts now [] p c = absurd (none_in p c)
 now_parts now (t ∷ ts) p c = elim (cases_in t ts p c) [
@@ -113,19 +113,19 @@ now_parts now (t ∷ ts) p c = elim (cases_in t ts p c) [
 abbrev pub IsAssignedIn : Statement → Assigned → Type 0
 IsAssignedIn body a = IsAssigned body a.part a.now × IsLeaf a.part
 
-deeper : (t body : Statement) (a : Assigned) → ((s : Statement) → StandsIn s t → StandsIn s body) → IsAssignedIn t a → IsAssignedIn body a
+deeper : (t body : Statement) (a : Assigned) → ((s : Statement) → StandsOutside s t → StandsOutside s body) → IsAssignedIn t a → IsAssignedIn body a
 deeper t body a k (h, l) = (record { target = h.target; value = h.value; stands = k (Assign h.target a.now h.value) h.stands; is = h.is }, l)
 
 by_assignment : (t : Tree) (now : Bool) (v : Tree) (a : Assigned) → Contains (assigned_parts now (target_parts t)) a → IsAssignedIn (Assign t now v) a
 by_assignment t now v a c =
     let r = parts_now now (target_parts t) a c in
     let q = parts_from t a.part r.0 in
-    (record { target = t; value = v; stands = subst (λ n. StandsIn (Assign t n v) (Assign t now v)) (sym r.1) itself_whole; is = q.0 }, q.1)
+    (record { target = t; value = v; stands = subst (λ n. StandsOutside (Assign t n v) (Assign t now v)) (sym r.1) outside_itself; is = q.0 }, q.1)
 
 branches : (e : Tree) (t u : Statement) (a : Assigned) → (Contains (assigned_by t) a → IsAssignedIn t a) → (Contains (assigned_by u) a → IsAssignedIn u a) → Contains (assigned_by t) a ⊎ Contains (assigned_by u) a →
     IsAssignedIn (IfElse e t u) a
-branches e t u a h k (inl c) = deeper t (IfElse e t u) a (λ s d. in_true d) (h c)
-branches e t u a h k (inr c) = deeper u (IfElse e t u) a (λ s d. in_false d) (k c)
+branches e t u a h k (inl c) = deeper t (IfElse e t u) a (λ s d. outside_in_true d) (h c)
+branches e t u a h k (inr c) = deeper u (IfElse e t u) a (λ s d. outside_in_false d) (k c)
 
 either : (t : Statement) (ts : Statements) (a : Assigned) → (Contains (assigned_by t) a → IsAssignedIn t a) → (Contains (assigned_by_all ts) a → (u : Statement) × IsOneOf u ts × IsAssignedIn u a) →
     Contains (assigned_by t) a ⊎ Contains (assigned_by_all ts) a → (u : Statement) × IsOneOf u (Then t ts) × IsAssignedIn u a
@@ -136,7 +136,7 @@ abbrev IsAssignedByArm : Arm → Assigned → Type 0
 IsAssignedByArm (CaseItem labels colon t) a = IsAssignedIn t a
 
 in_arm : (kind : ℕ) (on : Tree) (arms : Arms) (b : Arm) (a : Assigned) → IsArm b arms → IsAssignedByArm b a → IsAssignedIn (Case kind on arms) a
-in_arm kind on arms (CaseItem labels colon t) a i h = deeper t (Case kind on arms) a (λ s d. in_case i d) h
+in_arm kind on arms (CaseItem labels colon t) a i h = deeper t (Case kind on arms) a (λ s d. outside_in_case i d) h
 
 other : (b : Arm) (rest : Arms) (a : Assigned) → (Contains (assigned_by_arm b) a → IsAssignedByArm b a) → (Contains (assigned_by_arms rest) a → (d : Arm) × IsArm d rest × IsAssignedByArm d a) →
     Contains (assigned_by_arm b) a ⊎ Contains (assigned_by_arms rest) a → (d : Arm) × IsArm d (MoreArms b rest) × IsAssignedByArm d a
@@ -148,11 +148,12 @@ mutual
 
   pub assigned_from : (t : Statement) (a : Assigned) → Contains (assigned_by t) a → IsAssignedIn t a
   assigned_from Null a c = absurd (none_in a c)
-  assigned_from (Block label ts) a c = let r = assigned_from_all ts a c in deeper r.0 (Block label ts) a (λ s d. in_block r.1 d) r.2
-  assigned_from (If e t) a c = deeper t (If e t) a (λ s d. in_if d) (assigned_from t a c)
+  assigned_from (Block label ts) a c = let r = assigned_from_all ts a c in deeper r.0 (Block label ts) a (λ s d. outside_in_block r.1 d) r.2
+  assigned_from (If e t) a c = deeper t (If e t) a (λ s d. outside_in_if d) (assigned_from t a c)
   assigned_from (IfElse e t u) a c = branches e t u a (assigned_from t a) (assigned_from u a) (Contains-append_cases (assigned_by t) (assigned_by u) a c)
   assigned_from (Case kind on arms) a c = let r = assigned_from_arms arms a c in in_arm kind on arms r.0 a r.1 r.2
   assigned_from (Assign t now v) a c = by_assignment t now v a c
+  assigned_from (For head t) a c = absurd (none_in a c)
 
   assigned_from_all : (ts : Statements) (a : Assigned) → Contains (assigned_by_all ts) a → (t : Statement) × IsOneOf t ts × IsAssignedIn t a
   assigned_from_all Done a c = absurd (none_in a c)
@@ -175,14 +176,14 @@ unfolding assigned_by
 arm_in {b} (first_arm {rest}) a c = Contains-append_left (assigned_by_arm b) (assigned_by_arms rest) a c
 arm_in (later_arm {b = d} {rest} p) a c = Contains-append_right (assigned_by_arm d) (assigned_by_arms rest) a (arm_in p a c)
 
-standing_in : {t body : Statement} → StandsIn t body → (a : Assigned) → Contains (assigned_by t) a → Contains (assigned_by body) a
+standing_in : {t body : Statement} → StandsOutside t body → (a : Assigned) → Contains (assigned_by t) a → Contains (assigned_by body) a
 unfolding assigned_by
-standing_in itself_whole a c = c
-standing_in (in_block p d) a c = one_in p a (standing_in d a c)
-standing_in (in_if d) a c = standing_in d a c
-standing_in (in_true {t} {u} d) a c = Contains-append_left (assigned_by t) (assigned_by u) a (standing_in d a c)
-standing_in (in_false {t} {u} d) a c = Contains-append_right (assigned_by t) (assigned_by u) a (standing_in d a c)
-standing_in (in_case b d) a c = arm_in b a (standing_in d a c)
+standing_in outside_itself a c = c
+standing_in (outside_in_block p d) a c = one_in p a (standing_in d a c)
+standing_in (outside_in_if d) a c = standing_in d a c
+standing_in (outside_in_true {t} {u} d) a c = Contains-append_left (assigned_by t) (assigned_by u) a (standing_in d a c)
+standing_in (outside_in_false {t} {u} d) a c = Contains-append_right (assigned_by t) (assigned_by u) a (standing_in d a c)
+standing_in (outside_in_case b d) a c = arm_in b a (standing_in d a c)
 
 pub assigned_in : (body : Statement) (p : Tree) (now : Bool) → IsAssigned body p now → IsLeaf p → Contains (assigned_by body) (one p now)
 unfolding assigned_by

@@ -10,11 +10,13 @@ use Rattle.rr_flat.specs.Reads.{Assigned, assigned_by}
 use Rattle.rr_flat.specs.Signals.{Text}
 use Rattle.rr_flat.specs.Targets.{part_name}
 use Rattle.rr_change_places.specs.Spots.{has_edges}
+use Rattle.rr_guard.specs.Anywhere.{assigned_anywhere, anywhere_at_edges}
 use Rattle.rr_guard.specs.Names.{scalars, firsts, assigned_at_edges, whole_name, is_text, is_now, is_later, writes_now, writes_later, may_guard, guard_names, is_before, first_names, names_at}
 use Rattle.rr_sites_complete.specs.Declarations.{IsScalar}
 use Rattle.rr_sites_complete.specs.GuardNames.{MayGuard, Rising, AreNamesAt}
 use Rattle.rr_sites_complete.specs.Laws.{NamesAreThese}
-use Rattle.rr_sites_complete.specs.Targets.{IsAssigned, IsOf, IsClockedBlock, IsWrittenNow, IsRegister}
+use Rattle.rr_sites_complete.specs.Targets.{IsAssigned, IsAssignedAnywhere, IsOf, IsClockedBlock, IsWrittenNow, IsRegister}
+use Rattle.rr_sites_complete.proofs.Anywhere.{anywhere_from, anywhere_in}
 use Rattle.rr_sites_complete.proofs.Assigned.{IsLeaf, assigned_from, assigned_in}
 use Rattle.rr_sites_complete.proofs.Declared.{any_from, any_in, scalars_from, scalars_in}
 use Rattle.rr_sites_complete.proofs.FirstNames.{token_of, firsts_from, firsts_in, firsts_rise}
@@ -24,15 +26,23 @@ use Rattle.rr_sites_complete.proofs.Scalars.{scalars_rise}
 
 -- What clocked blocks write
 
-record AtEdges (i : ModuleItem) (a : Assigned) : Type 0 where
+-- one of those that a list has of a body
+record AtEdges (list : Statement → List Assigned) (i : ModuleItem) (a : Assigned) : Type 0 where
   events : EventControl
   body : Statement
   token : ℕ
   is : i ≡ Always events body token
   edges : has_edges events ≡ true
-  there : Contains (assigned_by body) a
+  there : Contains (list body) a
 
-edges_from : (i : ModuleItem) (a : Assigned) → Contains (assigned_at_edges i) a → AtEdges i a
+at_edges : (list : Statement → List Assigned) (events : EventControl) (body : Statement) (token : ℕ) (a : Assigned) → Contains (if has_edges events then list body else []) a → AtEdges list (Always events body token) a
+at_edges list events body token a c = by (has_edges events) refl c
+  where
+    by : (b : Bool) → has_edges events ≡ b → Contains (if b then list body else []) a → AtEdges list (Always events body token) a
+    by true e c = record { events = events; body = body; token = token; is = refl; edges = e; there = c }
+    by false e c = absurd (none_in a c)
+
+edges_from : (i : ModuleItem) (a : Assigned) → Contains (assigned_at_edges i) a → AtEdges assigned_by i a
 unfolding assigned_at_edges
 edges_from (Ports p) a c = absurd (none_in a c)
 edges_from (Nets signed range list) a c = absurd (none_in a c)
@@ -40,20 +50,32 @@ edges_from (Variables signed range list) a c = absurd (none_in a c)
 edges_from (Integers list) a c = absurd (none_in a c)
 edges_from (Parameters p) a c = absurd (none_in a c)
 edges_from (Assigns pairs) a c = absurd (none_in a c)
-edges_from (Always events body token) a c = by (has_edges events) refl c
-  where
-    by : (b : Bool) → has_edges events ≡ b → Contains (if b then assigned_by body else []) a → AtEdges (Always events body token) a
-    by true e c = record { events = events; body = body; token = token; is = refl; edges = e; there = c }
-    by false e c = absurd (none_in a c)
+edges_from (Always events body token) a c = at_edges assigned_by events body token a c
 edges_from (Initial body token) a c = absurd (none_in a c)
 edges_from (Instances m token over list) a c = absurd (none_in a c)
 
-block_of : (m : ModuleDeclaration) (i : ModuleItem) (a : Assigned) → Contains m.items i → (h : AtEdges i a) → IsClockedBlock m h.body
-block_of m i a c h = record { events = h.events; token = h.token; there = subst (Contains m.items) h.is c; edges = h.edges }
+any_edges_from : (i : ModuleItem) (a : Assigned) → Contains (anywhere_at_edges i) a → AtEdges assigned_anywhere i a
+unfolding anywhere_at_edges
+any_edges_from (Ports p) a c = absurd (none_in a c)
+any_edges_from (Nets signed range list) a c = absurd (none_in a c)
+any_edges_from (Variables signed range list) a c = absurd (none_in a c)
+any_edges_from (Integers list) a c = absurd (none_in a c)
+any_edges_from (Parameters p) a c = absurd (none_in a c)
+any_edges_from (Assigns pairs) a c = absurd (none_in a c)
+any_edges_from (Always events body token) a c = at_edges assigned_anywhere events body token a c
+any_edges_from (Initial body token) a c = absurd (none_in a c)
+any_edges_from (Instances m token over list) a c = absurd (none_in a c)
+
+block_of : (list : Statement → List Assigned) (m : ModuleDeclaration) (i : ModuleItem) (a : Assigned) → Contains m.items i → (h : AtEdges list i a) → IsClockedBlock m h.body
+block_of list m i a c h = record { events = h.events; token = h.token; there = subst (Contains m.items) h.is c; edges = h.edges }
 
 edges_in : (m : ModuleDeclaration) (body : Statement) (a : Assigned) → IsClockedBlock m body → Contains (assigned_by body) a → Contains (flat_map assigned_at_edges m.items) a
 unfolding assigned_at_edges
 edges_in m body a b c = flat_in assigned_at_edges m.items (Always b.events body b.token) a b.there (subst (λ t. Contains (if t then assigned_by body else []) a) (sym b.edges) c)
+
+any_edges_in : (m : ModuleDeclaration) (body : Statement) (a : Assigned) → IsClockedBlock m body → Contains (assigned_anywhere body) a → Contains (flat_map anywhere_at_edges m.items) a
+unfolding anywhere_at_edges
+any_edges_in m body a b c = flat_in anywhere_at_edges m.items (Always b.events body b.token) a b.there (subst (λ t. Contains (if t then assigned_anywhere body else []) a) (sym b.edges) c)
 
 of_leaf : (p : Tree) (name : Text) → IsLeaf p → part_name p ≡ name → IsOf p name
 of_leaf (Name token x) name l e = e
@@ -99,24 +121,24 @@ whole_from (Paren t) name e = absurd (both_ways false refl e)
 
 pub now_from : (m : ModuleDeclaration) (name : Text) → writes_now m name ≡ true → IsWrittenNow m name
 now_from m name e =
-    let r = any_from (is_now name) (flat_map assigned_at_edges m.items) e in
+    let r = any_from (is_now name) (flat_map anywhere_at_edges m.items) e in
     let a = r.0 in
-    let q = flat_from assigned_at_edges m.items a r.1 in
-    let h = edges_from q.0 a q.2 in
-    let s = assigned_from h.body a h.there in
+    let q = flat_from anywhere_at_edges m.items a r.1 in
+    let h = any_edges_from q.0 a q.2 in
+    let s = anywhere_from h.body a h.there in
     let k = and_parts a.now (bytes_eq (part_name a.part) name) r.2 in
     record {
       body = h.body;
-      block = block_of m q.0 a q.1 h;
+      block = block_of assigned_anywhere m q.0 a q.1 h;
       part = a.part;
-      assigned = subst (IsAssigned h.body a.part) k.0 s.0;
+      assigned = subst (IsAssignedAnywhere h.body a.part) k.0 s.0;
       named = of_leaf a.part name s.1 ((bytes_eq-Decides (part_name a.part) name).0 k.1);
     }
 
 pub now_in : (m : ModuleDeclaration) (name : Text) → IsWrittenNow m name → writes_now m name ≡ true
 now_in m name w =
     let l = leaf_of w.part name w.named in
-    any_in (is_now name) (flat_map assigned_at_edges m.items) (record { part = w.part; now = true }) (edges_in m w.body (record { part = w.part; now = true }) w.block (assigned_in w.body w.part true w.assigned l.0))
+    any_in (is_now name) (flat_map anywhere_at_edges m.items) (record { part = w.part; now = true }) (any_edges_in m w.body (record { part = w.part; now = true }) w.block (anywhere_in w.body w.part true w.assigned l.0))
     ((bytes_eq-Decides (part_name w.part) name).1 l.1)
 
 pub later_from : (m : ModuleDeclaration) (name : Text) → writes_later m name ≡ true → IsRegister m name
@@ -130,7 +152,7 @@ later_from m name e =
     let w = whole_from a.part name k.1 in
     record {
       body = h.body;
-      block = block_of m q.0 a q.1 h;
+      block = block_of assigned_by m q.0 a q.1 h;
       token = w.0;
       assigned = subst (λ p. IsAssigned h.body p false) w.1 (subst (IsAssigned h.body a.part) (not-true a.now k.0) s.0);
     }

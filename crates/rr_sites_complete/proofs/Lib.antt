@@ -4,6 +4,7 @@ pub mod Statements
 pub mod Items
 pub mod Rises
 pub mod Assigned
+pub mod Anywhere
 pub mod Declared
 pub mod FirstNames
 pub mod Scalars

@@ -2,9 +2,9 @@
 use Rattle.std.proofs.Common.{◌⊎◌, inl, inr, ℕ, ◌∷◌, ◌++◌, Contains}
 use Rattle.std.specs.List.{AllByRecursion}
 use Rattle.std.proofs.lemmas.List.Elements.{Contains-append_left, Contains-append_right}
-use Rattle.rr_syntax.specs.Tree.{Tree, Literal, Cond, Statement, Statements, Arm, Arms, Null, Block, If, IfElse, Case, Assign, Done, Then, CaseItem, NoArms, MoreArms}
+use Rattle.rr_syntax.specs.Tree.{Tree, Literal, Cond, Statement, Statements, Arm, Arms, Null, Block, If, IfElse, Case, Assign, For, Done, Then, CaseItem, NoArms, MoreArms}
 use Rattle.rr_change_places.specs.Spots.{Spot, Body, Test, Value, spots, spots_of_parts, spots_of, spots_of_all, spots_of_arm, spots_of_arms}
-use Rattle.rr_sites_complete.specs.Inside.{IsOneOf, first_statement, later_statement, IsArm, first_arm, later_arm, IsInside, StandsIn, itself_whole, in_block, in_if, in_true, in_false, in_case}
+use Rattle.rr_sites_complete.specs.Inside.{IsOneOf, first_statement, later_statement, IsArm, first_arm, later_arm, IsInside, StandsIn, itself_whole, in_block, in_if, in_true, in_false, in_case, in_loop}
 use Rattle.rr_sites_complete.specs.Places.{IsCondition, of_if, of_if_else, StandsAt, as_condition, as_selector, as_label, as_right_side}
 use Rattle.rr_sites_complete.proofs.Lists.{tail_in}
 use Rattle.rr_sites_complete.proofs.Expressions.{all_weaken, all_both, IsSpotIn, IsSpotInPart, spots_inside, spots_inside_parts, part_in}
@@ -90,6 +90,7 @@ mutual
       all_both (IsSpotOf (Case kind on arms)) (spots on) (spots_of_arms arms) (at_places on (Case kind on arms) (as_selector itself_whole))
       (all_weaken (IsSpotOfArm arms) (IsSpotOf (Case kind on arms)) (spots_of_arms arms) (λ s p. item_there kind on arms p.0 p.1 s p.2) (spots_there_arms arms))
   spots_there (Assign target now e) = at_places e (Assign target now e) (as_right_side itself_whole)
+  spots_there (For head t) = wider t (For head t) (λ u d. in_loop d) (spots_there t)
 
   spots_there_all : (ts : Statements) → AllByRecursion (IsSpotOfOne ts) (spots_of_all ts)
   spots_there_all Done = tt
@@ -132,6 +133,7 @@ stands_in (in_false {c} {t} {u} d) s h =
     tail_in (Test c) (spots c ++ (spots_of t ++ spots_of u)) s (Contains-append_right (spots c) (spots_of t ++ spots_of u) s (Contains-append_right (spots_of t) (spots_of u) s (stands_in d s h)))
 stands_in (in_case {kind} {on} {labels} {colon} {t} {arms} a d) s h =
     Contains-append_right (spots on) (spots_of_arms arms) s (arm_in a s (Contains-append_right (spots_of_parts labels) (spots_of t) s (stands_in d s h)))
+stands_in (in_loop d) s h = stands_in d s h
 
 -- the spots of a condition, with itself
 pub condition_in : (c : Tree) (body : Statement) → IsCondition c body → (s : Spot) → Contains (Test c ∷ spots c) s → Contains (spots_of body) s

@@ -1,10 +1,10 @@
 -- What stands inside a tree is spelled among its words.
 use Rattle.std.proofs.Common.{◌≡◌, ℕ, ◌+◌, Bool, List, [], ◌∷◌, ◌++◌, length, sym, subst, ap, ◌∙◌, arith, append_assoc, length-append}
 use Rattle.rr_syntax.specs.Expressions.{spell, spell_parts, spell_more, WellFormed, WellFormedParts, WellFormedMore, Numbered, NumberedMore}
-use Rattle.rr_syntax.specs.Statements.{spell_label, spell_labels, spell_statement, spell_statements, spell_arm, spell_arms, WellFormedStatement, WellFormedStatements, WellFormedArm, WellFormedArms, NumberedLabels, NumberedStatement, NumberedStatements, NumberedArm, NumberedArms}
+use Rattle.rr_syntax.specs.Statements.{spell_label, spell_labels, spell_loop, spell_statement, spell_statements, spell_arm, spell_arms, WellFormedStatement, WellFormedStatements, WellFormedArm, WellFormedArms, NumberedLabels, NumberedStatement, NumberedStatements, NumberedArm, NumberedArms}
 use Rattle.rr_syntax.specs.Tree.{Tree, Trees, End, More, Statement, Statements, Arm, Arms, Case}
 use Rattle.rr_syntax.specs.Words.{Word}
-use Rattle.rr_sites_complete.specs.Inside.{IsPart, first_part, later_part, IsOneOf, first_statement, later_statement, IsArm, first_arm, later_arm, IsInside, itself, operand, left, right, condition, where_true, where_false, in_concatenation, in_replication, in_cast, in_brackets, StandsIn, itself_whole, in_block, in_if, in_true, in_false, in_case}
+use Rattle.rr_sites_complete.specs.Inside.{IsPart, first_part, later_part, IsOneOf, first_statement, later_statement, IsArm, first_arm, later_arm, IsInside, itself, operand, left, right, condition, where_true, where_false, in_concatenation, in_replication, in_cast, in_brackets, StandsIn, itself_whole, in_block, in_if, in_true, in_false, in_case, in_loop}
 use Rattle.rr_sites_complete.specs.Places.{IsCondition, of_if, of_if_else, StandsAt, as_condition, as_selector, as_label, as_right_side}
 use Rattle.rr_sites_complete.specs.Spelled.{StandAt}
 
@@ -126,6 +126,8 @@ module _ (ws : List Word) where
       let k = arms_of kind on arms at n h in
       let r = arm_told a k.0 w.3 k.1 k.2 in
       statement_told d (r.at + length (spell_labels labels colon)) r.formed.2 r.numbered.1 (back (spell_labels labels colon) (spell_statement t) r.at r.spelled)
+  statement_told (in_loop {head} {t} d) at w n h =
+      statement_told d (at + 1 + length (spell_loop head)) w.1 n.1 (back (spell_loop head) (spell_statement t) (at + 1) (next _ (spell_loop head ++ spell_statement t) at h))
 
   label_told : {e : Tree} {labels : Trees} → IsPart e labels → (colon : Bool) (at : ℕ) → WellFormedMore labels → NumberedLabels labels at → StandAt ws at (spell_labels labels colon) → Told e
   unfolding spell WellFormed spell_labels NumberedLabels

@@ -1,4 +1,4 @@
--- The variables that a statement assigns as a whole, each once, at its first target.
+-- The variables that a statement assigns as a whole outside its loops, each once, at its first target.
 use Rattle.std.proofs.Common.{◌≡◌, inl, inr, ℕ, ◌+◌, ◌<◌, ◌≤◌, Bool, true, false, not, if◌then◌else◌, List, [], ◌∷◌, ◌++◌, length, map, filter, flat_map, Contains, refl, sym, subst, ap, ◌∙◌, arith, append_assoc}
 use Rattle.std.specs.List.{AllByRecursion}
 use Rattle.std.specs.Str.{bytes_eq}
@@ -7,7 +7,7 @@ use Rattle.std.proofs.lemmas.Grind.{flat_map-append}
 use Rattle.std.proofs.lemmas.Slice.Eq.{bytes_eq-Decides}
 use Rattle.rr_syntax.specs.Expressions.{spell, spell_more, Numbered, NumberedMore}
 use Rattle.rr_syntax.specs.Statements.{spell_label, spell_labels, spell_statement, spell_statements, spell_arm, spell_arms, NumberedStatement, NumberedStatements, NumberedArm, NumberedArms}
-use Rattle.rr_syntax.specs.Tree.{Tree, Trees, Name, Literal, Bit, Part, Indexed, Unary, Binary, Cond, Concat, Repeat, Cast, Paren, End, More, Statement, Statements, Arm, Arms, Null, Block, If, IfElse, Case, Assign, Done, Then, CaseItem, NoArms, MoreArms}
+use Rattle.rr_syntax.specs.Tree.{Tree, Trees, Name, Literal, Bit, Part, Indexed, Unary, Binary, Cond, Concat, Repeat, Cast, Paren, End, More, Statement, Statements, Arm, Arms, Null, Block, If, IfElse, Case, Assign, For, Done, Then, CaseItem, NoArms, MoreArms}
 use Rattle.rr_flat.specs.Reads.{Assigned, assigned_parts, assigned_by, assigned_by_all, assigned_by_arm, assigned_by_arms}
 use Rattle.rr_flat.specs.Signals.{Text}
 use Rattle.rr_flat.specs.Targets.{target_parts, targets_parts}
@@ -142,6 +142,7 @@ mutual
   statement_rises (Assign t now v) at n =
       let e = span.long-Assign t now v in
       fit at (at + length (spell t)) at (at + length (spell_statement (Assign t now v))) (assigned_parts now (target_parts t)) (omega arith) (omega (arith, e)) (assignment_rises t now at n.0)
+  statement_rises (For head t) at n = spread_none key at (at + length (spell_statement (For head t)))
 
   statements_rise : (ts : Statements) (at : ℕ) → NumberedStatements ts at → In at (at + length (spell_statements ts)) (all_at (assigned_by_all ts))
   statements_rise Done at n = spread_none key at (at + length (spell_statements Done))

@@ -7,7 +7,7 @@ use Rattle.rr_sites_complete.specs.Declarations.{IsScalar}
 use Rattle.rr_sites_complete.specs.Targets.{IsWrittenNow, IsRegister}
 
 -- the first declaration of a name as a scalar, which is the clock in no instance (`clocks` has the names that are), which no
--- clocked block writes by `=`, and which outside clocked blocks one writes by `<=`
+-- clocked block writes by `=`, in a loop or outside, and which outside clocked blocks one writes by `<=` outside its loops
 pub record MayGuard (m : ModuleDeclaration) (clocks : List Text) (clocked : Bool) (x : Identifier) : Type 0 where
   pub scalar : IsScalar m x
   pub first : (y : Identifier) → IsScalar m y → y.text ≡ x.text → x.token ≤ y.token

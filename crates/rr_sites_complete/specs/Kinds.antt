@@ -41,7 +41,7 @@ pub record IsGuardSite (m : ModuleDeclaration) (owner : ℕ) (clocks : List Text
   pub kind : s.kind ≡ sites.Guard owner (length (spell test)) names
 
 -- the body of an `always` begins there, and a variable that is no `integer` and has no range that names a parameter stands in
--- it as a whole as a target, first by this kind
+-- it outside loops as a whole as a target, first by this kind
 pub record IsOverwriteSite (m : ModuleDeclaration) (owner : ℕ) (scope : Names) (clocks : List Text) (s : Site) : Type 0 where
   pub events : EventControl
   pub body : Statement

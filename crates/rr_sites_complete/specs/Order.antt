@@ -10,7 +10,8 @@ use Rattle.rr_choice.specs.Sites.{SiteKind, Site}
 use Rattle.rr_sites_listed.specs.Listing.{module_at}
 use Rattle.rr_sites_complete.specs.Targets.{IsFirstTarget}
 
--- a variable first stands as a whole as a target before another one does, in the body of an `always` that begins at the token
+-- a variable first stands outside loops as a whole as a target before another one does, in the body of an `always` that begins
+-- at the token
 pub record TargetsRise (m : ModuleDeclaration) (token : ℕ) (name next : Text) : Type 0 where
   pub events : EventControl
   pub body : Statement

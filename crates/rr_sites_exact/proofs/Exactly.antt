@@ -1,6 +1,7 @@
 -- The list of sites that a text has is the list of its source.
 use Rattle.std.proofs.Common.{◌≡◌, ℕ, ◌<◌, List, length, get_or, Contains, sym, subst}
 use Rattle.rr_syntax.specs.Words.{Word}
+use Rattle.rr_flatten.proofs.Limits.{design_stays}
 use Rattle.rr_choice.specs.Sites.{Site}
 use Rattle.rr_sites_complete.specs.Laws.{IsGiven}
 use Rattle.rr_sites_complete.specs.Order.{ComesBefore, Ordered}
@@ -22,7 +23,7 @@ lists_are_exact bytes top word tokens ss h =
     let g : IsGiven source places = record {
       formed = formed bytes tokens source top h.flat h.design;
       numbered = numbered bytes tokens source top h.flat h.design;
-      rising = places_rise source top h.flat h.clock places h.design.flat h.are.1;
+      rising = places_rise source top h.flat h.clock places (design_stays 1048576 source top h.flat h.design.flat) h.are.1;
     } in
     record {
       places = places;

@@ -1,4 +1,4 @@
--- Each `always` with edges of a module has a clocked block in each instance of the module.
+-- Each `always` with edges of a module has a clocked block, without its loops, in each instance of the module.
 use Rattle.std.proofs.Common.{◌≡◌, Bool, true, false, List, Option, Ok, refl, sym, subst, ap, ◌∙◌, arith}
 use Rattle.std.specs.Prelude.{slice_index_or}
 use Rattle.std.specs.List.{Contains, filter}
@@ -9,7 +9,7 @@ use Rattle.rr_flat.specs.Plain.{Block, Flat}
 use Rattle.rr_flat.specs.Signals.{Text}
 use Rattle.rr_flat.specs.Writers.{block_at, no_block}
 use Rattle.rr_flatten.specs.Walk.{flat_of}
-use Rattle.rr_flat_laws.specs.Blocks.{clocked_by, is_block_of}
+use Rattle.rr_flat_laws.specs.Blocks.{unfolded_at, clocked_by, is_block_of}
 use Rattle.rr_flat_laws.proofs.Blocking.{blocks_of_design}
 use Rattle.rr_flat_laws.proofs.Texts.{in_flat}
 use Rattle.rr_change_places.specs.Spots.{has_edges}
@@ -32,16 +32,16 @@ block_is flat x (k, l, e) =
 pub blocks_there : (source : SourceText) (top : Option Text) (flat : Flat) → flat_of source top ≡ Ok flat → HasBlocks source.modules flat
 blocks_there source top flat e i l events body at c h = by events c h
   where
-    edged : (list : List EdgeEvent) (commas : List Bool) → Contains (items_of source.modules (slice_index_or flat.owners i 0)) (Always (Edges list commas) body at) → HasBlock flat i body
+    edged : (list : List EdgeEvent) (commas : List Bool) → Contains (items_of source.modules (slice_index_or flat.owners i 0)) (Always (Edges list commas) body at) → HasBlock flat i (unfolded_at flat i body)
     edged list commas c =
         let even = (heads source top flat e).even in
-        let x : Block = record { body = body; edges = list; scope = i; token = at } in
-        let own : Contains (clocked_by i (Always (Edges list commas) body at)) x = (0, omega arith, refl) in
-        let all = in_flat (clocked_by i) (items_of source.modules (slice_index_or flat.owners i 0)) (Always (Edges list commas) body at) x c own in
+        let x : Block = record { body = unfolded_at flat i body; edges = list; scope = i; token = at } in
+        let own : Contains (clocked_by flat i (Always (Edges list commas) body at)) x = (0, omega arith, refl) in
+        let all = in_flat (clocked_by flat i) (items_of source.modules (slice_index_or flat.owners i 0)) (Always (Edges list commas) body at) x c own in
         let is = (blocks_of_design source top flat e).clocked i (omega (arith, l, even)) in
         block_is flat x (of_filter (is_block_of i) flat.clocked x (subst (λ (bs : List Block). Contains bs x) (sym is) all))
 
-    by : (events : EventControl) → Contains (items_of source.modules (slice_index_or flat.owners i 0)) (Always events body at) → has_edges events ≡ true → HasBlock flat i body
+    by : (events : EventControl) → Contains (items_of source.modules (slice_index_or flat.owners i 0)) (Always events body at) → has_edges events ≡ true → HasBlock flat i (unfolded_at flat i body)
     by (Star brackets) c h = absurd (both_ways false refl h)
     by (Edges list commas) c h = edged list commas c
     by (Levels list commas) c h = absurd (both_ways false refl h)

@@ -1,5 +1,5 @@
 -- Each variable of a module has 1 to 128 bits in each instance, and the places of a design are those of its modules.
-use Rattle.std.proofs.Common.{◌≡◌, ◌∙◌, inl, inr, ℕ, suc, ◌+◌, ◌<◌, ◌≤◌, Bool, true, false, ◌||◌, if◌then◌else◌, List, [], ◌∷◌, length, map, Option, Ok, refl, sym, subst, ap, arith, nat_eq}
+use Rattle.std.proofs.Common.{None, ◌≡◌, ◌∙◌, inl, inr, ℕ, suc, ◌+◌, ◌<◌, ◌≤◌, Bool, true, false, ◌||◌, if◌then◌else◌, List, [], ◌∷◌, length, map, Option, Ok, refl, sym, subst, ap, arith, nat_eq}
 use Rattle.std.specs.Prelude.{slice_index_or}
 use Rattle.std.specs.List.{AllByRecursion, list_any}
 use Rattle.std.specs.Str.{bytes_eq}
@@ -12,7 +12,7 @@ use Rattle.rr_flat.specs.Signals.{Text}
 use Rattle.rr_flat.specs.Plain.{Flat}
 use Rattle.rr_flat.specs.Faults.{and_then, each}
 use Rattle.rr_flatten.specs.Tables.{add_module}
-use Rattle.rr_flatten.specs.Walk.{enter_top, finished, flat_of, module_at, reached_from, top_place}
+use Rattle.rr_flatten.specs.Walk.{enter_top, finished, flat_by, flat_of, module_at, reached_from, top_place}
 use Rattle.rr_flatten.proofs.HeadOf.{first_ok, ok_is}
 use Rattle.rr_clock.specs.Places.{Place}
 use Rattle.rr_guard.specs.Names.{net_name}
@@ -117,10 +117,10 @@ has_owner (o ∷ os) k e = owner_on o k os (has_owner os k) (nat_eq k o) refl e
 
 -- those of a flat design
 reached_of : (source : SourceText) (top : Option Text) (flat : Flat) → flat_of source top ≡ Ok flat → flat.reached ≡ reached_from flat.owners 0 source.modules
-unfolding flat_of
+unfolding flat_by
 reached_of source top flat e =
-    let r = first_ok (each add_module source.modules []) (λ table. and_then (enter_top source.modules table (top_place source.modules table top)) (λ w. Ok (finished source.modules w.flat))) flat e in
-    let s = first_ok (enter_top source.modules r.0 (top_place source.modules r.0 top)) (λ w. Ok (finished source.modules w.flat)) flat r.1.1 in
+    let r = first_ok (each add_module source.modules []) (λ table. and_then (enter_top None source.modules table (top_place source.modules table top)) (λ w. Ok (finished source.modules w.flat))) flat e in
+    let s = first_ok (enter_top None source.modules r.0 (top_place source.modules r.0 top)) (λ w. Ok (finished source.modules w.flat)) flat r.1.1 in
     subst (λ (x : Flat). x.reached ≡ reached_from x.owners 0 source.modules) (ok_is (finished source.modules s.0.flat) flat s.1.1) refl
 
 owners_all : (P : ℕ → Type 0) (ps : List Place) → AllByRecursion P (map (λ (p : Place). p.owner) ps) → AllByRecursion (λ (p : Place). P p.owner) ps

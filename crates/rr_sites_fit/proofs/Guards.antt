@@ -12,7 +12,9 @@ use Rattle.rr_flat.specs.Signals.{Text}
 use Rattle.rr_flat.specs.Lawful.{AssignedIn}
 use Rattle.rr_flat.specs.Plain.{Flat}
 use Rattle.rr_flat.specs.Reads.{Assigned, assigned_by, writes}
+use Rattle.rr_flat_laws.specs.Blocks.{unfolded_at}
 use Rattle.rr_flat.specs.Targets.{target_bits, bits_there, has_bit, may_write, part_name}
+use Rattle.rr_unfold.specs.Unfold.{unfold_statement}
 use Rattle.rr_flatten.specs.Walk.{module_at}
 use Rattle.rr_flat.specs.Writers.{scope_at, block_at, no_block}
 use Rattle.rr_flat.proofs.Lists.{all_index}
@@ -22,13 +24,16 @@ use Rattle.rr_lawful_instance.specs.AreSites.{IsRegister, MayGuard}
 use Rattle.rr_lawful_instance.specs.Listed.{items_of, MayGuardIf}
 use Rattle.rr_lawful_instance.proofs.Lists.{by_element, holds_of}
 use Rattle.rr_lawful_instance.proofs.Origins.{BlockFrom, From}
+use Rattle.rr_lawful_instance.proofs.Unfolded.{outside}
 use Rattle.rr_sites_fit.specs.Laws.{HasClocks}
 use Rattle.rr_clock.specs.Places.{Place}
 use Rattle.rr_change_places.specs.Spots.{has_edges}
+use Rattle.rr_guard.specs.Anywhere.{assigned_anywhere, anywhere_at_edges}
 use Rattle.rr_guard.specs.Names.{scalars, firsts, assigned_at_edges, whole_name, is_text, is_now, is_later, writes_now, writes_later, may_guard, guard_names, is_before, first_names, names_at}
 use Rattle.rr_sites_fit.proofs.Known.{Known}
 use Rattle.rr_sites_ordered.proofs.Members.{all_filter, all_weaken, all_take, all_map, all_flat, all_firsts}
 use Rattle.rr_sites_fit.proofs.Tests.{none_in, some_in, parts_of_flat}
+use Rattle.rr_sites_fit.proofs.Unfolded.{unfolded_named}
 use Rattle.rr_lawful_instance.proofs.Written.{targets_write}
 
 -- a scalar as a whole is written
@@ -67,13 +72,13 @@ module _ (ms : List ModuleDeclaration) (flat : Flat) (known : Known ms flat) (fr
   there_in j e x c = subst (λ k. Contains (items_of ms k) x) (ap (owner_at flat) (sym e) ∙ o) c
 
   module _ (name : Text) (id : ℕ) (signed : Bool) (is : meant (scope_at flat i) name ≡ SignalEntity id None signed) where
-    -- no block writes it by `=` where the module has none that does
-    item_now : (x : ModuleItem) (events : EventControl) (body : Statement) (at : ℕ) → x ≡ Always events body at → has_edges events ≡ true → AllByRecursion (λ a. is_now name a ≡ false) (assigned_at_edges x) →
-        AllByRecursion (λ a. is_now name a ≡ false) (assigned_by body)
-    unfolding assigned_at_edges
+    -- no block writes it by `=` where the module has none that does, in its loops or outside
+    item_now : (x : ModuleItem) (events : EventControl) (body : Statement) (at : ℕ) → x ≡ Always events body at → has_edges events ≡ true → AllByRecursion (λ a. is_now name a ≡ false) (anywhere_at_edges x) →
+        AllByRecursion (λ a. is_now name a ≡ false) (assigned_anywhere body)
+    unfolding anywhere_at_edges
     item_now x events body at e h k =
-        let f : AllByRecursion (λ a. is_now name a ≡ false) (if has_edges events then assigned_by body else []) = subst (λ y. AllByRecursion (λ a. is_now name a ≡ false) (assigned_at_edges y)) e k in
-        subst (λ b. AllByRecursion (λ a. is_now name a ≡ false) (if b then assigned_by body else [])) h f
+        let f : AllByRecursion (λ a. is_now name a ≡ false) (if has_edges events then assigned_anywhere body else []) = subst (λ y. AllByRecursion (λ a. is_now name a ≡ false) (anywhere_at_edges y)) e k in
+        subst (λ b. AllByRecursion (λ a. is_now name a ≡ false) (if b then assigned_anywhere body else [])) h f
 
     not_now : writes_now m name ≡ false → (k : ℕ) → k < length flat.clocked → AssignedIn flat (block_at flat.clocked k) id true → ⊥
     not_now w k l (n, (a, (range, (sg, (inside, at, now, means))))) =
@@ -83,10 +88,15 @@ module _ (ms : List ModuleDeclaration) (flat : Flat) (known : Known ms flat) (fr
         let q = known.once i (block_at flat.clocked k).scope there scope name (part_name a.part) id None range signed sg is means in
         let events = b.1.0 in
         let token = b.1.1.0 in
-        let x : ModuleItem = Always events (block_at flat.clocked k).body token in
-        let c : Contains m.items x = there_in (block_at flat.clocked k).scope q.0 x b.1.1.1.0 in
-        let each = parts_of_flat (λ a. is_now name a ≡ false) assigned_at_edges m.items (none_in (is_now name) (flat_map assigned_at_edges m.items) w) in
-        let body = item_now x events (block_at flat.clocked k).body token refl b.1.1.1.1 (holds_of (λ x. AllByRecursion (λ a. is_now name a ≡ false) (assigned_at_edges x)) m.items x each c) in
+        let source = b.1.1.1.0 in
+        let origin = b.1.1.1.1 in
+        let x : ModuleItem = Always events source token in
+        let c : Contains m.items x = there_in (block_at flat.clocked k).scope q.0 x origin.0 in
+        let each = parts_of_flat (λ a. is_now name a ≡ false) anywhere_at_edges m.items (none_in (is_now name) (flat_map anywhere_at_edges m.items) w) in
+        let anywhere = item_now x events source token refl origin.1 (holds_of (λ x. AllByRecursion (λ a. is_now name a ≡ false) (anywhere_at_edges x)) m.items x each c) in
+        let unfolded : AllByRecursion (λ a. is_now name a ≡ false) (assigned_by (unfold_statement origin.2.0 [] source)) =
+        unfolded_named (λ (text : Text) (kind : Bool). (kind && bytes_eq text name) ≡ false) origin.2.0 [] source anywhere in
+        let body = subst (λ t. AllByRecursion (λ a. is_now name a ≡ false) (assigned_by t)) (sym origin.2.1) unfolded in
         let missed : is_now name a ≡ false = holds_of (λ a. is_now name a ≡ false) (assigned_by (block_at flat.clocked k).body) a body (n, inside, at) in
         let met : is_now name a ≡ true = and_from a.now (bytes_eq (part_name a.part) name) now ((bytes_eq-Decides (part_name a.part) name).1 (sym q.1)) in
         true≢false (sym met ∙ missed)
@@ -115,8 +125,10 @@ module _ (ms : List ModuleDeclaration) (flat : Flat) (known : Known ms flat) (fr
         by false e = tt
         by true e =
             let k = known.blocks i there events body at (here (Always events body at) c) e in
+            let unfolded = unfolded_at flat i body in
             all_weaken (later_at (scope_at flat i) bit (IsRegister flat id)) (assigned_by body) later_of
-            (targets_write false (scope_at flat i) bit (IsRegister flat id) body (block_later body k.0 k.1.0 k.1.1.0 k.1.1.1))
+            (outside (scope_at flat i) (later_at (scope_at flat i) bit (IsRegister flat id)) body
+            (targets_write false (scope_at flat i) bit (IsRegister flat id) unfolded (block_later unfolded k.0 k.1.0 k.1.1.0 k.1.1.1)))
     item_later (Initial body token) c = tt
     item_later (Instances q at over list) c = tt
 

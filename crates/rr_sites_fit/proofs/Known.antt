@@ -1,4 +1,5 @@
--- What a flat design has of its source: scalars, one name for each signal, and a clocked block for each `always` with edges.
+-- What a flat design has of its source: scalars, one name for each signal, and a clocked block, without loops, for each `always`
+-- with edges.
 use Rattle.std.proofs.Common.{◌≡◌, ℕ, ◌<◌, Bool, true, List, length, Option}
 use Rattle.std.specs.List.{AllByRecursion, Contains}
 use Rattle.rr_syntax.specs.Tree.{Statement, EventControl, Always, ModuleDeclaration}
@@ -8,6 +9,7 @@ use Rattle.rr_flat.specs.Signals.{Text}
 use Rattle.rr_flat.specs.Plain.{Flat}
 use Rattle.rr_flatten.specs.Walk.{module_at}
 use Rattle.rr_flat.specs.Writers.{scope_at, block_at}
+use Rattle.rr_flat_laws.specs.Blocks.{unfolded_at}
 use Rattle.rr_flat_instance.specs.Places.{owner_at, HasWidth}
 use Rattle.rr_instance_laws.specs.Truth.{IsScalar}
 use Rattle.rr_change_places.specs.Spots.{has_edges}
@@ -30,11 +32,11 @@ NamesOnce flat =
     (i j : ℕ) → i < length flat.scopes → j < length flat.scopes → (x y : Text) (id : ℕ) (r s : Option (ℕ × ℕ)) (a b : Bool) →
     meant (scope_at flat i) x ≡ SignalEntity id r a → meant (scope_at flat j) y ≡ SignalEntity id s b → (i ≡ j) × (x ≡ y)
 
--- each `always` with edges has a block in each instance of its module
+-- each `always` with edges has a block, without its loops, in each instance of its module
 abbrev pub HasBlocks : List ModuleDeclaration → Flat → Type 0
 HasBlocks ms flat =
     (i : ℕ) → i < length flat.scopes → (events : EventControl) (body : Statement) (at : ℕ) → Contains (items_of ms (owner_at flat i)) (Always events body at) → has_edges events ≡ true →
-    HasBlock flat i body
+    HasBlock flat i (unfolded_at flat i body)
 
 -- a variable that may be overwritten has in each instance the width that it has in the first one
 abbrev pub HasWidths : List ModuleDeclaration → Flat → Type 0

@@ -1,6 +1,8 @@
 pub mod Tests
 pub mod Known
 pub mod Blocks
+pub mod Free
+pub mod Unfolded
 pub mod ScalarsIn
 pub mod Widths
 pub mod Fit

@@ -1,4 +1,4 @@
--- The sites that are listed are right.
+-- The sites that are listed are right, as far as the words do not tell.
 use Rattle.std.proofs.Common.{◌≡◌, ℕ, ◌+◌, ◌<◌, ◌≤◌, Bool, true, false, if◌then◌else◌, List, [], ◌∷◌, length, map, filter, Option, refl, sym, subst, arith}
 use Rattle.std.specs.List.{AllByRecursion, Contains}
 use Rattle.std.proofs.lemmas.List.{get_or_default}
@@ -30,6 +30,7 @@ use Rattle.rr_overwrite.specs.Overwrites.{Target, targets_of, may_overwrite, wid
 use Rattle.rr_sites_listed.specs.Listing.{sites_at, item_sites, module_sites, scope_of, sites_of}
 use Rattle.rr_guard.specs.Names.{names_at}
 use Rattle.rr_sites_fit.proofs.Known.{Known}
+use Rattle.rr_sites_fit.proofs.Free.{target_free}
 use Rattle.rr_sites_fit.proofs.Guards.{names_may}
 use Rattle.rr_sites_fit.proofs.ItemStands.{StandsOf, item_stands}
 use Rattle.rr_sites_ordered.proofs.Members.{all_filter, all_weaken, all_map, all_flat}
@@ -48,9 +49,15 @@ guard_fits (Always events body token) owner extent names = tt
 guard_fits (Initial body token) owner extent names = tt
 guard_fits (Instances m token over list) owner extent names = tt
 
+-- what is right of a site as far as the words do not tell: they tell a literal
+abbrev pub IsGoodKind : SourceText → Flat → Option Text → ℕ → SiteKind → Type 0
+IsGoodKind source flat word token (sites.Literal width signed) = Unit {0}
+IsGoodKind source flat word token (sites.Guard owner extent names) = KindIsRight source flat word token (sites.Guard owner extent names)
+IsGoodKind source flat word token (sites.Overwrite owner target width now names) = KindIsRight source flat word token (sites.Overwrite owner target width now names)
+
 module _ (source : SourceText) (flat : Flat) (word : Option Text) (formed : WellFormedSource source) (numbered : NumberedSource source) (known : Known source.modules flat) (from : From source.modules [] flat) where
   abbrev IsGood : Site → Type 0
-  IsGood s = KindIsRight source flat word s.token s.kind
+  IsGood s = IsGoodKind source flat word s.token s.kind
 
   module _ (p : Place) (hc : HasClocks flat word p) where
     abbrev k : ℕ
@@ -115,7 +122,7 @@ module _ (source : SourceText) (flat : Flat) (word : Option Text) (formed : Well
         overwrite_good t h f =
             let w = begins (assigns_some s t h.0) in
             let kind : SiteKind = sites.Overwrite k t.text (width_in scope t.text) t.now (names (first_token s)) in
-            (right (first_token s) (first_token s) kind w.0 w.1 refl (subst (λ y. TargetFits y kind) (sym is) h.0), width t h.1 f)
+            (right (first_token s) (first_token s) kind w.0 w.1 refl (subst (λ y. TargetFits y kind) (sym is) h.0), λ i there o. (width t h.1 f i there o, target_free m t f))
 
         body_good : AllByRecursion IsGood (sites_at m k scope p.clocks (is_clocked x) (Body s))
         body_good =

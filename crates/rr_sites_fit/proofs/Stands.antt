@@ -2,8 +2,8 @@
 use Rattle.std.proofs.Common.{ℕ, ◌+◌, ◌<◌, ◌≤◌, Bool, true, false, if◌then◌else◌, List, [], ◌++◌, length, get_or, arith}
 use Rattle.std.specs.List.{AllByRecursion}
 use Rattle.rr_syntax.specs.Expressions.{spell, spell_more, WellFormed, WellFormedMore, Numbered, NumberedMore}
-use Rattle.rr_syntax.specs.Statements.{spell_label, spell_labels, spell_statement, spell_statements, spell_arm, spell_arms, WellFormedStatement, WellFormedStatements, WellFormedArm, WellFormedArms, NumberedLabels, NumberedStatement, NumberedStatements, NumberedArm, NumberedArms}
-use Rattle.rr_syntax.specs.Tree.{Tree, Trees, Name, Literal, Bit, Part, Indexed, Unary, Binary, Cond, Concat, Repeat, Cast, Paren, End, More, Statement, Statements, Arm, Arms, Null, Block, If, IfElse, Case, Assign, Done, Then, CaseItem, NoArms, MoreArms}
+use Rattle.rr_syntax.specs.Statements.{spell_label, spell_labels, spell_loop, spell_statement, spell_statements, spell_arm, spell_arms, WellFormedStatement, WellFormedStatements, WellFormedArm, WellFormedArms, NumberedLabels, NumberedStatement, NumberedStatements, NumberedArm, NumberedArms}
+use Rattle.rr_syntax.specs.Tree.{Tree, Trees, Name, Literal, Bit, Part, Indexed, Unary, Binary, Cond, Concat, Repeat, Cast, Paren, End, More, Statement, Statements, Arm, Arms, Null, Block, If, IfElse, Case, Assign, For, Done, Then, CaseItem, NoArms, MoreArms}
 use Rattle.rr_syntax.proofs.Nonempty.{spell-some}
 use Rattle.rr_expr.specs.declared.operators.Infix.TheVariants.{Either}
 use Rattle.rr_expr.specs.Faults.{first, takes_constants}
@@ -101,6 +101,7 @@ module _ (low high : ℕ) where
         let e = span.long-Case kind on arms in
         joined (spots on) (spots_of_arms arms) (tree_stands on (at + 2) w.1 n.0 (omega arith) (omega (arith, e, h))) (arms_stand arms (at + 2 + length (spell on) + 1) w.3 n.1 (omega arith) (omega (arith, e, h)))
     statement_stands (Assign t now v) at w n l h = let e = span.long-Assign t now v in tree_stands v (at + length (spell t) + 1) w.2 n.1 (omega arith) (omega (arith, e, h))
+    statement_stands (For head t) at w n l h = let e = span.long-For head t in statement_stands t (at + 1 + length (spell_loop head)) w.1 n.1 (omega arith) (omega (arith, e, h))
 
     statements_stand : (ts : Statements) (at : ℕ) → WellFormedStatements ts → NumberedStatements ts at → low ≤ at → at + length (spell_statements ts) ≤ high → All (spots_of_all ts)
     statements_stand Done at w n l h = tt

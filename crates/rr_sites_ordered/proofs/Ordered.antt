@@ -6,8 +6,8 @@ use Rattle.std.proofs.lemmas.Grind.{flat_map-append}
 use Rattle.rr_syntax.specs.declared.token.Number.{Number}
 use Rattle.rr_syntax.specs.Expressions.{spell, spell_more, WellFormed, WellFormedMore, Numbered, NumberedMore}
 use Rattle.rr_syntax.specs.Items.{spell_each, spell_separated, spell_all, spell_type, spell_value, spell_declarator, spell_pair, spell_events, spell_optional, spell_connection, spell_connections, spell_overrides, spell_instance, spell_item, WellFormedValue, WellFormedDeclarator, WellFormedPair, WellFormedConnection, WellFormedConnections, WellFormedInstance, WellFormedItem, NumberedAll, NumberedEach, NumberedSeparated, NumberedValue, NumberedDeclarator, NumberedPair, NumberedConnection, NumberedConnections, NumberedInstance, NumberedItem}
-use Rattle.rr_syntax.specs.Statements.{spell_label, spell_labels, spell_statement, spell_statements, spell_arm, spell_arms, WellFormedStatement, WellFormedStatements, WellFormedArm, WellFormedArms, NumberedLabels, NumberedStatement, NumberedStatements, NumberedArm, NumberedArms}
-use Rattle.rr_syntax.specs.Tree.{Tree, Trees, Name, Literal, Bit, Part, Indexed, Unary, Binary, Cond, Concat, Repeat, Cast, Paren, End, More, Statement, Statements, Arm, Arms, Null, Block, If, IfElse, Case, Assign, Done, Then, CaseItem, NoArms, MoreArms, DeclaredName, NetAssignment, NamedConnection, Connections, Positions, Names, ModuleInstance, ModuleItem, Ports, Nets, Variables, Integers, Parameters, Assigns, Always, Initial, Instances, ModuleDeclaration}
+use Rattle.rr_syntax.specs.Statements.{spell_label, spell_labels, spell_loop, spell_statement, spell_statements, spell_arm, spell_arms, WellFormedStatement, WellFormedStatements, WellFormedArm, WellFormedArms, NumberedLabels, NumberedStatement, NumberedStatements, NumberedArm, NumberedArms}
+use Rattle.rr_syntax.specs.Tree.{Tree, Trees, Name, Literal, Bit, Part, Indexed, Unary, Binary, Cond, Concat, Repeat, Cast, Paren, End, More, Statement, Statements, Arm, Arms, Null, Block, If, IfElse, Case, Assign, For, Done, Then, CaseItem, NoArms, MoreArms, DeclaredName, NetAssignment, NamedConnection, Connections, Positions, Names, ModuleInstance, ModuleItem, Ports, Nets, Variables, Integers, Parameters, Assigns, Always, Initial, Instances, ModuleDeclaration}
 use Rattle.rr_syntax.specs.Words.{Word}
 use Rattle.rr_syntax.proofs.Nonempty.{spell-some, spell_statement-some}
 use Rattle.rr_expr.specs.declared.operators.Infix.TheVariants.{Either}
@@ -241,6 +241,11 @@ module _ (f : Spot → List Site) (owner : ℕ) (names : ℕ → List Text)
         let e = span.long-Assign t now v in
         let mid = at + length (spell t) + 1 in
         fit mid (mid + length (spell v)) (length (spell v)) at (at + length (spell_statement (Assign t now v))) (length (spell_statement (Assign t now v))) (spots v) (omega arith) (omega (arith, e)) (omega (arith, e)) (tree_in v mid w.2 n.1)
+    statement_in (For head t) at w n =
+        let e = span.long-For head t in
+        let mid = at + 1 + length (spell_loop head) in
+        fit mid (mid + length (spell_statement t)) (length (spell_statement t)) at (at + length (spell_statement (For head t))) (length (spell_statement (For head t))) (spots_of t) (omega arith) (omega (arith, e)) (omega (arith, e))
+        (statement_in t mid w.1 n.1)
 
     statements_in : (ts : Statements) (at : ℕ) → WellFormedStatements ts → NumberedStatements ts at → In at (at + length (spell_statements ts)) (length (spell_statements ts)) (spots_of_all ts)
     statements_in Done at w n = none at (at + length (spell_statements Done)) (length (spell_statements Done))

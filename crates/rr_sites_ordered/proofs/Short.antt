@@ -3,8 +3,8 @@ use Rattle.std.proofs.Common.{ℕ, ◌+◌, ◌<◌, ◌≤◌, ◌^◌, Bool, t
 use Rattle.std.specs.List.{AllByRecursion}
 use Rattle.rr_syntax.specs.Expressions.{spell, spell_more, IsFit, FitLiterals, FitLiteralsParts}
 use Rattle.rr_syntax.specs.Items.{spell_each, spell_separated, spell_all, spell_value, spell_declarator, spell_pair, spell_optional, spell_connection, spell_connections, spell_instance, spell_item, spell_module, spell_source, FitLiteralsValue, FitLiteralsDeclarator, FitLiteralsPair, FitLiteralsConnection, FitLiteralsConnections, FitLiteralsInstance, FitLiteralsItem, FitLiteralsModule, FitLiteralsSource}
-use Rattle.rr_syntax.specs.Statements.{spell_labels, spell_statement, spell_statements, spell_arm, spell_arms, FitLiteralsStatement, FitLiteralsStatements, FitLiteralsArm, FitLiteralsArms}
-use Rattle.rr_syntax.specs.Tree.{Tree, Trees, Name, Literal, Bit, Part, Indexed, Unary, Binary, Cond, Concat, Repeat, Cast, Paren, End, More, Statement, Statements, Arm, Arms, Null, Block, If, IfElse, Case, Assign, Done, Then, CaseItem, NoArms, MoreArms, DeclaredName, NetAssignment, NamedConnection, Connections, Positions, Names, ModuleInstance, ModuleItem, Ports, Nets, Variables, Integers, Parameters, Assigns, Always, Initial, Instances, ModuleDeclaration, SourceText}
+use Rattle.rr_syntax.specs.Statements.{spell_labels, spell_loop, spell_statement, spell_statements, spell_arm, spell_arms, FitLiteralsStatement, FitLiteralsStatements, FitLiteralsArm, FitLiteralsArms}
+use Rattle.rr_syntax.specs.Tree.{Tree, Trees, Name, Literal, Bit, Part, Indexed, Unary, Binary, Cond, Concat, Repeat, Cast, Paren, End, More, Statement, Statements, Arm, Arms, Null, Block, If, IfElse, Case, Assign, For, Done, Then, CaseItem, NoArms, MoreArms, DeclaredName, NetAssignment, NamedConnection, Connections, Positions, Names, ModuleInstance, ModuleItem, Ports, Nets, Variables, Integers, Parameters, Assigns, Always, Initial, Instances, ModuleDeclaration, SourceText}
 use Rattle.rr_syntax.specs.Words.{Word}
 use Rattle.rr_expr.specs.declared.operators.Infix.TheVariants.{Either}
 use Rattle.rr_expr.specs.Faults.{takes_constants}
@@ -86,6 +86,7 @@ module _ (n : ℕ) where
     statement_short (Case kind on arms) f h =
         let e = span.long-Case kind on arms in joined (spots on) (spots_of_arms arms) (tree_short on f.0 (omega (arith, e, h))) (arms_short arms f.1 (omega (arith, e, h)))
     statement_short (Assign t now v) f h = let e = span.long-Assign t now v in tree_short v f.1 (omega (arith, e, h))
+    statement_short (For head t) f h = let e = span.long-For head t in statement_short t f.1 (omega (arith, e, h))
 
     statements_short : (ts : Statements) → FitLiteralsStatements ts → length (spell_statements ts) ≤ n → All (spots_of_all ts)
     statements_short Done f h = tt

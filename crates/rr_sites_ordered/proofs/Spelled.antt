@@ -3,8 +3,8 @@ use Rattle.std.proofs.Common.{◌≡◌, ◌∙◌, ℕ, zero, suc, ◌+◌, ◌
 use Rattle.std.specs.List.{AllByRecursion}
 use Rattle.rr_syntax.specs.Expressions.{spell, spell_parts, spell_more, Numbered, NumberedMore}
 use Rattle.rr_syntax.specs.Items.{spell_each, spell_separated, spell_all, spell_type, spell_value, spell_declarator, spell_pair, spell_events, spell_optional, spell_connection, spell_connections, spell_overrides, spell_instance, spell_item, spell_parameters, spell_ports, spell_module, spell_source, NumberedAll, NumberedEach, NumberedSeparated, NumberedValue, NumberedDeclarator, NumberedPair, NumberedConnection, NumberedConnections, NumberedInstance, NumberedItem, NumberedModule, NumberedSource}
-use Rattle.rr_syntax.specs.Statements.{spell_label, spell_labels, spell_statement, spell_statements, spell_arm, spell_arms, NumberedLabels, NumberedStatement, NumberedStatements, NumberedArm, NumberedArms}
-use Rattle.rr_syntax.specs.Tree.{Tree, Trees, Name, Literal, Bit, Part, Indexed, Unary, Binary, Cond, Concat, Repeat, Cast, Paren, End, More, Statement, Statements, Arm, Arms, Null, Block, If, IfElse, Case, Assign, Done, Then, CaseItem, NoArms, MoreArms, DeclaredName, NetAssignment, NamedConnection, Connections, Positions, Names, ModuleInstance, ModuleItem, Ports, Nets, Variables, Integers, Parameters, Assigns, Always, Initial, Instances, ModuleDeclaration, SourceText}
+use Rattle.rr_syntax.specs.Statements.{spell_label, spell_labels, spell_loop, spell_statement, spell_statements, spell_arm, spell_arms, NumberedLabels, NumberedStatement, NumberedStatements, NumberedArm, NumberedArms}
+use Rattle.rr_syntax.specs.Tree.{Tree, Trees, Name, Literal, Bit, Part, Indexed, Unary, Binary, Cond, Concat, Repeat, Cast, Paren, End, More, Statement, Statements, Arm, Arms, Null, Block, If, IfElse, Case, Assign, For, Done, Then, CaseItem, NoArms, MoreArms, DeclaredName, NetAssignment, NamedConnection, Connections, Positions, Names, ModuleInstance, ModuleItem, Ports, Nets, Variables, Integers, Parameters, Assigns, Always, Initial, Instances, ModuleDeclaration, SourceText}
 use Rattle.rr_syntax.specs.Words.{Word, Digits, Marked}
 use Rattle.rr_expr.specs.declared.operators.Infix.TheVariants.{Either}
 use Rattle.rr_expr.specs.Faults.{takes_constants}
@@ -123,6 +123,7 @@ module _ (W : ℕ → Word) where
         joined (spots on) (spots_of_arms arms) (tree_told on (at + 2) n.0 (front (spell on) _ (at + 2) k)) (arms_told arms mid n.1 (front (spell_arms arms) _ mid (back (spell on) _ (at + 2) k).1))
     statement_told (Assign t now v) at n h =
         let mid = at + length (spell t) + 1 in tree_told v mid n.1 (front (spell v) _ mid (back (spell t) _ at h).1)
+    statement_told (For head t) at n h = statement_told t (at + 1 + length (spell_loop head)) n.1 (back (spell_loop head) _ (at + 1) h.1)
 
     statements_told : (ts : Statements) (at : ℕ) → NumberedStatements ts at → StandAt W at (spell_statements ts) → All (spots_of_all ts)
     statements_told Done at n h = tt

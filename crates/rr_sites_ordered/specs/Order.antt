@@ -1,20 +1,20 @@
 -- The order of sites: by first token; at one token an overwrite before a guard, an outer guard before an inner one, and guards
 -- before a literal. And which sites these are: those of each kind that a module has, a literal at its number.
-use Rattle.std.specs.Prelude.{◌≡◌, ◌⊎◌, ℕ, ◌<◌, Bool, true, false, List, [], ◌∷◌, length, filter, get_or}
+use Rattle.std.specs.Prelude.{◌≡◌, ◌⊎◌, ℕ, ◌<◌, Bool, true, false, List, [], ◌∷◌, length, filter}
 use Rattle.std.specs.List.{AllByRecursion}
-use Rattle.rr_syntax.specs.declared.token.Number.{Number}
 use Rattle.rr_syntax.specs.Items.{spell_source, WellFormedSource, NumberedSource}
 use Rattle.rr_syntax.specs.Tree.{ModuleDeclaration, SourceText}
-use Rattle.rr_syntax.specs.Words.{Word, Digits, Marked}
+use Rattle.rr_syntax.specs.Words.{Word}
 use Rattle.rr_expr.specs.Scopes.{Names}
 use Rattle.rr_flat.specs.Signals.{Text}
 use Rattle.rr_choice.specs.Places.{is_literal, is_overwrite}
 use Rattle.rr_choice.specs.Sites as sites
 use Rattle.rr_choice.specs.Sites.{SiteKind, Site}
-use Rattle.rr_literal.specs.Literals.{is_known, literal_sites}
+use Rattle.rr_literal.specs.Literals.{literal_sites}
 use Rattle.rr_guard.specs.Guards.{guard_sites}
 use Rattle.rr_overwrite.specs.Overwrites.{overwrite_sites}
 use Rattle.rr_clock.specs.Places.{Place}
+use Rattle.rr_flat_instance.specs.Owned.{IsNumberAt}
 use Rattle.rr_sites_listed.specs.Listing.{AreRising, module_sites, sites_of}
 
 -- at one token; the outer of two conditions has more tokens, and overwrites of one block follow their own order
@@ -51,14 +51,7 @@ pub record KindsAreAmong : Type 0 where
   pub overwrites : (m : ModuleDeclaration) (owner : ℕ) (scope : Names) (clocks : List Text) →
       filter (λ (s : Site). is_overwrite s.kind) (module_sites m owner scope clocks) ≡ overwrite_sites m owner scope clocks
 
--- at the token of a literal stands a number of its width and sign, without x and z digits
-pub record IsNumberAt (ws : List Word) (token w : ℕ) (s : Bool) : Type 0 where
-  pub number : Number
-  pub there : get_or ws token (Marked 0) ≡ Digits number
-  pub width : number.width ≡ w
-  pub signed : number.signed ≡ s
-  pub known : is_known number ≡ true
-
+-- at the token of a literal stands its number
 abbrev pub IsSpelled : List Word → ℕ → SiteKind → Type 0
 IsSpelled ws token (sites.Literal width signed) = IsNumberAt ws token width signed
 IsSpelled ws token (sites.Guard owner extent names) = Unit {0}

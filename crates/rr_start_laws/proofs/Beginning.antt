@@ -1,8 +1,7 @@
 -- The starting values of a walk: those of the declarations, and then the assignments of its `initial` items.
-use Rattle.std.proofs.Common.{◌≡◌, ◌∙◌, sym, ap, ◌⊎◌, inl, inr, ℕ, zero, suc, ◌+◌, ◌<◌, ◌≤◌, List, [], ◌∷◌, ◌++◌, length, map, get_or, fold, Option, Some, None, Ok, refl, subst, arith, length-append}
+use Rattle.std.proofs.Common.{◌≡◌, ◌∙◌, sym, ap, inl, inr, ℕ, zero, suc, ◌+◌, ◌<◌, ◌≤◌, List, [], ◌∷◌, ◌++◌, length, map, get_or, fold, Option, Some, None, Ok, refl, subst, arith, length-append}
 use Rattle.std.specs.List.{AllByRecursion}
-use Rattle.std.proofs.lemmas.Bool.{cases_eq}
-use Rattle.std.proofs.lemmas.List.{append-nil, map-append, get_or-map, length-map, length-set, get_or_append_left, get_or-set_same, get_or-set_other}
+use Rattle.std.proofs.lemmas.List.{append-nil, map-append, get_or-map, length-map, length-set, get_or_append_left}
 use Rattle.std.proofs.lemmas.List.Concat.{flat_map-append}
 use Rattle.std.proofs.lemmas.List.Sums.{fold-append}
 use Rattle.rr_syntax.specs.Tree.{Statement, Connections, ModuleInstance, ModuleItem, Ports, Nets, Variables, Integers, Parameters, Assigns, Always, Initial as InitialItem, Instances, ModuleDeclaration}
@@ -11,15 +10,15 @@ use Rattle.rr_expr.specs.declared.types.Entity.TheVariants as entity
 use Rattle.rr_expr.specs.Scopes.{Names, lookup, meant}
 use Rattle.rr_flat.specs.Plain.{Initial, Flat}
 use Rattle.rr_flat.specs.Signals.{Text, Signal, no_signal, with_name}
-use Rattle.rr_flat.proofs.Alike.{Alike, alike_named}
+use Rattle.rr_flat.proofs.Alike.{Alike}
 use Rattle.rr_flat.proofs.Lists.{all_index}
-use Rattle.rr_starts.specs.Starts.{initial_faults}
+use Rattle.rr_loop_rules.specs.Rules.{LoopNames, loop_names}
+use Rattle.rr_unfold.specs.Unfold.{unfold_statement}
 use Rattle.rr_declarations.specs.Heads.{Head}
 use Rattle.rr_flatten.specs.Tables.{place_of}
 use Rattle.rr_flatten.specs.Walk.{Walked, Enter, scope_at, module_at, assign, net, with_initial, initial, with_instance, joined, instance_of, item, opened, enter_by, enter, nothing, top_place, enter_top}
 use Rattle.rr_flatten.proofs.HeadOf.{ok_is, not_ok, each_keeps, all_append, all_weaker, all_set, Entries, entries_with, Between, HeadOf, head_of}
-use Rattle.rr_flat_laws.proofs.Answers.{settled}
-use Rattle.rr_flat_laws.proofs.Growing.{Same, each_same, assign_same, net_same, always_same, joined_same, began, inside, entered}
+use Rattle.rr_flat_laws.proofs.Growing.{Same, each_same, assign_same, net_same, always_same, initial_step, joined_same, began, inside, entered, named_alike}
 use Rattle.rr_flat_laws.proofs.Naming.{walking}
 use Rattle.rr_flat_laws.proofs.Shares.{all_flat}
 use Rattle.rr_start_laws.specs.Starting.{Setting, settings_of, BeginsWith}
@@ -64,8 +63,8 @@ between_more base n m entity.Instance l h = tt
 entries_more : (base n m : ℕ) (names : Names) → n ≤ m → Entries (Between base n) names → Entries (Between 0 m) names
 entries_more base n m names l h = all_weaker (λ e. Between base n e.1) (λ e. Between 0 m e.1) names (λ e k. between_more base n m e.1 l k) h
 
-opened_begun : (k : ℕ) (h : Head) (w : Walked) → HeadOf (length w.flat.scopes) (length w.flat.signals) h → BegunWalk w → BegunWalk (opened k h w)
-opened_begun k h w o b =
+opened_begun : (k : ℕ) (h : Head) (names : LoopNames) (w : Walked) → HeadOf (length w.flat.scopes) (length w.flat.signals) h → BegunWalk w → BegunWalk (opened k h names w)
+opened_begun k h names w o b =
     let ss = w.flat.signals in
     let ns = w.flat.scopes in
     let xs = w.flat.initials in
@@ -87,16 +86,7 @@ opened_begun k h w o b =
           (λ x l name. ap (λ (s : Names). meant s name) (sym (get_or_append_left ns (h.scope ∷ []) [] x.scope l))) b.there))));
     }
 
--- the name of an instance changes nothing that the other names stand for
-
-named_alike : (i : ℕ) (name : Text) (w : Walked) (j : ℕ) → j < length w.flat.scopes → Alike (scope_at w j) (scope_at (with_instance i name w) j)
-named_alike i name w j l = by (cases_eq j i)
-  where
-    by : ((j ≡ i) ⊎ (j ≡ i → ⊥)) → Alike (scope_at w j) (scope_at (with_instance i name w) j)
-    by (inl e) = λ n.
-        let here : i < length w.flat.scopes = rw (← e) l in
-        rw (e, get_or-set_same w.flat.scopes i (with_name (scope_at w i) name entity.Instance) [] here) (sym (alike_named (scope_at w i) name n))
-    by (inr e) = λ n. ap (λ (s : Names). meant s n) (sym (get_or-set_other w.flat.scopes i j (with_name (scope_at w i) name entity.Instance) [] e))
+-- the name of an instance
 
 named_begun : (i : ℕ) (name : Text) (w : Walked) → BegunWalk w → BegunWalk (with_instance i name w)
 named_begun i name w b =
@@ -143,8 +133,9 @@ still_going : (i : ℕ) (w v : Walked) → Same w v → Still w v → Going i w 
 still_going i w v s t g = (still_begun w v s t g.0, subst (λ (ns : List Names). i < length ns) s.scopes g.1)
 
 after_initial : (i : ℕ) (s : Statement) (at : ℕ) (w v : Walked) → Going i w → initial i s at w ≡ Ok v → Going i v
-unfolding initial
-after_initial i s at w v g e = subst (Going i) (settled (initial_faults (scope_at w i) s) (with_initial i s at w) v e).1 (with_begun i s at w g.1 g.0, g.1)
+after_initial i s at w v g e =
+    let x = initial_step i s at w v e in
+    subst (Going i) x.is (with_begun i (unfold_statement (scope_at w i) [] s) at (record w { count = x.count }) g.1 g.0, g.1)
 
 module _ (ms : List ModuleDeclaration) where
   after_instance : (above : List ℕ) (i : ℕ) (sub : Enter) → Enters sub → (at : ℕ) (over : Option Connections) (o : Option ℕ) (x : ModuleInstance) (w t : Walked) → Going i w → instance_of ms above i sub at over o x w ≡ Ok t → Going i t
@@ -181,7 +172,7 @@ module _ (ms : List ModuleDeclaration) where
       let inner = above ++ k ∷ [] in
       let o = head_of n (length w.flat.signals) w.bits given (module_at ms k) b.top b.found in
       let one = length-append w.flat.scopes (b.top.scope ∷ []) in
-      let g : Going n r.mid = subst (Going n) b.is (opened_begun k b.top w o f, omega (arith, one)) in
+      let g : Going n r.mid = subst (Going n) b.is (opened_begun k b.top (loop_names (module_at ms k)) w o f, omega (arith, one)) in
       let h = each_keeps (Going n) (item ms table inner n (sub inner)) (λ x a c h q. after_item table inner n (sub inner) (s inner) x a c h q) (module_at ms k).items r.mid t g r.walked in
       let l = h.1 in
       (h.0, omega (arith, l))
@@ -191,12 +182,12 @@ module _ (ms : List ModuleDeclaration) where
   after_enter table zero above k given w t f e = absurd (not_ok _ t e)
   after_enter table (suc levels) above k given w t f e = after_enter_by table (enter ms table levels) (after_enter table levels) above k given w t f e
 
-  begun_nothing : (at : ℕ) → BegunWalk (nothing at)
+  begun_nothing : (at : ℕ) → BegunWalk (nothing None at)
   begun_nothing at = record { names = tt; there = tt; is = refl }
 
-  after_top : (table : Names) (o : Option ℕ) (w : Walked) → enter_top ms table o ≡ Ok w → BegunWalk w
+  after_top : (table : Names) (o : Option ℕ) (w : Walked) → enter_top None ms table o ≡ Ok w → BegunWalk w
   after_top table None w e = absurd (not_ok _ w e)
-  after_top table (Some k) w e = (after_enter table 16 [] k [] (nothing (module_at ms k).token) w (begun_nothing (module_at ms k).token) e).0
+  after_top table (Some k) w e = (after_enter table 16 [] k [] (nothing None (module_at ms k).token) w (begun_nothing (module_at ms k).token) e).0
 
 begins_with : (flat : Flat) → Begun flat.signals flat.scopes flat.initials flat.starts → (id : ℕ) → id < length flat.signals → BeginsWith flat id (get_or flat.starts id 0)
 begins_with flat b id l =

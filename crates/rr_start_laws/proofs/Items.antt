@@ -11,15 +11,17 @@ use Rattle.rr_flat.specs.declared.fault.FlatFault.{FlatFault}
 use Rattle.rr_flat.specs.Faults.{each}
 use Rattle.rr_flat.specs.Plain.{Initial, Flat}
 use Rattle.rr_flat.specs.Signals.{with_name}
-use Rattle.rr_starts.specs.Starts.{initial_faults}
+use Rattle.rr_flat.specs.Writers.{scope_at as scope_in}
+use Rattle.rr_unfold.specs.Unfold.{unfold_statement}
+use Rattle.rr_unfold.proofs.Meanings.{unfold_by_meanings}
 use Rattle.rr_flatten.specs.Tables.{place_of}
-use Rattle.rr_flatten.specs.Walk.{Walked, Enter, scope_at, module_at, assign, net, with_initial, initial, with_instance, joined, instance_of, item, enter_by, enter, nothing, finished, top_place, enter_top}
+use Rattle.rr_flatten.specs.Walk.{Walked, Enter, scope_at, module_at, assign, net, initial, with_instance, joined, instance_of, item, enter_by, enter, nothing, finished, top_place, enter_top}
 use Rattle.rr_flatten.proofs.HeadOf.{ok_is, not_ok, first_ok, all_append}
+use Rattle.rr_flat_laws.specs.Blocks.{unfolded_at}
 use Rattle.rr_flat_laws.specs.Names.{module_of}
-use Rattle.rr_flat_laws.proofs.Answers.{settled}
 use Rattle.rr_flat_laws.proofs.Driving as driving
 use Rattle.rr_flat_laws.proofs.Driving.{same_numbers, other_numbers, grows_back}
-use Rattle.rr_flat_laws.proofs.Growing.{Same, each_same, assign_same, net_same, always_same, initial_same, unknown, joined_same, began, inside, entered, Grows, grows_twice, EnterGrows, enter_grows, end_grows}
+use Rattle.rr_flat_laws.proofs.Growing.{Same, each_same, assign_same, net_same, always_same, initial_step, initial_same, unknown, joined_same, began, inside, entered, Grows, grows_twice, EnterGrows, enter_grows, end_grows}
 use Rattle.rr_flat_laws.proofs.Naming as naming
 use Rattle.rr_flat_laws.proofs.Naming.{Fine, FineWalk, walking, after_top, fine_nothing}
 use Rattle.rr_flat_laws.proofs.Opening.{opened_head}
@@ -29,6 +31,9 @@ use Rattle.rr_flat_laws.proofs.Texts.{flat_none, none_of}
 use Rattle.rr_start_laws.specs.Starting.{initials_by, is_initial_of, AreInitials}
 use Rattle.rr_start_laws.specs.Laws.{InitialsAreItems}
 use Rattle.rr_start_laws.proofs.Steps.{Still, still_here, each_still, assign_still, net_still, always_still, joined_still}
+
+abbrev initial_of : Statement → ℕ → ℕ → Initial
+initial_of s i at = record { body = s; scope = i; token = at }
 
 -- the item of one instance
 share_own : (full : ℕ → List Initial) (i low high : ℕ) (x : Initial) → i < low → high ≡ low → x.scope ≡ i → Share is_initial_of full i low high (x ∷ []) (x ∷ [])
@@ -47,14 +52,14 @@ module _ (source : SourceText) (F : Flat) (whole : Fine source.modules F.signals
   items_of k = (module_at source.modules k).items
 
   abbrev all_initials : ℕ → List Initial
-  all_initials j = flat_map (initials_by j) (module_of source F j).items
+  all_initials j = flat_map (initials_by F j) (module_of source F j).items
 
   -- the `initial` items that a step in instance i makes, and those of the instances that are new
   record Made (i : ℕ) (w t : Walked) (part : List Initial) : Type 0 where
     initials : List Initial
     is : t.flat.initials ≡ w.flat.initials ++ initials
     more : length w.flat.scopes ≤ length t.flat.scopes
-    share : Share is_initial_of (λ j. flat_map (initials_by j) (module_of source F j).items) i (length w.flat.scopes) (length t.flat.scopes) initials part
+    share : Share is_initial_of (λ j. flat_map (initials_by F j) (module_of source F j).items) i (length w.flat.scopes) (length t.flat.scopes) initials part
     inside : AllByRecursion (λ x. x.scope < length F.owners) initials
 
   made_none : (i : ℕ) (w t : Walked) → Still w t → length t.flat.scopes ≡ length w.flat.scopes → Made i w t []
@@ -78,18 +83,20 @@ module _ (source : SourceText) (F : Flat) (whole : Fine source.modules F.signals
     inside = all_append (λ x. x.scope < length F.owners) x.initials y.initials x.inside y.inside;
   }
 
-  made_initial : (i k : ℕ) (s : Statement) (at : ℕ) (w t : Walked) → Here i k w → Grows t.flat F → initial i s at w ≡ Ok t → Made i w t (record { body = s; scope = i; token = at } ∷ [])
-  unfolding initial
+  -- the names of an instance mean in its walk what they mean at the end
+  made_initial : (i k : ℕ) (s : Statement) (at : ℕ) (w t : Walked) → Here i k w → Grows t.flat F → initial i s at w ≡ Ok t → Made i w t (initial_of (unfolded_at F i s) i at ∷ [])
   made_initial i k s at w t h g e =
       let z = initial_same i s at w t e in
+      let gw = grows_back w t F z g in
+      let own : unfold_statement (scope_at w i) [] s ≡ unfolded_at F i s = unfold_by_meanings (scope_at w i) (scope_in F i) s (gw.scopes.1 i h.there) in
       let n : length t.flat.scopes ≡ length w.flat.scopes = ap (λ (ns : List Names). length ns) (sym z.scopes) in
-      let x : Initial = record { body = s; scope = i; token = at } in
+      let x : Initial = initial_of (unfolded_at F i s) i at in
       record {
         initials = x ∷ [];
-        is = ap (λ (u : Walked). u.flat.initials) (sym (settled (initial_faults (scope_at w i) s) (with_initial i s at w) t e).1);
+        is = ap (λ (u : Walked). u.flat.initials) (sym (initial_step i s at w t e).is) ∙ ap (λ (b : Statement). w.flat.initials ++ initial_of b i at ∷ []) own;
         more = omega (arith, n);
         share = share_own all_initials i (length w.flat.scopes) (length t.flat.scopes) x h.there n refl;
-        inside = ((driving.at_end source F whole table tabled i k w h (grows_back w t F z g)).0, tt);
+        inside = ((driving.at_end source F whole table tabled i k w h gw).0, tt);
       }
 
   -- a module was walked: its instance is the first that is new
@@ -99,7 +106,7 @@ module _ (source : SourceText) (F : Flat) (whole : Fine source.modules F.signals
     one : length mid.flat.scopes ≡ n + 1
     fine : Fine source.modules t.flat.signals t.flat.scopes t.flat.owners
     owner : get_or t.flat.owners n 0 ≡ k
-    made : Made n mid t (flat_map (initials_by n) (module_at source.modules k).items)
+    made : Made n mid t (flat_map (initials_by F n) (module_at source.modules k).items)
 
   abbrev Enters : Enter → Type 0
   Enters sub = (k : ℕ) (given : Names) (w t : Walked) → FineWalk source.modules w → Grows t.flat F → sub k given w ≡ Ok t → Entering k (length w.flat.scopes) w t
@@ -141,8 +148,8 @@ module _ (source : SourceText) (F : Flat) (whole : Fine source.modules F.signals
         initials = en.made.initials;
         is = st.initials ∙ ◌∙◌ {b = en.mid.flat.initials ++ en.made.initials} en.made.is (ap (λ (z : List Initial). z ++ en.made.initials) en.same);
         more = omega (arith, high, mm, one);
-        share = share_child all_initials i n n (length en.mid.flat.scopes) (length u.flat.scopes) (length r.mid.flat.scopes) en.made.initials (flat_map (initials_by n) (items_of kk)) h.there refl one high
-            (ap (λ (z : ModuleDeclaration). flat_map (initials_by n) z.items) (sym me)) en.made.share;
+        share = share_child all_initials i n n (length en.mid.flat.scopes) (length u.flat.scopes) (length r.mid.flat.scopes) en.made.initials (flat_map (initials_by F n) (items_of kk)) h.there refl one high
+            (ap (λ (z : ModuleDeclaration). flat_map (initials_by F n) z.items) (sym me)) en.made.share;
         inside = en.made.inside;
       })
 
@@ -164,7 +171,7 @@ module _ (source : SourceText) (F : Flat) (whole : Fine source.modules F.signals
   same_made : (i : ℕ) (w t : Walked) → Still w t → Same w t → Made i w t []
   same_made i w t s z = made_none i w t s (ap (λ (ns : List Names). length ns) (sym z.scopes))
 
-  made_item : (above : List ℕ) (i k : ℕ) (sub : Enter) → naming.Enters source.modules sub → EnterGrows sub → Enters sub → (x : ModuleItem) (w t : Walked) → Here i k w → Grows t.flat F → item source.modules table above i sub x w ≡ Ok t → Made i w t (initials_by i x)
+  made_item : (above : List ℕ) (i k : ℕ) (sub : Enter) → naming.Enters source.modules sub → EnterGrows sub → Enters sub → (x : ModuleItem) (w t : Walked) → Here i k w → Grows t.flat F → item source.modules table above i sub x w ≡ Ok t → Made i w t (initials_by F i x)
   unfolding item
   made_item above i k sub fs gs s (Ports p) w t h g e = nothing_made i w t (ok_is w t e)
   made_item above i k sub fs gs s (Nets signed range list) w t h g e = same_made i w t (each_still (net i) (net_still i) list w t e) (each_same (net i) (net_same i) list w t e)
@@ -204,7 +211,7 @@ module _ (source : SourceText) (F : Flat) (whole : Fine source.modules F.signals
         one = one;
         fine = l.0.fine;
         owner = l.0.owner;
-        made = made_each (initials_by n) n k step keeps (λ x a c p u q. made_item inner n k (sub inner) (fs inner) (gs inner) (s inner) x a c p u q) (items_of k) r.mid t h g r.walked;
+        made = made_each (initials_by F n) n k step keeps (λ x a c p u q. made_item inner n k (sub inner) (fs inner) (gs inner) (s inner) x a c p u q) (items_of k) r.mid t h g r.walked;
       }
 
   made_enter : (levels : ℕ) (above : List ℕ) → Enters (enter source.modules table levels above)
@@ -224,8 +231,8 @@ module _ (source : SourceText) (F : Flat) (whole : Fine source.modules F.signals
     high : (i : ℕ) → i < length F.owners → i < length end.flat.scopes
     high i l = let e = whole.even in let s = ap length scopes in omega (arith, l, e, s)
 
-    initials_at : (i : ℕ) → i < length F.owners → filter (is_initial_of i) h.made.initials ≡ flat_map (initials_by i) (module_of source F i).items
-    initials_at zero l = h.made.share.here ∙ ap (λ (m : ModuleDeclaration). flat_map (initials_by 0) m.items) (sym top_module)
+    initials_at : (i : ℕ) → i < length F.owners → filter (is_initial_of i) h.made.initials ≡ flat_map (initials_by F i) (module_of source F i).items
+    initials_at zero l = h.made.share.here ∙ ap (λ (m : ModuleDeclaration). flat_map (initials_by F 0) m.items) (sym top_module)
     initials_at (suc i) l = let o = h.one in h.made.share.new (suc i) (omega (arith, o)) (high (suc i) l)
 
     items : AreInitials source F
@@ -234,12 +241,12 @@ module _ (source : SourceText) (F : Flat) (whole : Fine source.modules F.signals
       inside = subst (λ (xs : List Initial). All (λ x. x.scope < length F.owners) xs) (sym initials_are) (All-from_recursion (λ x. x.scope < length F.owners) h.made.initials h.made.inside);
     }
 
-items_of_top : (source : SourceText) (table : Names) → Table source.modules table → (o : Option ℕ) (end : Walked) → enter_top source.modules table o ≡ Ok end → AreInitials source (finished source.modules end.flat)
+items_of_top : (source : SourceText) (table : Names) → Table source.modules table → (o : Option ℕ) (end : Walked) → enter_top None source.modules table o ≡ Ok end → AreInitials source (finished source.modules end.flat)
 items_of_top source table t None end e = absurd (not_ok _ end e)
 items_of_top source table t (Some k) end e =
     let F = finished source.modules end.flat in
     let whole : Fine source.modules F.signals F.scopes F.owners = after_top source.modules table (Some k) end e in
-    let w = nothing (module_at source.modules k).token in
+    let w = nothing None (module_at source.modules k).token in
     items source F whole table t k w end refl refl refl refl (made_enter source F whole table t 16 [] k [] w end (fine_nothing source.modules (module_at source.modules k).token) (end_grows source.modules end) e)
 
 pub items_of_design : InitialsAreItems

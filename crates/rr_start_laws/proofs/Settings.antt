@@ -8,7 +8,7 @@ use Rattle.std.proofs.lemmas.List.{get_or-set_same, get_or-set_other, set-append
 use Rattle.std.proofs.lemmas.List.Elements.{All-nil, All-cons}
 use Rattle.std.proofs.lemmas.List.Sums.{fold-append}
 use Rattle.rr_bits.specs.Words.{number, select}
-use Rattle.rr_syntax.specs.Tree.{Tree, Name, Literal, Bit as BitSelect, Part, Indexed, Unary, Binary, Cond, Concat, Repeat, Cast, Paren, Statement, Statements, Null, Block, If, IfElse, Case, Assign, Done, Then}
+use Rattle.rr_syntax.specs.Tree.{Tree, Name, Literal, Bit as BitSelect, Part, Indexed, Unary, Binary, Cond, Concat, Repeat, Cast, Paren, Statement, Statements, Null, Block, If, IfElse, Case, Assign, For, Done, Then}
 use Rattle.rr_expr.specs.declared.types.Entity.{Entity}
 use Rattle.rr_expr.specs.declared.types.Entity.TheVariants as entity
 use Rattle.rr_expr.specs.declared.types.Shape.{Shape}
@@ -56,6 +56,7 @@ mutual
   started_is s (IfElse t a b) xs = refl
   started_is s (Case kind t arms) xs = refl
   started_is s (Assign target now t) xs = target_is s target t xs
+  started_is s (For h a) xs = refl
 
   all_started_is : (s : Names) (ss : Statements) (xs : List ℕ) → all_started s ss xs ≡ fold set_one xs (all_settings_of s ss)
   all_started_is s Done xs = refl
@@ -96,6 +97,7 @@ mutual
       ap (λ (o : Option ℕ). setting_of o (start_of a (form a target).width t)) (whole_alike a b target h)
       ∙ (ap (λ (z : Shape). setting_of (whole_variable b target) (start_of a z.width t)) (shape_by_names a b target (λ n o. h n))
       ∙ ap (λ (n : ℕ). setting_of (whole_variable b target) n) (start_alike a b (form b target).width t h))
+  settings_alike a b (For k x) h = refl
 
   all_settings_alike : (a b : Names) (ss : Statements) → Alike a b → all_settings_of a ss ≡ all_settings_of b ss
   all_settings_alike a b Done h = refl
@@ -152,6 +154,7 @@ mutual
   settings_below n s (IfElse t a b) h = tt
   settings_below n s (Case kind t arms) h = tt
   settings_below n s (Assign target now t) h = target_below n (start_of s (form s target).width t) s target h
+  settings_below n s (For k a) h = tt
 
   all_settings_below : (n : ℕ) (s : Names) (ss : Statements) → Entries (Between 0 n) s → AllByRecursion (Below n) (all_settings_of s ss)
   all_settings_below n s Done h = tt

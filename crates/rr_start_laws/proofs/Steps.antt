@@ -9,12 +9,13 @@ use Rattle.rr_flat.specs.declared.signal.Port.{Port}
 use Rattle.rr_flat.specs.declared.signal.Port.TheVariants.{Inner, Input, Output}
 use Rattle.rr_flat.specs.Faults.{each}
 use Rattle.rr_flat.specs.Plain.{Written}
-use Rattle.rr_flat.specs.Shapes.{shape_faults, statement_faults}
 use Rattle.rr_flat.specs.Signals.{Text, signal_at}
+use Rattle.rr_unfold.specs.Unfold.{Count, unfold_statement}
 use Rattle.rr_flatten.specs.Tables.{place_of, port_names}
-use Rattle.rr_flatten.specs.Walk.{Walked, scope_at, with_driver, with_block, assign, net_driver, net_value, net_with, net, event_faults, always, join_port, join_at, join, join_value, join_named, join_positions, joined}
+use Rattle.rr_flatten.specs.Walk.{Walked, scope_at, loops_at, with_driver, with_block, expression_faults, assign, net_driver, net_value, net_with, net, always, join_port, join_at, join, join_value, join_named, join_positions, joined}
 use Rattle.rr_flatten.proofs.HeadOf.{ok_is, first_ok}
 use Rattle.rr_flat_laws.proofs.Answers.{settled}
+use Rattle.rr_flat_laws.proofs.Growing.{always_step}
 
 pub record Still (w v : Walked) : Type 0 where
   pub initials : v.flat.initials ≡ w.flat.initials
@@ -40,17 +41,18 @@ pub assign_still : (i : ℕ) (p : NetAssignment) (w v : Walked) → assign i p w
 unfolding assign
 assign_still i p w v e =
     still_to w (with_driver (Written p.target i) (Written p.value i) (first p.target) w) v (record { initials = refl; starts = refl })
-    (settled (shape_faults (scope_at w i) p.target ++ shape_faults (scope_at w i) p.value) (with_driver (Written p.target i) (Written p.value i) (first p.target) w) v e).1
+    (settled (expression_faults (loops_at w i) (scope_at w i) p.target ++ expression_faults (loops_at w i) (scope_at w i) p.value) (with_driver (Written p.target i) (Written p.value i) (first p.target) w) v e).1
 
-block_still : (i : ℕ) (events : EventControl) (s : Statement) (at : ℕ) (w : Walked) → Still w (with_block i events s at w)
-block_still i (Star brackets) s at w = record { initials = refl; starts = refl }
-block_still i (Edges list commas) s at w = record { initials = refl; starts = refl }
-block_still i (Levels list commas) s at w = record { initials = refl; starts = refl }
+block_still : (i : ℕ) (events : EventControl) (s : Statement) (at : ℕ) (c : Count) (w : Walked) → Still w (with_block i events s at (record w { count = c }))
+block_still i (Star brackets) s at c w = record { initials = refl; starts = refl }
+block_still i (Edges list commas) s at c w = record { initials = refl; starts = refl }
+block_still i (Levels list commas) s at c w = record { initials = refl; starts = refl }
 
 pub always_still : (i : ℕ) (events : EventControl) (s : Statement) (at : ℕ) (w v : Walked) → always i events s at w ≡ Ok v → Still w v
-unfolding always
 always_still i events s at w v e =
-    still_to w (with_block i events s at w) v (block_still i events s at w) (settled (event_faults (scope_at w i) events ++ statement_faults (scope_at w i) s) (with_block i events s at w) v e).1
+    let x = always_step i events s at w v e in
+    let body = unfold_statement (scope_at w i) [] s in
+    still_to w (with_block i events body at (record w { count = x.count })) v (block_still i events body at x.count w) x.is
 
 net_driver_still : (i at : ℕ) (t : Tree) (o : Option ℕ) (w : Walked) → Still w (net_driver i at t o w)
 net_driver_still i at t None w = still_here w
@@ -61,7 +63,7 @@ unfolding net_value
 net_with_still i at name None w v e = still_to w w v (still_here w) (ok_is w v e)
 net_with_still i at name (Some t) w v e =
     still_to w (net_driver i at t (place_of (lookup name (scope_at w i))) w) v (net_driver_still i at t (place_of (lookup name (scope_at w i))) w)
-    (settled (shape_faults (scope_at w i) t) (net_driver i at t (place_of (lookup name (scope_at w i))) w) v e).1
+    (settled (expression_faults (loops_at w i) (scope_at w i) t) (net_driver i at t (place_of (lookup name (scope_at w i))) w) v e).1
 
 pub net_still : (i : ℕ) (n : DeclaredName) (w v : Walked) → net i n w ≡ Ok v → Still w v
 unfolding net

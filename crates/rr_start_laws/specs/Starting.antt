@@ -1,7 +1,7 @@
--- The `initial` items of instances, and the values that variables begin with (IEEE 1364-2005 sections 6.2.1 and 9.9.1).
+-- The `initial` items of instances, and the values that variables begin with (IEEE 1364-2005 sections 6.2.1, 9.6 and 9.9.1).
 use Rattle.std.specs.Prelude.{◌≡◌, ◌⊎◌, ℕ, ◌<◌, Bool, List, [], ◌∷◌, ◌++◌, length, nat_eq, All, Option, Some, None}
 use Rattle.std.specs.List.{filter, flat_map}
-use Rattle.rr_syntax.specs.Tree.{Tree, Name, Literal, Bit as BitSelect, Part, Indexed, Unary, Binary, Cond, Concat, Repeat, Cast, Paren, Statement, Statements, Null, Block, If, IfElse, Case, Assign, Done, Then, ModuleItem, Ports, Nets, Variables, Integers, Parameters, Assigns, Always, Initial, Instances, SourceText}
+use Rattle.rr_syntax.specs.Tree.{Tree, Name, Literal, Bit as BitSelect, Part, Indexed, Unary, Binary, Cond, Concat, Repeat, Cast, Paren, Statement, Statements, Null, Block, If, IfElse, Case, Assign, For, Done, Then, ModuleItem, Ports, Nets, Variables, Integers, Parameters, Assigns, Always, Initial, Instances, SourceText}
 use Rattle.rr_expr.specs.Scopes.{Names, meant}
 use Rattle.rr_expr.specs.Values.{form}
 use Rattle.rr_flat.specs.Plain as plain
@@ -9,28 +9,29 @@ use Rattle.rr_flat.specs.Plain.{Flat}
 use Rattle.rr_flat.specs.Signals.{signal_at}
 use Rattle.rr_flat.specs.Writers.{scope_at}
 use Rattle.rr_starts.specs.Starts.{start_of, variable_of}
+use Rattle.rr_flat_laws.specs.Blocks.{unfolded_at}
 use Rattle.rr_flat_laws.specs.Names.{module_of}
 
 -- Items
 
--- the `initial` items of instance i that an item of its module makes
-abbrev pub initials_by : ℕ → ModuleItem → List plain.Initial
-initials_by i (Ports p) = []
-initials_by i (Nets signed range list) = []
-initials_by i (Variables signed range list) = []
-initials_by i (Integers list) = []
-initials_by i (Parameters p) = []
-initials_by i (Assigns pairs) = []
-initials_by i (Always events body token) = []
-initials_by i (Initial body token) = record { body = body; scope = i; token = token } ∷ []
-initials_by i (Instances m token overrides list) = []
+-- the `initial` items of instance i that an item of its module makes; each loop is the block of its turns
+abbrev pub initials_by : Flat → ℕ → ModuleItem → List plain.Initial
+initials_by flat i (Ports p) = []
+initials_by flat i (Nets signed range list) = []
+initials_by flat i (Variables signed range list) = []
+initials_by flat i (Integers list) = []
+initials_by flat i (Parameters p) = []
+initials_by flat i (Assigns pairs) = []
+initials_by flat i (Always events body token) = []
+initials_by flat i (Initial body token) = record { body = unfolded_at flat i body; scope = i; token = token } ∷ []
+initials_by flat i (Instances m token overrides list) = []
 
 abbrev pub is_initial_of : ℕ → plain.Initial → Bool
 is_initial_of i x = nat_eq x.scope i
 
 -- each `initial` item of each instance, once and in the order of the text, and no others
 pub record AreInitials (source : SourceText) (flat : Flat) : Type 0 where
-  pub items : (i : ℕ) → i < length flat.owners → filter (is_initial_of i) flat.initials ≡ flat_map (initials_by i) (module_of source flat i).items
+  pub items : (i : ℕ) → i < length flat.owners → filter (is_initial_of i) flat.initials ≡ flat_map (initials_by flat i) (module_of source flat i).items
   pub inside : All (λ x. x.scope < length flat.owners) flat.initials
 
 -- Assignments
@@ -60,7 +61,7 @@ setting_of None n = []
 setting_of (Some id) n = record { variable = id; number = n } ∷ []
 
 -- the assignments of a statement, where names have these meanings: those of a block in its order (section 9.8.1), and one that
--- gives its target the value of an expression, which is as wide as the wider of the two (section 5.4)
+-- gives its target the value of an expression, which is as wide as the wider of the two (section 5.4); loops have been unfolded
 unfoldable mutual
   pub settings_of : Names → Statement → List Setting
   settings_of s Null = []
@@ -69,6 +70,7 @@ unfoldable mutual
   settings_of s (IfElse t a b) = []
   settings_of s (Case kind t arms) = []
   settings_of s (Assign target now t) = setting_of (whole_variable s target) (start_of s (form s target).width t)
+  settings_of s (For h a) = []
 
   pub all_settings_of : Names → Statements → List Setting
   all_settings_of s Done = []

@@ -2,7 +2,7 @@
 ghost use Rattle.rr_start_laws.specs.Laws.{InitialsAreItems, LastSettingCounts};
 
 /// The `initial` items of an instance are those of its module, each once and in the order of the
-/// text (section 9.9.1). There are no others.
+/// text (section 9.9.1), where each loop is the block of its turns (section 9.6). There are no others.
 #[tactic(auto, using(crate::proofs::Items::items_of_design))]
 pub fn initials_are_items()
     ensures { InitialsAreItems }

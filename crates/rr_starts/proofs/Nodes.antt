@@ -10,12 +10,13 @@ use Rattle.rr_syntax.specs.declared.tree.Expr.{Expr, the_lemmas}
 use Rattle.rr_syntax.specs.declared.tree.Expr.TheVariants as expr
 use Rattle.rr_syntax.specs.Tree.{Tree}
 use Rattle.rr_syntax.specs.declared.tree.Named.{Named as Name}
+use Rattle.rr_syntax.specs.declared.tree.Head.{Head}
 use Rattle.rr_syntax.specs.declared.tree.Stmt.{Stmt, the_lemmas as stmt_lemmas}
 use Rattle.rr_syntax.specs.declared.tree.Stmt.TheVariants as stmt
 use Rattle.rr_syntax.specs.View.{plain, plain_statement, plain_statements}
 use Rattle.rr_syntax.proofs.Rows.{plain_block, plain_case, plain_concat, plain_repeat}
 use Rattle.rr_expr.specs.Scopes.{Names, meant, entity_shape}
-use Rattle.rr_flat.specs.Faults.{sooner}
+use Rattle.rr_flat.specs.Faults.{earlier}
 use Rattle.rr_flat.specs.declared.fault.FlatFault.{FlatFault}
 use Rattle.rr_flat.specs.Shapes.{shape_faults}
 use Rattle.rr_flat.specs.View.{Design}
@@ -23,40 +24,44 @@ use Rattle.rr_flat.proofs.Lists.{rest}
 use Rattle.rr_starts.specs.Starts.{constant_faults, initial_faults, all_initial_faults, started, all_started, set_target, set_at, start_of, variable_of}
 use denote.Ref.{Bor}
 
-pub noted-Null : (f : Option FlatFault) (s : Names) → fold sooner f (initial_faults s (plain_statement stmt.Null)) ≡ f
+pub noted-Null : (f : Option FlatFault) (s : Names) → fold earlier f (initial_faults s (plain_statement stmt.Null)) ≡ f
 unfolding plain_statement initial_faults
 noted-Null f s = refl
 
-pub noted-Block : (f : Option FlatFault) (s : Names) (label : Option Name) (body : Bor (List Stmt)) → fold sooner f (initial_faults s (plain_statement (stmt.Block label body))) ≡ fold sooner f (all_initial_faults s (plain_statements body.now))
+pub noted-Block : (f : Option FlatFault) (s : Names) (label : Option Name) (body : Bor (List Stmt)) → fold earlier f (initial_faults s (plain_statement (stmt.Block label body))) ≡ fold earlier f (all_initial_faults s (plain_statements body.now))
 unfolding initial_faults
-noted-Block f s label body = ap (λ p. fold sooner f (initial_faults s p)) (plain_block label body)
+noted-Block f s label body = ap (λ p. fold earlier f (initial_faults s p)) (plain_block label body)
 
-pub noted-If : (f : Option FlatFault) (s : Names) (t : Bor Expr) (y : Bor Stmt) → fold sooner f (initial_faults s (plain_statement (stmt.If t y None))) ≡ f
+pub noted-If : (f : Option FlatFault) (s : Names) (t : Bor Expr) (y : Bor Stmt) → fold earlier f (initial_faults s (plain_statement (stmt.If t y None))) ≡ f
 unfolding plain_statement initial_faults
 noted-If f s t y = refl
 
-pub noted-IfElse : (f : Option FlatFault) (s : Names) (t : Bor Expr) (y n : Bor Stmt) → fold sooner f (initial_faults s (plain_statement (stmt.If t y (Some n)))) ≡ f
+pub noted-IfElse : (f : Option FlatFault) (s : Names) (t : Bor Expr) (y n : Bor Stmt) → fold earlier f (initial_faults s (plain_statement (stmt.If t y (Some n)))) ≡ f
 unfolding plain_statement initial_faults
 noted-IfElse f s t y n = refl
 
-pub noted-Case : (f : Option FlatFault) (s : Names) (kind : Keyword) (t : Bor Expr) (arms : Bor (List Branch)) → fold sooner f (initial_faults s (plain_statement (stmt.Case kind t arms))) ≡ f
+pub noted-Case : (f : Option FlatFault) (s : Names) (kind : Keyword) (t : Bor Expr) (arms : Bor (List Branch)) → fold earlier f (initial_faults s (plain_statement (stmt.Case kind t arms))) ≡ f
 unfolding initial_faults
-noted-Case f s kind t arms = ap (λ p. fold sooner f (initial_faults s p)) (plain_case kind t arms)
+noted-Case f s kind t arms = ap (λ p. fold earlier f (initial_faults s p)) (plain_case kind t arms)
 
-pub noted-Assign : (f : Option FlatFault) (s : Names) (t : Bor Expr) (now : Bool) (v : Bor Expr) → fold sooner f (initial_faults s (plain_statement (stmt.Assign t now v))) ≡ fold sooner (fold sooner f (shape_faults s (plain t.now))) (constant_faults s (plain v.now))
+pub noted-Assign : (f : Option FlatFault) (s : Names) (t : Bor Expr) (now : Bool) (v : Bor Expr) → fold earlier f (initial_faults s (plain_statement (stmt.Assign t now v))) ≡ fold earlier (fold earlier f (shape_faults s (plain t.now))) (constant_faults s (plain v.now))
 unfolding plain_statement initial_faults
-noted-Assign f s t now v = fold-append sooner f (shape_faults s (plain t.now)) (constant_faults s (plain v.now))
+noted-Assign f s t now v = fold-append earlier f (shape_faults s (plain t.now)) (constant_faults s (plain v.now))
 
-pub ruleset initial_notes = (stmt_lemmas, noted-Null, noted-Block, noted-If, noted-IfElse, noted-Case, noted-Assign)
+pub noted-For : (f : Option FlatFault) (s : Names) (h : Head) (b : Bor Stmt) → fold earlier f (initial_faults s (plain_statement (stmt.For h b))) ≡ f
+unfolding plain_statement initial_faults
+noted-For f s h b = refl
+
+pub ruleset initial_notes = (stmt_lemmas, noted-Null, noted-Block, noted-If, noted-IfElse, noted-Case, noted-Assign, noted-For)
 
 -- one more statement
 
 pub all_more : (f : Option FlatFault) (s : Names) (xs : List Stmt) (i : ℕ) (x : Stmt) → i < length xs → x ≡ get_or xs i x
-    → fold sooner (fold sooner f (initial_faults s (plain_statement x))) (all_initial_faults s (plain_statements (drop (i + 1) xs))) ≡ fold sooner f (all_initial_faults s (plain_statements (drop i xs)))
+    → fold earlier (fold earlier f (initial_faults s (plain_statement x))) (all_initial_faults s (plain_statements (drop (i + 1) xs))) ≡ fold earlier f (all_initial_faults s (plain_statements (drop i xs)))
 unfolding all_initial_faults plain_statements
-all_more f s xs i x lt is = rw (rest xs i x lt, ← is) (sym (fold-append sooner f (initial_faults s (plain_statement x)) (all_initial_faults s (plain_statements (drop (i + 1) xs)))))
+all_more f s xs i x lt is = rw (rest xs i x lt, ← is) (sym (fold-append earlier f (initial_faults s (plain_statement x)) (all_initial_faults s (plain_statements (drop (i + 1) xs)))))
 
-pub all_done : (f : Option FlatFault) (s : Names) (xs : List Stmt) (i : ℕ) → length xs ≤ i → fold sooner f (all_initial_faults s (plain_statements (drop i xs))) ≡ f
+pub all_done : (f : Option FlatFault) (s : Names) (xs : List Stmt) (i : ℕ) → length xs ≤ i → fold earlier f (all_initial_faults s (plain_statements (drop i xs))) ≡ f
 unfolding all_initial_faults plain_statements
 all_done f s xs i le = rw (drop_all i xs le) refl
 
@@ -138,6 +143,10 @@ pub started-Assign : (s : Names) (t : Bor Expr) (now : Bool) (v : Bor Expr) (st 
 unfolding plain_statement started
 started-Assign s t now v st = refl
 
+pub started-For : (s : Names) (h : Head) (b : Bor Stmt) (st : List ℕ) → started s (plain_statement (stmt.For h b)) st ≡ st
+unfolding plain_statement started
+started-For s h b st = refl
+
 pub block_faults : (s : Names) (label : Option Name) (body : Bor (List Stmt)) → initial_faults s (plain_statement (stmt.Block label body)) ≡ all_initial_faults s (plain_statements body.now)
 unfolding initial_faults
 block_faults s label body = ap (initial_faults s) (plain_block label body)
@@ -146,7 +155,7 @@ pub assign_faults : (s : Names) (t : Bor Expr) (now : Bool) (v : Bor Expr) → i
 unfolding plain_statement initial_faults
 assign_faults s t now v = refl
 
-pub ruleset settings = (stmt_lemmas, started-Null, started-Block, started-If, started-IfElse, started-Case, started-Assign, block_faults, assign_faults)
+pub ruleset settings = (stmt_lemmas, started-Null, started-Block, started-If, started-IfElse, started-Case, started-Assign, started-For, block_faults, assign_faults)
 
 -- one more statement that sets
 

@@ -1,7 +1,7 @@
 -- An `initial` item without a fault has a shape in each expression.
 use Rattle.std.proofs.Common.{◌≡◌, ◌∙◌, List, [], ◌∷◌, ◌++◌, Bool, false, true, IsTrue, ◌&&◌, Option, None, Some, refl}
 use Rattle.std.proofs.lemmas.Bool.{and_parts}
-use Rattle.rr_syntax.specs.Tree.{Tree, Statement, Statements, Null, Block, If, IfElse, Case, Assign, Done, Then}
+use Rattle.rr_syntax.specs.Tree.{Tree, Statement, Statements, Null, Block, If, IfElse, Case, Assign, For, Done, Then}
 use Rattle.rr_syntax.specs.Statements.{is_initial, are_initial, is_name}
 use Rattle.rr_expr.specs.Scopes.{Names}
 use Rattle.rr_expr.specs.Faults.{fault}
@@ -49,6 +49,7 @@ mutual
   initial_shaped s (Assign target now t) i h =
       let p = none_of_two (shape_faults s target) (constant_faults s t) h in
       two_of_none (shape_faults s target) (shape_faults s t) p.0 (constant_shaped s t p.1)
+  initial_shaped s (For head a) i h = refl
 
   all_shaped : (s : Names) (ss : Statements) → IsTrue (are_initial ss) → all_initial_faults s ss ≡ [] → statements_faults s ss ≡ []
   all_shaped s Done i h = refl

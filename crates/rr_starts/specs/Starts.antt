@@ -1,7 +1,7 @@
 -- Starting values (IEEE 1364-2005 sections 6.2.1 and 9.9.1): of declarations, and by `initial` items.
 use Rattle.std.specs.Prelude.{ℕ, max, List, [], ◌++◌, Bool, false, true, Option, Some, None, Result, slice_set, pos}
 use Rattle.rr_bits.specs.Words.{number, select}
-use Rattle.rr_syntax.specs.Tree.{Tree, Name, Literal, Bit as BitSelect, Part, Indexed, Unary, Binary, Cond, Concat, Repeat, Cast, Paren, Statement, Statements, Null, Block, If, IfElse, Case, Assign, Done, Then}
+use Rattle.rr_syntax.specs.Tree.{Tree, Name, Literal, Bit as BitSelect, Part, Indexed, Unary, Binary, Cond, Concat, Repeat, Cast, Paren, Statement, Statements, Null, Block, If, IfElse, Case, Assign, For, Done, Then}
 use Rattle.rr_expr.specs.declared.types.Entity.{Entity}
 use Rattle.rr_expr.specs.declared.types.Entity.TheVariants.{Constant, Signal, Instance}
 use Rattle.rr_expr.specs.Scopes.{Names, meant, entity_shape}
@@ -50,7 +50,7 @@ set_target s (Cast signed a) t starts = starts
 set_target s (Paren a) t starts = starts
 
 -- what an `initial` item makes of the starting values of all signals: its assignments one after the other, so that the last one
--- of a variable counts
+-- of a variable counts; its loops have been unfolded before (section 9.6)
 unfoldable mutual
   pub started : Names → Statement → List ℕ → List ℕ
   started s Null starts = starts
@@ -59,6 +59,7 @@ unfoldable mutual
   started s (IfElse t a b) starts = starts
   started s (Case kind t arms) starts = starts
   started s (Assign target now t) starts = set_target s target t starts
+  started s (For h a) starts = starts
 
   pub all_started : Names → Statements → List ℕ → List ℕ
   all_started s Done starts = starts
@@ -73,6 +74,7 @@ unfoldable mutual
   initial_faults s (IfElse t a b) = []
   initial_faults s (Case kind t arms) = []
   initial_faults s (Assign target now t) = shape_faults s target ++ constant_faults s t
+  initial_faults s (For h a) = []
 
   pub all_initial_faults : Names → Statements → List FlatFault
   all_initial_faults s Done = []

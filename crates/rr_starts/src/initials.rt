@@ -3,46 +3,57 @@ ghost use Rattle.std.specs.Prelude.{◌≡◌, ◌<◌, None, [], false, true, f
 ghost use Rattle.rr_syntax.specs.View.{plain, plain_statement, plain_statements};
 ghost use Rattle.rr_expr.specs.Faults.{fault};
 ghost use Rattle.rr_expr.specs.Scopes.{entity_shape, meant};
-ghost use Rattle.rr_flat.specs.Faults.{sooner};
+ghost use Rattle.rr_flat.specs.Faults.{earlier};
 ghost use Rattle.rr_flat.specs.Shapes.{shape_faults};
 ghost use Rattle.rr_flat.specs.Sound.{names_at};
-ghost use Rattle.rr_starts.specs.Starts.{all_initial_faults, all_started, initial_faults, set_at, set_target, start_of, started, variable_of};
+ghost use Rattle.rr_starts.specs.Starts.{all_initial_faults, all_started, constant_faults, initial_faults, set_at, set_target, start_of, started, variable_of};
 
-use crate::values::{note_constant, start_number};
-use rr_expr::{Entity, Scope, entity_shape as shape_of, shape};
-use rr_flat::{Flat, FlatFault, sooner_of};
+use crate::values::start_number;
+use rr_expr::{Entity, Scope, constant, entity_shape as shape_of, shape};
+use rr_flat::{Flat, FlatFault, earliest};
 use rr_syntax::{Expr, Stmt};
 
-/// The first of a fault that was found, if any, and that of a target's shape.
+/// A fault that was found, if any, or that of a target's shape at an earlier token.
 #[tactic(auto, unfolding(rr_flat::specs::Shapes::shape))]
 fn note_target(found: Option<FlatFault>, target: &Expr, names: &Scope) -> Option<FlatFault>
-    ensures { result ≡ fold sooner found (shape_faults names.now (plain target.now)) }
+    ensures { result ≡ fold earlier found (shape_faults names.now (plain target.now)) }
 {
     match shape(target, names) {
         Ok(_) => found,
-        Err(fault) => sooner_of(found, FlatFault::from(fault)),
+        Err(fault) => earliest(found, FlatFault::from(fault)),
     }
 }
 
-/// The first of a fault that was found, if any, and those of an `initial` item.
+/// A fault that was found, if any, or that of a constant at an earlier token.
+fn note_value(found: Option<FlatFault>, value: &Expr, names: &Scope) -> Option<FlatFault>
+    ensures { result ≡ fold earlier found (constant_faults names.now (plain value.now)) }
+{
+    match constant(value, names) {
+        Ok(_) => found,
+        Err(fault) => earliest(found, FlatFault::from(fault)),
+    }
+}
+
+/// A fault that was found, if any, or the one of an `initial` item without loops at the earliest
+/// token: of several at one token, as the turns of a loop have them, the first.
 #[cycle(notes)]
 #[tactic(auto, using(crate::proofs::Nodes::initial_notes))]
 pub fn note_initial(found: Option<FlatFault>, stmt: &Stmt, names: &Scope) -> Option<FlatFault>
-    ensures { result ≡ fold sooner found (initial_faults names.now (plain_statement stmt.now)) }
+    ensures { result ≡ fold earlier found (initial_faults names.now (plain_statement stmt.now)) }
 {
     match stmt {
         Stmt::Block { body, .. } => note_initials(found, body, names),
         Stmt::Assign { target, value, .. } => {
             let found = note_target(found, target, names);
-            note_constant(found, value, names)
+            note_value(found, value, names)
         }
-        Stmt::Null | Stmt::If { .. } | Stmt::Case { .. } => found,
+        Stmt::Null | Stmt::If { .. } | Stmt::Case { .. } | Stmt::For { .. } => found,
     }
 }
 
 #[cycle(notes)]
 fn note_initials(found: Option<FlatFault>, body: &[Stmt], names: &Scope) -> Option<FlatFault>
-    ensures { result ≡ fold sooner found (all_initial_faults names.now (plain_statements body.now)) }
+    ensures { result ≡ fold earlier found (all_initial_faults names.now (plain_statements body.now)) }
 {
     let mut found = found;
     for stmt in body.iter() {
@@ -100,7 +111,7 @@ pub fn set_starts(flat: &mut Flat, scope: u32, stmt: &Stmt)
     match stmt {
         Stmt::Block { body, .. } => set_all(flat, scope, body),
         Stmt::Assign { target, value, .. } => set_one(flat, scope, target, value),
-        Stmt::Null | Stmt::If { .. } | Stmt::Case { .. } => {}
+        Stmt::Null | Stmt::If { .. } | Stmt::Case { .. } | Stmt::For { .. } => {}
     }
 }
 

@@ -1,8 +1,8 @@
 -- A statement with every token number 0 keeps its spelling, its rules and its measures.
 use Rattle.std.proofs.Common.{◌≡◌, ◌≤◌, Bool, ◌&&◌, suc, [], ◌∷◌, ◌++◌, Option, None, Some, refl, ap}
 use Rattle.rr_syntax.specs.Words.{Marked, mark_colon}
-use Rattle.rr_syntax.specs.Tree.{Tree, Name, Literal, Bit, Part, Indexed, Unary, Binary, Cond, Concat, Repeat, Cast, Paren, Trees, End, More, Identifier, Statement, Statements, Arm, Arms, Null, Block, If, IfElse, Case, Assign, Done, Then, CaseItem, NoArms, MoreArms, bare, bare_parts, bare_identifier, bare_label, bare_statement, bare_statements, bare_arm, bare_arms}
-use Rattle.rr_syntax.specs.Statements.{is_open, is_name, is_initial, are_initial, spell_label, spell_labels, spell_statement, spell_statements, spell_arm, spell_arms, HasColon, defaults, HasArms, WellFormedStatement, WellFormedStatements, WellFormedArm, WellFormedArms, depth_statement, height_statements, depth_arm, height_arms, FitLiteralsStatement, FitLiteralsStatements, FitLiteralsArm, FitLiteralsArms}
+use Rattle.rr_syntax.specs.Tree.{Tree, Name, Literal, Bit, Part, Indexed, Unary, Binary, Cond, Concat, Repeat, Cast, Paren, Trees, End, More, Identifier, LoopHead, Statement, Statements, Arm, Arms, Null, Block, If, IfElse, Case, Assign, For, Done, Then, CaseItem, NoArms, MoreArms, bare, bare_parts, bare_identifier, bare_label, bare_loop, bare_statement, bare_statements, bare_arm, bare_arms}
+use Rattle.rr_syntax.specs.Statements.{is_open, is_name, is_initial, are_initial, spell_label, spell_labels, spell_loop, spell_statement, spell_statements, spell_arm, spell_arms, HasColon, defaults, HasArms, WellFormedLoop, WellFormedStatement, WellFormedStatements, WellFormedArm, WellFormedArms, depth_loop, depth_statement, height_statements, depth_arm, height_arms, FitLiteralsLoop, FitLiteralsStatement, FitLiteralsStatements, FitLiteralsArm, FitLiteralsArms}
 use Rattle.rr_syntax.proofs.BareExpressions.{spell-bare, spell_parts-bare, WellFormed-bare, WellFormedMore-bare, is_target-bare, depth-bare, height-bare, FitLiterals-bare, FitLiteralsParts-bare, bare-bare, bare_parts-bare}
 
 pub is_open-bare : (s : Statement) → is_open (bare_statement s) ≡ is_open s
@@ -13,6 +13,7 @@ is_open-bare (If t s) = refl
 is_open-bare (IfElse t s u) = is_open-bare u
 is_open-bare (Case kind t arms) = refl
 is_open-bare (Assign t now v) = refl
+is_open-bare (For h s) = is_open-bare s
 
 pub is_name-bare : (t : Tree) → is_name (bare t) ≡ is_name t
 unfolding bare
@@ -39,6 +40,7 @@ mutual
   is_initial-bare (IfElse t s u) = refl
   is_initial-bare (Case kind t arms) = refl
   is_initial-bare (Assign t now v) = ap (λ b. now && b) (is_name-bare t)
+  is_initial-bare (For h s) = is_initial-bare s
 
   pub are_initial-bare : (ss : Statements) → are_initial (bare_statements ss) ≡ are_initial ss
   are_initial-bare Done = refl
@@ -54,6 +56,10 @@ unfolding spell_labels bare
 spell_labels-bare End colon = refl
 spell_labels-bare (More t ts) colon = ap (λ ws. ws ++ (Marked mark_colon ∷ [])) (spell_parts-bare (More t ts))
 
+pub spell_loop-bare : (h : LoopHead) → spell_loop (bare_loop h) ≡ spell_loop h
+unfolding spell_loop bare_loop
+spell_loop-bare h = rw (spell-bare h.start, spell-bare h.test, spell-bare h.step) refl
+
 mutual
   unfolding spell_statement bare_statement
 
@@ -64,6 +70,7 @@ mutual
   spell_statement-bare (IfElse t s u) = rw (spell-bare t, spell_statement-bare s, spell_statement-bare u) refl
   spell_statement-bare (Case kind t arms) = rw (spell-bare t, spell_arms-bare arms) refl
   spell_statement-bare (Assign t now v) = rw (spell-bare t, spell-bare v) refl
+  spell_statement-bare (For h s) = rw (spell_loop-bare h, spell_statement-bare s) refl
 
   pub spell_statements-bare : (ss : Statements) → spell_statements (bare_statements ss) ≡ spell_statements ss
   spell_statements-bare Done = refl
@@ -92,6 +99,10 @@ unfolding bare_statement
 HasArms-bare NoArms = refl
 HasArms-bare (MoreArms a rest) = ap (λ n. n ≤ 1) (defaults-bare (MoreArms a rest))
 
+pub WellFormedLoop-bare : (h : LoopHead) → WellFormedLoop (bare_loop h) ≡ WellFormedLoop h
+unfolding WellFormedLoop bare_loop
+WellFormedLoop-bare h = rw (WellFormed-bare h.start, WellFormed-bare h.test, WellFormed-bare h.step) refl
+
 mutual
   unfolding WellFormedStatement bare_statement
 
@@ -102,6 +113,7 @@ mutual
   WellFormedStatement-bare (IfElse t s u) = rw (WellFormed-bare t, WellFormedStatement-bare s, is_open-bare s, WellFormedStatement-bare u) refl
   WellFormedStatement-bare (Case kind t arms) = rw (WellFormed-bare t, HasArms-bare arms, WellFormedArms-bare arms) refl
   WellFormedStatement-bare (Assign t now v) = rw (is_target-bare t, WellFormed-bare t, WellFormed-bare v) refl
+  WellFormedStatement-bare (For h s) = rw (WellFormedLoop-bare h, WellFormedStatement-bare s) refl
 
   pub WellFormedStatements-bare : (ss : Statements) → WellFormedStatements (bare_statements ss) ≡ WellFormedStatements ss
   WellFormedStatements-bare Done = refl
@@ -114,6 +126,10 @@ mutual
   WellFormedArms-bare NoArms = refl
   WellFormedArms-bare (MoreArms a rest) = rw (WellFormedArm-bare a, WellFormedArms-bare rest) refl
 
+pub depth_loop-bare : (h : LoopHead) → depth_loop (bare_loop h) ≡ depth_loop h
+unfolding depth_loop bare_loop
+depth_loop-bare h = rw (depth-bare h.start, depth-bare h.test, depth-bare h.step) refl
+
 mutual
   unfolding depth_statement bare_statement
 
@@ -124,6 +140,7 @@ mutual
   depth_statement-bare (IfElse t s u) = rw (depth-bare t, depth_statement-bare s, depth_statement-bare u) refl
   depth_statement-bare (Case kind t arms) = rw (depth-bare t, height_arms-bare arms) refl
   depth_statement-bare (Assign t now v) = rw (depth-bare t, depth-bare v) refl
+  depth_statement-bare (For h s) = rw (depth_loop-bare h, depth_statement-bare s) refl
 
   pub height_statements-bare : (ss : Statements) → height_statements (bare_statements ss) ≡ height_statements ss
   height_statements-bare Done = refl
@@ -136,6 +153,10 @@ mutual
   height_arms-bare NoArms = refl
   height_arms-bare (MoreArms a rest) = rw (depth_arm-bare a, height_arms-bare rest) refl
 
+pub FitLiteralsLoop-bare : (h : LoopHead) → FitLiteralsLoop (bare_loop h) ≡ FitLiteralsLoop h
+unfolding FitLiteralsLoop bare_loop
+FitLiteralsLoop-bare h = rw (FitLiterals-bare h.start, FitLiterals-bare h.test, FitLiterals-bare h.step) refl
+
 mutual
   unfolding FitLiteralsStatement bare_statement
 
@@ -146,6 +167,7 @@ mutual
   FitLiteralsStatement-bare (IfElse t s u) = rw (FitLiterals-bare t, FitLiteralsStatement-bare s, FitLiteralsStatement-bare u) refl
   FitLiteralsStatement-bare (Case kind t arms) = rw (FitLiterals-bare t, FitLiteralsArms-bare arms) refl
   FitLiteralsStatement-bare (Assign t now v) = rw (FitLiterals-bare t, FitLiterals-bare v) refl
+  FitLiteralsStatement-bare (For h s) = rw (FitLiteralsLoop-bare h, FitLiteralsStatement-bare s) refl
 
   pub FitLiteralsStatements-bare : (ss : Statements) → FitLiteralsStatements (bare_statements ss) ≡ FitLiteralsStatements ss
   FitLiteralsStatements-bare Done = refl
@@ -163,6 +185,10 @@ unfolding bare_label bare_identifier
 bare_label-bare None = refl
 bare_label-bare (Some i) = refl
 
+pub bare_loop-bare : (h : LoopHead) → bare_loop (bare_loop h) ≡ bare_loop h
+unfolding bare_loop
+bare_loop-bare h = rw (bare-bare h.start, bare-bare h.test, bare-bare h.step) refl
+
 mutual
   unfolding bare_statement
 
@@ -173,6 +199,7 @@ mutual
   bare_statement-bare (IfElse t s u) = rw (bare-bare t, bare_statement-bare s, bare_statement-bare u) refl
   bare_statement-bare (Case kind t arms) = rw (bare-bare t, bare_arms-bare arms) refl
   bare_statement-bare (Assign t now v) = rw (bare-bare t, bare-bare v) refl
+  bare_statement-bare (For h s) = rw (bare_loop-bare h, bare_statement-bare s) refl
 
   pub bare_statements-bare : (ss : Statements) → bare_statements (bare_statements ss) ≡ bare_statements ss
   bare_statements-bare Done = refl

@@ -14,6 +14,7 @@ use Rattle.rr_syntax.specs.declared.tree.Events.TheVariants as events
 use Rattle.rr_syntax.specs.declared.tree.Expr.{Expr, the_lemmas}
 use Rattle.rr_syntax.specs.declared.tree.Expr.TheVariants as expr
 use Rattle.rr_syntax.specs.declared.tree.Group.{Group}
+use Rattle.rr_syntax.specs.declared.tree.Head.{Head}
 use Rattle.rr_syntax.specs.declared.tree.Instance.{Instance}
 use Rattle.rr_syntax.specs.declared.tree.Item.{Item}
 use Rattle.rr_syntax.specs.declared.tree.Item.TheVariants as item
@@ -27,9 +28,9 @@ use Rattle.rr_syntax.specs.declared.tree.Source.{Source}
 use Rattle.rr_syntax.specs.declared.tree.Stmt.{Stmt, the_lemmas as stmt_lemmas}
 use Rattle.rr_syntax.specs.declared.tree.Stmt.TheVariants as stmt
 use Rattle.rr_syntax.specs.Expressions.{depth, height}
-use Rattle.rr_syntax.specs.Statements.{depth_statement, height_statements, height_arms}
+use Rattle.rr_syntax.specs.Statements.{depth_loop, depth_statement, height_statements, height_arms}
 use Rattle.rr_syntax.specs.Items.{greatest, depth_range, depth_port, depth_assignment, depth_parameter, depth_value, depth_declarator, depth_pair, depth_events, depth_connection, depth_connections, depth_overrides, depth_instance, depth_item, height_item, depth_module, height_module, depth_source}
-use Rattle.rr_syntax.specs.View.{plain, plain_list, plain_statement, plain_statements, plain_arm, plain_arms, plain_range, plain_port, plain_assignment, plain_parameter, plain_value, plain_declarator, plain_pair, plain_events, plain_connection, plain_connections, plain_overrides, plain_instance, plain_item, plain_module, plain_source}
+use Rattle.rr_syntax.specs.View.{plain, plain_list, plain_loop, plain_statement, plain_statements, plain_arm, plain_arms, plain_range, plain_port, plain_assignment, plain_parameter, plain_value, plain_declarator, plain_pair, plain_events, plain_connection, plain_connections, plain_overrides, plain_instance, plain_item, plain_module, plain_source}
 use Rattle.rr_syntax.proofs.Rows.{plain_concat, plain_repeat, plain_block, plain_case}
 use Rattle.rr_syntax.proofs.Sums.{IsGreatest}
 use denote.Ref.{Bor}
@@ -95,6 +96,12 @@ pub list_greatest : IsGreatest list_height part_height
 unfolding plain_list depth
 list_greatest = record { none = refl; more = λ x xs. omega arith }
 
+pub deep-head : (h : Head) → depth_loop (plain_loop h) ≡ max (depth (plain h.start.now)) (max (depth (plain h.test.now)) (depth (plain h.step.now)))
+unfolding depth_loop plain_loop
+deep-head h = refl
+
+pub ruleset loop_depths = deep-head
+
 pub deep-Null : depth_statement (plain_statement stmt.Null) ≡ 0
 unfolding plain_statement depth_statement
 deep-Null = refl
@@ -119,7 +126,11 @@ pub deep-Assign : (t : Bor Expr) (now : Bool) (v : Bor Expr) → depth_statement
 unfolding plain_statement depth_statement
 deep-Assign t now v = omega arith
 
-pub ruleset statement_depths = (stmt_lemmas, deep-Null, deep-Block, deep-If, deep-IfElse, deep-Case, deep-Assign)
+pub deep-For : (h : Head) (s : Bor Stmt) → depth_statement (plain_statement (stmt.For h s)) ≡ 1 + max (depth_loop (plain_loop h)) (depth_statement (plain_statement s.now))
+unfolding plain_statement depth_statement
+deep-For h s = omega arith
+
+pub ruleset statement_depths = (stmt_lemmas, deep-Null, deep-Block, deep-If, deep-IfElse, deep-Case, deep-Assign, deep-For)
 
 abbrev pub body_height : List Stmt → ℕ
 body_height ss = height_statements (plain_statements ss)

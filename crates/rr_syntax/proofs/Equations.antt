@@ -1,10 +1,10 @@
 -- The equations of the spellings, for proofs in which these stay closed.
 use Rattle.std.proofs.Common.{◌≡◌, ℕ, Bool, cond, List, [], ◌∷◌, ◌++◌, codes, Option, refl}
 use Rattle.rr_syntax.specs.declared.token.Number.{Number}
-use Rattle.rr_syntax.specs.Words.{Named, System, Digits, Reserved, Marked, mark_open_parenthesis, mark_close_parenthesis, mark_open_bracket, mark_close_bracket, mark_open_brace, mark_close_brace, mark_comma, mark_colon, mark_semicolon, mark_equals, mark_less_or_equal, mark_question, mark_part_up, mark_part_down, keyword_begin, keyword_default, keyword_else, keyword_end, keyword_endcase, keyword_if}
-use Rattle.rr_syntax.specs.Tree.{Tree, Trees, Name, Literal, Bit, Part, Indexed, Unary, Binary, Cond, Concat, Repeat, Cast, Paren, End, More, Identifier, Statement, Statements, Arm, Arms, Null, Block, If, IfElse, Case, Assign, Done, Then, CaseItem, NoArms, MoreArms}
+use Rattle.rr_syntax.specs.Words.{Named, System, Digits, Reserved, Marked, mark_open_parenthesis, mark_close_parenthesis, mark_open_bracket, mark_close_bracket, mark_open_brace, mark_close_brace, mark_comma, mark_colon, mark_semicolon, mark_equals, mark_less_or_equal, mark_question, mark_part_up, mark_part_down, keyword_begin, keyword_default, keyword_else, keyword_end, keyword_endcase, keyword_for, keyword_if}
+use Rattle.rr_syntax.specs.Tree.{Tree, Trees, Name, Literal, Bit, Part, Indexed, Unary, Binary, Cond, Concat, Repeat, Cast, Paren, End, More, Identifier, LoopHead, Statement, Statements, Arm, Arms, Null, Block, If, IfElse, Case, Assign, For, Done, Then, CaseItem, NoArms, MoreArms}
 use Rattle.rr_syntax.specs.Expressions.{spell, spell_parts, spell_more}
-use Rattle.rr_syntax.specs.Statements.{spell_label, spell_labels, spell_statement, spell_statements, spell_arm, spell_arms}
+use Rattle.rr_syntax.specs.Statements.{spell_label, spell_labels, spell_loop, spell_statement, spell_statements, spell_arm, spell_arms}
 
 pub spell-Name : (n : ℕ) (s : List ℕ) → spell (Name n s) ≡ Named s ∷ []
 unfolding spell
@@ -81,6 +81,12 @@ pub labels-More : (t : Tree) (ts : Trees) (colon : Bool) → spell_labels (More 
 unfolding spell_labels
 labels-More t ts colon = refl
 
+-- apart from the equations of statements, in which a loop's head stays closed
+pub loop-Head : (h : LoopHead) → spell_loop h ≡
+    Marked mark_open_parenthesis ∷ (Named h.text ∷ (Marked mark_equals ∷ (spell h.start ++ (Marked mark_semicolon ∷ (spell h.test ++ (Marked mark_semicolon ∷ (Named h.step_text ∷ (Marked mark_equals ∷ (spell h.step ++ (Marked mark_close_parenthesis ∷ []))))))))))
+unfolding spell_loop
+loop-Head h = refl
+
 pub statement-Null : spell_statement Null ≡ Marked mark_semicolon ∷ []
 unfolding spell_statement
 statement-Null = refl
@@ -105,6 +111,10 @@ pub statement-Assign : (t : Tree) (now : Bool) (v : Tree) → spell_statement (A
 unfolding spell_statement
 statement-Assign t now v = refl
 
+pub statement-For : (h : LoopHead) (s : Statement) → spell_statement (For h s) ≡ Reserved keyword_for ∷ (spell_loop h ++ spell_statement s)
+unfolding spell_statement
+statement-For h s = refl
+
 pub statements-Done : spell_statements Done ≡ []
 unfolding spell_statement
 statements-Done = refl
@@ -126,4 +136,4 @@ unfolding spell_statement
 arms-MoreArms a rest = refl
 
 pub ruleset statement_spellings =
-    (labels-End, labels-More, statement-Null, statement-Block, statement-If, statement-IfElse, statement-Case, statement-Assign, statements-Done, statements-Then, arm-CaseItem, arms-NoArms, arms-MoreArms)
+    (labels-End, labels-More, statement-Null, statement-Block, statement-If, statement-IfElse, statement-Case, statement-Assign, statement-For, statements-Done, statements-Then, arm-CaseItem, arms-NoArms, arms-MoreArms)

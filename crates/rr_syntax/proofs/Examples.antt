@@ -2,10 +2,10 @@
 use Rattle.std.proofs.Common.{◌≡◌, Bool, true, false, List, [], ◌∷◌, codes, Option, None, Some, refl, arith, inl, inr}
 use Rattle.rr_syntax.specs.declared.token.Number.{Number}
 use Rattle.rr_syntax.specs.declared.tree.Dir.TheVariants as dir
-use Rattle.rr_syntax.specs.Words.{Word, Named, System, Digits, Reserved, Marked, mark_open_parenthesis, mark_close_parenthesis, mark_open_bracket, mark_close_bracket, mark_open_brace, mark_close_brace, mark_comma, mark_semicolon, mark_colon, mark_dot, mark_hash, mark_at, mark_question, mark_equals, mark_plus, mark_minus, mark_star, mark_tilde, mark_less_or_equal, mark_part_up, keyword_always, keyword_assign, keyword_begin, keyword_case, keyword_casez, keyword_default, keyword_else, keyword_end, keyword_endcase, keyword_endmodule, keyword_if, keyword_initial, keyword_input, keyword_integer, keyword_localparam, keyword_module, keyword_negedge, keyword_or, keyword_output, keyword_parameter, keyword_posedge, keyword_reg, keyword_signed, keyword_wire}
-use Rattle.rr_syntax.specs.Tree.{Tree, Name, Literal, Bit, Part, Indexed, Unary, Binary, Cond, Concat, Repeat, Cast, Paren, End, More, Identifier, Statement, Null, Block, If, IfElse, Case, Assign, Done, Then, CaseItem, NoArms, MoreArms, Range, PortDeclaration, ParameterDeclaration, DeclaredName, EventControl, Star, Edges, Levels, Positions, Names, Ports, Nets, Variables, Integers, Parameters, Assigns, Always, Initial, Instances, ModuleDeclaration}
-use Rattle.rr_syntax.specs.Expressions.{infix_level, is_prefix, level, spell, WellFormed, is_target, depth}
-use Rattle.rr_syntax.specs.Statements.{is_open, is_initial, spell_label, spell_labels, spell_statement, defaults, WellFormedStatement, depth_statement}
+use Rattle.rr_syntax.specs.Words.{Word, Named, System, Digits, Reserved, Marked, mark_open_parenthesis, mark_close_parenthesis, mark_open_bracket, mark_close_bracket, mark_open_brace, mark_close_brace, mark_comma, mark_semicolon, mark_colon, mark_dot, mark_hash, mark_at, mark_question, mark_equals, mark_plus, mark_minus, mark_star, mark_tilde, mark_less_or_equal, mark_part_up, keyword_always, keyword_assign, keyword_begin, keyword_case, keyword_casez, keyword_default, keyword_else, keyword_end, keyword_endcase, keyword_endmodule, keyword_for, keyword_if, keyword_initial, keyword_input, keyword_integer, keyword_localparam, keyword_module, keyword_negedge, keyword_or, keyword_output, keyword_parameter, keyword_posedge, keyword_reg, keyword_signed, keyword_wire}
+use Rattle.rr_syntax.specs.Tree.{Tree, Name, Literal, Bit, Part, Indexed, Unary, Binary, Cond, Concat, Repeat, Cast, Paren, End, More, Identifier, LoopHead, Statement, Null, Block, If, IfElse, Case, Assign, For, Done, Then, CaseItem, NoArms, MoreArms, Range, PortDeclaration, ParameterDeclaration, DeclaredName, EventControl, Star, Edges, Levels, Positions, Names, Ports, Nets, Variables, Integers, Parameters, Assigns, Always, Initial, Instances, ModuleDeclaration}
+use Rattle.rr_syntax.specs.Expressions.{infix_level, is_prefix, level, spell, WellFormed, is_target, depth, Numbered}
+use Rattle.rr_syntax.specs.Statements.{is_open, is_initial, spell_label, spell_labels, spell_loop, spell_statement, defaults, WellFormedLoop, WellFormedStatement, depth_loop, depth_statement, NumberedLoop, NumberedStatement}
 use Rattle.rr_syntax.specs.Items.{spell_each, spell_separated, spell_all, spell_where, spell_identifier, spell_range, spell_type, spell_dir, spell_port, spell_assignment, spell_parameter, spell_value, spell_declarator, spell_pair, spell_edge, separator, rest, spell_more_edges, spell_edges, spell_more_levels, spell_levels, spell_events, spell_optional, spell_connection, spell_connections, spell_overrides, spell_instance, spell_item, spell_parameters, spell_ports, spell_module, WellFormedRange, WellFormedValue, WellFormedDeclarator, MayStart, WellFormedPort, WellFormedParameter, WellFormedHead, count, WellFormedEvents, WellFormedConnections, WellFormedItem, WellFormedModule}
 
 abbrev a : Tree
@@ -158,6 +158,24 @@ spelled-default : spell_labels End true ≡ Reserved keyword_default ∷ Marked 
 unfolding spell_labels
 spelled-default = refl
 
+-- `for (a = b; c; a = b) ;`
+abbrev loop_a : LoopHead
+loop_a = record { token = 0; text = codes "a"; start = b; test = c; step_token = 0; step_text = codes "a"; step = b }
+
+spelled-for : spell_statement (For loop_a Null) ≡
+    Reserved keyword_for ∷ Marked mark_open_parenthesis ∷ A ∷ Marked mark_equals ∷ B ∷ Marked mark_semicolon ∷ C ∷ Marked mark_semicolon ∷
+    A ∷ Marked mark_equals ∷ B ∷ Marked mark_close_parenthesis ∷ Marked mark_semicolon ∷ []
+unfolding spell_statement spell_loop spell
+spelled-for = refl
+
+-- the same with `a = b;` in it, from token 10 on
+abbrev head_from_ten : LoopHead
+head_from_ten = record { token = 12; text = codes "a"; start = Name 14 (codes "b"); test = Name 16 (codes "c"); step_token = 18; step_text = codes "a"; step = Name 20 (codes "b") }
+
+numbered-for : NumberedStatement (For head_from_ten (Assign (Name 22 (codes "a")) true (Name 24 (codes "b")))) 10
+unfolding NumberedStatement NumberedLoop Numbered spell_loop spell
+numbered-for = ((refl, refl, refl, refl, refl), (refl, refl))
+
 -- an `if` with an open first part has no `else`
 well-else : WellFormedStatement (IfElse a (Block None (Then (If b Null) Done)) Null)
 unfolding WellFormedStatement WellFormed is_open
@@ -170,6 +188,15 @@ not-else h = let e = h.2 in cc
 not-else-inside : WellFormedStatement (IfElse a (IfElse b Null (If c Null)) Null) → ⊥
 unfolding WellFormedStatement is_open
 not-else-inside h = let e = h.2 in cc
+
+-- nor has one whose first part is a loop with an open end
+well-else-loop : WellFormedStatement (IfElse a (For loop_a Null) Null)
+unfolding WellFormedStatement WellFormedLoop WellFormed is_open
+well-else-loop = (tt, ((tt, tt, tt), tt), refl, tt)
+
+not-else-loop : WellFormedStatement (IfElse a (For loop_a (If b Null)) Null) → ⊥
+unfolding WellFormedStatement is_open
+not-else-loop h = let e = h.2 in cc
 
 -- one default at most, one arm at least, and a colon after labels
 well-case : WellFormedStatement (Case keyword_case a (MoreArms (CaseItem End false Null) NoArms))
@@ -205,6 +232,11 @@ not-target h = let e = h.0 in cc
 deep-if : depth_statement (If a (Block None (Then later Done))) ≡ 3
 unfolding depth_statement depth
 deep-if = refl
+
+-- `for (a = b; c; a = b) a <= b;`: the loop, the assignment and its names
+deep-for : depth_statement (For loop_a later) ≡ 2
+unfolding depth_statement depth_loop depth
+deep-for = refl
 
 abbrev id_a : Identifier
 id_a = record { token = 0; text = codes "a" }
@@ -296,6 +328,14 @@ spelled-initial = refl
 well-initial : WellFormedItem (Initial (Block None (Then (Assign b true c) Done)) 0)
 unfolding WellFormedItem is_initial WellFormedStatement WellFormed is_target
 well-initial = search
+
+well-initial-for : WellFormedItem (Initial (For loop_a (Assign b true c)) 0)
+unfolding WellFormedItem is_initial WellFormedStatement WellFormedLoop WellFormed is_target
+well-initial-for = search
+
+not-initial-for : WellFormedItem (Initial (For loop_a later) 0) → ⊥
+unfolding WellFormedItem is_initial
+not-initial-for h = let e = h.0 in cc
 
 not-initial-later : WellFormedItem (Initial (Assign b false c) 0) → ⊥
 unfolding WellFormedItem is_initial

@@ -6,14 +6,15 @@ use Rattle.rr_syntax.specs.declared.token.Number.{Number}
 use Rattle.rr_syntax.specs.declared.tree.Arm.{Arm as Branch}
 use Rattle.rr_syntax.specs.declared.tree.Expr.{Expr, the_lemmas}
 use Rattle.rr_syntax.specs.declared.tree.Expr.TheVariants as expr
+use Rattle.rr_syntax.specs.declared.tree.Head.{Head}
 use Rattle.rr_syntax.specs.declared.tree.Named.{Named as Name}
 use Rattle.rr_syntax.specs.declared.tree.Stmt.{Stmt, the_lemmas as stmt_lemmas}
 use Rattle.rr_syntax.specs.declared.tree.Stmt.TheVariants as stmt
 use Rattle.rr_syntax.specs.Tree.{Trees, End, More}
 use Rattle.rr_syntax.specs.Expressions.{spell, spell_parts, spell_more}
-use Rattle.rr_syntax.specs.Statements.{spell_label, spell_labels, spell_statement, spell_statements, spell_arms}
-use Rattle.rr_syntax.specs.View.{plain, plain_list, plain_label, plain_statement, plain_statements, plain_arm, plain_arms}
-use Rattle.rr_syntax.proofs.Equations.{spellings, statement_spellings}
+use Rattle.rr_syntax.specs.Statements.{spell_label, spell_labels, spell_loop, spell_statement, spell_statements, spell_arms}
+use Rattle.rr_syntax.specs.View.{plain, plain_list, plain_label, plain_loop, plain_statement, plain_statements, plain_arm, plain_arms}
+use Rattle.rr_syntax.proofs.Equations.{spellings, loop-Head, statement_spellings}
 use Rattle.rr_syntax.proofs.Rows.{plain_concat, plain_repeat, plain_block, plain_case}
 use Rattle.rr_syntax.proofs.Sums.{IsSum}
 use denote.Ref.{Bor}
@@ -85,6 +86,12 @@ more_sum = record {
   more = λ x xs. simp (spellings, length-append) (omega arith);
 }
 
+pub size-head : (h : Head) → length (spell_loop (plain_loop h)) ≡ 8 + length (spell (plain h.start.now)) + length (spell (plain h.test.now)) + length (spell (plain h.step.now))
+unfolding plain_loop
+size-head h = simp (loop-Head, length-append) (omega arith)
+
+pub ruleset loop_sizes = size-head
+
 pub size-Null : length (spell_statement (plain_statement stmt.Null)) ≡ 1
 unfolding plain_statement
 size-Null = simp statement_spellings refl
@@ -107,7 +114,11 @@ pub size-Assign : (t : Bor Expr) (now : Bool) (v : Bor Expr) → length (spell_s
 unfolding plain_statement
 size-Assign t now v = simp (statement_spellings, length-append) (omega arith)
 
-pub ruleset statement_sizes = (stmt_lemmas, size-Null, size-Block, size-If, size-IfElse, size-Case, size-Assign)
+pub size-For : (h : Head) (s : Bor Stmt) → length (spell_statement (plain_statement (stmt.For h s))) ≡ 1 + length (spell_loop (plain_loop h)) + length (spell_statement (plain_statement s.now))
+unfolding plain_statement
+size-For h s = simp (statement_spellings, length-append) (omega arith)
+
+pub ruleset statement_sizes = (stmt_lemmas, size-Null, size-Block, size-If, size-IfElse, size-Case, size-Assign, size-For)
 
 abbrev pub body_len : List Stmt → ℕ
 body_len ss = length (spell_statements (plain_statements ss))

@@ -1,10 +1,10 @@
 -- Depth is the greatest nesting of nodes.
 use Rattle.std.proofs.Common.{◌≡◌, ℕ, zero, suc, max, ◌≤◌, ◌<◌, ◌⊎◌, inl, inr, List, [], ◌∷◌, ◌++◌, Option, None, Some, refl, ◌∙◌, arith}
-use Rattle.rr_syntax.specs.Tree.{Tree, Trees, Name, Literal, Bit, Part, Indexed, Unary, Binary, Cond, Concat, Repeat, Cast, Paren, End, More, Statement, Statements, Arm, Arms, Null, Block, If, IfElse, Case, Assign, Done, Then, CaseItem, NoArms, MoreArms, Range, PortDeclaration, ParamAssignment, ParameterDeclaration, DeclaredName, NetAssignment, EventControl, Star, Edges, Levels, NamedConnection, Connections, Positions, Names, ModuleInstance, ModuleItem, Ports, Nets, Variables, Integers, Parameters, Assigns, Always, Initial, Instances, ModuleDeclaration, SourceText}
+use Rattle.rr_syntax.specs.Tree.{Tree, Trees, Name, Literal, Bit, Part, Indexed, Unary, Binary, Cond, Concat, Repeat, Cast, Paren, End, More, Statement, Statements, Arm, Arms, Null, Block, If, IfElse, Case, Assign, For, Done, Then, CaseItem, NoArms, MoreArms, Range, PortDeclaration, ParamAssignment, ParameterDeclaration, DeclaredName, NetAssignment, EventControl, Star, Edges, Levels, NamedConnection, Connections, Positions, Names, ModuleInstance, ModuleItem, Ports, Nets, Variables, Integers, Parameters, Assigns, Always, Initial, Instances, ModuleDeclaration, SourceText}
 use Rattle.rr_syntax.specs.Expressions.{depth, height}
-use Rattle.rr_syntax.specs.Statements.{depth_statement, height_statements, depth_arm, height_arms}
+use Rattle.rr_syntax.specs.Statements.{depth_loop, depth_statement, height_statements, depth_arm, height_arms}
 use Rattle.rr_syntax.specs.Items.{greatest, depth_range, depth_port, depth_assignment, depth_parameter, depth_value, depth_declarator, depth_pair, depth_events, depth_connection, depth_connections, depth_overrides, depth_instance, depth_item, height_item, depth_module, height_module, depth_source}
-use Rattle.rr_syntax.specs.Nesting.{Node, Expression, OfStatement, OfArm, OfItem, OfModule, OfSource, gather, nodes_trees, nodes_statements, nodes_arms, nodes_range, nodes_value, nodes_port, nodes_assignment, nodes_parameter, nodes_declarator, nodes_pair, nodes_events, nodes_connection, nodes_connections, nodes_overrides, nodes_instance, node_item, node_module, children, IsIn, first, later, Reaches, here, below, IsGreatestNesting}
+use Rattle.rr_syntax.specs.Nesting.{Node, Expression, OfStatement, OfArm, OfItem, OfModule, OfSource, gather, nodes_trees, nodes_statements, nodes_arms, nodes_loop, nodes_range, nodes_value, nodes_port, nodes_assignment, nodes_parameter, nodes_declarator, nodes_pair, nodes_events, nodes_connection, nodes_connections, nodes_overrides, nodes_instance, node_item, node_module, children, IsIn, first, later, Reaches, here, below, IsGreatestNesting}
 
 abbrev depth_node : Node → ℕ
 depth_node (Expression t) = depth t
@@ -125,13 +125,14 @@ tallest-tree (Cast signed t) = omega arith
 tallest-tree (Paren t) = omega arith
 
 tallest-statement : (s : Statement) → tallest (children (OfStatement s)) ≡ depth_statement s
-unfolding tallest children depth_statement
+unfolding tallest children nodes_loop depth_statement depth_loop
 tallest-statement Null = refl
 tallest-statement (Block label ss) = tallest-statements ss
 tallest-statement (If t s) = omega arith
 tallest-statement (IfElse t s u) = omega arith
 tallest-statement (Case kind t arms) = omega (arith, tallest-arms arms)
 tallest-statement (Assign t now v) = omega arith
+tallest-statement (For h s) = omega arith
 
 tallest-arm : (a : Arm) → tallest (children (OfArm a)) ≡ depth_arm a
 unfolding tallest children depth_statement

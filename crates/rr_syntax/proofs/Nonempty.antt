@@ -2,7 +2,7 @@
 use Rattle.std.proofs.Common.{◌≡◌, ◌<◌, List, [], ◌∷◌, length, refl, arith, length-append}
 use Rattle.rr_syntax.specs.declared.tree.Dir.{Dir}
 use Rattle.rr_syntax.specs.declared.tree.Dir.TheVariants as dir
-use Rattle.rr_syntax.specs.Tree.{Tree, Name, Literal, Bit, Part, Indexed, Unary, Binary, Cond, Concat, Repeat, Cast, Paren, Statement, Arm, Null, Block, If, IfElse, Case, Assign, CaseItem, PortDeclaration, ParameterDeclaration, ModuleItem, Ports, Nets, Variables, Integers, Parameters, Assigns, Always, Initial, Instances, ModuleDeclaration, SourceText}
+use Rattle.rr_syntax.specs.Tree.{Tree, Name, Literal, Bit, Part, Indexed, Unary, Binary, Cond, Concat, Repeat, Cast, Paren, Statement, Arm, Null, Block, If, IfElse, Case, Assign, For, CaseItem, PortDeclaration, ParameterDeclaration, ModuleItem, Ports, Nets, Variables, Integers, Parameters, Assigns, Always, Initial, Instances, ModuleDeclaration, SourceText}
 use Rattle.rr_syntax.specs.Expressions.{spell}
 use Rattle.rr_syntax.specs.Statements.{spell_statement, spell_arm}
 use Rattle.rr_syntax.specs.Items.{spell_all, spell_dir, spell_port, spell_parameter, spell_item, spell_module, spell_source}
@@ -30,6 +30,7 @@ spell_statement-some (If t s) = omega arith
 spell_statement-some (IfElse t s u) = omega arith
 spell_statement-some (Case kind t arms) = omega arith
 spell_statement-some (Assign t now v) = rw length-append (omega arith)
+spell_statement-some (For h s) = omega arith
 
 pub spell_arm-some : (a : Arm) → 0 < length (spell_arm a)
 unfolding spell_statement

@@ -5,12 +5,13 @@ use Rattle.rr_syntax.specs.declared.token.Mark.{Mark}
 use Rattle.rr_syntax.specs.declared.tree.Expr.{Expr, Row_of-Expr, end_of-Expr, more_of-Expr, items-the_row-Expr, items_hidden-the_row-Expr-0}
 use Rattle.rr_syntax.specs.declared.tree.Expr.TheBlock.{hidden-the_row-Expr-0}
 use Rattle.rr_syntax.specs.declared.tree.Expr.TheVariants as expr
+use Rattle.rr_syntax.specs.declared.tree.Head.{Head}
 use Rattle.rr_syntax.specs.declared.tree.Named.{Named}
 use Rattle.rr_syntax.specs.declared.tree.Stmt.{Stmt, Row_of-Stmt, end_of-Stmt, more_of-Stmt, items-the_row-Stmt, items_hidden-the_row-Stmt-0, Row_of-Arm, end_of-Arm, more_of-Arm, items-the_row-Arm, items_hidden-the_row-Arm-1}
 use Rattle.rr_syntax.specs.declared.tree.Stmt.TheBlock.{hidden-the_row-Stmt-0, hidden-the_row-Arm-1}
 use Rattle.rr_syntax.specs.declared.tree.Stmt.TheVariants as stmt
-use Rattle.rr_syntax.specs.Tree.{Bit, Part, Indexed, Unary, Binary, Cond, Concat, Repeat, Cast, Paren, More, Block, If, IfElse, Case, Then, CaseItem, MoreArms}
-use Rattle.rr_syntax.specs.View.{plain, plain_row, plain_list, plain_label, plain_statement, plain_statement_row, plain_statements, plain_arm, plain_arm_row, plain_arms}
+use Rattle.rr_syntax.specs.Tree.{Bit, Part, Indexed, Unary, Binary, Cond, Concat, Repeat, Cast, Paren, More, Block, If, IfElse, Case, For, Then, CaseItem, MoreArms}
+use Rattle.rr_syntax.specs.View.{plain, plain_row, plain_list, plain_label, plain_loop, plain_statement, plain_statement_row, plain_statements, plain_arm, plain_arm_row, plain_arms}
 use denote.Ref.{Bor}
 
 pub plain_row_list : {m : _} → (k : Row_of-Expr m) → plain_row k ≡ plain_list (items-the_row-Expr m k)
@@ -86,3 +87,7 @@ plain_if_some test s u = refl
 pub plain_case : (kind : Keyword) (on : Bor Expr) (arms : Bor (List _)) → plain_statement (stmt.Case kind on arms) ≡ Case kind.0 (plain on.now) (plain_arms arms.now)
 unfolding plain_statement
 plain_case kind on arms = ap (Case kind.0 (plain on.now)) (plain_arm_row_list (hidden-the_row-Arm-1 arms.now) ∙ ap plain_arms (items_hidden-the_row-Arm-1 arms.now))
+
+pub plain_for : (head : Head) (s : Bor Stmt) → plain_statement (stmt.For head s) ≡ For (plain_loop head) (plain_statement s.now)
+unfolding plain_statement
+plain_for head s = refl

@@ -1,6 +1,6 @@
 -- The nodes of a tree, and how far they nest: depth in its own words.
 use Rattle.std.specs.Prelude.{ℕ, zero, suc, ◌≤◌, List, [], ◌∷◌, ◌++◌, Option, None, Some}
-use Rattle.rr_syntax.specs.Tree.{Tree, Trees, Name, Literal, Bit, Part, Indexed, Unary, Binary, Cond, Concat, Repeat, Cast, Paren, End, More, Statement, Statements, Arm, Arms, Null, Block, If, IfElse, Case, Assign, Done, Then, CaseItem, NoArms, MoreArms, Range, PortDeclaration, ParamAssignment, ParameterDeclaration, DeclaredName, NetAssignment, EventControl, Star, Edges, Levels, NamedConnection, Connections, Positions, Names, ModuleInstance, ModuleItem, Ports, Nets, Variables, Integers, Parameters, Assigns, Always, Initial, Instances, ModuleDeclaration, SourceText}
+use Rattle.rr_syntax.specs.Tree.{Tree, Trees, Name, Literal, Bit, Part, Indexed, Unary, Binary, Cond, Concat, Repeat, Cast, Paren, End, More, LoopHead, Statement, Statements, Arm, Arms, Null, Block, If, IfElse, Case, Assign, For, Done, Then, CaseItem, NoArms, MoreArms, Range, PortDeclaration, ParamAssignment, ParameterDeclaration, DeclaredName, NetAssignment, EventControl, Star, Edges, Levels, NamedConnection, Connections, Positions, Names, ModuleInstance, ModuleItem, Ports, Nets, Variables, Integers, Parameters, Assigns, Always, Initial, Instances, ModuleDeclaration, SourceText}
 use Rattle.rr_syntax.specs.Items.{depth_source}
 
 pub data Node : Type 0 where
@@ -27,6 +27,9 @@ nodes_statements (Then s ss) = OfStatement s ∷ nodes_statements ss
 abbrev pub nodes_arms : Arms → List Node
 nodes_arms NoArms = []
 nodes_arms (MoreArms a rest) = OfArm a ∷ nodes_arms rest
+
+unfoldable pub nodes_loop : LoopHead → List Node
+nodes_loop h = Expression h.start ∷ Expression h.test ∷ Expression h.step ∷ []
 
 unfoldable pub nodes_range : Option Range → List Node
 nodes_range None = []
@@ -96,6 +99,7 @@ children (OfStatement (If t s)) = Expression t ∷ OfStatement s ∷ []
 children (OfStatement (IfElse t s u)) = Expression t ∷ OfStatement s ∷ OfStatement u ∷ []
 children (OfStatement (Case kind t arms)) = Expression t ∷ nodes_arms arms
 children (OfStatement (Assign t now v)) = Expression t ∷ Expression v ∷ []
+children (OfStatement (For h s)) = nodes_loop h ++ OfStatement s ∷ []
 children (OfArm (CaseItem labels colon s)) = nodes_trees labels ++ OfStatement s ∷ []
 children (OfItem (Ports p)) = nodes_port p
 children (OfItem (Nets signed range names)) = nodes_range range ++ gather nodes_declarator names

@@ -1,8 +1,8 @@
 -- Statements (IEEE 1364-2005 section 9, annex A.6): their spelling, the rules that well-formed ones keep,
 -- their depth, and the numbers of their tokens.
 use Rattle.std.specs.Prelude.{ℕ, suc, ◌+◌, ◌≤◌, ◌≡◌, max, List, [], ◌∷◌, ◌++◌, length, IsTrue, ◌==◌, ◌||◌, ◌&&◌, Bool, true, false, cond, Option, None, Some}
-use Rattle.rr_syntax.specs.Words.{Word, Named, Reserved, Marked, keyword_begin, keyword_case, keyword_casex, keyword_casez, keyword_default, keyword_else, keyword_end, keyword_endcase, keyword_if, mark_open_parenthesis, mark_close_parenthesis, mark_colon, mark_semicolon, mark_equals, mark_less_or_equal}
-use Rattle.rr_syntax.specs.Tree.{Tree, Name, Literal, Bit, Part, Indexed, Unary, Binary, Cond, Concat, Repeat, Cast, Paren, Trees, End, More, Identifier, Statement, Statements, Arm, Arms, Null, Block, If, IfElse, Case, Assign, Done, Then, CaseItem, NoArms, MoreArms}
+use Rattle.rr_syntax.specs.Words.{Word, Named, Reserved, Marked, keyword_begin, keyword_case, keyword_casex, keyword_casez, keyword_default, keyword_else, keyword_end, keyword_endcase, keyword_for, keyword_if, mark_open_parenthesis, mark_close_parenthesis, mark_colon, mark_semicolon, mark_equals, mark_less_or_equal}
+use Rattle.rr_syntax.specs.Tree.{Tree, Name, Literal, Bit, Part, Indexed, Unary, Binary, Cond, Concat, Repeat, Cast, Paren, Trees, End, More, Identifier, LoopHead, Statement, Statements, Arm, Arms, Null, Block, If, IfElse, Case, Assign, For, Done, Then, CaseItem, NoArms, MoreArms}
 use Rattle.rr_syntax.specs.Expressions.{spell, spell_parts, WellFormed, WellFormedMore, is_target, depth, height, Numbered, NumberedMore, FitLiterals, FitLiteralsParts}
 
 -- an `else` after the statement would belong to it (section 9.4)
@@ -13,6 +13,7 @@ is_open (If t s) = true
 is_open (IfElse t s u) = is_open u
 is_open (Case kind t arms) = false
 is_open (Assign t now v) = false
+is_open (For h s) = is_open s
 
 -- a bare name
 abbrev pub is_name : Tree → Bool
@@ -29,7 +30,7 @@ is_name (Repeat t ts) = false
 is_name (Cast signed t) = false
 is_name (Paren t) = false
 
--- what an `initial` item may hold: `;`, blocks, and whole variables that are set by `=` (section 9.9.1)
+-- what an `initial` item may hold: `;`, blocks, loops, and whole variables that are set by `=` (section 9.9.1)
 unfoldable mutual
   pub is_initial : Statement → Bool
   is_initial Null = true
@@ -38,6 +39,7 @@ unfoldable mutual
   is_initial (IfElse t s u) = false
   is_initial (Case kind t arms) = false
   is_initial (Assign t now v) = now && is_name t
+  is_initial (For h s) = is_initial s
 
   pub are_initial : Statements → Bool
   are_initial Done = true
@@ -53,6 +55,11 @@ unfoldable pub spell_labels : Trees → Bool → List Word
 spell_labels End colon = Reserved keyword_default ∷ cond colon (Marked mark_colon ∷ []) []
 spell_labels (More t ts) colon = spell_parts (More t ts) ++ (Marked mark_colon ∷ [])
 
+-- `( NAME = start ; test ; NAME = step )` (section 9.6)
+unfoldable pub spell_loop : LoopHead → List Word
+spell_loop h =
+    Marked mark_open_parenthesis ∷ (Named h.text ∷ (Marked mark_equals ∷ (spell h.start ++ (Marked mark_semicolon ∷ (spell h.test ++ (Marked mark_semicolon ∷ (Named h.step_text ∷ (Marked mark_equals ∷ (spell h.step ++ (Marked mark_close_parenthesis ∷ []))))))))))
+
 -- the tokens that spell a statement
 unfoldable mutual
   pub spell_statement : Statement → List Word
@@ -62,6 +69,7 @@ unfoldable mutual
   spell_statement (IfElse t s u) = Reserved keyword_if ∷ (Marked mark_open_parenthesis ∷ (spell t ++ (Marked mark_close_parenthesis ∷ (spell_statement s ++ (Reserved keyword_else ∷ spell_statement u)))))
   spell_statement (Case kind t arms) = Reserved kind ∷ (Marked mark_open_parenthesis ∷ (spell t ++ (Marked mark_close_parenthesis ∷ (spell_arms arms ++ (Reserved keyword_endcase ∷ [])))))
   spell_statement (Assign t now v) = spell t ++ (Marked (cond now mark_equals mark_less_or_equal) ∷ (spell v ++ (Marked mark_semicolon ∷ [])))
+  spell_statement (For h s) = Reserved keyword_for ∷ (spell_loop h ++ spell_statement s)
 
   pub spell_statements : Statements → List Word
   spell_statements Done = []
@@ -94,6 +102,10 @@ abbrev pub HasArms : Arms → Type 0
 HasArms NoArms = ⊥
 HasArms (MoreArms a rest) = defaults (MoreArms a rest) ≤ 1
 
+-- the first value, the test and the step of a loop are well-formed
+unfoldable pub WellFormedLoop : LoopHead → Type 0
+WellFormedLoop h = WellFormed h.start × WellFormed h.test × WellFormed h.step
+
 -- an `else` belongs to the nearest `if` that has none: so the first part of an `if` with `else` is not open (section 9.4)
 unfoldable mutual
   pub WellFormedStatement : Statement → Type 0
@@ -103,6 +115,7 @@ unfoldable mutual
   WellFormedStatement (IfElse t s u) = WellFormed t × WellFormedStatement s × (is_open s ≡ false) × WellFormedStatement u
   WellFormedStatement (Case kind t arms) = IsTrue (is_case kind) × WellFormed t × HasArms arms × WellFormedArms arms
   WellFormedStatement (Assign t now v) = IsTrue (is_target t) × WellFormed t × WellFormed v
+  WellFormedStatement (For h s) = WellFormedLoop h × WellFormedStatement s
 
   pub WellFormedStatements : Statements → Type 0
   WellFormedStatements Done = Unit {0}
@@ -115,6 +128,10 @@ unfoldable mutual
   WellFormedArms NoArms = Unit {0}
   WellFormedArms (MoreArms a rest) = WellFormedArm a × WellFormedArms rest
 
+-- the greatest depth of a loop's three expressions
+unfoldable pub depth_loop : LoopHead → ℕ
+depth_loop h = max (depth h.start) (max (depth h.test) (depth h.step))
+
 -- the levels of nodes below the root
 unfoldable mutual
   pub depth_statement : Statement → ℕ
@@ -124,6 +141,7 @@ unfoldable mutual
   depth_statement (IfElse t s u) = suc (max (depth t) (max (depth_statement s) (depth_statement u)))
   depth_statement (Case kind t arms) = max (suc (depth t)) (height_arms arms)
   depth_statement (Assign t now v) = suc (max (depth t) (depth v))
+  depth_statement (For h s) = suc (max (depth_loop h) (depth_statement s))
 
   pub height_statements : Statements → ℕ
   height_statements Done = 0
@@ -146,6 +164,11 @@ unfoldable pub NumberedLabels : Trees → ℕ → Type 0
 NumberedLabels End at = Unit {0}
 NumberedLabels (More t ts) at = Numbered t at × NumberedMore ts (at + length (spell t))
 
+-- the names and expressions of a loop whose opening bracket has the number `at`
+unfoldable pub NumberedLoop : LoopHead → ℕ → Type 0
+NumberedLoop h at =
+    (h.token ≡ at + 1) × Numbered h.start (at + 3) × Numbered h.test (at + 3 + length (spell h.start) + 1) × (h.step_token ≡ at + 3 + length (spell h.start) + 1 + length (spell h.test) + 1) × Numbered h.step (at + 3 + length (spell h.start) + 1 + length (spell h.test) + 3)
+
 -- each leaf and name has the number of its token, where the first token of the statement is number `at`
 unfoldable mutual
   pub NumberedStatement : Statement → ℕ → Type 0
@@ -156,6 +179,7 @@ unfoldable mutual
       Numbered t (at + 2) × NumberedStatement s (at + 2 + length (spell t) + 1) × NumberedStatement u (at + 2 + length (spell t) + 1 + length (spell_statement s) + 1)
   NumberedStatement (Case kind t arms) at = Numbered t (at + 2) × NumberedArms arms (at + 2 + length (spell t) + 1)
   NumberedStatement (Assign t now v) at = Numbered t at × Numbered v (at + length (spell t) + 1)
+  NumberedStatement (For h s) at = NumberedLoop h (at + 1) × NumberedStatement s (at + 1 + length (spell_loop h))
 
   pub NumberedStatements : Statements → ℕ → Type 0
   NumberedStatements Done at = Unit {0}
@@ -168,6 +192,10 @@ unfoldable mutual
   NumberedArms NoArms at = Unit {0}
   NumberedArms (MoreArms a rest) at = NumberedArm a at × NumberedArms rest (at + length (spell_arm a))
 
+-- each literal of a loop's three expressions is fit
+unfoldable pub FitLiteralsLoop : LoopHead → Type 0
+FitLiteralsLoop h = FitLiterals h.start × FitLiterals h.test × FitLiterals h.step
+
 -- each literal of a statement is fit
 unfoldable mutual
   pub FitLiteralsStatement : Statement → Type 0
@@ -177,6 +205,7 @@ unfoldable mutual
   FitLiteralsStatement (IfElse t s u) = FitLiterals t × FitLiteralsStatement s × FitLiteralsStatement u
   FitLiteralsStatement (Case kind t arms) = FitLiterals t × FitLiteralsArms arms
   FitLiteralsStatement (Assign t now v) = FitLiterals t × FitLiterals v
+  FitLiteralsStatement (For h s) = FitLiteralsLoop h × FitLiteralsStatement s
 
   pub FitLiteralsStatements : Statements → Type 0
   FitLiteralsStatements Done = Unit {0}

@@ -3,7 +3,7 @@ use Rattle.std.specs.Prelude.{ℕ, ◌+◌, ◌≡◌, List, [], ◌∷◌, map,
 use Rattle.rr_syntax.specs.declared.token.TheConstants.{KEYWORDS, MARKS}
 use Rattle.rr_syntax.specs.declared.token.TheConstants.Keyword as word
 use Rattle.rr_syntax.specs.declared.token.TheConstants.Mark as mark
-use Rattle.rr_syntax.specs.Words.{keywords, marks, keyword_always, keyword_assign, keyword_begin, keyword_case, keyword_casex, keyword_casez, keyword_default, keyword_else, keyword_end, keyword_endcase, keyword_endmodule, keyword_if, keyword_input, keyword_integer, keyword_localparam, keyword_module, keyword_negedge, keyword_or, keyword_output, keyword_parameter, keyword_posedge, keyword_reg, keyword_signed, keyword_wire, mark_open_parenthesis, mark_close_parenthesis, mark_open_bracket, mark_close_bracket, mark_open_brace, mark_close_brace, mark_comma, mark_semicolon, mark_colon, mark_dot, mark_hash, mark_at, mark_question, mark_equals, mark_plus, mark_minus, mark_star, mark_slash, mark_percent, mark_not, mark_tilde, mark_and, mark_or, mark_xor, mark_less, mark_greater, mark_power, mark_equal, mark_not_equal, mark_case_equal, mark_case_not_equal, mark_less_or_equal, mark_greater_or_equal, mark_shift_left, mark_shift_right, mark_signed_shift_left, mark_signed_shift_right, mark_logical_and, mark_logical_or, mark_nand, mark_nor, mark_xnor, mark_xnor_reversed, mark_part_up, mark_part_down}
+use Rattle.rr_syntax.specs.Words.{keywords, marks, keyword_always, keyword_assign, keyword_begin, keyword_case, keyword_casex, keyword_casez, keyword_default, keyword_else, keyword_end, keyword_endcase, keyword_endmodule, keyword_for, keyword_if, keyword_input, keyword_integer, keyword_localparam, keyword_module, keyword_negedge, keyword_or, keyword_output, keyword_parameter, keyword_posedge, keyword_reg, keyword_signed, keyword_wire, mark_open_parenthesis, mark_close_parenthesis, mark_open_bracket, mark_close_bracket, mark_open_brace, mark_close_brace, mark_comma, mark_semicolon, mark_colon, mark_dot, mark_hash, mark_at, mark_question, mark_equals, mark_plus, mark_minus, mark_star, mark_slash, mark_percent, mark_not, mark_tilde, mark_and, mark_or, mark_xor, mark_less, mark_greater, mark_power, mark_equal, mark_not_equal, mark_case_equal, mark_case_not_equal, mark_less_or_equal, mark_greater_or_equal, mark_shift_left, mark_shift_right, mark_signed_shift_left, mark_signed_shift_right, mark_logical_and, mark_logical_or, mark_nand, mark_nor, mark_xnor, mark_xnor_reversed, mark_part_up, mark_part_down}
 use Rattle.rr_syntax.specs.Expressions.{levels, prefixes, infix_level, is_prefix, conditional_level}
 
 -- a place in a table, and the text that is to stand there
@@ -121,7 +121,8 @@ word_numbers =
     record { place = keyword_else; text = codes "else" } ∷ record { place = keyword_end; text = codes "end" } ∷
     record { place = keyword_endcase; text = codes "endcase" } ∷
     record { place = keyword_endmodule; text = codes "endmodule" } ∷
-    record { place = keyword_if; text = codes "if" } ∷ record { place = keyword_input; text = codes "input" } ∷
+    record { place = keyword_for; text = codes "for" } ∷ record { place = keyword_if; text = codes "if" } ∷
+    record { place = keyword_input; text = codes "input" } ∷
     record { place = keyword_integer; text = codes "integer" } ∷
     record { place = keyword_localparam; text = codes "localparam" } ∷
     record { place = keyword_module; text = codes "module" } ∷

@@ -29,6 +29,16 @@ pub record Identifier : Type 0 where
   pub token : ℕ
   pub text : List ℕ
 
+-- `(NAME = start; test; NAME = step)` of a loop, and the tokens of its two names (section 9.6, annex A.6.8)
+pub record LoopHead : Type 0 where
+  pub token : ℕ
+  pub text : List ℕ
+  pub start : Tree
+  pub test : Tree
+  pub step_token : ℕ
+  pub step_text : List ℕ
+  pub step : Tree
+
 -- statements (section 9, annex A.6); of an assignment `true` says that it is blocking
 mutual
   pub data Statement : Type 0 where
@@ -38,6 +48,7 @@ mutual
     IfElse : Tree → Statement → Statement → Statement
     Case : ℕ → Tree → Arms → Statement
     Assign : Tree → Bool → Tree → Statement
+    For : LoopHead → Statement → Statement
 
   pub data Statements : Type 0 where
     Done : Statements
@@ -173,6 +184,17 @@ unfoldable pub bare_label : Option Identifier → Option Identifier
 bare_label None = None
 bare_label (Some i) = Some (bare_identifier i)
 
+unfoldable pub bare_loop : LoopHead → LoopHead
+bare_loop h = record {
+  token = 0;
+  text = h.text;
+  start = bare h.start;
+  test = bare h.test;
+  step_token = 0;
+  step_text = h.step_text;
+  step = bare h.step;
+}
+
 unfoldable mutual
   pub bare_statement : Statement → Statement
   bare_statement Null = Null
@@ -181,6 +203,7 @@ unfoldable mutual
   bare_statement (IfElse t s u) = IfElse (bare t) (bare_statement s) (bare_statement u)
   bare_statement (Case kind t arms) = Case kind (bare t) (bare_arms arms)
   bare_statement (Assign t now v) = Assign (bare t) now (bare v)
+  bare_statement (For h s) = For (bare_loop h) (bare_statement s)
 
   pub bare_statements : Statements → Statements
   bare_statements Done = Done

@@ -3,6 +3,7 @@ use Rattle.std.specs.Prelude.{ℕ, List, [], ◌∷◌, Option, None, Some, map}
 use Rattle.rr_syntax.specs.declared.tree.Expr.{Expr, Row_of-Expr, end_of-Expr, more_of-Expr}
 use Rattle.rr_syntax.specs.declared.tree.Expr.TheVariants as expr
 use Rattle.rr_syntax.specs.declared.tree.Named.{Named}
+use Rattle.rr_syntax.specs.declared.tree.Head.{Head}
 use Rattle.rr_syntax.specs.declared.tree.Stmt.{Stmt, Row_of-Stmt, end_of-Stmt, more_of-Stmt, Held-Stmt-If-2, None', Some', Row_of-Arm, end_of-Arm, more_of-Arm}
 use Rattle.rr_syntax.specs.declared.tree.Stmt.TheVariants as stmt
 use Rattle.rr_syntax.specs.declared.tree.Arm.{Arm as Branch}
@@ -24,7 +25,7 @@ use Rattle.rr_syntax.specs.declared.tree.Item.TheVariants as item
 use Rattle.rr_syntax.specs.declared.tree.Module.{Module}
 use Rattle.rr_syntax.specs.declared.tree.Source.{Source}
 use denote.Ref.{Bor}
-use Rattle.rr_syntax.specs.Tree.{Tree, Trees, Name, Literal, Bit, Part, Indexed, Unary, Binary, Cond, Concat, Repeat, Cast, Paren, End, More, Identifier, Statement, Statements, Arm, Arms, Null, Block, If, IfElse, Case, Assign, Done, Then, CaseItem, NoArms, MoreArms, Range, PortDeclaration, ParamAssignment, ParameterDeclaration, DeclaredName, NetAssignment, EdgeEvent, EventControl, Star, Edges, Levels, NamedConnection, Connections, Positions, Names, ModuleInstance, ModuleItem, Ports, Nets, Variables, Integers, Parameters, Assigns, Always, Initial, Instances, ModuleDeclaration, SourceText}
+use Rattle.rr_syntax.specs.Tree.{Tree, Trees, Name, Literal, Bit, Part, Indexed, Unary, Binary, Cond, Concat, Repeat, Cast, Paren, End, More, Identifier, LoopHead, Statement, Statements, Arm, Arms, Null, Block, If, IfElse, Case, Assign, For, Done, Then, CaseItem, NoArms, MoreArms, Range, PortDeclaration, ParamAssignment, ParameterDeclaration, DeclaredName, NetAssignment, EdgeEvent, EventControl, Star, Edges, Levels, NamedConnection, Connections, Positions, Names, ModuleInstance, ModuleItem, Ports, Nets, Variables, Integers, Parameters, Assigns, Always, Initial, Instances, ModuleDeclaration, SourceText}
 
 unfoldable mutual
   pub plain : Expr → Tree
@@ -57,6 +58,17 @@ unfoldable pub plain_label : Option Named → Option Identifier
 plain_label None = None
 plain_label (Some n) = Some (plain_identifier n)
 
+unfoldable pub plain_loop : Head → LoopHead
+plain_loop h = record {
+  token = h.token;
+  text = h.name.now;
+  start = plain h.start.now;
+  test = plain h.test.now;
+  step_token = h.step_token;
+  step_text = h.step_name.now;
+  step = plain h.step.now;
+}
+
 unfoldable mutual
   pub plain_statement : Stmt → Statement
   plain_statement stmt.Null = Null
@@ -64,6 +76,7 @@ unfoldable mutual
   plain_statement (stmt.If' test p s other) = plain_if test.now (plain_statement s) other
   plain_statement (stmt.Case' kind on p shape arms) = Case kind.0 (plain on.now) (plain_arm_row arms)
   plain_statement (stmt.Assign target now value) = Assign (plain target.now) now (plain value.now)
+  plain_statement (stmt.For' head p body) = For (plain_loop head) (plain_statement body)
 
   pub plain_if : Expr → Statement → Held-Stmt-If-2 → Statement
   plain_if test s None' = If (plain test) s

@@ -94,6 +94,9 @@ keyword_endcase = 22
 abbrev pub keyword_endmodule : ℕ
 keyword_endmodule = 26
 
+abbrev pub keyword_for : ℕ
+keyword_for = 32
+
 abbrev pub keyword_if : ℕ
 keyword_if = 41
 

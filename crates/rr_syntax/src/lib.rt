@@ -18,10 +18,10 @@ pub use nesting::{depth, expression_depth};
 pub use operators::{infix_level, is_prefix};
 pub use places::token_at;
 pub use site::{ModulePlace, Site, SiteKind};
-pub use spelling::{events_len, expression_len, spell_len};
+pub use spelling::{events_len, expression_len, loop_len, spell_len};
 pub use targets::is_target;
 pub use token::{KEYWORDS, Keyword, Kind, MARKS, Mark, Number, Span, Token};
 pub use tree::{
-    Arm, Bounds, Connection, Conns, Declarator, Dir, Event, Events, Expr, Group, Instance, Item,
-    Module, Named, Pair, Params, Setting, Source, Stmt,
+    Arm, Bounds, Connection, Conns, Declarator, Dir, Event, Events, Expr, Group, Head, Instance,
+    Item, Module, Named, Pair, Params, Setting, Source, Stmt,
 };

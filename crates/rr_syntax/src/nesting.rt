@@ -3,12 +3,12 @@
 ghost use Rattle.std.specs.Prelude.{◌≡◌, ◌<◌, ◌+◌, ◌^◌, map};
 ghost use Rattle.rr_syntax.specs.Expressions.{depth as depth_tree, height};
 ghost use Rattle.rr_syntax.specs.Items.{depth_assignment, depth_connection, depth_connections, depth_events, depth_instance, depth_item, depth_module, depth_declarator, depth_overrides, depth_pair, depth_parameter, depth_port, depth_range, depth_source, depth_value, greatest, height_item};
-ghost use Rattle.rr_syntax.specs.Statements.{depth_statement, height_arms, height_statements};
-ghost use Rattle.rr_syntax.specs.View.{plain, plain_arms, plain_assignment, plain_connection, plain_connections, plain_events, plain_instance, plain_item, plain_list, plain_module, plain_declarator, plain_overrides, plain_pair, plain_parameter, plain_port, plain_range, plain_source, plain_statement, plain_statements, plain_value};
+ghost use Rattle.rr_syntax.specs.Statements.{depth_loop, depth_statement, height_arms, height_statements};
+ghost use Rattle.rr_syntax.specs.View.{plain, plain_arms, plain_assignment, plain_connection, plain_connections, plain_events, plain_instance, plain_item, plain_list, plain_loop, plain_module, plain_declarator, plain_overrides, plain_pair, plain_parameter, plain_port, plain_range, plain_source, plain_statement, plain_statements, plain_value};
 
 use crate::tree::{
-    Arm, Bounds, Connection, Conns, Declarator, Events, Expr, Group, Instance, Item, Module, Pair,
-    Params, Setting, Source, Stmt,
+    Arm, Bounds, Connection, Conns, Declarator, Events, Expr, Group, Head, Instance, Item, Module,
+    Pair, Params, Setting, Source, Stmt,
 };
 
 /// The greatest nesting of nodes: the levels of modules, items, statements, arms and expressions
@@ -63,6 +63,16 @@ fn parts_height(parts: &[Expr]) -> u32
     deepest
 }
 
+// The greatest depth of a loop's three expressions.
+#[tactic(auto, using(crate::proofs::Depths::loop_depths))]
+fn loop_depth(head: &Head) -> u32
+    requires fits { depth_loop (plain_loop head.now) < 2 ^ 32 }
+    ensures { result ≡ depth_loop (plain_loop head.now) }
+{
+    let ends = expression_depth(head.test).max(expression_depth(head.step));
+    expression_depth(head.start).max(ends)
+}
+
 #[tactic(auto, using(crate::proofs::Depths::statement_depths))]
 #[cycle(statement_depths)]
 fn statement_depth(stmt: &Stmt) -> u32
@@ -86,6 +96,7 @@ fn statement_depth(stmt: &Stmt) -> u32
         Stmt::Assign { target, value, .. } => {
             1 + expression_depth(target).max(expression_depth(value))
         }
+        Stmt::For { head, body } => 1 + loop_depth(head).max(statement_depth(body)),
     }
 }
 

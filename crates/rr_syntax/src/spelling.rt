@@ -3,12 +3,12 @@
 ghost use Rattle.std.specs.Prelude.{◌≡◌, ◌<◌, ◌^◌, length, map};
 ghost use Rattle.rr_syntax.specs.Expressions.{spell, spell_more, spell_parts};
 ghost use Rattle.rr_syntax.specs.Items.{spell_all, spell_assignment, spell_connection, spell_connections, spell_each, spell_events, spell_identifier, spell_instance, spell_item, spell_module, spell_declarator, spell_overrides, spell_pair, spell_parameter, spell_parameters, spell_port, spell_ports, spell_separated, spell_source, spell_type};
-ghost use Rattle.rr_syntax.specs.Statements.{spell_arms, spell_label, spell_labels, spell_statement, spell_statements};
-ghost use Rattle.rr_syntax.specs.View.{plain, plain_arms, plain_assignment, plain_connection, plain_connections, plain_events, plain_header, plain_identifier, plain_instance, plain_item, plain_label, plain_list, plain_module, plain_declarator, plain_overrides, plain_pair, plain_parameter, plain_port, plain_range, plain_source, plain_statement, plain_statements};
+ghost use Rattle.rr_syntax.specs.Statements.{spell_arms, spell_label, spell_labels, spell_loop, spell_statement, spell_statements};
+ghost use Rattle.rr_syntax.specs.View.{plain, plain_arms, plain_assignment, plain_connection, plain_connections, plain_events, plain_header, plain_identifier, plain_instance, plain_item, plain_label, plain_list, plain_loop, plain_module, plain_declarator, plain_overrides, plain_pair, plain_parameter, plain_port, plain_range, plain_source, plain_statement, plain_statements};
 
 use crate::tree::{
-    Arm, Bounds, Connection, Conns, Declarator, Dir, Events, Expr, Group, Instance, Item, Module,
-    Named, Pair, Params, Setting, Source, Stmt,
+    Arm, Bounds, Connection, Conns, Declarator, Dir, Events, Expr, Group, Head, Instance, Item,
+    Module, Named, Pair, Params, Setting, Source, Stmt,
 };
 
 /// The number of tokens that spell the source.
@@ -60,6 +60,15 @@ fn parts_len(parts: &[Expr]) -> u64
     total.saturating_sub(1)
 }
 
+/// The number of tokens of a loop's head (IEEE 1364-2005 section 9.6), brackets included.
+#[tactic(auto, using(crate::proofs::Lengths::loop_sizes))]
+pub fn loop_len(head: &Head) -> u64
+    requires fits { length (spell_loop (plain_loop head.now)) < 2 ^ 64 }
+    ensures { result ≡ length (spell_loop (plain_loop head.now)) }
+{
+    8 + expression_len(head.start) + expression_len(head.test) + expression_len(head.step)
+}
+
 #[tactic(auto, using(crate::proofs::Lengths::statement_sizes))]
 #[cycle(statement_lengths)]
 fn statement_len(stmt: &Stmt) -> u64
@@ -81,6 +90,7 @@ fn statement_len(stmt: &Stmt) -> u64
         } => { 4 + expression_len(test) + statement_len(yes) + statement_len(other) }
         Stmt::Case { on, arms, .. } => 4 + expression_len(on) + arms_len(arms),
         Stmt::Assign { target, value, .. } => 2 + expression_len(target) + expression_len(value),
+        Stmt::For { head, body } => 1 + loop_len(head) + statement_len(body),
     }
 }
 

@@ -76,6 +76,18 @@ pub enum Expr<'a> {
     },
 }
 
+/// `(name = start; test; step_name = step)` of a loop (section 9.6), with the tokens of its two names.
+#[derive(Clone, Copy)]
+pub struct Head<'a> {
+    pub token: u32,
+    pub name: &'a str,
+    pub start: &'a Expr<'a>,
+    pub test: &'a Expr<'a>,
+    pub step_token: u32,
+    pub step_name: &'a str,
+    pub step: &'a Expr<'a>,
+}
+
 /// A statement (section 9, annex A.6). `kind` is `case`, `casez` or `casex`; `now` is true for `=`,
 /// false for `<=`, and a target is a name, a select of one, or targets in braces.
 #[cycle(statements)]
@@ -100,6 +112,10 @@ pub enum Stmt<'a> {
         target: &'a Expr<'a>,
         now: bool,
         value: &'a Expr<'a>,
+    },
+    For {
+        head: Head<'a>,
+        body: &'a Stmt<'a>,
     },
 }
 

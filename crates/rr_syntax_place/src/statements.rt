@@ -1,4 +1,4 @@
-//! Statements (IEEE 1364-2005 annexes A.6.2 and A.6.4). The room is the greatest depth, the root counted
+//! Statements (IEEE 1364-2005 annexes A.6.2, A.6.4 and A.6.8). The room is the greatest depth, the root counted
 //! as 0, and one more.
 
 ghost use Rattle.std.specs.Prelude.{IfSome};
@@ -26,6 +26,8 @@ pub(crate) fn statement(cursor: &mut Cursor, room: u32) -> Option<()>
     let inside = inner(room)?;
     if cursor.take_word(Keyword::IF) {
         conditional(cursor, inside)
+    } else if cursor.take_word(Keyword::FOR) {
+        looped(cursor, inside)
     } else if is_case(cursor) {
         cases(cursor, inside)
     } else {
@@ -102,6 +104,39 @@ fn conditional(cursor: &mut Cursor, inside: u32) -> Option<()>
     }
 }
 
+/// A name, `=` and an expression, and the mark behind it.
+fn setting(cursor: &mut Cursor, closing: Mark, inside: u32) -> Option<()>
+    ensures goes { Goes cursor.old cursor.new }
+    ensures takes { IfSome result (λ t. Takes cursor.old cursor.new) }
+{
+    cursor.name()?;
+    cursor.expect(Mark::EQUALS)?;
+    expression(cursor, inside)?;
+    cursor.expect(closing)
+}
+
+/// The head of a loop (section 9.6): its first value, its test and its step in brackets.
+fn head(cursor: &mut Cursor, inside: u32) -> Option<()>
+    ensures goes { Goes cursor.old cursor.new }
+    ensures takes { IfSome result (λ t. Takes cursor.old cursor.new) }
+{
+    cursor.expect(Mark::OPEN_PARENTHESIS)?;
+    setting(cursor, Mark::SEMICOLON, inside)?;
+    expression(cursor, inside)?;
+    cursor.expect(Mark::SEMICOLON)?;
+    setting(cursor, Mark::CLOSE_PARENTHESIS, inside)
+}
+
+/// Behind `for`.
+#[cycle(statements)]
+fn looped(cursor: &mut Cursor, inside: u32) -> Option<()>
+    ensures goes { Goes cursor.old cursor.new }
+    ensures takes { IfSome result (λ t. Takes cursor.old cursor.new) }
+{
+    head(cursor, inside)?;
+    statement(cursor, inside)
+}
+
 /// A `case` of any kind.
 #[cycle(statements)]
 fn cases(cursor: &mut Cursor, inside: u32) -> Option<()>
@@ -140,7 +175,8 @@ fn arm(cursor: &mut Cursor, inside: u32, default: bool) -> Option<bool>
     Some(default)
 }
 
-/// What an `initial` item may hold (section 9.9.1): `;`, blocks, and whole variables that are set by `=`.
+/// What an `initial` item may hold (section 9.9.1): `;`, blocks, loops, and whole variables that are set
+/// by `=`.
 #[cycle(initials)]
 pub(crate) fn initial_statement(cursor: &mut Cursor, room: u32) -> Option<()>
     ensures goes { Goes cursor.old cursor.new }
@@ -156,10 +192,20 @@ pub(crate) fn initial_statement(cursor: &mut Cursor, room: u32) -> Option<()>
         return initial_block(cursor, room);
     }
     let inside = inner(room)?;
-    cursor.name()?;
-    cursor.expect(Mark::EQUALS)?;
-    expression(cursor, inside)?;
-    cursor.expect(Mark::SEMICOLON)
+    if cursor.take_word(Keyword::FOR) {
+        return initial_loop(cursor, inside);
+    }
+    setting(cursor, Mark::SEMICOLON, inside)
+}
+
+/// Behind the `for` of a loop over such a statement.
+#[cycle(initials)]
+fn initial_loop(cursor: &mut Cursor, inside: u32) -> Option<()>
+    ensures goes { Goes cursor.old cursor.new }
+    ensures takes { IfSome result (λ t. Takes cursor.old cursor.new) }
+{
+    head(cursor, inside)?;
+    initial_statement(cursor, inside)
 }
 
 /// Such statements between `begin` and `end`.

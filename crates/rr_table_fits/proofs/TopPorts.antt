@@ -1,5 +1,5 @@
 -- The ports of the top of a flat design: no two of them have one name.
-use Rattle.std.proofs.Common.{◌≡◌, ◌∙◌, ℕ, ◌+◌, ◌-◌, ◌<◌, Bool, true, false, if◌then◌else◌, List, [], ◌∷◌, ◌++◌, length, Option, Result, Ok, Err, refl, sym, subst, ap, arith}
+use Rattle.std.proofs.Common.{◌≡◌, ◌∙◌, ℕ, ◌+◌, ◌-◌, ◌<◌, Bool, true, false, if◌then◌else◌, List, [], ◌∷◌, ◌++◌, length, Option, None, Result, Ok, Err, refl, sym, subst, ap, arith}
 use Rattle.std.specs.Prelude.{All, nat_eq, slice_index_or}
 use Rattle.std.proofs.lemmas.Bool.{and_parts, eqb-true}
 use Rattle.std.proofs.lemmas.List.{append_assoc, get_or-append_right, length-append}
@@ -12,7 +12,7 @@ use Rattle.rr_flat.specs.Plain.{Flat}
 use Rattle.rr_flat.specs.Signals.{Signal, Text, no_signal, signal_at}
 use Rattle.rr_flat.specs.declared.fault.FlatFault.{FlatFault}
 use Rattle.rr_flatten.specs.Tables.{add_module}
-use Rattle.rr_flatten.specs.Walk.{Walked, enter_top, finished, flat_of, is_top_port, is_way, top_place, top_ports}
+use Rattle.rr_flatten.specs.Walk.{Walked, enter_top, finished, flat_by, flat_of, is_top_port, is_way, top_place, top_ports}
 use Rattle.rr_flat_laws.specs.Declared.{Declares}
 use Rattle.rr_flat_laws.specs.Names.{IsSignalOf, NamesAre, module_of}
 use Rattle.rr_flat_laws.proofs.Naming.{names_of_design}
@@ -58,12 +58,12 @@ ports_walked source flat (Ok w) e = let same : finished source w.flat ≡ flat =
 ports_walked source flat (Err f) e = cc
 
 ports_tabled : (source : List ModuleDeclaration) (top : Option Text) (flat : Flat) (r : Result Names FlatFault) →
-    and_then r (λ table. and_then (enter_top source table (top_place source table top)) (λ w. Ok (finished source w.flat))) ≡ Ok flat → Ports flat
-ports_tabled source top flat (Ok table) e = ports_walked source flat (enter_top source table (top_place source table top)) e
+    and_then r (λ table. and_then (enter_top None source table (top_place source table top)) (λ w. Ok (finished source w.flat))) ≡ Ok flat → Ports flat
+ports_tabled source top flat (Ok table) e = ports_walked source flat (enter_top None source table (top_place source table top)) e
 ports_tabled source top flat (Err f) e = cc
 
 ports : (source : SourceText) (top : Option Text) (flat : Flat) → flat_of source top ≡ Ok flat → Ports flat
-unfolding flat_of
+unfolding flat_by
 ports source top flat e = ports_tabled source.modules top flat (each add_module source.modules []) e
 
 -- the inputs but the clock, and the outputs

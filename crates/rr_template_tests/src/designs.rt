@@ -1,4 +1,5 @@
-//! The guard sites and the overwrite sites of two modules, one of which instantiates the other.
+//! The guard sites and the overwrite sites of two modules, one of which instantiates the other, and of
+//! a module with loops.
 
 ghost use Rattle.std.specs.Prelude.{◌≡◌, ◌<◌, ◌^◌, ℕ, IfOk, IfSome, List, Option, length, map};
 ghost use Rattle.std.specs.List.{AllByRecursion};
@@ -85,6 +86,63 @@ const STEP_OVERWRITES: [Site; 2] = [
             names: &["seen"],
         },
         token: 50,
+    },
+];
+
+/// Two blocks with a loop. The clocked one writes `v` outside its loop, and inside `r` by `=` and `w` by `<=`.
+const LOOPS: &str = "module m(input clk, input s, input [3:0] a, output reg [3:0] y);
+  integer i;
+  reg r, v, w;
+  always @(posedge clk) begin
+    v <= s;
+    for (i = 0; i < 4; i = i + 1) if (a[i]) begin r = s; w <= v; end
+  end
+  always @* begin y = a; for (i = 0; i < 4; i = i + 1) if (v) y[i] = w; end
+endmodule
+";
+
+/// `a[i]` in the clocked block, where a guard may be each scalar but the clock and `r`; `v` in the other body,
+/// where it may be `v` alone, since `w` is written in a loop. The tests of loops are no conditions.
+const LOOP_GUARDS: [Site; 2] = [
+    Site {
+        kind: SiteKind::Guard {
+            module: 0,
+            extent: 4,
+            names: &["s", "v", "w"],
+        },
+        token: 66,
+    },
+    Site {
+        kind: SiteKind::Guard {
+            module: 0,
+            extent: 1,
+            names: &["v"],
+        },
+        token: 108,
+    },
+];
+
+/// The targets outside of loops: `v` at the `begin` of the clocked block, and `y` at that of the other.
+const LOOP_OVERWRITES: [Site; 2] = [
+    Site {
+        kind: SiteKind::Overwrite {
+            module: 0,
+            target: "v",
+            width: 1,
+            now: false,
+            names: &["s", "v", "w"],
+        },
+        token: 43,
+    },
+    Site {
+        kind: SiteKind::Overwrite {
+            module: 0,
+            target: "y",
+            width: 4,
+            now: true,
+            names: &["v"],
+        },
+        token: 85,
     },
 ];
 
@@ -261,9 +319,15 @@ fn has_sites<'a>(
     }
 }
 
-/// Whether a call answers these sites for the module of the text at a number.
-fn answers(alloc: Global, at: usize, asked: Asked, expected: &[Site]) -> Result<bool, Fail> {
-    let bytes = TEXT.as_bytes();
+/// Whether a call answers these sites for the module of a text at a number.
+fn answers(
+    alloc: Global,
+    text: &str,
+    at: usize,
+    asked: Asked,
+    expected: &[Site],
+) -> Result<bool, Fail> {
+    let bytes = text.as_bytes();
     if bytes.len() > 1_048_576 {
         return Err(Fail::from("a text too long"));
     }
@@ -277,15 +341,23 @@ fn answers(alloc: Global, at: usize, asked: Asked, expected: &[Site]) -> Result<
 #[test]
 fn guards_of_modules(rt: HostRuntime) -> Result<(), Fail> {
     let alloc = rt.alloc();
-    assert!(rt; answers(alloc, 0, Asked::Guards, &STEP_GUARDS)?);
-    assert!(rt; answers(alloc, 1, Asked::Guards, &[])?);
+    assert!(rt; answers(alloc, TEXT, 0, Asked::Guards, &STEP_GUARDS)?);
+    assert!(rt; answers(alloc, TEXT, 1, Asked::Guards, &[])?);
     Ok(())
 }
 
 #[test]
 fn overwrites_of_modules(rt: HostRuntime) -> Result<(), Fail> {
     let alloc = rt.alloc();
-    assert!(rt; answers(alloc, 0, Asked::Overwrites, &STEP_OVERWRITES)?);
-    assert!(rt; answers(alloc, 1, Asked::Overwrites, &[])?);
+    assert!(rt; answers(alloc, TEXT, 0, Asked::Overwrites, &STEP_OVERWRITES)?);
+    assert!(rt; answers(alloc, TEXT, 1, Asked::Overwrites, &[])?);
+    Ok(())
+}
+
+#[test]
+fn sites_round_loops(rt: HostRuntime) -> Result<(), Fail> {
+    let alloc = rt.alloc();
+    assert!(rt; answers(alloc, LOOPS, 0, Asked::Guards, &LOOP_GUARDS)?);
+    assert!(rt; answers(alloc, LOOPS, 0, Asked::Overwrites, &LOOP_OVERWRITES)?);
     Ok(())
 }

@@ -1,6 +1,8 @@
-//! The literal sites of two modules.
+//! The literal sites of two modules, and of a loop.
 use rr_literal::sites;
-use rr_syntax::{Expr, Item, Mark, Module, ModulePlace, Number, Pair, SiteKind};
+use rr_syntax::{
+    Events, Expr, Head, Item, Mark, Module, ModulePlace, Number, Pair, SiteKind, Stmt,
+};
 use std::test::Fail;
 
 const TARGET: Expr = Expr::Name {
@@ -29,6 +31,18 @@ const WILD: Expr = Expr::Literal {
         value: 2,
         any: 0,
         unknown: 1,
+    },
+};
+
+/// `4'd1`
+const ONE: Expr = Expr::Literal {
+    token: 21,
+    number: Number {
+        width: 4,
+        signed: false,
+        value: 1,
+        any: 0,
+        unknown: 0,
     },
 };
 
@@ -93,5 +107,50 @@ fn literal_sites(rt: HostRuntime) -> Result<(), Fail> {
     );
     let found = sites(rt.alloc(), &WITHOUT, &PLACE)?;
     assert!(rt; found.is_empty());
+    Ok(())
+}
+
+/// `y = 4'd1;`
+const BODY: Stmt = Stmt::Assign {
+    target: &TARGET,
+    now: true,
+    value: &ONE,
+};
+
+/// `for (i = 4'd3; 4'd3; i = 4'd3) y = 4'd1;`
+const TURNS: Stmt = Stmt::For {
+    head: Head {
+        token: 5,
+        name: "i",
+        start: &KNOWN,
+        test: &KNOWN,
+        step_token: 11,
+        step_name: "i",
+        step: &KNOWN,
+    },
+    body: &BODY,
+};
+
+/// `always @*` with that loop.
+const LOOPS: [Item; 1] = [Item::Always {
+    events: Events::Star { brackets: false },
+    body: &TURNS,
+    token: 0,
+}];
+
+const WITH_LOOP: Module = Module {
+    name: "m",
+    token: 1,
+    params: &[],
+    header: None,
+    groups: &[],
+    items: &LOOPS,
+};
+
+/// Of the literals of a loop that of the body alone is a site.
+#[test]
+fn literal_sites_in_a_loop(rt: HostRuntime) -> Result<(), Fail> {
+    let found = sites(rt.alloc(), &WITH_LOOP, &PLACE)?;
+    assert!(rt; found.len() == 1 && found[0].token == 21);
     Ok(())
 }

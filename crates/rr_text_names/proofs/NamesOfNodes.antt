@@ -8,6 +8,7 @@ use Rattle.rr_syntax.specs.declared.tree.Arm.{Arm as Branch}
 use Rattle.rr_syntax.specs.declared.tree.Expr.{Expr, the_lemmas as expr_lemmas}
 use Rattle.rr_syntax.specs.declared.tree.Expr.TheVariants as expr
 use Rattle.rr_syntax.specs.declared.tree.Named.{Named as Name}
+use Rattle.rr_syntax.specs.declared.tree.Head.{Head}
 use Rattle.rr_syntax.specs.declared.tree.Stmt.{Stmt, the_lemmas as stmt_lemmas}
 use Rattle.rr_syntax.specs.declared.tree.Stmt.TheVariants as stmt
 use Rattle.rr_syntax.specs.Tree.{Identifier}
@@ -102,7 +103,11 @@ pub named-Assign : (acc : List Identifier) (t : Bor Expr) (now : Bool) (v : Bor 
 unfolding plain_statement names_of
 named-Assign acc t now v = sym (append_assoc acc (names_in (plain t.now)) (names_in (plain v.now)))
 
-pub ruleset named_nodes = (stmt_lemmas, named-Null, named-Block, named-If, named-IfElse, named-Case, named-Assign)
+pub named-For : (acc : List Identifier) (h : Head) (b : Bor Stmt) → acc ++ names_of (plain_statement (stmt.For h b)) ≡ acc
+unfolding plain_statement names_of
+named-For acc h b = append-nil acc
+
+pub ruleset named_nodes = (stmt_lemmas, named-Null, named-Block, named-If, named-IfElse, named-Case, named-Assign, named-For)
 
 pub named_list : (xs : List Stmt) → names_of_all (plain_statements xs) ≡ flat_map (λ x. names_of (plain_statement x)) xs
 unfolding names_of plain_statements
@@ -201,7 +206,11 @@ pub read-Assign : (acc : List Identifier) (t : Bor Expr) (now : Bool) (v : Bor E
 unfolding plain_statement names_read
 read-Assign acc t now v = sym (append_assoc acc (index_names (plain t.now)) (names_in (plain v.now)))
 
-pub ruleset read_nodes = (stmt_lemmas, read-Null, read-Block, read-If, read-IfElse, read-Case, read-Assign)
+pub read-For : (acc : List Identifier) (h : Head) (b : Bor Stmt) → acc ++ names_read (plain_statement (stmt.For h b)) ≡ acc
+unfolding plain_statement names_read
+read-For acc h b = append-nil acc
+
+pub ruleset read_nodes = (stmt_lemmas, read-Null, read-Block, read-If, read-IfElse, read-Case, read-Assign, read-For)
 
 pub read_list : (xs : List Stmt) → names_read_by (plain_statements xs) ≡ flat_map (λ x. names_read (plain_statement x)) xs
 unfolding names_read plain_statements

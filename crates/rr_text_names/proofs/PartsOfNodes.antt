@@ -8,6 +8,7 @@ use Rattle.rr_syntax.specs.declared.tree.Arm.{Arm as Branch}
 use Rattle.rr_syntax.specs.declared.tree.Expr.{Expr, the_lemmas as expr_lemmas}
 use Rattle.rr_syntax.specs.declared.tree.Expr.TheVariants as expr
 use Rattle.rr_syntax.specs.declared.tree.Named.{Named as Name}
+use Rattle.rr_syntax.specs.declared.tree.Head.{Head}
 use Rattle.rr_syntax.specs.declared.tree.Stmt.{Stmt, the_lemmas as stmt_lemmas}
 use Rattle.rr_syntax.specs.declared.tree.Stmt.TheVariants as stmt
 use Rattle.rr_syntax.specs.Tree.{Tree}
@@ -111,7 +112,11 @@ pub assigns-Assign : (acc : List Assigned) (t : Bor Expr) (now : Bool) (v : Bor 
 unfolding plain_statement assigned_by
 assigns-Assign acc t now v = refl
 
-pub ruleset assigned_nodes = (stmt_lemmas, assigns-Null, assigns-Block, assigns-If, assigns-IfElse, assigns-Case, assigns-Assign)
+pub assigns-For : (acc : List Assigned) (h : Head) (b : Bor Stmt) → Assigns acc (stmt.For h b) ≡ acc
+unfolding plain_statement assigned_by
+assigns-For acc h b = append-nil acc
+
+pub ruleset assigned_nodes = (stmt_lemmas, assigns-Null, assigns-Block, assigns-If, assigns-IfElse, assigns-Case, assigns-Assign, assigns-For)
 
 pub assigned_list : (xs : List Stmt) → assigned_by_all (plain_statements xs) ≡ flat_map (λ x. assigned_by (plain_statement x)) xs
 unfolding assigned_by plain_statements

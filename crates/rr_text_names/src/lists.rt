@@ -78,7 +78,7 @@ pub fn add_assigned_targets<'a>(
     ensures { OnOk result (map plain_target list.new.items ≡ map plain_target list.old.items ++ assigned_by (plain_statement stmt.now)) }
 {
     match stmt {
-        Stmt::Null => Ok(()),
+        Stmt::Null | Stmt::For { .. } => Ok(()),
         Stmt::Block { body, .. } => add_assigned_by_all(list, body),
         Stmt::If { yes, no: None, .. } => add_assigned_targets(list, yes),
         Stmt::If {
@@ -196,7 +196,7 @@ pub fn add_statement_names<'a>(
     ensures { OnOk result (map plain_identifier list.new.items ≡ map plain_identifier list.old.items ++ names_of (plain_statement stmt.now)) }
 {
     match stmt {
-        Stmt::Null => Ok(()),
+        Stmt::Null | Stmt::For { .. } => Ok(()),
         Stmt::Block { body, .. } => add_named_in_all(list, body),
         Stmt::If {
             test,
@@ -295,7 +295,7 @@ pub fn add_read_names<'a>(list: &mut Vec<Named<'a>>, stmt: &'a Stmt<'a>) -> Resu
     ensures { OnOk result (map plain_identifier list.new.items ≡ map plain_identifier list.old.items ++ names_read (plain_statement stmt.now)) }
 {
     match stmt {
-        Stmt::Null => Ok(()),
+        Stmt::Null | Stmt::For { .. } => Ok(()),
         Stmt::Block { body, .. } => add_read_by_all(list, body),
         Stmt::If {
             test,

@@ -122,7 +122,7 @@ const HEADS: [Rule; 16] = [
 ];
 
 /// Items, declarations, connections and event controls.
-const ITEMS: [Rule; 27] = [
+const ITEMS: [Rule; 29] = [
     ("input a, b; output reg [1:0] c;", "input a", "output b;"),
     (
         "output signed d; output wire e; input wire f;",
@@ -152,6 +152,16 @@ const ITEMS: [Rule; 27] = [
         "initial a = 1; reg b; initial b = 2;",
         "initial begin : n a = 1;",
         "case (a) default: ; endcase end",
+    ),
+    (
+        "initial for (i = 0; i < 4; i = i + 1) a = i;",
+        "initial for (i = 0; i < 4; i = i + 1)",
+        "if (a) q = 1;",
+    ),
+    (
+        "initial begin for (i = 0; i < 4; i = i + 1) begin a = i; end end",
+        "initial for (i = 0; i < 4; i = i + 1) a",
+        "[i] = 1;",
     ),
     ("integer i, j;", "integer", "[1:0] i;"),
     (
@@ -185,7 +195,7 @@ const ITEMS: [Rule; 27] = [
 ];
 
 /// Statements, targets, selects and primaries.
-const STATEMENTS: [Rule; 19] = [
+const STATEMENTS: [Rule; 22] = [
     (";", "", "end"),
     ("begin : name a = 1; end", "begin :", "; end"),
     ("begin ; ; end", "begin a", "end"),
@@ -198,6 +208,21 @@ const STATEMENTS: [Rule; 19] = [
         "default: ; endcase",
     ),
     ("casex (a) b ? c : d: ; endcase", "casex (a) 1", "; endcase"),
+    (
+        "for (i = 0; i < 4; i = i + 1) a = i;",
+        "for (i",
+        "<= 0; i < 4; i = i + 1) ;",
+    ),
+    (
+        "for (i = 0; i; i = i) for (j = 0; j; j = j) ;",
+        "for (i = 0; i;",
+        "; i = i) ;",
+    ),
+    (
+        "if (a) for (i = 0; i; i = i) ; else ;",
+        "for (i = 0; i; i = i",
+        "; a = b;",
+    ),
     ("a = b;", "a", "+ b;"),
     ("a[1] <= b <= c;", "a[1]", "[2] <= b;"),
     ("{a, {b[1:0], c[d +: 2]}} = e;", "{a,", "1} = e;"),
@@ -232,7 +257,7 @@ fn each_rule(rt: HostRuntime) -> Result<(), Fail> {
 }
 
 /// Texts with what is read of them.
-const WORDS_OUTSIDE: [(&str, Outcome); 10] = [
+const WORDS_OUTSIDE: [(&str, Outcome); 13] = [
     ("", Outcome::Tree(0)),
     ("module m; $display(a); endmodule", Outcome::Unsupported(3)),
     (
@@ -247,6 +272,12 @@ const WORDS_OUTSIDE: [(&str, Outcome); 10] = [
         Outcome::Unsupported(4),
     ),
     ("module m; function f; for", Outcome::Unsupported(3)),
+    ("module m; generate for", Outcome::Unsupported(3)),
+    ("module m; for genvar", Outcome::Unsupported(4)),
+    (
+        "module m; for (i = 0; i; i = i) ; endmodule",
+        Outcome::Syntax(3),
+    ),
     ("module m; wire a; endmodule wait", Outcome::Unsupported(7)),
     ("module a; endmodule module b; endmodule", Outcome::Tree(2)),
 ];
@@ -422,7 +453,8 @@ endmodule
 
 /// A design without blanks, where tokens stand side by side.
 const TOKEN_EDGES: &str = "module m(input clk,input s,output reg[3:0]q=4'd2,r);reg t=1'b1,u;\
-    initial begin:n r=4'd0;u=1'b0;end always@(posedge clk)q<=s?4'd3:4'd0;endmodule";
+    initial begin:n r=4'd0;u=1'b0;end always@(posedge clk)q<=s?4'd3:4'd0;\
+    integer i;initial for(i=0;i<4;i=i+1)u=1'b0;always@*for(i=0;i<4;i=i+1)if(s)u=t;else;endmodule";
 
 /// Whether a text has a tree that spells as many tokens.
 fn spells(alloc: Global, text: &str) -> bool {

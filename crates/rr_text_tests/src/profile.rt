@@ -26,12 +26,12 @@ fn each_reserved_word(rt: HostRuntime) -> Result<(), Fail> {
         let wanted = if has_rule { None } else { Some(1) };
         assert!(rt; first(rt.alloc(), text.as_str())? == wanted, "{word}");
     }
-    assert!(rt; used == 25);
+    assert!(rt; used == 26);
     Ok(())
 }
 
 /// Texts with the first token that has no rule.
-const NAMES_AND_DELAYS: [(&str, Option<u32>); 13] = [
+const NAMES_AND_DELAYS: [(&str, Option<u32>); 15] = [
     ("", None),
     ("module m ; endmodule", None),
     ("a = $signed ( b ) + $unsigned ( c ) ;", None),
@@ -45,6 +45,8 @@ const NAMES_AND_DELAYS: [(&str, Option<u32>); 13] = [
     ("a # # ( 5 )", Some(1)),
     ("a initial wait b", Some(2)),
     ("a ; ; ) 5 5 $f function", Some(6)),
+    ("for ( a = b ; a ; a = b ) genvar", Some(12)),
+    ("for generate endgenerate", Some(1)),
 ];
 
 #[test]

@@ -10,7 +10,7 @@ use bumpalo::Bump;
 use bumpalo::collections::into_bump_slice;
 use rr_parse_expr::{ParseFault, is_keyword, keyword_at};
 use rr_parse_stmt::stmt;
-use rr_syntax::{Arm, Events, Expr, Item, Keyword, Module, Source, Stmt, depth, spell_len};
+use rr_syntax::{Arm, Events, Expr, Head, Item, Keyword, Module, Source, Stmt, depth, spell_len};
 use std::alloc::{AllocError, Global};
 use std::test::Fail;
 
@@ -43,7 +43,20 @@ fn case_word(kind: Keyword) -> &'static str {
     }
 }
 
-/// Writes a statement with a pair of brackets for each part of an `if`.
+fn show_head(head: &Head, out: &mut String<Global>) -> Result<(), AllocError> {
+    out.push_str("for ")?;
+    out.push_str(head.name)?;
+    out.push_str("=")?;
+    show_expr(head.start, out)?;
+    out.push_str(";")?;
+    show_expr(head.test, out)?;
+    out.push_str(";")?;
+    out.push_str(head.step_name)?;
+    out.push_str("=")?;
+    show_expr(head.step, out)
+}
+
+/// Writes a statement with a pair of brackets for each part of an `if` and for what a loop repeats.
 #[cycle(show)]
 fn show(stmt: &Stmt, out: &mut String<Global>) -> Result<(), AllocError> {
     match stmt {
@@ -83,6 +96,12 @@ fn show(stmt: &Stmt, out: &mut String<Global>) -> Result<(), AllocError> {
             out.push_str(" end")
         }
         Stmt::Assign { target, now, value } => show_assignment(target, *now, value, out),
+        Stmt::For { head, body } => {
+            show_head(head, out)?;
+            out.push_str("(")?;
+            show(body, out)?;
+            out.push_str(")")
+        }
     }
 }
 
@@ -176,6 +195,35 @@ fn each_if_and_case(rt: HostRuntime) -> Result<(), Fail> {
     Ok(())
 }
 
+/// Loops, as they are shown.
+const LOOPS: [(&str, &str); 5] = [
+    (
+        "for ( i = 0 ; i < n ; i = i + 1 ) a = i ; c",
+        "for i=*;*;i=*(a=i;) 20",
+    ),
+    ("for ( a = b ; a ; c = b ) ;", "for a=b;a;c=b(;) 13"),
+    (
+        "if ( a ) for ( i = b ; i ; i = b ) ; else ;",
+        "if a(for i=b;i;i=b(;))else(;) 19",
+    ),
+    (
+        "if ( a ) for ( i = b ; i ; i = b ) if ( c ) ; else ;",
+        "if a(for i=b;i;i=b(if c(;)else(;))) 23",
+    ),
+    (
+        "case ( a ) b : for ( i = b ; i ; i = b ) for ( j = i ; j ; j = i ) ; endcase",
+        "case a|b,:for i=b;i;i=b(for j=i;j;j=i(;)) end 32",
+    ),
+];
+
+#[test]
+fn each_loop(rt: HostRuntime) -> Result<(), Fail> {
+    for &(text, wanted) in LOOPS.iter() {
+        assert!(rt; shown(rt.alloc(), text)?.as_str() == wanted, "{text}");
+    }
+    Ok(())
+}
+
 /// Texts with no statement at their front.
 const NO_STATEMENTS: &[&str] = &[
     "",
@@ -209,7 +257,17 @@ const NO_STATEMENTS: &[&str] = &[
     "case ( a ) b : ;",
     "case ( a ) default : ; default ; endcase",
     "case ( a ) default : ; b : ; default : ; endcase",
-    "for ( a = b ; a ; a = b ) ;",
+    "for a = b ; a ; a = b ) ;",
+    "for ( a <= b ; a ; a = b ) ;",
+    "for ( a [ 0 ] = b ; a ; a = b ) ;",
+    "for ( ; a ; a = b ) ;",
+    "for ( a = b ; ; a = b ) ;",
+    "for ( a = b ; a ; ) ;",
+    "for ( a = b , a ; a = b ) ;",
+    "for ( a = b ; a ; a = b ; ) ;",
+    "for ( a = b ; a ; a + b ) ;",
+    "for ( a = b ; a ; a = b )",
+    "for ( a = b ; a ; a = b ) end",
 ];
 
 /// A fault of a statement stands at its first token.
@@ -243,7 +301,7 @@ fn nested(
 }
 
 /// A front, a middle and an end, how often the front and the end stand, a depth, and whether it is read.
-const DEPTHS: [(&str, &str, &str, u32, u32, bool); 13] = [
+const DEPTHS: [(&str, &str, &str, u32, u32, bool); 17] = [
     ("begin ", ";", " end", 500, 500, true),
     ("begin ", ";", " end", 501, 500, false),
     ("if ( a ) ", ";", "", 500, 500, true),
@@ -252,6 +310,10 @@ const DEPTHS: [(&str, &str, &str, u32, u32, bool); 13] = [
     ("if ( a ) ; else ", "b = c ;", "", 500, 500, false),
     ("case ( a ) b : ", ";", " endcase", 250, 500, true),
     ("case ( a ) b : ", ";", " endcase", 251, 500, false),
+    ("for ( a = b ; a ; a = b ) ", ";", "", 500, 500, true),
+    ("for ( a = b ; a ; a = b ) ", ";", "", 501, 500, false),
+    ("for ( a = ( b ) ; a ; a = b ) ", ";", "", 1, 2, true),
+    ("for ( a = b ; a ; a = ( b ) ) ", ";", "", 1, 1, false),
     ("begin ", "a = ( ( b ) ) ;", " end", 497, 500, true),
     ("begin ", "a = ( ( b ) ) ;", " end", 498, 500, false),
     ("", ";", "", 1, 0, true),
@@ -294,6 +356,31 @@ fn token_numbers(rt: HostRuntime) -> Result<(), Fail> {
                             value: Expr::Name { token: 6, .. }
                         })
                     )
+            );
+        }
+        _ => assert!(rt; false),
+    }
+    Ok(())
+}
+
+/// The names of a loop have the numbers of their tokens.
+#[test]
+fn loop_numbers(rt: HostRuntime) -> Result<(), Fail> {
+    let arena = Bump::new(rt.alloc());
+    let tokens = tokens_of("; for ( i = a + b ; i ; i = c ) d = i ;", &arena)?;
+    match stmt(tokens, 1, 500, &arena) {
+        Ok((Stmt::For { head, body }, 19)) => {
+            assert!(rt; head.token == 3 && head.step_token == 11);
+            assert!(rt; matches!(head.test, Expr::Name { token: 9, .. }));
+            assert!(rt; matches!(head.step, Expr::Name { token: 13, .. }));
+            assert!(rt;
+                matches!(
+                    body,
+                    Stmt::Assign {
+                        target: Expr::Name { token: 15, .. },
+                        ..
+                    }
+                )
             );
         }
         _ => assert!(rt; false),

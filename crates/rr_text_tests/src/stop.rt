@@ -22,7 +22,7 @@ fn leaves_behind(alloc: Global, head: &str, first: &str, rest: &str) -> Result<b
     Ok(place as usize == count)
 }
 
-const MODULES: [(&str, &str); 34] = [
+const MODULES: [(&str, &str); 35] = [
     ("", ""),
     ("", "wire w;"),
     ("module m; endmodule", ""),
@@ -64,6 +64,10 @@ const MODULES: [(&str, &str); 34] = [
         "module m; initial begin : n a = 1;",
         "case (a) default: ; endcase end endmodule",
     ),
+    (
+        "module m; initial for (i = 0; i; i = i) begin a = 1; end initial for (i = 0; i; i = i) a",
+        "<= 1; endmodule",
+    ),
     ("module m; integer", "[3:0] i; endmodule"),
     ("module m; localparam p = 1, q", "; endmodule"),
     (
@@ -89,7 +93,7 @@ const MODULES: [(&str, &str); 34] = [
     ("module m; endmodule module k", ""),
 ];
 
-const BODIES: [(&str, &str); 23] = [
+const BODIES: [(&str, &str); 27] = [
     ("begin : name end", "end"),
     ("begin a = 1; b <= 2; end", ";"),
     ("if (a) if (b) ; else ; else ;", "else ;"),
@@ -98,6 +102,10 @@ const BODIES: [(&str, &str); 23] = [
     ("casez (a) 1, 2: ; default ;", "default: ; endcase"),
     ("case (a) default: ; 1: ; endcase", ":"),
     ("casex (a) b: ; endcase", "endcase"),
+    ("for (i = 0; i < 4; i = i + 1) ;", ";"),
+    ("for", "i = 0; i; i = i) ;"),
+    ("for (i", "[0] = 0; i; i = i) ;"),
+    ("for (i = 0; i; i = i)", "endmodule"),
     ("a[1] = b[1:0]", ""),
     ("a[1:0", ":1] = b;"),
     ("{a, b[1 +: 2]} = c;", "= c"),
@@ -167,7 +175,7 @@ fn leaves_in_blocks(
 }
 
 /// How many blocks there are, what is read in them, and what is left.
-const IN_BLOCKS: [(u32, &str, &str); 14] = [
+const IN_BLOCKS: [(u32, &str, &str); 17] = [
     (496, "a = b;", "= c"),
     (496, "a =", "(b);"),
     (496, "a =", "-b;"),
@@ -176,6 +184,9 @@ const IN_BLOCKS: [(u32, &str, &str); 14] = [
     (497, "", "a = b;"),
     (497, "", "if (a) ;"),
     (496, "if (a) begin end", "endmodule"),
+    (496, "for (i = 0; i; i = i) begin end", "endmodule"),
+    (496, "for (i =", "(0); i; i = i) ;"),
+    (497, "", "for (i = 0; i; i = i) ;"),
     (495, "case (a) default", "= ;"),
     (495, "casex (a) b: ; default:", "c = d;"),
     (495, "casez (a) b: ;", "= endcase"),
@@ -185,11 +196,13 @@ const IN_BLOCKS: [(u32, &str, &str); 14] = [
 ];
 
 /// The same in an `initial` item.
-const IN_INITIAL_BLOCKS: [(u32, &str, &str); 6] = [
+const IN_INITIAL_BLOCKS: [(u32, &str, &str); 8] = [
     (496, "a = b;", "= c"),
     (496, "a =", "(b);"),
     (495, "a = $signed(b", "+ c);"),
     (497, "", "a = b;"),
+    (496, "for (i = 0; i; i = i) ;", "= c"),
+    (497, "", "for (i = 0; i; i = i) ;"),
     (498, "end", "= ;"),
     (498, "", "begin end"),
 ];

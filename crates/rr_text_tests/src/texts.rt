@@ -34,8 +34,9 @@ pub(crate) fn push_times(
 }
 
 /// The reserved words of the grammar, as docs/LANGUAGE.md has it.
-const IN_RULES: &str = "always assign begin case casex casez default else end endcase endmodule if \
-    initial input integer localparam module negedge or output parameter posedge reg signed wire";
+const IN_RULES: &str =
+    "always assign begin case casex casez default else end endcase endmodule for \
+    if initial input integer localparam module negedge or output parameter posedge reg signed wire";
 
 /// Whether the grammar uses a reserved word.
 pub(crate) fn is_in_rules(word: &str) -> bool {

@@ -1,7 +1,7 @@
 -- What expressions and statements name and read, without token numbers.
 use Rattle.std.proofs.Common.{◌≡◌, ◌∙◌, sym, ap, ap₂, ◌⊎◌, ℕ, Bool, true, false, not, ◌&&◌, ◌||◌, ◌==◌, List, [], ◌∷◌, ◌++◌, map, refl}
 use Rattle.std.proofs.lemmas.List.{map-append}
-use Rattle.rr_syntax.specs.Tree.{Tree, Trees, Name, Literal, Bit as BitSelect, Part, Indexed, Unary, Binary, Cond, Concat, Repeat, Cast, Paren, End, More, Identifier, Statement, Statements, Arm, Arms, Null, Block as Sequence, If, IfElse, Case, Assign, Done, Then, CaseItem, NoArms, MoreArms, bare, bare_parts, bare_identifier, bare_statement, bare_statements, bare_arm, bare_arms}
+use Rattle.rr_syntax.specs.Tree.{Tree, Trees, Name, Literal, Bit as BitSelect, Part, Indexed, Unary, Binary, Cond, Concat, Repeat, Cast, Paren, End, More, Identifier, Statement, Statements, Arm, Arms, Null, Block as Sequence, If, IfElse, Case, Assign, For, Done, Then, CaseItem, NoArms, MoreArms, bare, bare_parts, bare_identifier, bare_statement, bare_statements, bare_arm, bare_arms}
 use Rattle.rr_expr.specs.declared.types.Bit.{Bit}
 use Rattle.rr_expr.specs.Reading.{IsBitOf, IsWithin, NamesAt, NamesBit, NamesBits}
 use Rattle.rr_expr.specs.Scopes.{Names, meant, entity_range}
@@ -74,6 +74,7 @@ mutual
       joined bare_identifier _ _ (names_in c) (names_of t ++ names_of u) (names_in-bare c) (joined bare_identifier _ _ (names_of t) (names_of u) (names_of-bare t) (names_of-bare u))
   names_of-bare (Case kind on arms) = joined bare_identifier _ _ (names_in on) (names_of_arms arms) (names_in-bare on) (names_of_arms-bare arms)
   names_of-bare (Assign t now e) = joined bare_identifier _ _ (names_in t) (names_in e) (names_in-bare t) (names_in-bare e)
+  names_of-bare (For h a) = refl
 
   names_of_all-bare : (ts : Statements) → names_of_all (bare_statements ts) ≡ map bare_identifier (names_of_all ts)
   names_of_all-bare Done = refl
@@ -97,6 +98,7 @@ mutual
       joined bare_identifier _ _ (names_in c) (names_read t ++ names_read u) (names_in-bare c) (joined bare_identifier _ _ (names_read t) (names_read u) (names_read-bare t) (names_read-bare u))
   names_read-bare (Case kind on arms) = joined bare_identifier _ _ (names_in on) (names_read_by_arms arms) (names_in-bare on) (names_read_by_arms-bare arms)
   names_read-bare (Assign t now e) = joined bare_identifier _ _ (index_names t) (names_in e) (index_names-bare t) (names_in-bare e)
+  names_read-bare (For h a) = refl
 
   names_read_by-bare : (ts : Statements) → names_read_by (bare_statements ts) ≡ map bare_identifier (names_read_by ts)
   names_read_by-bare Done = refl
@@ -174,6 +176,7 @@ mutual
   labels_fit-bare (IfElse c t u) = λ k. labels_fit-bare t k && labels_fit-bare u k
   labels_fit-bare (Case kind on arms) = arms_fit-bare kind arms
   labels_fit-bare (Assign t now e) = refl
+  labels_fit-bare (For h a) = refl
 
   all_fit-bare : (ts : Statements) → all_fit (bare_statements ts) ≡ all_fit ts
   all_fit-bare Done = refl
@@ -206,6 +209,7 @@ mutual
   assigned_by-bare (IfElse c t u) = joined bare_assigned _ _ (assigned_by t) (assigned_by u) (assigned_by-bare t) (assigned_by-bare u)
   assigned_by-bare (Case kind on arms) = assigned_by_arms-bare arms
   assigned_by-bare (Assign t now e) = ap (assigned_parts now) (parts-bare t) ∙ assigned_parts-mapped now (target_parts t)
+  assigned_by-bare (For h a) = refl
 
   assigned_by_all-bare : (ts : Statements) → assigned_by_all (bare_statements ts) ≡ map bare_assigned (assigned_by_all ts)
   assigned_by_all-bare Done = refl
@@ -275,6 +279,7 @@ mutual
   StatementReads-bare s (IfElse c t u) = λ k b. NamesBit-bare s c k b ⊎ (StatementReads-bare s t k b ⊎ StatementReads-bare s u k b)
   StatementReads-bare s (Case kind on arms) = λ k b. NamesBit-bare s on k b ⊎ ArmsRead-bare s arms k b
   StatementReads-bare s (Assign t now e) = λ k b. TargetReads-bare s t k b ⊎ NamesBit-bare s e k b
+  StatementReads-bare s (For h a) = refl
 
   StatementsRead-bare : (s : Names) (ts : Statements) → StatementsRead s (bare_statements ts) ≡ StatementsRead s ts
   StatementsRead-bare s Done = refl
@@ -305,6 +310,7 @@ mutual
   known-bare s before (Case kind on arms) = λ k b. known_arms-bare s before arms k b && (has_default-bare arms k || before b)
   known-bare s before (Assign t true e) = λ k b. before b || assigns_target-bare s t k b
   known-bare s before (Assign t false e) = refl
+  known-bare s before (For h a) = refl
 
   known_all-bare : (s : Names) (before : Bit → Bool) (ts : Statements) → known_all s before (bare_statements ts) ≡ known_all s before ts
   known_all-bare s before Done = refl
@@ -327,6 +333,7 @@ mutual
   ReadsKnown-bare s before (IfElse c t u) = λ k. ((b : Bit) → NamesBit-bare s c k b → before b ≡ true) × (ReadsKnown-bare s before t k × ReadsKnown-bare s before u k)
   ReadsKnown-bare s before (Case kind on arms) = λ k. ((b : Bit) → NamesBit-bare s on k b → before b ≡ true) × ArmsReadKnown-bare s before arms k
   ReadsKnown-bare s before (Assign t now e) = λ k. ((b : Bit) → TargetReads-bare s t k b → before b ≡ true) × ((b : Bit) → NamesBit-bare s e k b → before b ≡ true)
+  ReadsKnown-bare s before (For h a) = refl
 
   AllReadKnown-bare : (s : Names) (before : Bit → Bool) (ts : Statements) → AllReadKnown s before (bare_statements ts) ≡ AllReadKnown s before ts
   AllReadKnown-bare s before Done = refl

@@ -1,7 +1,7 @@
 -- What statements do, without token numbers.
 use Rattle.std.proofs.Common.{◌≡◌, ◌∙◌, ap, ℕ, max, Bool, true, false, cond, not, ◌||◌, List, [], ◌∷◌, ◌++◌, refl}
 use Rattle.rr_bits.specs.Words.{is_zero}
-use Rattle.rr_syntax.specs.Tree.{Tree, Trees, Name, Literal, Bit as BitSelect, Part, Indexed, Unary, Binary, Cond, Concat, Repeat, Cast, Paren, End, More, Statement, Statements, Arm, Arms, Null, Block as Sequence, If, IfElse, Case, Assign, Done, Then, CaseItem, NoArms, MoreArms, bare, bare_parts, bare_statement, bare_statements, bare_arm, bare_arms}
+use Rattle.rr_syntax.specs.Tree.{Tree, Trees, Name, Literal, Bit as BitSelect, Part, Indexed, Unary, Binary, Cond, Concat, Repeat, Cast, Paren, End, More, Statement, Statements, Arm, Arms, Null, Block as Sequence, If, IfElse, Case, Assign, For, Done, Then, CaseItem, NoArms, MoreArms, bare, bare_parts, bare_statement, bare_statements, bare_arm, bare_arms}
 use Rattle.rr_expr.specs.declared.types.Shape.{Shape}
 use Rattle.rr_expr.specs.Operators.{joined, own_with}
 use Rattle.rr_expr.specs.Scopes.{Names}
@@ -27,6 +27,7 @@ mutual
   writes-bare true s (Assign t false e) = refl
   writes-bare false s (Assign t true e) = refl
   writes-bare false s (Assign t false e) = writes_target-bare s t
+  writes-bare now s (For h a) = refl
 
   write_any-bare : (now : Bool) (s : Names) (ts : Statements) → write_any now s (bare_statements ts) ≡ write_any now s ts
   write_any-bare now s Done = refl
@@ -111,6 +112,7 @@ mutual
       λ k env. executed_case-bare s kind (shape-bare s on arms k) (value_path s on k env (shape-bare s on arms k).width (shape-bare s on arms k).signed) arms k (executed_default-bare s arms k env) env
   executed-bare s (Assign t true e) = λ k env. write (target_bits-bare s env t k) (assigned-bare s t e k env) env
   executed-bare s (Assign t false e) = refl
+  executed-bare s (For h a) = refl
 
   executed_all-bare : (s : Names) (ts : Statements) → executed_all s (bare_statements ts) ≡ executed_all s ts
   executed_all-bare s Done = refl
@@ -140,6 +142,7 @@ mutual
       λ k env. updates_of_case-bare s kind (shape-bare s on arms k) (value_path s on k env (shape-bare s on arms k).width (shape-bare s on arms k).signed) arms k (updates_of_default-bare s arms k env) env
   updates-bare s (Assign t true e) = refl
   updates-bare s (Assign t false e) = λ k env. record { bits = target_bits-bare s env t k; value = assigned-bare s t e k env } ∷ []
+  updates-bare s (For h a) = refl
 
   updates_of_all-bare : (s : Names) (ts : Statements) → updates_of_all s (bare_statements ts) ≡ updates_of_all s ts
   updates_of_all-bare s Done = refl

@@ -1,5 +1,5 @@
 -- Sources that are equal without token numbers have flat designs that are, or none.
-use Rattle.std.proofs.Common.{◌≡◌, ◌∙◌, sym, ap, Option, Result, Ok, Err, refl}
+use Rattle.std.proofs.Common.{◌≡◌, ◌∙◌, sym, ap, Option, None, Result, Ok, Err, refl}
 use Rattle.rr_syntax.specs.Tree.{SourceText, IsSameSource, bare_source}
 use Rattle.rr_flat.specs.declared.fault.FlatFault.{FlatFault}
 use Rattle.rr_flat.specs.Signals.{Text}
@@ -19,7 +19,7 @@ back (Err x) q f e h = let k : Ok f ≡ Err h.0 = sym e ∙ h.1 in absurd (cc)
 
 pub same_flat : (s u : SourceText) (top : Option Text) (f : Flat) → IsSameSource s u → flat_of s top ≡ Ok f → HasSameFlat u top f
 same_flat s u top f same e =
-    let there : flat_of (bare_source s) top ≡ Ok (bare_flat f) = answered (flat_of s top) (flat_of (bare_source s) top) f e (design_bare s top) in
+    let there : flat_of (bare_source s) top ≡ Ok (bare_flat f) = answered (flat_of s top) (flat_of (bare_source s) top) f e (design_bare None s top) in
     let here : flat_of (bare_source u) top ≡ Ok (bare_flat f) = rw same at there in
-    let b = back (flat_of u top) (flat_of (bare_source u) top) (bare_flat f) here (design_bare u top) in
+    let b = back (flat_of u top) (flat_of (bare_source u) top) (bare_flat f) here (design_bare None u top) in
     record { flat = b.0; is = b.1.0; same = b.1.1 }

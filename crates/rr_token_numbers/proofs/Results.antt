@@ -1,11 +1,12 @@
 -- Answers that are the same without token numbers, and faults in both or in neither.
 use Rattle.std.proofs.Common.{◌≡◌, ap, Bool, true, false, List, [], ◌∷◌, ◌++◌, map, Option, Some, None, Result, Ok, Err, refl, fold}
+use Rattle.std.specs.Option.{option_to_list}
 use Rattle.rr_syntax.specs.Tree.{Tree, Trees, End, More, bare, bare_parts}
 use Rattle.rr_expr.specs.declared.types.ExprFault.{ExprFault}
 use Rattle.rr_flat.specs.declared.fault.FlatFault.{FlatFault}
-use Rattle.rr_flat.specs.Faults.{sooner, first_of, fault_or, first_fault_or, fault_if, faults_in, either, among, answer_of, of_expression, and_then, each}
+use Rattle.rr_flat.specs.Faults.{sooner, earlier, first_of, earliest_of, fault_or, first_fault_or, fault_if, faults_in, either, among, answer_of, of_expression, and_then, each}
 use Rattle.rr_flatten.specs.Walk.{fold_trees}
-use Rattle.rr_token_numbers.proofs.Folds.{some_stays}
+use Rattle.rr_token_numbers.proofs.Folds.{some_stays, earliest_stays}
 
 -- both have an answer, and the second is the first by b, or none has
 abbrev pub Barely : {A B : Type 0} → (A → B) → Result A FlatFault → Result B FlatFault → Type 0
@@ -54,6 +55,22 @@ both_noted None None (f ∷ fs) (g ∷ gs) h k = let a = (some_stays f fs).1 in 
 both_noted None (Some g) fs gs h k = absurd h
 both_noted (Some f) None fs gs h k = absurd h
 both_noted (Some f) (Some g) fs gs h k = let a = (some_stays f fs).1 in let b = (some_stays g gs).1 in rw (a, b) tt
+
+both_earliest : (fs gs : List FlatFault) → BothNil fs gs → Both (earliest_of fs) (earliest_of gs)
+unfolding earlier
+both_earliest [] [] h = tt
+both_earliest [] (g ∷ gs) h = absurd h
+both_earliest (f ∷ fs) [] h = absurd h
+both_earliest (f ∷ fs) (g ∷ gs) h = let a = (earliest_stays f fs).1 in let b = (earliest_stays g gs).1 in rw (a, b) tt
+
+both_listed : (o p : Option FlatFault) → Both o p → BothNil (option_to_list o) (option_to_list p)
+both_listed None None h = tt
+both_listed None (Some g) h = absurd h
+both_listed (Some f) None h = absurd h
+both_listed (Some f) (Some g) h = tt
+
+pub nil_earliest : (fs gs : List FlatFault) → BothNil fs gs → BothNil (option_to_list (earliest_of fs)) (option_to_list (earliest_of gs))
+nil_earliest fs gs h = both_listed (earliest_of fs) (earliest_of gs) (both_earliest fs gs h)
 
 pub or_bare : {A B : Type 0} (b : A → B) (o p : Option FlatFault) (a : A) (c : B) → Both o p → c ≡ b a → Barely b (fault_or o a) (fault_or p c)
 or_bare b None None a c h e = rw e refl

@@ -1,7 +1,7 @@
 -- Starting values without token numbers.
 use Rattle.std.proofs.Common.{◌≡◌, ◌∙◌, ap, ℕ, max, List, true, Option, Some, None, refl, pos}
 use Rattle.rr_bits.specs.Words.{number, select}
-use Rattle.rr_syntax.specs.Tree.{Tree, Name, Literal, Bit as BitSelect, Part, Indexed, Unary, Binary, Cond, Concat, Repeat, Cast, Paren, Statement, Statements, Null, Block, If, IfElse, Case, Assign, Done, Then, bare, bare_value, bare_statement, bare_statements}
+use Rattle.rr_syntax.specs.Tree.{Tree, Name, Literal, Bit as BitSelect, Part, Indexed, Unary, Binary, Cond, Concat, Repeat, Cast, Paren, Statement, Statements, Null, Block, If, IfElse, Case, Assign, For, Done, Then, bare, bare_value, bare_statement, bare_statements}
 use Rattle.rr_expr.specs.Faults.{fault}
 use Rattle.rr_expr.specs.Scopes.{Names, meant, entity_shape}
 use Rattle.rr_expr.specs.Values.{nowhere}
@@ -55,6 +55,7 @@ mutual
   started-bare s (IfElse t a b) starts = refl
   started-bare s (Case kind t arms) starts = refl
   started-bare s (Assign x now t) starts = set_target-bare s x t starts
+  started-bare s (For h a) starts = refl
 
   all_started-bare : (s : Names) (ss : Statements) (starts : List ℕ) → all_started s (bare_statements ss) starts ≡ all_started s ss starts
   all_started-bare s Done starts = refl

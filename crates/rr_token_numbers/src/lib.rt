@@ -4,4 +4,4 @@
 
 mod laws;
 
-pub use laws::numbers_stay_apart;
+pub use laws::{numbers_stay_apart, unfolding_sees_no_numbers};

@@ -25,6 +25,8 @@ mod lints;
 #[cfg(test)]
 mod listings;
 #[cfg(test)]
+mod loops;
+#[cfg(test)]
 mod makes;
 #[cfg(test)]
 mod repairs;

@@ -30,6 +30,8 @@ fn refusals_are_told(rt: HostRuntime) {
         (Limit::Depth, "refused 16 TooMany depth 9\n"),
         (Limit::FlatBits, "refused 16 TooMany flatbits 9\n"),
         (Limit::Work, "refused 16 TooMany work 9\n"),
+        (Limit::Turns, "refused 16 TooMany turns 9\n"),
+        (Limit::Unfolded, "refused 16 TooMany unfolded 9\n"),
     ] {
         let refusal = Refusal::Input(rr_run::Refusal::TooMany(limit, 9));
         let report = stopped(alloc, Stop::Refused(refusal));

@@ -5,6 +5,7 @@ use Rattle.rr_syntax.specs.declared.token.Keyword.{Keyword}
 use Rattle.rr_syntax.specs.declared.tree.Arm.{Arm as Branch}
 use Rattle.rr_syntax.specs.declared.tree.Expr.{Expr}
 use Rattle.rr_syntax.specs.declared.tree.Named.{Named}
+use Rattle.rr_syntax.specs.declared.tree.Head.{Head}
 use Rattle.rr_syntax.specs.declared.tree.Stmt.{Stmt}
 use Rattle.rr_syntax.specs.declared.tree.Stmt.TheVariants as stmt
 use Rattle.rr_syntax.specs.Tree.{Tree}
@@ -135,6 +136,10 @@ Adds old later s x b = old || assigns later s (plain_statement x) b
 pub adds-Null : (old later : Bool) (s : Names) (b : Bit) → old ≡ Adds old later s stmt.Null b
 unfolding plain_statement writes
 adds-Null old later s b = none4 old later
+
+pub adds-For : (old later : Bool) (s : Names) (head : Head) (body : Bor Stmt) (b : Bit) → old ≡ Adds old later s (stmt.For head body) b
+unfolding plain_statement writes
+adds-For old later s head body b = none4 old later
 
 pub adds-Block : (old later : Bool) (s : Names) (label : Option Named) (body : Bor (List Stmt)) (b : Bit) → (old || assign_any later s (plain_statements body.now) b) ≡ Adds old later s (stmt.Block label body) b
 unfolding writes

@@ -27,6 +27,7 @@ pub fn add_assigned_bits(
 {
     match stmt {
         Stmt::Null => Ok(()),
+        Stmt::For { .. } => Ok(()),
         Stmt::Block { body, .. } => add_assigned_by_all(alloc, list, body, names, later),
         Stmt::If { yes, no, .. } => {
             add_assigned_bits(alloc, list, yes, names, later)?;

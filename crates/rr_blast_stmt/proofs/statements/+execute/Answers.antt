@@ -20,7 +20,7 @@ use Rattle.rr_exec.proofs.Nodes.{shaped-Block, shaped-IfElse-no, shaped-Case-on,
 use Rattle.rr_blast_stmt.specs.Running.{Values, held, ran, ran_arms, ran_default}
 use Rattle.rr_signal_wires.specs.Words.{carried, widths_of}
 use Rattle.rr_blast_terms.specs.Choosing.{picks_of}
-use Rattle.rr_blast_stmt.proofs.ArmLaws.{holds_again, machine-extends, machine_again, rebased, run-Assign, run-Block, run-Case, run-If, run-IfElse, run-Null, shaped-test, shaped-yes}
+use Rattle.rr_blast_stmt.proofs.ArmLaws.{holds_again, machine-extends, machine_again, rebased, run-Assign, run-Block, run-Case, run-For, run-If, run-IfElse, run-Null, shaped-test, shaped-yes}
 use Rattle.rr_blast_stmt.proofs.RanLaws.{default_at, default_none, guard_else, guard_then, left_done, left_more, left_start, and_false, and_true, no_match, same_case, ran_done, ran_more, rest_all, rest_at, rest_none}
 use Rattle.rr_blast_terms.proofs.ChoiceLaws.{picks-extends, ready-extends}
 use Rattle.rr_blast_stmt.proofs.statements.+execute.Goals as goal
@@ -79,6 +79,15 @@ execute-returns-in-Null-clause-ran t c = λ env.
     let v : Values = held c.args.b.now env c.args.machine.now in
     let g : Bool = wire_value c.args.b.now env c.args.guard in
     same_case g v _ (sym (ap (λ (p : Stmt). ran s (instance_statement ss k (plain_statement p)) v) c.in-Null.is ∙ run-Null s ss k v))
+
+pub execute-returns-in-For-clause-ran : goal.execute-returns-in-For-clause-ran
+execute-returns-in-For-clause-ran t c = λ env.
+    let s = c.args.scope.now in
+    let ss = c.args.choice.now.sites.now in
+    let k : List Pick = picks_of c.args.b.now env c.args.choice.now in
+    let v : Values = held c.args.b.now env c.args.machine.now in
+    let g : Bool = wire_value c.args.b.now env c.args.guard in
+    same_case g v _ (sym (ap (λ (p : Stmt). ran s (instance_statement ss k (plain_statement p)) v) c.in-For.is ∙ run-For s ss k _ _ v))
 
 pub execute-returns-in_ok-execute_all-in-Block-clause-ran : goal.execute-returns-in_ok-execute_all-in-Block-clause-ran
 execute-returns-in_ok-execute_all-in-Block-clause-ran t c = λ env.

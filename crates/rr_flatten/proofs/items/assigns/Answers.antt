@@ -4,11 +4,14 @@ use Rattle.rr_syntax.specs.View.{plain_pair}
 use Rattle.rr_declarations.proofs.Steps.{each_more, each_stops, each_done, refused}
 use Rattle.rr_flatten.specs.Kept.{plain_walked}
 use Rattle.rr_flatten.specs.Walk.{assign}
-use Rattle.rr_flatten.proofs.Grown.{each_at, same_twice}
+use Rattle.rr_flatten.proofs.Grown.{each_at, same_loops, same_twice}
 use Rattle.rr_flatten.proofs.items.assigns.Goals as goal
 
 pub assign-requires-clause-there : goal.assign-requires-clause-there
 assign-requires-clause-there c = rw c.loop-pair.invariant.same.scopes c.requires.there
+
+pub assign-requires-clause-loops : goal.assign-requires-clause-loops
+assign-requires-clause-loops c = same_loops _ _ c.requires.loops c.loop-pair.invariant.same
 
 pub assign-requires-clause-formed : goal.assign-requires-clause-formed
 assign-requires-clause-formed c = each_at WellFormedPair plain_pair c.args.pairs.now c.loop-pair.pair-index _ c.requires.formed c.loop-pair-test.true

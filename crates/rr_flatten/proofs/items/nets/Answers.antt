@@ -4,11 +4,14 @@ use Rattle.rr_syntax.specs.View.{plain_declarator}
 use Rattle.rr_declarations.proofs.Steps.{each_more, each_stops, each_done, refused}
 use Rattle.rr_flatten.specs.Kept.{plain_walked}
 use Rattle.rr_flatten.specs.Walk.{net}
-use Rattle.rr_flatten.proofs.Grown.{each_at, same_twice}
+use Rattle.rr_flatten.proofs.Grown.{each_at, same_loops, same_twice}
 use Rattle.rr_flatten.proofs.items.nets.Goals as goal
 
 pub net-requires-clause-there : goal.net-requires-clause-there
 net-requires-clause-there c = rw c.loop-one.invariant.same.scopes c.requires.there
+
+pub net-requires-clause-loops : goal.net-requires-clause-loops
+net-requires-clause-loops c = same_loops _ _ c.requires.loops c.loop-one.invariant.same
 
 pub net-requires-clause-formed : goal.net-requires-clause-formed
 net-requires-clause-formed c = each_at WellFormedDeclarator plain_declarator c.args.list.now c.loop-one.one-index _ c.requires.formed c.loop-one-test.true

@@ -5,4 +5,4 @@ use Rattle.rr_flatten.specs.Walk.{edges_faults}
 use Rattle.rr_flatten.proofs.notes.note_edges.Given as goal
 
 abbrev pub invariant-loop-edge : goal.invariant-loop-edge
-invariant-loop-edge l = fold sooner l.found (edges_faults l.names (map plain_edge (drop l.edge-index l.edges))) ≡ fold sooner l.fn.found (edges_faults l.names (map plain_edge l.edges))
+invariant-loop-edge l = fold sooner l.found (edges_faults l.loops l.names (map plain_edge (drop l.edge-index l.edges))) ≡ fold sooner l.fn.found (edges_faults l.loops l.names (map plain_edge l.edges))

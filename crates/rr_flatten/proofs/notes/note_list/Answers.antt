@@ -8,7 +8,7 @@ use Rattle.rr_flatten.proofs.notes.note_list.Goals as goal
 pub loop-expr-preserved : goal.loop-expr-preserved
 loop-expr-preserved c =
     ap (λ z. fold sooner z (list_faults c.args.names.now (plain_list (drop (c.loop-expr.expr-index + 1) c.args.list.now)))) c.note_shape-found.ensures
-    ∙ (list_more c.loop-expr.found c.args.names.now c.args.list.now c.loop-expr.expr-index c.expr-item.result c.loop-expr-test.true c.expr-item.is ∙ c.loop-expr.invariant)
+    ∙ (list_more sooner c.loop-expr.found c.args.names.now c.args.list.now c.loop-expr.expr-index c.expr-item.result c.loop-expr-test.true c.expr-item.is ∙ c.loop-expr.invariant)
 
 pub returns : goal.returns
-returns c = sym (list_done c.loop-expr.found c.args.names.now c.args.list.now c.loop-expr.expr-index c.loop-expr-test.false) ∙ c.loop-expr.invariant
+returns c = sym (list_done sooner c.loop-expr.found c.args.names.now c.args.list.now c.loop-expr.expr-index c.loop-expr-test.false) ∙ c.loop-expr.invariant

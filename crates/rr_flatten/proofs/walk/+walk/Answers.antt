@@ -26,7 +26,7 @@ enter-items-requires t c = (
     c.requires.ready,
     (
       module_formed _ (module_there WellFormedModule c.args.walk.now.modules.now c.args.owner _ c.requires.ready.formed c.requires.owner c.module_at-own.ensures),
-      (module_fit _ (module_there FitLiteralsModule c.args.walk.now.modules.now c.args.owner _ c.requires.ready.fit c.requires.owner c.module_at-own.ensures), (omega (arith, c.in_ok-number.ensures.number, c.in_ok-number.ensures.more), c.in_ok-number.ensures.kept.few)),
+      (module_fit _ (module_there FitLiteralsModule c.args.walk.now.modules.now c.args.owner _ c.requires.ready.fit c.requires.owner c.module_at-own.ensures), (omega (arith, c.in_ok-number.ensures.number, c.in_ok-number.ensures.more), (c.in_ok-number.ensures.kept.few, c.in_ok-number.ensures.kept.loops))),
     ),
   ),
 )
@@ -47,7 +47,7 @@ enter-returns-clause-more t c = on_ok_weaker c.items.result (λ k. omega (arith,
 -- items
 
 pub items-loop-one-init : goal.items-loop-one-init
-items-loop-one-init t c = record { walked = refl; kept = keeps_itself _ _ c.requires.few }
+items-loop-one-init t c = record { walked = refl; kept = keeps_itself _ _ c.requires.few c.requires.loops }
 
 pub items-item-requires : goal.items-item-requires
 items-item-requires t c = (
@@ -56,7 +56,7 @@ items-item-requires t c = (
     c.requires.ready,
     (
       each_here WellFormedItem plain_item c.args.list.now c.loop-one.one-index c.one-item.result c.requires.formed c.loop-one-test.true c.one-item.is,
-      (each_here FitLiteralsItem plain_item c.args.list.now c.loop-one.one-index c.one-item.result c.requires.fit c.loop-one-test.true c.one-item.is, (omega (arith, c.requires.there, c.loop-one.invariant.kept.grown), c.loop-one.invariant.kept.few)),
+      (each_here FitLiteralsItem plain_item c.args.list.now c.loop-one.one-index c.one-item.result c.requires.fit c.loop-one-test.true c.one-item.is, (omega (arith, c.requires.there, c.loop-one.invariant.kept.grown), (c.loop-one.invariant.kept.few, c.loop-one.invariant.kept.loops))),
     ),
   ),
 )
@@ -118,12 +118,12 @@ unfolding WellFormedItem FitLiteralsItem plain_item
 item-instances-requires t c =
     let h = rw c.in-Instances.is at c.requires.formed in
     let f = rw c.in-Instances.is at c.requires.fit in
-    (search rules, (c.requires.ready, (table_if _ _ _ _ c.requires.ready.places c.place_of-owner.ensures, (h.2, (f.1, (c.requires.there, c.requires.few))))))
+    (search rules, (c.requires.ready, (table_if _ _ _ _ c.requires.ready.places c.place_of-owner.ensures, (h.2, (f.1, (c.requires.there, (c.requires.few, c.requires.loops)))))))
 
 -- instances
 
 pub instances-loop-one-init : goal.instances-loop-one-init
-instances-loop-one-init t c = record { walked = refl; kept = keeps_itself _ _ c.requires.few }
+instances-loop-one-init t c = record { walked = refl; kept = keeps_itself _ _ c.requires.few c.requires.loops }
 
 pub instances-instance-requires : goal.instances-instance-requires
 instances-instance-requires t c = (
@@ -134,7 +134,7 @@ instances-instance-requires t c = (
       c.requires.owner,
       (
         each_at WellFormedInstance plain_instance c.args.list.now c.loop-one.one-index _ c.requires.formed c.loop-one-test.true,
-        (each_at FitLiteralsInstance plain_instance c.args.list.now c.loop-one.one-index _ c.requires.fit c.loop-one-test.true, (omega (arith, c.requires.there, c.loop-one.invariant.kept.grown), c.loop-one.invariant.kept.few)),
+        (each_at FitLiteralsInstance plain_instance c.args.list.now c.loop-one.one-index _ c.requires.fit c.loop-one-test.true, (omega (arith, c.requires.there, c.loop-one.invariant.kept.grown), (c.loop-one.invariant.kept.few, c.loop-one.invariant.kept.loops))),
       ),
     ),
   ),
@@ -165,7 +165,7 @@ pub inside-name_instance-requires-clause-connected : goal.inside-name_instance-r
 inside-name_instance-requires-clause-connected t c = rw c.names_of.ensures.value at c.in_ok-given.ensures.connected
 
 pub inside-enter-requires : goal.inside-enter-requires
-inside-enter-requires t c = (search rules, (c.requires.ready, (c.requires.owner, c.in_ok-inner.ensures.kept.few)))
+inside-enter-requires t c = (search rules, (c.requires.ready, (c.requires.owner, (c.in_ok-inner.ensures.kept.few, c.in_ok-inner.ensures.kept.loops))))
 
 pub inside-joined-requires-clause-there : goal.inside-joined-requires-clause-there
 inside-joined-requires-clause-there t c = omega (arith, c.requires.there, c.in_ok-inner.ensures.same, c.in_ok-enter.ensures.kept.grown)
@@ -178,21 +178,21 @@ inside-joined-requires-clause-connected t c = rw (c.in_ok-enter.ensures.kept.sam
 
 pub inside-returns-in_err-given-clause-value : goal.inside-returns-in_err-given-clause-value
 inside-returns-in_err-given-clause-value t c = refused c.from_residual.result _ _ c.in_err-given.field-0.0 c.from_residual.ensures.1
-    (inside_refuses (modules_of c.args.walk.now) c.args.above.now c.args.number (enter (modules_of c.args.walk.now) c.args.walk.now.table c.args.levels c.args.above.now) c.args.token (plain_overrides c.args.over.now) (plain_instance c.args.one.now) (plain_walked c.args.walked.now) c.args.owner (plain_module c.module_at-own.result.now) c.in_err-given.field-0.0 c.module_at-own.ensures (rw c.names_of.ensures.value at c.in_err-given.ensures.value))
+    (inside_refuses (modules_of c.args.walk.now) c.args.above.now c.args.number (enter (modules_of c.args.walk.now) c.args.walk.now.table c.args.levels c.args.above.now) c.args.token (plain_overrides c.args.over.now) (plain_instance c.args.one.now) (plain_walked c.args.walked.now) c.args.owner (plain_module c.module_at-own.result.now) c.in_err-given.field-0.0 c.module_at-own.ensures (rw (c.names_of.ensures.value, c.loops_of.ensures) at c.in_err-given.ensures.value))
 
 pub inside-returns-in_err-enter-clause-value : goal.inside-returns-in_err-enter-clause-value
 unfolding plain_instance
 inside-returns-in_err-enter-clause-value t c = refused c.from_residual-in_err-enter.result _ _ c.in_err-enter.field-0.0 c.from_residual-in_err-enter.ensures.1
     (inside_sub_refuses (modules_of c.args.walk.now) c.args.above.now c.args.number (enter (modules_of c.args.walk.now) c.args.walk.now.table c.args.levels c.args.above.now) c.args.token (plain_overrides c.args.over.now) (plain_instance c.args.one.now) (plain_walked c.args.walked.now) (plain_walked c.name_instance.new.walked) c.args.owner (plain_module c.module_at-own.result.now) c.in_ok-given.given c.in_err-enter.field-0.0 c.module_at-own.ensures
-    (rw c.names_of.ensures.value at c.in_ok-given.ensures.value) c.in_ok-inner.ensures.value c.in_err-enter.ensures.value)
+    (rw (c.names_of.ensures.value, c.loops_of.ensures) at c.in_ok-given.ensures.value) c.in_ok-inner.ensures.value c.in_err-enter.ensures.value)
 
 pub inside-returns-clause-value : goal.inside-returns-clause-value
 unfolding plain_instance
 inside-returns-clause-value t c =
     inside_walks (modules_of c.args.walk.now) c.args.above.now c.args.number (enter (modules_of c.args.walk.now) c.args.walk.now.table c.args.levels c.args.above.now) c.args.token (plain_overrides c.args.over.now) (plain_instance c.args.one.now) (plain_walked c.args.walked.now) (plain_walked c.name_instance.new.walked) (plain_walked c.enter.new.walked) (plain_walked c.joined.new.walked) c.args.owner c.in_ok-inner.inner (plain_module c.module_at-own.result.now) c.in_ok-given.given
-    c.module_at-own.ensures (rw c.names_of.ensures.value at c.in_ok-given.ensures.value) c.in_ok-inner.ensures.value c.in_ok-enter.ensures.value c.in_ok-inner.ensures.number c.in_ok-joined.ensures.value
+    c.module_at-own.ensures (rw (c.names_of.ensures.value, c.loops_of.ensures) at c.in_ok-given.ensures.value) c.in_ok-inner.ensures.value c.in_ok-enter.ensures.value c.in_ok-inner.ensures.number c.in_ok-joined.ensures.value
 
 pub inside-returns-clause-kept : goal.inside-returns-clause-kept
 inside-returns-clause-kept t c =
     keeps_twice c.args.number _ _ _ (keeps_twice c.args.number _ _ _ c.in_ok-inner.ensures.kept (keeps_fewer c.args.number _ _ _ (omega (arith, c.requires.there, c.in_ok-inner.ensures.same)) c.in_ok-enter.ensures.kept))
-    (same_keeps c.args.number _ _ c.in_ok-enter.ensures.kept.few c.in_ok-joined.ensures.same)
+    (same_keeps c.args.number _ _ c.in_ok-enter.ensures.kept.few c.in_ok-enter.ensures.kept.loops c.in_ok-joined.ensures.same)

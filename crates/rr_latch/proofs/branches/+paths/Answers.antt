@@ -4,7 +4,7 @@ use Rattle.rr_syntax.specs.declared.tree.Stmt.{the_lemmas}
 use Rattle.rr_syntax.specs.View.{plain_statement}
 use Rattle.rr_expr.specs.declared.types.Bit.{Bit}
 use Rattle.rr_latch.specs.Paths.{assigned, counted, listed}
-use Rattle.rr_latch.proofs.Branching.{test_shaped, counted-Null, counted-Block, counted-If, counted-IfElse, counted-Case, counted-Assign, ran-Null, noted-Null, ran-Block, noted-Block, ran-If, noted-If, ran-IfElse, noted-IfElse, ran-Case, noted-Case, branch_left, if_ran, if_else_ran, if_else_noted, all_start, all_here, all_more, all_ran, all_noted, arms_start, arms_here, arms_more, arms_ran, arms_noted}
+use Rattle.rr_latch.proofs.Branching.{test_shaped, counted-Null, counted-Block, counted-If, counted-IfElse, counted-Case, counted-Assign, counted-For, ran-Null, noted-Null, ran-For, noted-For, ran-Block, noted-Block, ran-If, noted-If, ran-IfElse, noted-IfElse, ran-Case, noted-Case, branch_left, if_ran, if_else_ran, if_else_noted, all_start, all_here, all_more, all_ran, all_noted, arms_start, arms_here, arms_more, arms_ran, arms_noted}
 use Rattle.rr_writers.proofs.Statements.{shaped-Block, shaped-If, shaped-IfElse, shaped-Case, shaped-Assign}
 use Rattle.rr_latch.proofs.branches.+paths.Goals as goal
 
@@ -41,6 +41,12 @@ run-returns-in-Null-clause-ran t c = rw (c.in-Null.is, counted-Null) (ran-Null c
 
 pub run-returns-in-Null-clause-noted : goal.run-returns-in-Null-clause-noted
 run-returns-in-Null-clause-noted t c = rw (c.in-Null.is, counted-Null) (noted-Null c.args.names.now (assigned c.args.path.now.unassigned) c.args.early.now)
+
+pub run-returns-in-For-clause-ran : goal.run-returns-in-For-clause-ran
+run-returns-in-For-clause-ran t c = rw (c.in-For.is, counted-For) (ran-For c.args.names.now _ _ (assigned c.args.path.now.unassigned) c.args.path.now.log.items)
+
+pub run-returns-in-For-clause-noted : goal.run-returns-in-For-clause-noted
+run-returns-in-For-clause-noted t c = rw (c.in-For.is, counted-For) (noted-For c.args.names.now _ _ (assigned c.args.path.now.unassigned) c.args.early.now)
 
 pub run-returns-in-Block-clause-ran : goal.run-returns-in-Block-clause-ran
 run-returns-in-Block-clause-ran t c = on_ok_weaker c.run_all.result (λ h. rw (c.in-Block.is, counted-Block) (ran-Block c.args.names.now _ _ _ _ _ _ h)) c.run_all.ensures.ran

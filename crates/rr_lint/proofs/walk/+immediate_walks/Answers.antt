@@ -6,7 +6,7 @@ use Rattle.rr_syntax.proofs.Lengths.{body_len, stmt_len, body_sum, cases_len, ca
 use Rattle.rr_syntax.proofs.Sums.{sum_within, sum_next}
 use Rattle.rr_patch.specs.Changes.{changes, plain_changes}
 use Rattle.rr_lint_print.specs.Pieces.{immediate_pieces}
-use Rattle.rr_lint.proofs.Walking.{made_Null, made_Block, made_If, made_IfElse, made_Case, made_Assign, statements_none, statements_next, arms_none, arms_next}
+use Rattle.rr_lint.proofs.Walking.{made_Null, made_Block, made_If, made_IfElse, made_Case, made_Assign, made_For, statements_none, statements_next, arms_none, arms_next}
 use Rattle.rr_lint.proofs.walk.+immediate_walks.Goals as goal
 
 pub statement-returns-in-Null-clause-made : goal.statement-returns-in-Null-clause-made
@@ -48,6 +48,11 @@ statement-returns-in_ok-assignment-in-Assign-clause-made t c =
     let e = c.expression_len-in-Assign.ensures in
     made_Assign (plain_changes c.args.out.now.items) (plain_changes c.assignment.new.out.items) c.args.at (c.args.at + c.expression_len-in-Assign.result) c.args.stmt.now c.in-Assign.target c.in-Assign.now c.in-Assign.value c.in-Assign.is
     (omega (arith, e)) c.in_ok-assignment-in-Assign.ensures
+
+pub statement-returns-in_ok-next-in-For-clause-made : goal.statement-returns-in_ok-next-in-For-clause-made
+statement-returns-in_ok-next-in-For-clause-made t c =
+    let e = c.loop_len.ensures in
+    made_For (plain_changes c.args.out.now.items) (plain_changes c.statement-in-For.new.out.items) c.args.at (c.args.at + 1 + c.loop_len.result) c.args.stmt.now c.in-For.head c.in-For.body c.in-For.is (omega (arith, e)) c.in_ok-next-in-For.ensures.made
 
 pub statements-loop-stmt-init : goal.statements-loop-stmt-init
 statements-loop-stmt-init t c = (let e = body_sum.none in omega (arith, e), statements_none (plain_changes c.args.out.now.items) c.args.at)

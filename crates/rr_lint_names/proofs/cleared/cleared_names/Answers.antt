@@ -1,7 +1,7 @@
 use Rattle.std.proofs.Common.{ap, map, ◌∙◌, ◌++◌}
 use Rattle.rr_syntax.specs.View.{plain_statement, texts}
-use Rattle.rr_flat.specs.Reads.{assigned_by}
 use Rattle.rr_text_names.specs.View.{plain_target}
+use Rattle.rr_lint_laws.specs.Ever.{ever_assigned}
 use Rattle.rr_lint_names.specs.Latched.{marks}
 use Rattle.rr_lint_names.proofs.Once.{seen_none, seen_next, seen_all}
 use Rattle.rr_lint_names.proofs.cleared.cleared_names.Goals as goal
@@ -16,5 +16,5 @@ loop-target-preserved c =
 
 pub returns : goal.returns
 returns c =
-    seen_all (marks c.args.noted.now c.args.token) c.deref-target-items.result.now c.loop-target.target-index c.loop-target.seen (texts c.loop-target.names.items) (assigned_by (plain_statement c.args.body.now)) c.loop-target-test.false
-    (ap (map plain_target) c.deref-target-items.ensures.value ∙ c.in_ok-add_assigned_targets.ensures ∙ ap (λ l. map plain_target l ++ assigned_by (plain_statement c.args.body.now)) c.new-targets.ensures.items) c.loop-target.invariant
+    seen_all (marks c.args.noted.now c.args.token) c.deref-target-items.result.now c.loop-target.target-index c.loop-target.seen (texts c.loop-target.names.items) (ever_assigned (plain_statement c.args.body.now)) c.loop-target-test.false
+    (ap (map plain_target) c.deref-target-items.ensures.value ∙ c.in_ok-add_ever_assigned.ensures ∙ ap (λ l. map plain_target l ++ ever_assigned (plain_statement c.args.body.now)) c.new-targets.ensures.items) c.loop-target.invariant

@@ -2,7 +2,7 @@ use Rattle.std.proofs.Common.{rules}
 use Rattle.std.proofs.lemmas.Result.{on_ok_weaker}
 use Rattle.rr_syntax.specs.declared.tree.Stmt.{the_lemmas}
 use Rattle.rr_writers.proofs.Statements.{shaped-Block, shaped-Yes, shaped-No, shaped-Case, shaped-Assign}
-use Rattle.rr_order.proofs.Readings.{shaped-Test, reads-Null, reads-Block, reads-Alone, reads-Both, reads-Case, reads-Assign, body_start, body_here, body_more, body_done, arms_start, arms_here, arms_more, arms_done}
+use Rattle.rr_order.proofs.Readings.{shaped-Test, reads-Null, reads-For, reads-Block, reads-Alone, reads-Both, reads-Case, reads-Assign, body_start, body_here, body_more, body_done, arms_start, arms_here, arms_more, arms_done}
 use Rattle.rr_order.proofs.reading.+reading.Goals as goal
 
 pub add_read_bits-add_read_by_all-requires : goal.add_read_bits-add_read_by_all-requires
@@ -31,6 +31,9 @@ add_read_bits-add_named_bits-requires-in-Assign t c = (shaped-Assign _ _ _ _ (rw
 
 pub add_read_bits-returns-in-Null : goal.add_read_bits-returns-in-Null
 add_read_bits-returns-in-Null t c = rw c.in-Null.is (reads-Null _ _)
+
+pub add_read_bits-returns-in-For : goal.add_read_bits-returns-in-For
+add_read_bits-returns-in-For t c = rw c.in-For.is (reads-For _ _ _ _)
 
 pub add_read_bits-returns-in-Block : goal.add_read_bits-returns-in-Block
 add_read_bits-returns-in-Block t c = on_ok_weaker c.add_read_by_all.result (λ g. rw c.in-Block.is (reads-Block _ _ _ _ _ g)) c.add_read_by_all.ensures

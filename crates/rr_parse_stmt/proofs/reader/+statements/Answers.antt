@@ -1,16 +1,17 @@
 use Rattle.std.proofs.Common.{◌≡◌, lit<, nat_eq, ◌<◌, suc, ◌+◌, length, drop, sym, ap, ◌∙◌, arith}
-use Rattle.rr_syntax.specs.Words.{words, keyword_begin, keyword_default, keyword_else, keyword_end, keyword_endcase, keyword_if, mark_colon, mark_semicolon}
+use Rattle.rr_syntax.specs.Words.{words, keyword_begin, keyword_default, keyword_else, keyword_end, keyword_endcase, keyword_for, keyword_if, mark_colon, mark_semicolon}
 use Rattle.rr_syntax.specs.Tree.{Done, NoArms, MoreArms}
 use Rattle.rr_syntax.specs.Statements.{is_case, defaults}
 use Rattle.rr_syntax.specs.View.{plain_statement, plain_arm}
 use Rattle.rr_syntax.proofs.Nonempty.{spell_statement-some, spell_arm-some}
 use Rattle.rr_parse_expr.specs.Reading.{below, mark}
 use Rattle.rr_parse_expr.proofs.Answered.{mark_inside}
-use Rattle.rr_parse_stmt.specs.Reading.{label, body, tested, labels, arms, below_statement, below_arm}
+use Rattle.rr_parse_stmt.specs.Reading.{label, body, tested, head, labels, arms, below_statement, below_arm}
 use Rattle.rr_parse_stmt.proofs.Steps.{block-none, if-none}
 use Rattle.rr_parse_stmt.proofs.Sound.{case_less}
 use Rattle.rr_parse_stmt.proofs.Answered.{keyword_inside, tree_some, tree_none, stmt_some, stmt_none, arm_some, arm_none, labels_some, labels_nothing, label_is, label_fails, body_is, body_fails, arms_is, arms_fails, bodied_start, bodied_more, bodied_fail, bodied_end, made_block, block_fails}
-use Rattle.rr_parse_stmt.proofs.Choices.{made_if, made_else, else_fails, then_fails, armed_start, arm_added, armed_end, armed_next, armed_fail, armed_twice, at_most_is, at_most_none, made_case, case_test_fails, case_arms_fail, made_default, default_none, default_fits, made_arm, labels_fails, labelled_fails, no_room, is_null, no_arm_room, is_default, is_labelled, is_block, is_if, is_case_at, is_assignment}
+use Rattle.rr_parse_stmt.proofs.Choices.{made_if, made_else, else_fails, then_fails, armed_start, arm_added, armed_end, armed_next, armed_fail, armed_twice, at_most_is, at_most_none, made_case, case_test_fails, case_arms_fail, made_default, default_none, default_fits, made_arm, labels_fails, labelled_fails, no_room, is_null, no_arm_room, is_default, is_labelled, is_block, is_if, is_for, is_case_at, is_assignment}
+use Rattle.rr_parse_stmt.proofs.LoopHeads.{head_found, no_head, made_loop, loop_unheaded, loop_open}
 use Rattle.rr_parse_expr.proofs.FrontMarks.{mark_differs, mark_equals, mark_stands}
 use Rattle.rr_parse_stmt.proofs.FrontWords.{keyword_differs, keyword_stands}
 use Rattle.rr_parse_stmt.proofs.reader.+statements.Goals as goal
@@ -129,6 +130,18 @@ labelled_body-returns-in-None t c = labelled_fails c.args.tokens.now c.args.from
 pub labelled_body-returns-in_ok-case_item-in-Some : goal.labelled_body-returns-in_ok-case_item-in-Some
 labelled_body-returns-in_ok-case_item-in-Some t c = made_arm c.args.tokens.now c.args.from c.args.limit c.args.found c.in-Some.body c.in_ok-case_item-in-Some.field-0 c.in_ok-case_item-in-Some.ensures c.requires.labels_read (stmt_some c.args.tokens.now c.args.found.next (below_statement c.args.limit (drop c.args.found.next (words c.args.tokens.now))) c.in_ok-statement.field-0 c.in-Some.body c.in-Some.is c.in_ok-statement.ensures)
 
+pub looped-returns-in-None : goal.looped-returns-in-None
+looped-returns-in-None t c = loop_unheaded c.args.tokens.now c.args.from c.args.limit (no_head c.args.tokens.now (c.args.from + 1) (head (below c.args.limit) (drop (c.args.from + 1) (words c.args.tokens.now))) c.in_ok-head.field-0 c.in-None.is c.in_ok-head.ensures)
+
+pub looped-turn-requires : goal.looped-turn-requires
+looped-turn-requires t c = let f = (head_found c.args.tokens.now (c.args.from + 1) (head (below c.args.limit) (drop (c.args.from + 1) (words c.args.tokens.now))) c.in_ok-head.field-0 c.in-Some.found c.in-Some.is c.in_ok-head.ensures) in grind (arith, f)
+
+pub turn-returns-in-None : goal.turn-returns-in-None
+turn-returns-in-None t c = loop_open c.args.tokens.now c.args.from c.args.limit c.args.found c.requires.head_read (stmt_none c.args.tokens.now c.args.found.next (below_statement c.args.limit (drop c.args.found.next (words c.args.tokens.now))) c.in_ok-statement.field-0 c.in-None.is c.in_ok-statement.ensures)
+
+pub turn-returns-in_ok-loop_over-in-Some : goal.turn-returns-in_ok-loop_over-in-Some
+turn-returns-in_ok-loop_over-in-Some t c = made_loop c.args.tokens.now c.args.from c.args.limit c.args.found c.in-Some.body c.in_ok-loop_over-in-Some.field-0 c.in_ok-loop_over-in-Some.ensures c.requires.head_read (stmt_some c.args.tokens.now c.args.found.next (below_statement c.args.limit (drop c.args.found.next (words c.args.tokens.now))) c.in_ok-statement.field-0 c.in-Some.body c.in-Some.is c.in_ok-statement.ensures)
+
 pub statement-returns-then-room-eq0 : goal.statement-returns-then-room-eq0
 statement-returns-then-room-eq0 t c = no_room c.args.room (drop c.args.from (words c.args.tokens.now)) c.if-room-eq0.true
 
@@ -150,6 +163,12 @@ statement-conditional-requires t c = let h = keyword_inside c.args.tokens.now c.
 pub statement-returns-then-is_keyword-2 : goal.statement-returns-then-is_keyword-2
 statement-returns-then-is_keyword-2 t c = rw (is_if c.args.room c.args.from c.args.tokens.now (let p : 0 < c.args.room = omega arith in p) (mark_differs _ c.is_mark.ensures c.if-is_mark.false (lit< tt)) (keyword_stands _ c.is_keyword-else-is_keyword.ensures c.if-is_keyword-2.true)) c.conditional.ensures
 
+pub statement-looped-requires : goal.statement-looped-requires
+statement-looped-requires t c = let h = keyword_inside c.args.tokens.now c.args.from keyword_for (keyword_stands _ c.is_keyword-else-is_keyword-2.ensures c.if-is_keyword-3.true) (omega arith) in grind arith
+
+pub statement-returns-then-is_keyword-3 : goal.statement-returns-then-is_keyword-3
+statement-returns-then-is_keyword-3 t c = rw (is_for c.args.room c.args.from c.args.tokens.now (let p : 0 < c.args.room = omega arith in p) (mark_differs _ c.is_mark.ensures c.if-is_mark.false (lit< tt)) (keyword_stands _ c.is_keyword-else-is_keyword-2.ensures c.if-is_keyword-3.true)) c.looped.ensures
+
 pub statement-cases-requires : goal.statement-cases-requires
 statement-cases-requires t c = let h = keyword_inside c.args.tokens.now c.args.from c.in-Some.kind.0 c.in-Some.ensures.stands (case_less c.in-Some.kind.0 c.in-Some.ensures.begins) in grind arith
 
@@ -157,7 +176,7 @@ pub statement-returns-in-Some : goal.statement-returns-in-Some
 statement-returns-in-Some t c = rw (is_case_at c.args.room c.args.from c.args.tokens.now (let p : 0 < c.args.room = omega arith in p) (mark_differs _ c.is_mark.ensures c.if-is_mark.false (lit< tt)) (ap is_case c.in-Some.ensures.stands ∙ c.in-Some.ensures.begins)) (rw (← c.in-Some.ensures.stands) at c.cases.ensures)
 
 pub statement-returns-in-None : goal.statement-returns-in-None
-statement-returns-in-None t c = rw (is_assignment c.args.room c.args.from c.args.tokens.now (let p : 0 < c.args.room = omega arith in p) (mark_differs _ c.is_mark.ensures c.if-is_mark.false (lit< tt)) (keyword_differs _ c.is_keyword.ensures c.if-is_keyword.false (lit< tt)) (keyword_differs _ c.is_keyword-else-is_keyword.ensures c.if-is_keyword-2.false (lit< tt)) c.in-None.ensures) c.assignment.ensures
+statement-returns-in-None t c = rw (is_assignment c.args.room c.args.from c.args.tokens.now (let p : 0 < c.args.room = omega arith in p) (mark_differs _ c.is_mark.ensures c.if-is_mark.false (lit< tt)) (keyword_differs _ c.is_keyword.ensures c.if-is_keyword.false (lit< tt)) (keyword_differs _ c.is_keyword-else-is_keyword.ensures c.if-is_keyword-2.false (lit< tt)) (keyword_differs _ c.is_keyword-else-is_keyword-2.ensures c.if-is_keyword-3.false (lit< tt)) c.in-None.ensures) c.assignment.ensures
 
 pub statements-loop-from-init : goal.statements-loop-from-init
 statements-loop-from-init t c = bodied_start c.args.tokens.now c.args.from c.args.limit c.args.body.now.items c.requires.inside c.requires.empty

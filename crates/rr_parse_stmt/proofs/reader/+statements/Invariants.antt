@@ -23,6 +23,12 @@ decreases-branches l = 8 * l.limit + 2
 abbrev pub decreases-otherwise : goal.decreases-otherwise
 decreases-otherwise l = 8 * l.limit + 1
 
+abbrev pub decreases-looped : goal.decreases-looped
+decreases-looped l = 8 * l.limit + 2
+
+abbrev pub decreases-turn : goal.decreases-turn
+decreases-turn l = 8 * l.limit + 1
+
 abbrev pub decreases-cases : goal.decreases-cases
 decreases-cases l = 8 * l.limit + 5
 

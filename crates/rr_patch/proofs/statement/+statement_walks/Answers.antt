@@ -6,7 +6,7 @@ use Rattle.rr_syntax.proofs.Lengths.{body_len, stmt_len, body_sum, cases_len, ca
 use Rattle.rr_syntax.proofs.Sums.{sum_within, sum_next}
 use Rattle.rr_patch.specs.Changes.{changes, plain_changes}
 use Rattle.rr_respell.specs.Printing.{statement_pieces, statements_pieces, tree_pieces}
-use Rattle.rr_patch.proofs.StatementWalks.{made_Null, made_Block, made_If, made_IfElse, made_Case, made_Assign, statements_none, statements_next, arms_none, arms_next}
+use Rattle.rr_patch.proofs.StatementWalks.{made_Null, made_Block, made_If, made_IfElse, made_Case, made_Assign, made_For, statements_none, statements_next, arms_none, arms_next}
 use Rattle.rr_patch.proofs.statement.+statement_walks.Goals as goal
 
 pub statement-returns-in-Null-clause-made : goal.statement-returns-in-Null-clause-made
@@ -51,6 +51,12 @@ statement-returns-in_ok-end-in-Assign-clause-made t c =
     c.in-Assign.is
     (c.in_ok-end-in-Assign.ensures.made
     ∙ ap (λ n. plain_changes c.args.out.now.items ++ changes (c.args.at + n + 1) (tree_pieces c.args.list.now c.args.choice.now.picks.items (plain c.in-Assign.value.now))) c.expression_len.ensures)
+
+pub statement-returns-in_ok-next-in-For-clause-made : goal.statement-returns-in_ok-next-in-For-clause-made
+statement-returns-in_ok-next-in-For-clause-made t c =
+    made_For c.args.list.now c.args.choice.now.picks.items (plain_changes c.args.out.now.items) (plain_changes c.statement-in-For.new.out.items) c.args.at c.args.stmt.now c.in-For.head c.in-For.body c.in-For.is
+    (c.in_ok-next-in-For.ensures.made
+    ∙ ap (λ n. plain_changes c.args.out.now.items ++ changes (c.args.at + 1 + n) (statement_pieces c.args.list.now c.args.choice.now.picks.items (plain_statement c.in-For.body.now))) c.loop_len.ensures)
 
 pub statements-loop-stmt-init : goal.statements-loop-stmt-init
 statements-loop-stmt-init t c = (let e = body_sum.none in omega (arith, e), statements_none c.args.list.now c.args.choice.now.picks.items (plain_changes c.args.out.now.items) c.args.at)

@@ -11,6 +11,9 @@ decreases-block l = 4 * l.room - 1
 abbrev pub decreases-conditional : goal.decreases-conditional
 decreases-conditional l = 4 * l.inside + 1
 
+abbrev pub decreases-looped : goal.decreases-looped
+decreases-looped l = 4 * l.inside + 1
+
 abbrev pub decreases-cases : goal.decreases-cases
 decreases-cases l = 4 * l.inside
 

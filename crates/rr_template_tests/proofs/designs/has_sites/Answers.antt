@@ -1,6 +1,7 @@
 use Rattle.std.proofs.Common.{map}
 use Rattle.rr_syntax.specs.View.{plain_source}
 use Rattle.rr_flat.specs.View.{plain_flat}
+use Rattle.rr_flatten.proofs.Limits.{design_stays}
 use Rattle.rr_guard.proofs.Lists.{all_item}
 use Rattle.rr_clock.specs.View.{plain_place}
 use Rattle.rr_sites_listed.specs.Listing.{IsFitPlace}
@@ -17,4 +18,4 @@ sites_of-requires-clause-fit c =
     let source = plain_source c.args.design.now.source.now in
     let flat = plain_flat c.args.design.now.flat in
     all_item (IsFitPlace source flat.scopes flat.owners) plain_place c.in_ok-places.places.now c.args.at c.in-Some.place.now c.in-Some.ensures.lookup.3.0 c.in-Some.ensures.lookup.1
-    (scopes_fit source c.requires.tree.1.0 flat c.in_ok-places.ensures.0 (map plain_place c.in_ok-places.places.now) c.requires.tree.1.1.flat c.in_ok-places.ensures.1)
+    (scopes_fit source c.requires.tree.1.0 flat c.in_ok-places.ensures.0 (map plain_place c.in_ok-places.places.now) (design_stays 1048576 _ _ _ c.requires.tree.1.1.flat) c.in_ok-places.ensures.1)

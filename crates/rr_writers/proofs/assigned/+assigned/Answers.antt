@@ -2,7 +2,7 @@ use Rattle.std.proofs.Common.{◌∙◌, sym, rules}
 use Rattle.std.proofs.lemmas.Result.{on_ok_weaker}
 use Rattle.rr_syntax.specs.declared.tree.Stmt.{the_lemmas}
 use Rattle.rr_named_bits.specs.Lists.{may}
-use Rattle.rr_writers.proofs.Statements.{shaped-Block, shaped-Yes, shaped-No, shaped-Case, shaped-Assign, adds-Null, adds-Block, adds-Alone, adds-Both, adds-Case, adds-Assign, skips-Assign, assigns_here, assigns_more, assigns_done, arms_here, arms_more, arms_done}
+use Rattle.rr_writers.proofs.Statements.{shaped-Block, shaped-Yes, shaped-No, shaped-Case, shaped-Assign, adds-Null, adds-For, adds-Block, adds-Alone, adds-Both, adds-Case, adds-Assign, skips-Assign, assigns_here, assigns_more, assigns_done, arms_here, arms_more, arms_done}
 use Rattle.rr_writers.proofs.assigned.+assigned.Goals as goal
 
 pub add_assigned_bits-add_assigned_by_all-requires : goal.add_assigned_bits-add_assigned_by_all-requires
@@ -22,6 +22,9 @@ add_assigned_bits-add_writes-requires t c = (shaped-Assign _ _ _ _ (rw c.in-Assi
 
 pub add_assigned_bits-returns-in-Null : goal.add_assigned_bits-returns-in-Null
 add_assigned_bits-returns-in-Null t c = λ b. rw c.in-Null.is (adds-Null (may c.args.list.now.items b) c.args.later c.args.names.now b)
+
+pub add_assigned_bits-returns-in-For : goal.add_assigned_bits-returns-in-For
+add_assigned_bits-returns-in-For t c = λ b. rw c.in-For.is (adds-For (may c.args.list.now.items b) c.args.later c.args.names.now _ _ b)
 
 pub add_assigned_bits-returns-in-Block : goal.add_assigned_bits-returns-in-Block
 add_assigned_bits-returns-in-Block t c =

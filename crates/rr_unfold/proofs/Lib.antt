@@ -1,0 +1,13 @@
+pub mod Sizes
+pub mod FreeNodes
+pub mod Entering
+pub mod Worth
+pub mod Openings
+pub mod Following
+pub mod Nodes
+pub mod Turning
+pub mod Growing
+pub mod Rules
+pub mod LoopFree
+pub mod Limits
+pub mod Meanings

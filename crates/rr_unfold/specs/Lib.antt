@@ -1,0 +1,3 @@
+pub mod Unfold
+pub mod View
+pub mod Laws

@@ -1,0 +1,11 @@
+pub mod Empty
+pub mod Trees
+pub mod Turning
+pub mod LastAssignments
+pub mod TurnCounts
+pub mod GuardNames
+pub mod Beginnings
+pub mod Bodies
+pub mod LoopLists
+pub mod Strays
+pub mod Rules
