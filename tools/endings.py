@@ -5,7 +5,7 @@ NUMBER = r"(0|[1-9]\d*)"
 NAMES = ("BadByte BadNumber OpenComment Directive Unsupported Syntax NoTop UnknownModule SelfInstance NameTwice UnknownName BadRange NotConstant PortMismatch TooWide TooMany TwoDrivers WrongAssign Race "
          "Latch Loop ClockUse TwoClocks BadTarget WildLabel NoHeader UnknownColumn ColumnTwice MissingInput RowLength BadCell CellTooLarge NotUtf8 BadCircuit BadProof RatLine").split()
 NUMBERED = {**dict(enumerate(NAMES, 1)), 37: "BadLoop", 38: "UnknownMacro", 39: "BadDirective", 40: "MacroLoop", 41: "BadVcd", 42: "NoScope", 43: "FromMacro"}
-LIMITS = "bytes rows sites instances depth flatbits turns unfolded work expanded".split()
+LIMITS = "bytes rows sites instances depth flatbits turns unfolded words work expanded".split()
 
 
 def place(number):

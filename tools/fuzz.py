@@ -87,7 +87,11 @@ def mutated(data, words):
     return b"".join(parts)
 
 
-def expression(depth, names=("a", "b", "q", "r")):
+# What the expressions of a random design read: two inputs, two registers and words of a memory.
+SEEN = ("a", "b", "q", "r", "mem[a]", "mem[b + 1]")
+
+
+def expression(depth, names=SEEN):
     if depth == 0 or draw.random() < 0.25:
         return draw.choice((*names, *names, f"4'd{draw.randrange(16)}", f"{draw.randrange(20)}", f"4'sb{draw.randrange(16):b}", "a[1]", "b[2:1]", "a[b +: 2]", "a[3 -: 2]", "b[a]", "K"))
     inner = lambda: expression(depth - 1, names)
@@ -106,10 +110,10 @@ def head(name, around):
 
 def statement(depth, target="<=", around=()):
     """A statement in the loops of these names, of which each is that of its depth."""
-    names = ("a", "b", "q", "r", *around, *around)
+    names = (*SEEN, *around, *around, *[f"mem[{name}]" for name in around])
     if depth == 0 or draw.random() < 0.35:
-        places = (it for name in around for it in (f"q[{name}]", f"r[{name} + 1]"))
-        left = draw.choice(("q", "r", "q", "r", "q[1:0]", "r[a]", "{q[0], r[0]}", "q[a +: 2]", *places))
+        places = (it for name in around for it in (f"q[{name}]", f"r[{name} + 1]", f"mem[{name}]"))
+        left = draw.choice(("q", "r", "q", "r", "q[1:0]", "r[a]", "{q[0], r[0]}", "q[a +: 2]", "mem[a]", "mem[q]", "mem[3]", "{r[1], mem[b]}", *places))
         return f"{left} {target} {expression(2, names)};"
     inner = lambda: statement(depth - 1, target, around)
     form = draw.randrange(7)
@@ -138,8 +142,13 @@ def start():
 
 def initial():
     """An `initial` item, or none."""
-    assignments = lambda: "".join(f" {draw.choice('qrt')} = {constant()};" for _ in range(draw.randrange(1, 4)))
-    return draw.choice(("", "", f"  initial {draw.choice('qr')} = {constant()};\n", f"  initial begin{assignments()} end\n"))
+    assignments = lambda: "".join(f" {draw.choice(('q', 'r', 't', 'mem[2]', 'mem[K - 1]'))} = {constant()};" for _ in range(draw.randrange(1, 4)))
+    return draw.choice(("", "", f"  initial {draw.choice('qr')} = {constant()};\n", f"  initial begin{assignments()} end\n", f"  initial for (i1 = {draw.randrange(4)}; i1 < 6; i1 = i1 + 1) mem[i1] = i1 + {constant()};\n"))
+
+
+def bounds():
+    """The bounds of a memory's indices."""
+    return draw.choice(("[0:3]", "[0:7]", "[2:5]", "[K:0]", "[1:1]", "[3:15]"))
 
 
 def with_macros(text):
@@ -158,7 +167,7 @@ def with_macros(text):
 
 
 def random_design():
-    """A design of one clock with a combinational block, a driver, an instance and a clocked block, with starting values, loops and macros or without."""
+    """A design of one clock with a combinational block, a driver, an instance and a clocked block, with starting values, loops, a memory and macros or without."""
     text = plain_design()
     return with_macros(text) if draw.random() < 0.3 else text
 
@@ -169,9 +178,9 @@ def plain_design():
     comb = draw.choice((f"  always @* t = {expression(2)};\n", f"  always @* begin t = 4'd{draw.randrange(16)}; if ({expression(1)}) t = {expression(1)}; end\n",
                         f"  always @(a or b or q) case ({draw.choice('abq')}) 4'd1: t = {expression(1)}; default: t = {expression(1)}; endcase\n"))
     clocked = draw.choice(("posedge clk", "posedge clk or negedge rst", "negedge clk"))
-    return (inner + f"module m(input clk, input rst, input [3:0] a, input signed [3:0] b, output reg [3:0] q{start()}, output [3:0] y, output [3:0] z);\n  localparam K = 5;\n  integer i1, i2, i3;\n  reg [3:0] r{start()};\n  reg [3:0] t{start()};\n{initial()}"
+    return (inner + f"module m(input clk, input rst, input [3:0] a, input signed [3:0] b, output reg [3:0] q{start()}, output [3:0] y, output [3:0] z);\n  localparam K = 5;\n  integer i1, i2, i3;\n  reg [3:0] r{start()};\n  reg [3:0] t{start()};\n  reg {draw.choice(('[3:0]', 'signed [3:0]', ''))} mem {bounds()};\n{initial()}"
             f"  wire [3:0] w;\n  n {draw.choice(('', '#(.W(4)) ', '#(3) '))}u0(.i({draw.choice(('a', 'q', 'r', '{a[1:0], q[1:0]}'))}), .o(w));\n"
-            f"  assign y = {expression(3, ('a', 'b', 'q', 'r', 'w', 't'))};\n  assign z = {expression(2, ('t', 'w', 'q'))};\n" + comb
+            f"  assign y = {expression(3, ('a', 'b', 'q', 'r', 'w', 't', 'mem[t]'))};\n  assign z = {expression(2, ('t', 'w', 'q'))};\n" + comb
             + f"  always @({clocked})\n    if ({draw.choice(('rst', '!rst'))}) begin q <= 4'd{draw.randrange(16)}; r <= 4'd{draw.randrange(16)}; end\n    else {statement(3)}\nendmodule\n")
 
 

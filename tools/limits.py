@@ -227,6 +227,29 @@ def loops(count):
     return module("integer i;always @* begin y=a;" + "for(i=0;i<1;i=i+1)y=y^a;" * count + " end", "input a, output reg y")
 
 
+def words(count):
+    """Memories of 256 words of a bit."""
+    return module("reg " + ",".join(f"r{i} [0:255]" for i in range(count)) + ";assign y=a;")
+
+
+def memory(text):
+    """A memory of 256 words, of which the width and what writes and reads it stand in a text."""
+    return lambda count: module(text(count), "input clk, input [7:0] i, output y")
+
+
+def writes_of_words(width):
+    return memory(lambda count: f"reg [{width - 1}:0] q [0:255];assign y=q[0];always @(posedge clk) begin " + "q[i]<=~q[i];" * count + " end")
+
+
+def reads_of_words(count):
+    return memory(lambda count: "reg [7:0] q [0:255];always @(posedge clk) q[i]<=~q[i];" + "".join(f"wire [7:0] w{k}=q[{f'w{k - 1}' if k else 'i'}];" for k in range(count)) + f"assign y=w{count - 1};")(count)
+
+
+def moved_words(count):
+    """A loop that moves so many words by one."""
+    return memory(lambda n: f"reg [7:0] q [0:255];integer k;assign y=q[{n - 1}];always @(posedge clk) begin q[0]<=i;for(k=1;k<{n};k=k+1)q[k]<=q[k-1];end")(count)
+
+
 def latches(count):
     """Ifs in sequence, each of which assigns one variable on one path; the last keeps none."""
     return module("reg " + ",".join(f"r{i}" for i in range(count)) + ";assign y=r0;always @* begin " + "".join(f"if (a) r{i}=a; else r{i}=~a;" for i in range(count)) + " end")
@@ -242,10 +265,11 @@ def kept_names(count):
 
 
 # Sources for `lint`: what is between `begin` and `end` of a combinational block, and sources of many blocks.
-KEEPING = {name: filled("module m(input a, input e, input [6:0] i, output reg y); reg z, w; reg [127:0] v; integer k; always @* begin ", each, " w=a; v=a; end endmodule\n") for name, each in {
+KEEPING = {name: filled("module m(input a, input e, input [6:0] i, output reg y); reg z, w; reg [127:0] v; reg t [0:1]; integer k; always @* begin ", each, " w=a; v=a; end endmodule\n") for name, each in {
     "assignments to one name": "y<=a;",
     "ifs": "if(e)y<=y;",
     "loops": "for(k=0;k<1;k=k+1)if(e)y<=y;",
+    "words": "t[0]=a;t[1]=y;y<=t[i];",
     "alternatives": "if(z)y=w;else z=y;",
     "alternatives within one another": "if(z)y=w;else " * 400 + "z=y;",
     "ifs within one another": "if(z)" * 400 + "y=w;" + "else z=y;" * 400,
@@ -313,7 +337,7 @@ TOKENS = [
     '>', '** ', '==', '!==', '<=', '>>>', '&&', '~&', '+:', 'a ', 'a,', 'a=', 'a?', 'a:', 'a[', '(a', '{a,', 'a.', '\\a ', '$a ', '$signed(', '1 ',
     "1'b1 ", "1'b1?", "8'hff,", "32'd4294967295 ", "'", "1'", '/*', '*/', '//', '//\n', '(*', '(* *)', '*)', '`resetall\n', '`a ', 'module ',
     'module m;', 'module m;endmodule ', 'module m(', 'endmodule ', 'begin ', 'end ', 'if ', 'if(a)', 'if(a) begin ', 'else ', 'case ', 'case(a)',
-    'endcase ', 'default: ', 'always ', 'always @* ', 'assign ', 'assign a=', 'wire ', 'wire a;', 'reg a,', 'input ', 'input a,', 'posedge a ', 'or ',
+    'endcase ', 'default: ', 'always ', 'always @* ', 'assign ', 'assign a=', 'wire ', 'wire a;', 'reg a,', 'reg a [0:1];', 'a [0:1],', 'input ', 'input a,', 'posedge a ', 'or ',
     'parameter ', 'parameter a=', 'function ', 'for ', 'for(a=a;a;a=a)', 'generate ', 'initial ', '\n', ' ', '\t', '\x00', '"', 'ÿ', '_', '9', '0', 'x',
 ]
 HEADS = {
@@ -454,6 +478,11 @@ def inputs():
         "turns of a loop, and as many tokens as may be": (turns("y=y^a^a^a^a^a^a;"), (16384, 32768, 65536)),
         "turns of a loop in a loop": (turns("for(j=0;j<1;j=j+1)y=y^a;"), (8192, 16384, 32768)),
         "loops": (loops, (8000, 16000, 32000)),
+        "words": (words, (63, 127, 255)),
+        "writes of words of a bit by index": (writes_of_words(1), (250, 500, 1000), "i,y\n0,0\n1,0\n0,1\n"),
+        "writes of words of 128 bits by index": (writes_of_words(128), (2, 4, 8), "i,y\n0,0\n1,0\n0,1\n"),
+        "reads of words by words": (reads_of_words, (16, 32, 64), "i,y\n0,0\n1,0\n0,1\n"),
+        "moved words": (moved_words, (64, 128, 256), "i,y\n0,0\n1,0\n0,1\n"),
         "arms": (arms, (8000, 16000, 32000)),
         "labels": (labels, (16000, 32000, 64000)),
         "updates by index": (updates, (2000, 4000, 8000), "i,y\n0,0\n1,0\n0,1\n"),
@@ -470,6 +499,8 @@ def inputs():
         "one turn of a loop too many": (turns(";"), 65537, "refused 16 TooMany turns 65537\n"),
         "turns of a loop without an end": (lambda n: turns(";")(n).replace("i=i+1", "i=i"), 1, "refused 16 TooMany turns 65537\n"),
         "one token of a loop's turns too many": (turns("begin" + ";" * 15 + "end"), 65536, "refused 16 TooMany unfolded 1048577\n"),
+        "one word of a memory too many": (lambda n: module(f"reg r [0:{n - 1}];assign y=a;"), 257, "refused 16 TooMany words 257\n"),
+        "one bit of words too many": (lambda n: module(f"reg [127:0] r [0:255],s [0:{n - 1}];assign y=a;"), 256, "refused 16 TooMany flatbits 65538\n"),
         "a loop": (loop, 30000, None),
         "modules": (modules, 43000, None),
         "modules that nothing uses": (unused, 20000, None),

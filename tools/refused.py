@@ -52,6 +52,8 @@ endmodule
 """
 SWAP = "module m(input clk, input ld, output reg a, output reg b); always @(posedge clk) if (ld) begin a <= 1'b1; b <= 1'b0; end else begin a <= b; b <= a; end endmodule\n"
 ONES = "module m(input [1:0] a, output reg [1:0] y); integer i; always @* begin y = 2'd0; for (i = 0; i < 2; i = i + 1) if (a[i]) y = y + 2'd2; end endmodule\n"
+BANK = "module m(input clk, input we, input a, input [1:0] d, output [1:0] y); reg [1:0] r [0:1]; initial r[1] = 2'd3; assign y = r[a]; always @(posedge clk) if (!we) r[a] <= d; endmodule\n"
+KEPT = "module m(input i, output y); reg r [0:1]; assign y = r[0]; always @* r[i] <= 1'b1; endmodule\n"
 CIRCUIT = "aag 1 1 0 2 0\n2\n2\n3\n"
 REPAIR, RUN, SITES, CHECK, MAKE, LINT = "repair d.v t.csv c", "run d.v t.csv", "sites d.v", "check c.aag c.lrat", "make 0 c", "lint d.v"
 CERTIFICATE = ("c.aag", "c.cnf", "c.lrat")
@@ -64,6 +66,9 @@ COMMANDS = {
     "run of a swap": (RUN, {"d.v": SWAP, "t.csv": "ld\n1\n0\n0\n"}),
     "run of a loop": (RUN, {"d.v": ONES, "t.csv": "a\n0\n3\n"}),
     "repair of a loop": (REPAIR, {"d.v": ONES, "t.csv": "a,y\n0,0\n1,1\n3,2\n"}),
+    "run of a memory": (RUN, {"d.v": BANK, "t.csv": "we,a,d\n0,1,2\n1,1,1\n"}),
+    "repair of a memory": (REPAIR, {"d.v": BANK, "t.csv": "we,a,d,y\n1,0,2,0\n0,0,1,2\n0,1,1,3\n0,0,0,2\n"}),
+    "lint of a memory that is kept": (LINT, {"d.v": KEPT}),
     "sites of a counter": (SITES, {"d.v": COUNTER}),
     "lint of a latch": (LINT, {"d.v": "module m(input e, input a, output reg y); always @* if (e) y <= a; endmodule\n"}),
     "check that accepts": (CHECK, {"c.aag": CIRCUIT, "c.lrat": "3 0 1 2 0\n"}),

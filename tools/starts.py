@@ -1,5 +1,5 @@
 #!/usr/bin/env python3
-"""Compares runs of random designs with starting values and loops with runs of Icarus Verilog, row by row. It is no part of the gate, and nothing of it is proved.
+"""Compares runs of random designs with starting values, loops and memories with runs of Icarus Verilog, row by row. It is no part of the gate, and nothing of it is proved.
 
 usage: tools/starts.py [PROGRAM] [--count N] [--seed N] [--unproved]
 
@@ -9,11 +9,13 @@ other values. Variables get starting values in the header, by `output reg` and `
 by none; the values are constant expressions of every operator, wider and narrower than the variable. Some variables are registers, some are
 those of combinational blocks, whole or in part, and some are never assigned. All are outputs or drive one, so each row tells all values. Loops
 stand in blocks of both kinds and in `initial` items, up and down, within one another and without a turn; each variable has two integers of its
-own for them, since in Icarus a block that waits for an integer would run again where another block counts by it.
+own for them, since in Icarus a block that waits for an integer would run again where another block counts by it. Memories of one to nine words, in
+either direction and from several lowest indices on, have words by `initial` items, by blocks of both kinds and by none, and are read and written by
+indices of every kind, also outside of them; an output tells all words.
 
-Icarus reads the same text but for two things: a variable without a starting value gets 0, for that is the value of the two states that the program has,
-and each combinational block also waits for a signal of the bench, as `always @*` runs at no event of time 0. The program has to print the bench's table,
-byte for byte. Each finding is printed and kept in a folder; the last line counts, and the status is 0 where there is none.
+Icarus reads the same text but for three things: a variable or a word without a starting value gets 0, for that is the value of the two states that the program has,
+each combinational block also waits for a signal of the bench, as `always @*` runs at no event of time 0, and where an index may be outside of a memory the text
+asks for that, since Icarus reads x there and the program 0. The program has to print the bench's table, byte for byte. Each finding is printed and kept in a folder; the last line counts, and the status is 0 where there is none.
 """
 import argparse, os, random, re, shutil, subprocess, sys, tempfile
 
@@ -53,9 +55,37 @@ def expression(depth, names, is_constant):
     return one_of(draw, *forms, *([divided] if is_constant else []))
 
 
+# ---- memories in texts
+
+# What an index reads of a memory, as the texts of a design have it until they are written out.
+READ = re.compile(r"⟪(\w+)\|([^⟪⟫]*)⟫")
+
+
+def read(memory, index):
+    return f"⟪{memory}|{index}⟫"
+
+
+def by_name(names, index):
+    """The memories among some names, read by an index."""
+    return [read(it, index) for it in sorted({found[1] for found in map(READ.fullmatch, names) if found})]
+
+
 # ---- variables
 
-class Variable:
+class Named:
+    """What has two integers of its own for loops."""
+
+    def loop(self, seen, body):
+        """A loop over a statement that is made for the names that may stand in it, or two within one another."""
+        name, inner = self.counters
+        heads = lambda it, first: draw.choice((f"({it} = {first}; {it} < {draw.randrange(5)}; {it} = {it} + {draw.choice('12')})", f"({it} = {first}; {it} < W; {it} = {it} + 1)",
+                                               f"({it} = {draw.choice(('3', 'W'))}; {it} >= 0; {it} = {it} - {draw.choice('12')})"))
+        if draw.random() < 0.7:
+            return f"for {heads(name, draw.choice(('0', '1', 'P')))} {body((*seen, name, name, *by_name(seen, name)), name)}"
+        return f"for {heads(name, '0')} for {heads(inner, draw.choice(('0', name)))} {body((*seen, name, inner, *by_name(seen, inner)), draw.choice((name, inner)))}"
+
+
+class Variable(Named):
     """A variable: its type, where it is declared, who assigns it, its starting value and those by `initial`."""
 
     def __init__(self, at, role, is_plain, constants):
@@ -76,15 +106,6 @@ class Variable:
         head = draw.choice((f"{name} = 0; {name} < W; {name} = {name} + 1", f"{name} = 3; {name} > 0; {name} = {name} - {draw.choice('12')}"))
         return f"for ({head}) {self.name} = {expression(draw.randrange(4), (*constants, name), True)};"
 
-    def loop(self, seen, body):
-        """A loop over a statement that is made for the names that may stand in it, or two within one another."""
-        name, inner = self.counters
-        heads = lambda it, first: draw.choice((f"({it} = {first}; {it} < {draw.randrange(5)}; {it} = {it} + {draw.choice('12')})", f"({it} = {first}; {it} < W; {it} = {it} + 1)",
-                                               f"({it} = {draw.choice(('3', 'W'))}; {it} >= 0; {it} = {it} - {draw.choice('12')})"))
-        if draw.random() < 0.7:
-            return f"for {heads(name, draw.choice(('0', '1', 'P')))} {body((*seen, name, name), name)}"
-        return f"for {heads(name, '0')} for {heads(inner, draw.choice(('0', name)))} {body((*seen, name, inner), draw.choice((name, inner)))}"
-
     def width(self, of_w):
         """The number of bits, where that is the value of the parameter W."""
         if self.kind == "integer":
@@ -102,13 +123,90 @@ class Variable:
         return self.kind in ("[3:0]", "[7:0]", "[39:0]", "signed [4:0]")
 
 
+class Memory(Named):
+    """A memory: the type of its words, the bounds of its indices, who assigns them, and what `initial` items set."""
+
+    # Of each type of a word, the width of ten words, and the word 0.
+    TYPES = {"": (10, "1'b0"), "[3:0]": (40, "4'd0"), "[0:3]": (40, "4'd0"), "signed [4:0]": (50, "5'sd0"), "[W-1:0]": (None, "{W{1'b0}}")}
+
+    def __init__(self, at):
+        self.name, self.role = f"m{at}", draw.choice(("clocked", "clocked", "combinational", "kept"))
+        self.kind = draw.choice(list(self.TYPES))
+        self.low, self.high = draw.choice((("0", "3"), ("0", "W-1"), ("1", "W"), ("2", "6"), ("0", "0"), ("7", "8")))
+        self.bounds = draw.choice((f"[{self.low}:{self.high}]", f"[{self.low}:{self.high}]", f"[{self.high}:{self.low}]"))
+        self.counters = (f"k{self.name}", f"n{self.name}")
+        self.initials = [self.started() for _ in range(draw.randrange(4))] if self.role != "combinational" else []
+
+    def started(self):
+        """The text of an `initial` assignment to a word, within or outside, or of a loop over one."""
+        name, value = self.counters[0], lambda *more: expression(draw.randrange(3), ("P", "K", "W", *more), True)
+        if draw.random() < 0.5:
+            return f"{self.name}[{draw.choice(('0', '1', '2', '3', '5', '8', 'W', 'W - 1', 'P'))}] = {value()};"
+        head = draw.choice((f"{name} = 0; {name} < W; {name} = {name} + 1", f"{name} = {self.low}; {name} <= {self.high}; {name} = {name} + {draw.choice('112')}", f"{name} = 9; {name} >= 0; {name} = {name} - 1"))
+        return f"for ({head}) {self.name}[{draw.choice((name, name, f'{name} + 1'))}] = {value(name, name)};"
+
+    def index(self, names=()):
+        """An index that has one width and one sign wherever it stands: a name, a select, a concatenation, a number or the name of a loop."""
+        counters = [it for it in names if it[0] in "kn"]
+        return draw.choice(("a", "a", "b", "e", "a[2:0]", "{e, a[1:0]}", "{a[1:0], e}", "{e, b}", str(draw.randrange(10)), "W", *counters, *counters, *[f"{it} {draw.choice('+-')} 1" for it in counters]))
+
+    def reads(self):
+        return [read(self.name, self.index()) for _ in range(2)]
+
+    def declared(self):
+        return f"reg {typed(self.kind)}{self.name} {self.bounds}"
+
+    def shown(self):
+        """The type of the output that tells the words of the indices 0 to 9, of which some may be none."""
+        width = self.TYPES[self.kind][0]
+        return f"[{width - 1}:0]" if width else "[10*W-1:0]"
+
+    def width(self, of_w):
+        return self.TYPES[self.kind][0] or 10 * of_w
+
+    def told(self):
+        return f"assign {self.name}_o = {{{', '.join(read(self.name, str(9 - it)) for it in range(10))}}};"
+
+    def written(self, found, is_zeroed):
+        """What reads a word, as the program or as Icarus reads it."""
+        word = f"{self.name}[{found}]"
+        return f"(({found}) >= {self.low} && ({found}) <= {self.high} ? {word} : {self.TYPES[self.kind][1]})" if is_zeroed else word
+
+    def zeroed(self):
+        name = self.counters[0]
+        return f"initial for ({name} = {self.low}; {name} <= {self.high}; {name} = {name} + 1) {self.name}[{name}] = 0;"
+
+    def clocked(self, seen):
+        """A statement of a clocked block that writes words."""
+        value = lambda: expression(draw.randrange(3), seen, False)
+        form = draw.randrange(5)
+        if form == 0:
+            return f"{self.name}[{self.index()}] <= {value()};"
+        if form == 1:
+            return f"if ({value()}) {self.name}[{self.index()}] <= {value()}; else {self.name}[{self.index()}] <= {value()};"
+        if form == 2:
+            return f"case ({value()}) 4'd1: {self.name}[{self.index()}] <= {value()}; 4'd2, 4'd3: ; default: {self.name}[{self.index()}] <= {value()}; endcase"
+        if form == 3:
+            return self.loop(seen, lambda names, name: f"if ({expression(1, names, False)}) {self.name}[{self.index((name,))}] <= {expression(draw.randrange(3), names, False)};")
+        return f"if ({value()}) {self.name}[{self.index()}] <= {value()};"
+
+    def combinational(self, seen):
+        """The statements of a combinational block, which first writes each word."""
+        name = self.counters[0]
+        own = (*seen, *self.reads())
+        value = lambda names: expression(draw.randrange(3), names, False)
+        texts = [f"for ({name} = {self.low}; {name} <= {self.high}; {name} = {name} + 1) {self.name}[{name}] = {value((*seen, name, *by_name(seen, name)))};"]
+        texts += [draw.choice((f"{self.name}[{self.index()}] = {value(own)};", f"if ({value(own)}) {self.name}[{self.index()}] = {value(own)};")) for _ in range(draw.randrange(3))]
+        return " ".join(texts)
+
+
 def typed(kind):
     return f"{kind} " if kind else ""
 
 
-def initial_items(variables):
+def initial_items(named):
     """The `initial` items of a module, in their order."""
-    pairs = [(it, value) for it in variables for value in it.initials]
+    pairs = [(it, value) for it in named for value in it.initials]
     draw.shuffle(pairs)
     items = []
     while pairs:
@@ -126,6 +224,8 @@ def initial_items(variables):
 # ---- blocks
 
 def clocked_statement(it, seen):
+    if isinstance(it, Memory):
+        return it.clocked(seen)
     value = lambda: expression(draw.randrange(3), seen, False)
     form = draw.randrange(7)
     if form == 0:
@@ -145,6 +245,8 @@ def clocked_statement(it, seen):
 
 
 def combinational_body(it, seen):
+    if isinstance(it, Memory):
+        return it.combinational(seen)
     value = lambda: expression(draw.randrange(3), seen, False)
     if draw.random() < 0.3:
         target = lambda name: draw.choice((f"{it.name}[{name}]", f"{it.name}[{name} +: 2]")) if it.has_parts() and draw.random() < 0.5 else it.name
@@ -154,20 +256,25 @@ def combinational_body(it, seen):
     return f"{it.name} = {value()}; if ({value()}) {it.name} = {value()};"
 
 
-def blocks(variables, edge):
+def names_of(it):
+    """What reads a variable, or words of a memory."""
+    return it.reads() if isinstance(it, Memory) else [it.name]
+
+
+def blocks(named, edge):
     """The `always` blocks of a module, each with whether it is combinational."""
-    clocked = [it for it in variables if it.role == "clocked"]
-    fixed = [it.name for it in variables if it.role != "combinational"]
+    clocked = [it for it in named if it.role == "clocked"]
+    fixed = [name for it in named if it.role != "combinational" for name in names_of(it)]
     found, cut = [], draw.randrange(len(clocked) + 1)
     for some in (clocked[:cut], clocked[cut:]):
         if some:
-            texts = " ".join(clocked_statement(it, ("a", "b", "e", *[o.name for o in variables])) for it in some)
+            texts = " ".join(clocked_statement(it, ("a", "b", "e", *[name for o in named for name in names_of(o)])) for it in some)
             found.append((f"always @({edge} clk) begin {texts} end", False))
     seen = ["a", "b", "e", *fixed]
-    for it in variables:
+    for it in named:
         if it.role == "combinational":
             found.append((combinational_body(it, seen), True))
-            seen.append(it.name)
+            seen.extend(names_of(it))
     return found
 
 
@@ -182,10 +289,13 @@ class Module:
         # Without a clocked block there is no clock.
         roles = ["clocked"] + [draw.choice(("clocked", "clocked", "combinational", "kept")) for _ in range(draw.randrange(6))]
         self.variables = [Variable(at, role, self.is_plain, ("P", "K", "W")) for at, role in enumerate(roles)]
+        self.memories = [Memory(at) for at in range(draw.choice((0, 0, 1, 1, 2)))]
         self.instances = instances
-        texts = [(it, False) for it in initial_items(self.variables)]
-        others = blocks(self.variables, edge) + [(f"assign {it.name}_o = {it.name};", False) for it in self.variables if it.place == "inner"]
-        others += [(text, False) for text, _ in instances]
+        named = self.variables + self.memories
+        draw.shuffle(named)
+        texts = [(it, False) for it in initial_items(named)]
+        others = blocks(named, edge) + [(f"assign {it.name}_o = {it.name};", False) for it in self.variables if it.place == "inner"]
+        others += [(it.told(), False) for it in self.memories] + [(text, False) for text, _ in instances]
         for it in others:
             texts.insert(draw.randrange(len(texts) + 1), it)
         self.items = texts
@@ -193,6 +303,7 @@ class Module:
     def outputs(self):
         """Each output port: its name, its type, and its variable, if it is one."""
         own = [(it.name, it.kind, it) if it.place != "inner" else (f"{it.name}_o", "[31:0]" if it.kind == "integer" else it.kind.replace("signed", "").strip(), None) for it in self.variables]
+        own += [(f"{it.name}_o", it.shown(), None) for it in self.memories]
         return own + [port for _, ports in self.instances for port in ports]
 
     def ports(self, is_zeroed):
@@ -217,10 +328,13 @@ class Module:
             if it.place == "inner":
                 lines.append(f"  {'integer' if it.kind == 'integer' else 'reg ' + it.kind} {it.declared(is_zeroed)};\n")
             lines.append(f"  integer {', '.join(it.counters)};\n")
+        for it in self.memories:
+            lines.append(f"  {it.declared()};\n  integer {', '.join(it.counters)};\n" + (f"  {it.zeroed()}\n" if is_zeroed else ""))
         for text, is_combinational in self.items:
             wait = "if (bench.tick) ; " if is_zeroed else ""
             lines.append(f"  always @* begin {wait}{text} end\n" if is_combinational else f"  {text}\n")
-        return "".join(lines) + "endmodule\n"
+        named = {it.name: it for it in self.memories}
+        return READ.sub(lambda found: named[found[1]].written(found[2], is_zeroed), "".join(lines)) + "endmodule\n"
 
 
 def instance(inner, at):
@@ -230,7 +344,7 @@ def instance(inner, at):
     settings = ("", f"#({p}) ", f"#(.P({p}), .W({w})) ", f"#(.W({w})) ")[form]
     of_w = w if form >= 2 else inner.defaults[1]
     ports, pairs = [], [f".{name}({name})" for name in ("clk", *[name for name, _ in INPUTS])]
-    for (name, _, _), it in zip(inner.outputs(), inner.variables):
+    for (name, _, _), it in zip(inner.outputs(), inner.variables + inner.memories):
         width = it.width(of_w)
         ports.append((f"u{at}_{name}", f"[{width - 1}:0]" if width > 1 else "", None))
         pairs.append(f".{name}(u{at}_{name})")
@@ -259,6 +373,7 @@ def bench(outer, edge, rows):
     """A bench that prints the table of a run: the values before each clock edge."""
     outputs = outer.outputs()
     width = {it.name if it.place != "inner" else f"{it.name}_o": it.width(outer.defaults[1]) for it in outer.variables}
+    width |= {f"{it.name}_o": it.width(outer.defaults[1]) for it in outer.memories}
     wires = "".join(f"  wire [{width[name] - 1}:0] {name};\n" if name in width else f"  wire {typed(kind)}{name};\n" for name, kind, _ in outputs)
     ports = ["clk", *[name for name, _ in INPUTS], *[name for name, _, _ in outputs]]
     shown = [name for name in ports if name != "clk"]

@@ -3,22 +3,16 @@ use Rattle.std.proofs.Common.{◌≡◌, ◌∙◌, sym, ap, subst, ℕ, zero, s
 use Rattle.std.specs.Prelude.{flat_map, All, nat_eq}
 use Rattle.std.specs.List.{list_any}
 use Rattle.std.proofs.lemmas.Bool.{eqb-true, eq-eqb, or_parts}
-use Rattle.rr_expr.specs.declared.types.Entity.{Entity}
-use Rattle.rr_expr.specs.declared.types.Entity.TheVariants.{Constant, Signal as SignalEntity, Instance}
-use Rattle.rr_expr.specs.Scopes.{meant}
 use Rattle.rr_flat.specs.declared.design.Part as design
 use Rattle.rr_flat.specs.declared.design.Part.TheVariants as part
 use Rattle.rr_flat.specs.Lawful.{AssignedIn, AssignedSomewhere, RightKinds}
 use Rattle.rr_flat.specs.Plain.{Flat}
 use Rattle.rr_flat.specs.Reads.{Assigned, assigned_by}
 use Rattle.rr_flat.specs.Sound.{IsPart}
-use Rattle.rr_flat.specs.Targets.{part_name}
-use Rattle.rr_flat.specs.Writers.{scope_at, block_at}
+use Rattle.rr_flat.specs.Writers.{block_at}
 use Rattle.rr_assign.specs.Kinds.{Aim, aim_of, is_combinational, aims_of_part, aims, same_signal, differs, clashes, wrong_after, wrong_kinds}
 use Rattle.rr_flat.specs.Parts.{block_of}
-use Rattle.rr_text_names.specs.Names.{signal_of}
 use Rattle.rr_text_names.proofs.Covering.{HasWalk, Member, all_member, clocked_member, combinational_member}
-use Rattle.rr_assign.proofs.Same.{some_same}
 use Rattle.rr_text_names.proofs.Walks.{left_empty, right_empty}
 
 -- members of lists
@@ -182,22 +176,17 @@ all_fine before (a ∷ rest) f =
 
 -- the targets of a design
 
-pub signal_is : (e : Entity) (id : ℕ) → signal_of e ≡ Some id → (range : Option (ℕ × ℕ)) × ((signed : Bool) × (e ≡ SignalEntity id range signed))
-signal_is (Constant bits signed) id h = cc
-signal_is (SignalEntity x range signed) id h = (range, (signed, ap (λ z. SignalEntity z range signed) (some_same x id h)))
-signal_is Instance id h = cc
-
 -- a target of a block that assigns a variable by a kind
 aim_there : (flat : Flat) (p : design.Part) (id : ℕ) (now : Bool) → AssignedIn flat (block_of flat p) id now
     → (a : Aim) × (Member a (aims_of_part flat p) × ((a.signal ≡ Some id) × (a.now ≡ now)))
 aim_there flat p id now h =
     let b = block_of flat p in
     let a = h.1.0 in
-    let rest = h.1.1.1.1 in (
+    let rest = h.1.1 in (
       aim_of flat b.scope (is_combinational p) a,
       (
         member_map (aim_of flat b.scope (is_combinational p)) (assigned_by b.body) a (member_at (assigned_by b.body) h.0 a rest.0 rest.1),
-        (ap signal_of rest.3, rest.2),
+        (rest.3, rest.2),
       ),
     )
 
@@ -206,8 +195,7 @@ there_aim flat p a id m h =
     let b = block_of flat p in
     let x = map_member (aim_of flat b.scope (is_combinational p)) (assigned_by b.body) a m in
     let at = at_member (assigned_by b.body) x.0 x.1.0 in
-    let s = signal_is (meant (scope_at flat b.scope) (part_name x.0.part)) id (ap (λ z. z.signal) x.1.1 ∙ h) in
-    (at.0, (x.0, (s.0, (s.1.0, (at.1.0, at.1.1, ap (λ z. z.now) x.1.1, s.1.1)))))
+    (at.0, (x.0, (at.1.0, at.1.1, ap (λ z. z.now) x.1.1, ap (λ z. z.signal) x.1.1 ∙ h)))
 
 some_aim : (flat : Flat) → HasWalk flat → (id : ℕ) (now : Bool) → AssignedSomewhere flat id now → (a : Aim) × (Member a (aims flat) × ((a.signal ≡ Some id) × (a.now ≡ now)))
 some_aim flat w id now (inl h) =

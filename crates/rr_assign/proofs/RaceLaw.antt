@@ -4,17 +4,16 @@ use Rattle.std.specs.Prelude.{flat_map, nat_eq}
 use Rattle.std.specs.List.{list_any}
 use Rattle.std.proofs.lemmas.Bool.{cases_eq, eq-eqb, ne_eqb, and_parts, or_cases}
 use Rattle.rr_syntax.specs.Tree.{Identifier}
-use Rattle.rr_expr.specs.Scopes.{meant}
 use Rattle.rr_flat.specs.Lawful.{AssignedIn, NoRace}
 use Rattle.rr_flat.specs.Plain.{Block, Flat}
 use Rattle.rr_flat.specs.Reads.{Assigned, assigned_by, names_read}
 use Rattle.rr_flat.specs.Targets.{part_name}
-use Rattle.rr_flat.specs.Writers.{scope_at, block_at}
-use Rattle.rr_text_names.specs.Names.{is_the, signal_of, signal_named}
+use Rattle.rr_flat.specs.Writers.{block_at}
+use Rattle.rr_text_names.specs.Names.{is_the, variable_named}
 use Rattle.rr_assign.specs.Races.{writer_of, writers_of, writers_from, is_other, raced, race_of, races_from, races}
 use Rattle.rr_assign.proofs.Same.{is_the_yes}
 use Rattle.rr_text_names.proofs.Covering.{Member, empty_member, member_empty}
-use Rattle.rr_assign.proofs.KindLaw.{member_at, at_member, member_left, member_right, member_cases, member_map, map_member, signal_is}
+use Rattle.rr_assign.proofs.KindLaw.{member_at, at_member, member_left, member_right, member_cases, member_map, map_member}
 use Rattle.rr_text_names.proofs.Walks.{left_empty, right_empty}
 
 -- the writers
@@ -22,8 +21,8 @@ use Rattle.rr_text_names.proofs.Walks.{left_empty, right_empty}
 writes_one : (flat : Flat) (k : ℕ) (b : Block) (id : ℕ) → AssignedIn flat b id true → Member (k, Some id) (writers_of flat k b)
 writes_one flat k b id h =
     let a = h.1.0 in
-    let rest = h.1.1.1.1 in
-    let at : writer_of flat b.scope k a ≡ (k, Some id) = ap (λ o. (k, o)) (rw rest.2 (ap signal_of rest.3)) in
+    let rest = h.1.1 in
+    let at : writer_of flat b.scope k a ≡ (k, Some id) = ap (λ o. (k, o)) (rw rest.2 rest.3) in
     subst (λ z. Member z (writers_of flat k b)) at (member_map (writer_of flat b.scope k) (assigned_by b.body) a (member_at (assigned_by b.body) h.0 a rest.0 rest.1))
 
 one_writes : (flat : Flat) (k : ℕ) (b : Block) (w : ℕ × Option ℕ) (id : ℕ) → Member w (writers_of flat k b) → w.1 ≡ Some id → (w.0 ≡ k) × AssignedIn flat b id true
@@ -35,9 +34,8 @@ one_writes flat k b w id m h = go x.0 x.1.0 x.1.1 x.0.now refl
     go : (a : Assigned) → Member a (assigned_by b.body) → writer_of flat b.scope k a ≡ w → (now : Bool) → a.now ≡ now → (w.0 ≡ k) × AssignedIn flat b id true
     go a n e true is =
         let at = at_member (assigned_by b.body) a n in
-        let signal : signal_named flat b.scope (part_name a.part) ≡ Some id = rw is at (ap (λ z. z.1) e ∙ h) in
-        let s = signal_is (meant (scope_at flat b.scope) (part_name a.part)) id signal in
-        (sym (ap (λ z. z.0) e), (at.0, (a, (s.0, (s.1.0, (at.1.0, at.1.1, is, s.1.1))))))
+        let signal : variable_named flat b.scope (part_name a.part) ≡ Some id = rw is at (ap (λ z. z.1) e ∙ h) in
+        (sym (ap (λ z. z.0) e), (at.0, (a, (at.1.0, at.1.1, is, signal))))
     go a n e false is = let bad : None ≡ Some id = rw is at (ap (λ z. z.1) e ∙ h) in cc
 
 writers_there : (flat : Flat) (k : ℕ) (bs : List Block) (j id : ℕ) → j < length bs → AssignedIn flat (block_at bs j) id true → Member (k + j, Some id) (writers_from flat k bs)
@@ -112,7 +110,7 @@ at_names flat ws k (b ∷ bs) h =
     subst (λ z. flat_map (race_of flat ws z (block_at bs j).scope) (names_read (block_at bs j).body) ≡ []) next (h (suc j) (omega (arith, l)))))
 
 pub no_race : (flat : Flat) → races flat ≡ [] → NoRace flat
-no_race flat h j k lj lk id a i n range signed l e s = go (cases_eq j k)
+no_race flat h j k lj lk id a i n l e s = go (cases_eq j k)
   where
     ws : List (ℕ × Option ℕ)
     ws = writers_from flat 0 flat.clocked
@@ -126,15 +124,15 @@ no_race flat h j k lj lk id a i n range signed l e s = go (cases_eq j k)
         let raced : raced ws k (Some id) ≡ true = member_any (is_other k id) ws (j, Some id) (subst (λ z. Member (z, Some id) ws) at m) (yes_other k j id nay) in
         let zero_k : 0 + k ≡ k = omega arith in
         let none = empty_member (race_of flat ws k b.scope) (names_read b.body) n (subst (λ z. flat_map (race_of flat ws z b.scope) (names_read b.body) ≡ []) zero_k (names_at flat ws 0 flat.clocked k h lk)) (member_at (names_read b.body) i n l e) in
-        let bad : (n.token ∷ []) ≡ [] = rw (ap signal_of s, raced) at none in cc
+        let bad : (n.token ∷ []) ≡ [] = rw (s, raced) at none in cc
 
 pub race_none : (flat : Flat) → NoRace flat → races flat ≡ []
-race_none flat r = at_names flat (writers_from flat 0 flat.clocked) 0 flat.clocked (λ k l. member_empty (race_of flat (writers_from flat 0 flat.clocked) (0 + k) (block_at flat.clocked k).scope) (names_read (block_at flat.clocked k).body) (λ n m. at k l n m (signal_named flat (block_at flat.clocked k).scope n.text) refl))
+race_none flat r = at_names flat (writers_from flat 0 flat.clocked) 0 flat.clocked (λ k l. member_empty (race_of flat (writers_from flat 0 flat.clocked) (0 + k) (block_at flat.clocked k).scope) (names_read (block_at flat.clocked k).body) (λ n m. at k l n m (variable_named flat (block_at flat.clocked k).scope n.text) refl))
   where
     ws : List (ℕ × Option ℕ)
     ws = writers_from flat 0 flat.clocked
 
-    at : (k : ℕ) → k < length flat.clocked → (n : Identifier) → Member n (names_read (block_at flat.clocked k).body) → (o : Option ℕ) → signal_named flat (block_at flat.clocked k).scope n.text ≡ o
+    at : (k : ℕ) → k < length flat.clocked → (n : Identifier) → Member n (names_read (block_at flat.clocked k).body) → (o : Option ℕ) → variable_named flat (block_at flat.clocked k).scope n.text ≡ o
         → cond (raced ws (0 + k) o) (n.token ∷ []) [] ≡ []
     at k l n m None e = refl
     at k l n m (Some id) e = by (raced ws (0 + k) (Some id)) refl
@@ -146,7 +144,6 @@ race_none flat r = at_names flat (writers_from flat 0 flat.clocked) 0 flat.clock
             let o = other_yes (0 + k) id w.0 w.1.1 in
             let j = there_writers flat 0 flat.clocked w.0 id w.1.0 o.1 in
             let x = at_member (names_read (block_at flat.clocked k).body) n m in
-            let s = signal_is (meant (scope_at flat (block_at flat.clocked k).scope) n.text) id e in
-            let same : j.0 ≡ k = r j.0 k j.1.0 l id j.1.1.1 x.0 n s.0 s.1.0 x.1.0 x.1.1 s.1.1 in
+            let same : j.0 ≡ k = r j.0 k j.1.0 l id j.1.1.1 x.0 n x.1.0 x.1.1 e in
             let is : w.0.0 ≡ 0 + j.0 = j.1.1.0 in
             absurd (o.0 (omega (arith, is, same)))

@@ -15,7 +15,7 @@ use Rattle.rr_flat.specs.Writers.{block_at, no_block}
 use Rattle.rr_flat.specs.declared.design.Block.{Block as DeclaredBlock}
 use Rattle.rr_text_names.specs.Firsts.{earliest}
 use Rattle.rr_text_names.proofs.Walks.{earliest_hit, earliest_skip}
-use Rattle.rr_text_names.specs.Names.{signal_named}
+use Rattle.rr_text_names.specs.Names.{variable_named}
 use Rattle.rr_assign.specs.Races.{is_other, race_by, race_of, raced, raced_by, races_from, writer_table, writers_from, writers_of, HoldsWriters}
 use Rattle.rr_assign.specs.declared.races.Writers.{Writers}
 use Rattle.rr_assign.specs.declared.races.Writers.TheVariants.{Nobody, One, Several}
@@ -158,23 +158,23 @@ races_done flat ws ds i l = rw (drop_all i ds l) refl
 
 -- a name
 
-pub race_tells : (flat : Flat) (ws : List (ℕ × Option ℕ)) (t : ℕ → Writers) (block i : ℕ) (n : Identifier) (o : Option ℕ) → HoldsWriters ws t → signal_named flat i n.text ≡ o
+pub race_tells : (flat : Flat) (ws : List (ℕ × Option ℕ)) (t : ℕ → Writers) (block i : ℕ) (n : Identifier) (o : Option ℕ) → HoldsWriters ws t → variable_named flat i n.text ≡ o
     → race_of flat ws block i n ≡ race_by t block o n.token
 race_tells flat ws t block i n None h e = rw e refl
 race_tells flat ws t block i n (Some id) h e = rw e (ap (λ z. cond z (n.token ∷ []) []) (sym (h.raced block id)))
 
-pub race_none : (flat : Flat) (ws : List (ℕ × Option ℕ)) (t : ℕ → Writers) (block i : ℕ) (n : Named) → HoldsWriters ws t → None ≡ signal_named flat i n.name.now → None ≡ earliest (race_of flat ws block i (plain_identifier n))
+pub race_none : (flat : Flat) (ws : List (ℕ × Option ℕ)) (t : ℕ → Writers) (block i : ℕ) (n : Named) → HoldsWriters ws t → None ≡ variable_named flat i n.name.now → None ≡ earliest (race_of flat ws block i (plain_identifier n))
 unfolding earliest plain_identifier
 race_none flat ws t block i n h e = ap earliest (sym (race_tells flat ws t block i (record { token = n.token; text = n.name.now }) None h (sym e)))
 
-pub race_hit : (flat : Flat) (ws : List (ℕ × Option ℕ)) (t : List Writers) (block i id : ℕ) (d : Writers) (n : Named) → HoldsWriters ws (writer_table t) → Some id ≡ signal_named flat i n.name.now → id < length t
+pub race_hit : (flat : Flat) (ws : List (ℕ × Option ℕ)) (t : List Writers) (block i id : ℕ) (d : Writers) (n : Named) → HoldsWriters ws (writer_table t) → Some id ≡ variable_named flat i n.name.now → id < length t
     → raced_by (get_or t id d) block ≡ true → Some n.token ≡ earliest (race_of flat ws block i (plain_identifier n))
 unfolding earliest plain_identifier
 race_hit flat ws t block i id d n h e l r =
     let told : raced_by (writer_table t id) block ≡ true = ap (λ z. raced_by z block) (get_or_default t id Nobody d l) ∙ r in
     ap earliest (sym (race_tells flat ws (writer_table t) block i (record { token = n.token; text = n.name.now }) (Some id) h (sym e) ∙ ap (λ z. cond z (n.token ∷ []) []) told))
 
-pub race_miss : (flat : Flat) (ws : List (ℕ × Option ℕ)) (t : List Writers) (block i id : ℕ) (d : Writers) (n : Named) → HoldsWriters ws (writer_table t) → Some id ≡ signal_named flat i n.name.now → id < length t
+pub race_miss : (flat : Flat) (ws : List (ℕ × Option ℕ)) (t : List Writers) (block i id : ℕ) (d : Writers) (n : Named) → HoldsWriters ws (writer_table t) → Some id ≡ variable_named flat i n.name.now → id < length t
     → raced_by (get_or t id d) block ≡ false → None ≡ earliest (race_of flat ws block i (plain_identifier n))
 unfolding earliest plain_identifier
 race_miss flat ws t block i id d n h e l r =

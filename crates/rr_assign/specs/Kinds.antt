@@ -8,9 +8,9 @@ use Rattle.rr_flat.specs.Reads.{Assigned, assigned_by}
 use Rattle.rr_flat.specs.Targets.{part_name}
 use Rattle.rr_text_names.specs.Firsts.{earliest}
 use Rattle.rr_flat.specs.Parts.{block_of}
-use Rattle.rr_text_names.specs.Names.{signal_named, part_token}
+use Rattle.rr_text_names.specs.Names.{variable_named, part_token}
 
--- a target of a block: the token of its name, the variable, whether it is assigned by `=`, and by a combinational block
+-- a target of a block: the token of its name, the variable, which is a memory as a whole, whether it is assigned by `=`, and by a combinational block
 pub record Aim : Type 0 where
   pub token : ℕ
   pub signal : Option ℕ
@@ -18,7 +18,7 @@ pub record Aim : Type 0 where
   pub combinational : Bool
 
 abbrev pub aim_of : Flat → ℕ → Bool → Assigned → Aim
-aim_of flat i combinational a = record { token = part_token a.part; signal = signal_named flat i (part_name a.part); now = a.now; combinational = combinational }
+aim_of flat i combinational a = record { token = part_token a.part; signal = variable_named flat i (part_name a.part); now = a.now; combinational = combinational }
 
 abbrev pub is_combinational : design.Part → Bool
 is_combinational (part.Driver k) = false

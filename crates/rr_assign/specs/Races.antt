@@ -5,13 +5,13 @@ use Rattle.rr_syntax.specs.Tree.{Identifier}
 use Rattle.rr_flat.specs.Plain.{Block, Flat}
 use Rattle.rr_flat.specs.Reads.{Assigned, assigned_by, names_read}
 use Rattle.rr_flat.specs.Targets.{part_name}
-use Rattle.rr_text_names.specs.Names.{is_the, signal_named}
+use Rattle.rr_text_names.specs.Names.{is_the, variable_named}
 use Rattle.rr_assign.specs.declared.races.Writers.{Writers}
 use Rattle.rr_assign.specs.declared.races.Writers.TheVariants.{Nobody, One, Several}
 
 -- the targets of the clocked blocks: the number of the block, and the variable where it is assigned by `=`
 abbrev pub written_by : Flat → ℕ → Assigned → Option ℕ
-written_by flat i a = cond a.now (signal_named flat i (part_name a.part)) None
+written_by flat i a = cond a.now (variable_named flat i (part_name a.part)) None
 
 abbrev pub writer_of : Flat → ℕ → ℕ → Assigned → ℕ × Option ℕ
 writer_of flat i k a = (k, written_by flat i a)
@@ -33,7 +33,7 @@ raced writers k (Some id) = list_any (is_other k id) writers
 
 -- the names that a clocked block reads of such variables, by their tokens
 abbrev pub race_of : Flat → List (ℕ × Option ℕ) → ℕ → ℕ → Identifier → List ℕ
-race_of flat writers k i n = cond (raced writers k (signal_named flat i n.text)) (n.token ∷ []) []
+race_of flat writers k i n = cond (raced writers k (variable_named flat i n.text)) (n.token ∷ []) []
 
 unfoldable pub races_from : Flat → List (ℕ × Option ℕ) → ℕ → List Block → List ℕ
 races_from flat writers k [] = []

@@ -10,7 +10,7 @@ ghost use Rattle.rr_assign.specs.Kinds.{Aim, AreNoted, HoldsKinds, aim_of, aims,
 ghost use Rattle.rr_assign.specs.View.{plain_aim};
 
 use rr_flat::{Flat, Part};
-use rr_text_names::{Target, add_assigned_targets, identifier_of, signal_named};
+use rr_text_names::{Target, add_assigned_targets, identifier_of, variable_named};
 use std::alloc::{AllocError, Global};
 
 /// A target of a block, with the number of the block's scope.
@@ -116,7 +116,7 @@ fn note(flat: &Flat, kinds: &mut Vec<Option<bool>>, assignment: &Assignment) -> 
     if is_late(assignment.combinational, assignment.target.blocking) {
         return Some(named.token);
     }
-    match signal_named(flat, assignment.scope, named.name) {
+    match variable_named(flat, assignment.scope, named.name) {
         None => None,
         Some(id) => note_kind(kinds, id, assignment.target.blocking, named.token),
     }

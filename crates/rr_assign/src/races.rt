@@ -10,7 +10,7 @@ ghost use Rattle.rr_text_names.specs.View.{plain_target};
 
 use rr_flat::{Block, Flat};
 use rr_syntax::Named;
-use rr_text_names::{Target, add_assigned_targets, add_read_names, identifier_of, signal_named};
+use rr_text_names::{Target, add_assigned_targets, add_read_names, identifier_of, variable_named};
 use std::alloc::{AllocError, Global};
 
 /// The clocked blocks that write a variable by `=`.
@@ -54,7 +54,7 @@ fn written(flat: &Flat, scope: u32, target: &Target) -> Option<u32>
 {
     let named = identifier_of(target.part);
     if target.blocking {
-        signal_named(flat, scope, named.name)
+        variable_named(flat, scope, named.name)
     } else {
         None
     }
@@ -137,7 +137,7 @@ fn race_of(flat: &Flat, writers: &[Writers], block: usize, scope: u32, named: &N
     requires size { length flat.now.signals ≤ length writers.now }
     ensures { (ws : List (ℕ × Option ℕ)) → HoldsWriters ws (writer_table writers.now) → result ≡ earliest (race_in (plain_flat flat.now) ws block scope (plain_identifier named.now)) }
 {
-    match signal_named(flat, scope, named.name) {
+    match variable_named(flat, scope, named.name) {
         None => None,
         Some(id) => {
             if is_raced(writers[id as usize], block) {

@@ -18,7 +18,7 @@ use Rattle.rr_syntax.specs.Tree.{Literal, Assign}
 use Rattle.rr_syntax.specs.View.{texts}
 use Rattle.rr_expr.specs.declared.types.Bit.{Bit}
 use Rattle.rr_expr.specs.declared.types.Entity.{Entity}
-use Rattle.rr_expr.specs.declared.types.Entity.TheVariants.{Constant, Signal, Instance}
+use Rattle.rr_expr.specs.declared.types.Entity.TheVariants.{Constant, Signal, Memory, Instance}
 use Rattle.rr_expr.specs.Scopes.{Names, entity_shape, meant, range_width}
 use Rattle.rr_expr.specs.Values.{form, value}
 use Rattle.rr_flat.specs.Targets.{bits_there, target_bits}
@@ -35,7 +35,7 @@ use Rattle.rr_blast_sites.specs.declared.inputs.Inputs.{Inputs}
 use Rattle.rr_blast_sites.specs.Finding.{name_place}
 use Rattle.rr_blast_sites.specs.Instances.{World, place_of, env_in}
 use Rattle.rr_cycle.specs.Exec.{Environment, assigned, is_true, write}
-use Rattle.rr_signal_wires.proofs.GuardedPieceLaws.{none_of_constant, none_of_instance}
+use Rattle.rr_signal_wires.proofs.GuardedPieceLaws.{none_of_constant, none_of_instance, none_of_memory}
 use Rattle.rr_blast_stmt.specs.Running.{Values, ran, stored}
 use Rattle.rr_blast_stmt.proofs.RanLaws.{made, ran_assign}
 use Rattle.rr_blast_body.specs.declared.lasts.Last.{Last}
@@ -149,6 +149,10 @@ last_nowhere s l vs v h =
 pub last_of_constant : (s : Names) (l : Last) (vs : List Bool) (v : Values) (bits : List Bool) (signed : Bool) → meant s l.target.now ≡ Constant bits signed → v ≡ cond (get_or vs 0 false) (last_ran s (last_kind l) (last_pick l vs) v) v
 last_of_constant s l vs v bits signed q = last_nowhere s l vs v (λ us e.
     ap (λ (bs : List (Option Bit)). write bs us e) (named_bits s v.now l.target.now (Constant bits signed) q) ∙ none_of_constant bits signed (pos 0) (length bits) us e)
+
+pub last_of_memory : (s : Names) (l : Last) (vs : List Bool) (v : Values) (first low words : ℕ) (range : Option (ℕ × ℕ)) (signed : Bool) → meant s l.target.now ≡ Memory first low words range signed → v ≡ cond (get_or vs 0 false) (last_ran s (last_kind l) (last_pick l vs) v) v
+last_of_memory s l vs v first low words range signed q = last_nowhere s l vs v (λ us e.
+    ap (λ (bs : List (Option Bit)). write bs us e) (named_bits s v.now l.target.now (Memory first low words range signed) q) ∙ none_of_memory first low words range signed (pos 0) (range_width range) us e)
 
 pub last_of_instance : (s : Names) (l : Last) (vs : List Bool) (v : Values) → meant s l.target.now ≡ Instance → v ≡ cond (get_or vs 0 false) (last_ran s (last_kind l) (last_pick l vs) v) v
 last_of_instance s l vs v q = last_nowhere s l vs v (λ us e.

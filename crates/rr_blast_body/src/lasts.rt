@@ -131,6 +131,8 @@ fn run_last(
             Ok(())
         }
         Entity::Constant { .. } => Ok(()),
+        // Of itself a memory is never assigned.
+        Entity::Memory { .. } => Ok(()),
         Entity::Instance => Ok(()),
     }
 }

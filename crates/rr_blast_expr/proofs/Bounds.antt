@@ -6,12 +6,15 @@ use Rattle.rr_syntax.specs.declared.tree.Expr.{Expr}
 use Rattle.rr_syntax.specs.declared.tree.Expr.TheVariants as expr
 use Rattle.rr_syntax.specs.View.{plain, plain_list}
 use Rattle.rr_syntax.specs.Tree.{Tree, Name, Literal, Bit, Part, Indexed, Unary, Binary, Cond, Concat, Repeat, Cast, Paren}
+use Rattle.rr_expr.specs.declared.types.Entity.{Entity}
+use Rattle.rr_expr.specs.declared.types.Entity.TheVariants.{Constant, Signal, Memory, Instance}
 use Rattle.rr_expr.specs.declared.types.Shape.{Shape}
 use Rattle.rr_expr.specs.declared.operators.Infix.{Infix}
 use Rattle.rr_expr.specs.declared.operators.Infix.TheVariants.{Arithmetic, Divide, Remainder, Power, Shifted, Compared, Both, Either}
 use Rattle.rr_expr.specs.declared.operators.Prefix.{Prefix}
 use Rattle.rr_expr.specs.declared.operators.Prefix.TheVariants.{Plus, Minus, Invert, Reduced}
 use Rattle.rr_expr.specs.Operators.{infixes, prefixes, prefix_shape, infix_shape}
+use Rattle.rr_expr.specs.Memories.{index_shape}
 use Rattle.rr_expr.specs.Scopes.{Names, meant, entity_shape}
 use Rattle.rr_expr.specs.Values.{form, widths}
 use Rattle.rr_expr.specs.Faults.{fits, fit, fault, constant_count, constant_span, is_width}
@@ -37,11 +40,17 @@ infix_narrow Either a b h k = omega arith
 pub narrow : (w : ℕ) → is_width w ≡ true → w ≤ 128
 narrow w h = let l = ltb-true w 129 (and_parts (nat_lt 0 w) (nat_lt w 129) h).1 in omega (arith, l)
 
+index_narrow : (e : Entity) → (entity_shape e).width ≤ 128 → (index_shape e).width ≤ 128
+index_narrow (Constant bits signed) h = omega arith
+index_narrow (Signal id range signed) h = omega arith
+index_narrow (Memory first low words range signed) h = h
+index_narrow Instance h = omega arith
+
 pub width_narrow : (s : Names) (t : Tree) → fits s t ≡ true → (form s t).width ≤ 128
 unfolding fits form
 width_narrow s (Name token name) h = narrow (entity_shape (meant s name)).width h
 width_narrow s (Literal token n) h = narrow n.width h
-width_narrow s (Bit token name i) h = omega arith
+width_narrow s (Bit token name i) h = index_narrow (meant s name) (narrow (entity_shape (meant s name)).width (and_parts (is_width (entity_shape (meant s name)).width) (fits s i) h).0)
 width_narrow s (Part token name l r) h =
     let k = and_parts (is_width (entity_shape (meant s name)).width) (fits s l && (fits s r && is_width (constant_span s l r))) h in
     narrow (constant_span s l r) (and_parts (fits s r) (is_width (constant_span s l r)) (and_parts (fits s l) (fits s r && is_width (constant_span s l r)) k.1).1).1

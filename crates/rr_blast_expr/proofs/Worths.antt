@@ -23,13 +23,15 @@ use Rattle.rr_circuit.proofs.Netlists.{AreWires-extends, wire_values-extends, Ex
 use Rattle.rr_expr.specs.declared.types.Bit.{Bit}
 use Rattle.rr_expr.specs.declared.types.Shape.{Shape}
 use Rattle.rr_expr.specs.declared.types.Entity.{Entity}
+use Rattle.rr_expr.specs.declared.types.Entity.TheVariants.{Constant, Signal, Memory, Instance}
 use Rattle.rr_expr.specs.declared.operators.Infix.{Infix}
 use Rattle.rr_expr.specs.declared.operators.Infix.TheVariants.{Either}
 use Rattle.rr_expr.specs.declared.operators.Prefix.{Prefix}
 use Rattle.rr_expr.specs.declared.operators.Prefix.TheVariants.{Plus}
 use Rattle.rr_expr.specs.Operators.{infixes, prefixes, infix_value, prefix_value, infix_shape, prefix_shape}
 use Rattle.rr_expr.specs.Reading.{NamesBit}
-use Rattle.rr_expr.specs.Scopes.{Names, meant, entity_value, entity_range, env_of_lists}
+use Rattle.rr_expr.specs.Memories.{index_value}
+use Rattle.rr_expr.specs.Scopes.{Names, meant, entity_shape, entity_value, entity_range, env_of_lists}
 use Rattle.rr_expr.specs.Selects.{repeated, place, lowest_place, integer_with}
 use Rattle.rr_expr.specs.Values.{form, widths, value, values, nowhere, own}
 use Rattle.rr_expr.specs.Faults.{fault, takes_constants, constant_count, constant_span}
@@ -45,12 +47,16 @@ use Rattle.rr_blast_sites.specs.declared.inputs.Inputs.{Inputs}
 use Rattle.rr_word_gates.specs.Carried.{Carries, CarriesBit}
 use Rattle.rr_blast_sites.specs.Signals.{AreSignals, signal_values}
 use Rattle.rr_blast_sites.specs.Instances.{HasWires, World, Reads, Place, place_of, env_in, made_in, worth, own_worth, truth, test_truth, parts_worth, unchanged, new_value, literal_worth, listed}
-use Rattle.rr_blast_expr.specs.Forms.{placed, name_worth, index_worth, bit_worth, part_worth, indexed_worth, prefix_worth}
+use Rattle.rr_memory_gates.specs.declared.Memory as memory
+use Rattle.rr_memory_gates.specs.Reading.{word_read}
+use Rattle.rr_memory_gates.proofs.WordReads.{read_is}
+use Rattle.rr_blast_expr.specs.Forms.{placed, name_worth, index_worth, word_worth, bit_worth, part_worth, indexed_worth, prefix_worth}
 use Rattle.rr_word_gates.proofs.Carrying.{Carries-same, carried1}
 use Rattle.rr_blast_expr.proofs.Faultless.{none_binary}
 use Rattle.rr_instance_laws.proofs.FormLaws.{form_instance}
 use Rattle.rr_instance_laws.proofs.OffLaws.{keeps_at_no_cost}
 use Rattle.rr_blast_sites.proofs.GrowthLaws.{Reads-extends}
+use Rattle.rr_blast_sites.proofs.SignalLaws.{signal_values-extends}
 
 -- without sites an expression is its own instance
 
@@ -87,7 +93,7 @@ module _ (p : Place) (e : Expr) (context : Shape) (input : ℕ → Bool) where
   pub Bit-arm : (token : ℕ) (name : Bor (List ℕ)) (i : Bor Expr) → e ≡ expr.Bit token name i → placed context (bit_worth p name.now (plain i.now)) input ≡ worth p (plain e) context input
   unfolding worth plain instance_tree value
   Bit-arm token name i is =
-      ap (λ v. extend context.width context.signed (select (name_worth p name.now input) (place (entity_range (meant p.names name.now)) (reading (form p.names (plain i.now)).signed v)) 1)) (sym (still (plain i.now)))
+      ap (λ v. extend context.width context.signed (index_value (env_in p input) (meant p.names name.now) (reading (form p.names (plain i.now)).signed v))) (sym (still (plain i.now)))
       ∙ sym (ap (λ x. worth p (plain x) context input) is)
 
   pub Part-arm : (token : ℕ) (name : Bor (List ℕ)) (l r : Bor Expr) (count : ℕ) → e ≡ expr.Part token name l r → count ≡ constant_span p.names (plain l.now) (plain r.now) → placed context (part_worth p name.now (plain r.now) count) input ≡ worth p (plain e) context input
@@ -296,14 +302,49 @@ constant-bits p n z range below count index word out none is co =
     Carries-same n out (λ input. select (wire_values n input word) (place range z -ℤ pos below) count) (λ input. select (wire_values n input word) (place range (index_worth p index input) -ℤ pos below) count) co
     (λ input. ap (λ y. select (wire_values n input word) (place range y -ℤ pos below) count) (is ∙ ap (reading (form p.names index).signed) (constant_index p index input none)))
 
-pub bit-carried : (p : Place) (n m : Netlist) (e : Entity) (range : ℕ × ℕ) (name : List ℕ) (index : Tree) (word us out : List Wire) → e ≡ meant p.names name → range ≡ entity_range e → us ≡ word → Carries n word (name_worth p name)
+-- but of a memory an index reads a bit
+abbrev pub IsNoMemory : Entity → Type 0
+IsNoMemory e = (first low words : ℕ) (range : Option (ℕ × ℕ)) (signed : Bool) → e ≡ Memory first low words range signed → ⊥
+
+index_bit : (env : Bit → Bool) (e : Entity) (i : ℤ) → IsNoMemory e → select (entity_value env e) (place (entity_range e) i) 1 ≡ index_value env e i
+index_bit env (Constant bits signed) i none = refl
+index_bit env (Signal id range signed) i none = refl
+index_bit env (Memory first low words range signed) i none = absurd (none first low words range signed refl)
+index_bit env Instance i none = refl
+
+pub bit-carried : (p : Place) (n m : Netlist) (e : Entity) (range : ℕ × ℕ) (name : List ℕ) (index : Tree) (word us out : List Wire) → IsNoMemory e → e ≡ meant p.names name → range ≡ entity_range e → us ≡ word → Carries n word (name_worth p name)
     → Carries m out (λ input. select (wire_values n input us) (place range (index_worth p index input) -ℤ pos 0) 1) → Carries m out (bit_worth p name index)
-bit-carried p n m e range name index word us out is r u cw co = record {
+bit-carried p n m e range name index word us out none is r u cw co = record {
   wires = co.wires;
   value = λ input. co.value input
       ∙ ap (λ z. select (wire_values n input us) z 1) (unmoved (place range (index_worth p index input)))
-      ∙ ap₂ (λ xs k. select xs (place k (index_worth p index input)) 1) (ap (wire_values n input) u ∙ cw.value input) (r ∙ ap entity_range is);
+      ∙ ap₂ (λ xs k. select xs (place k (index_worth p index input)) 1) (ap (wire_values n input) u ∙ cw.value input ∙ sym (ap (entity_value (env_in p input)) is)) r
+      ∙ index_bit (env_in p input) e (index_worth p index input) none
+      ∙ ap (λ k. index_value (env_in p input) k (index_worth p index input)) is;
 }
+
+-- of a memory a word, by a constant index and by any other
+
+pub fixed-word : (n : Netlist) (i : Inputs) (W : World) (m : memory.Memory) (z : ℤ) (index : Tree) (out : List Wire) → Reads n i W → fault i.scope.now index true ≡ None → z ≡ integer_with (form i.scope.now index) (value i.scope.now index nowhere)
+    → Carries n out (λ input. word_read (env_of_lists (signal_values n input i.signals.now)) m z) → Carries n out (word_worth (place_of i W) m index)
+fixed-word n i W m z index out h none is co = Carries-same n out (λ input. word_read (env_of_lists (signal_values n input i.signals.now)) m z) (word_worth (place_of i W) m index) co
+    (λ input. ap₂ (λ vs y. word_read (env_of_lists vs) m y) (h.signals input) (is ∙ ap (reading (form i.scope.now index).signed) (constant_index (place_of i W) index input none)))
+
+pub wired-word : (n k l : Netlist) (i : Inputs) (W : World) (m : memory.Memory) (shape : Shape) (index : Tree) (at vs out : List Wire) → Reads n i W → shape ≡ form i.scope.now index → vs ≡ at → Extends n k → Carries k at (own_worth (unchanged (place_of i W)) index)
+    → Carries l out (λ input. word_read (env_of_lists (signal_values k input i.signals.now)) m (reading shape.signed (wire_values k input vs))) → Carries l out (word_worth (place_of i W) m index)
+wired-word n k l i W m shape index at vs out h sh v x ca co =
+    Carries-same l out (λ input. word_read (env_of_lists (signal_values k input i.signals.now)) m (reading shape.signed (wire_values k input vs))) (word_worth (place_of i W) m index) co
+    (λ input.
+    ap₂ (λ ss ys. word_read (env_of_lists ss) m (reading shape.signed ys)) (signal_values-extends n k input i.signals.now x h.wires.signals ∙ h.signals input) (ap (wire_values k input) v ∙ ca.value input)
+    ∙ ap (λ (a : Shape). word_read (env_in (place_of i W) input) m (reading a.signed (own_worth (unchanged (place_of i W)) index input))) sh)
+
+pub memory-carried : (p : Place) (n : Netlist) (e : Entity) (shape : Shape) (first low words : ℕ) (range : Option (ℕ × ℕ)) (signed : Bool) (name : List ℕ) (index : Tree) (out : List Wire) → e ≡ meant p.names name → e ≡ Memory first low words range signed → shape ≡ entity_shape (Memory first low words range signed)
+    → Carries n out (word_worth p (record { first = first; low = low; words = words; width = shape.width }) index) → Carries n out (bit_worth p name index)
+memory-carried p n e shape first low words range signed name index out is stored sh co =
+    Carries-same n out (word_worth p (record { first = first; low = low; words = words; width = shape.width }) index) (bit_worth p name index) co
+    (λ input.
+    read_is (env_in p input) first low words shape.width range signed (index_worth p index input) (ap (λ (a : Shape). a.width) sh)
+    ∙ ap (λ k. index_value (env_in p input) k (index_worth p index input)) (sym stored ∙ is))
 
 pub part-carried : (p : Place) (n : Netlist) (e : Entity) (range : ℕ × ℕ) (index : ℤ) (count : ℕ) (name : List ℕ) (r : Tree) (word us out : List Wire) → e ≡ meant p.names name → range ≡ entity_range e → index ≡ integer_with (form p.names r) (value p.names r nowhere) → us ≡ word
     → Carries n word (name_worth p name) → Carries n out (λ input. select (wire_values n input us) (place range index -ℤ pos 0) count) → Carries n out (part_worth p name r count)

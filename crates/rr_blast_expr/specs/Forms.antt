@@ -8,12 +8,15 @@ use Rattle.rr_expr.specs.declared.operators.Prefix.{Prefix}
 use Rattle.rr_expr.specs.declared.operators.Relation.{Relation}
 use Rattle.rr_expr.specs.declared.operators.Shift.{Shift}
 use Rattle.rr_expr.specs.Operators.{joined, operation_value, shift_value, relation_holds, prefix_value}
+use Rattle.rr_expr.specs.Memories.{index_value}
 use Rattle.rr_expr.specs.Scopes.{meant, entity_value, entity_range}
 use Rattle.rr_expr.specs.Selects.{place, lowest_place, integer_with}
 use Rattle.rr_expr.specs.Values.{form, value, nowhere}
 use Rattle.rr_bits.specs.Words.{reading}
 use Rattle.rr_word_gates.specs.declared.words.Connective.{Connective}
 use Rattle.rr_word_gates.specs.Gates.{connected}
+use Rattle.rr_memory_gates.specs.declared.Memory.{Memory}
+use Rattle.rr_memory_gates.specs.Reading.{word_read}
 use Rattle.rr_blast_sites.specs.Instances.{Place, env_in, worth, own_worth, truth, unchanged}
 
 -- one bit, and a word that stands by itself, in a context
@@ -31,10 +34,15 @@ name_worth p name input = entity_value (env_in p input) (meant p.names name)
 abbrev pub index_worth : Place → Tree → (ℕ → Bool) → ℤ
 index_worth p i input = reading (form p.names i).signed (own_worth (unchanged p) i input)
 
--- selects of a number of bits; the right bound of a part is constant
-abbrev pub bit_worth : Place → List ℕ → Tree → (ℕ → Bool) → List Bool
-bit_worth p name i input = select (name_worth p name input) (place (entity_range (meant p.names name)) (index_worth p i input)) 1
+-- a word of a memory
+abbrev pub word_worth : Place → Memory → Tree → (ℕ → Bool) → List Bool
+word_worth p m i input = word_read (env_in p input) m (index_worth p i input)
 
+-- what an index reads: a bit, but a word of a memory
+abbrev pub bit_worth : Place → List ℕ → Tree → (ℕ → Bool) → List Bool
+bit_worth p name i input = index_value (env_in p input) (meant p.names name) (index_worth p i input)
+
+-- selects of a number of bits; the right bound of a part is constant
 abbrev pub part_worth : Place → List ℕ → Tree → ℕ → (ℕ → Bool) → List Bool
 part_worth p name r count input = select (name_worth p name input) (place (entity_range (meant p.names name)) (integer_with (form p.names r) (value p.names r nowhere))) count
 

@@ -12,7 +12,7 @@ ghost use Rattle.rr_expr.specs.Selects.{place, repeated as repeated_word};
 ghost use Rattle.rr_expr.specs.Values.{form, widths};
 ghost use Rattle.rr_word_gates.specs.Carried.{Carries, CarriesBit};
 ghost use Rattle.rr_blast_sites.specs.Instances.{World, Reads, place_of, worth, own_worth, truth, parts_worth, test_truth, HasWires};
-ghost use Rattle.rr_blast_expr.specs.Forms.{in_context, placed, index_worth, bit_worth, indexed_worth, prefix_worth, operation_worth, shift_worth, relation_worth, logic_worth};
+ghost use Rattle.rr_blast_expr.specs.Forms.{in_context, placed, index_worth, word_worth, bit_worth, indexed_worth, prefix_worth, operation_worth, shift_worth, relation_worth, logic_worth};
 
 use crate::operands::{
     bit_word, constant_at, constant_word, copies_of, literal_in, name_in, part_select, unsited,
@@ -21,9 +21,10 @@ use crate::shapes::{own_shape, width};
 use rr_blast_sites::{Inputs, name_word, test_wire};
 use rr_circuit::{Builder, Wire};
 use rr_expr::{
-    Infix, Operation, Prefix, Relation, Shape, Shift, below_index, entity_range, infix_of, joined,
-    prefix_of,
+    Entity, Infix, Operation, Prefix, Relation, Shape, Shift, below_index, entity_range,
+    index_shape, infix_of, joined, prefix_of,
 };
+use rr_memory_gates::{Memory, fixed_word, moving_word};
 use rr_syntax::{Expr, Mark};
 use rr_word_gates::{
     Connective, chosen, computed, connected, extended, holds, inverted, negated, of_all, picked_at,
@@ -127,7 +128,42 @@ fn bits_at(
     }
 }
 
-/// The bit of a name at an index, in a context.
+/// The word of a memory at an index. The index stays in every instance; the word at a constant index
+/// costs no gate.
+#[cycle(wires)]
+fn memory_word(
+    alloc: Global,
+    b: &mut Builder,
+    memory: Memory,
+    index: &Expr,
+    inputs: &Inputs,
+) -> Result<Vec<Wire>, AllocError>
+    requires wires { HasWires b.old inputs.now }
+    requires wide { 1 ≤ memory.width }
+    requires narrow { memory.width ≤ 128 }
+    requires none { fault inputs.now.scope.now (plain index.now) false ≡ None }
+    ensures extends { Extends b.old b.new }
+    ensures wires { IfOk result (λ r. AreWires b.new r.items) }
+    ensures width { IfOk result (λ r. length r.items ≡ memory.width) }
+    ensures value { IfOk result (λ r. (W : World) → Reads b.old inputs.now W → Carries b.new r.items (word_worth (place_of inputs.now W) memory (plain index.now))) }
+{
+    match constant_at(index, inputs.scope) {
+        Some(at) => {
+            let out = fixed_word(alloc, b, memory, inputs.signals, at)?;
+            Ok(out)
+        }
+        None => {
+            let shape = own_shape(index, inputs.scope);
+            let still = unsited(inputs);
+            let at = word_in(alloc, b, index, &still, shape)?;
+            let by = at.as_slice();
+            let out = moving_word(alloc, b, memory, inputs.signals, by, shape.signed)?;
+            Ok(out)
+        }
+    }
+}
+
+/// What an index of a name reads, a bit or a word of a memory, in a context.
 #[cycle(wires)]
 fn bit_select(
     alloc: Global,
@@ -146,6 +182,24 @@ fn bit_select(
     ensures value { IfOk result (λ r. (W : World) → Reads b.old inputs.now W → Carries b.new r.items (placed context (bit_worth (place_of inputs.now W) name.now (plain index.now)))) }
 {
     let entity = inputs.scope.meaning(name);
+    if let Entity::Memory {
+        first,
+        low,
+        words,
+        ..
+    } = entity
+    {
+        let width = index_shape(&entity).width;
+        let memory = Memory {
+            first,
+            low,
+            words,
+            width,
+        };
+        let stored = memory_word(alloc, b, memory, index, inputs)?;
+        let whole = extended(alloc, b, stored.as_slice(), context.width, context.signed)?;
+        return Ok(whole);
+    }
     let range = entity_range(&entity);
     let word = name_word(alloc, b, &entity, inputs.signals)?;
     let bit = bits_at(alloc, b, word.as_slice(), index, range, 0, 1, inputs)?;

@@ -14,7 +14,7 @@ use Rattle.rr_bits.proofs.Numbers.{number-lt, number_small, word_number}
 use Rattle.rr_bits.proofs.Places.{length_tabulate, word_tabulated, get_word, has_above, has}
 use Rattle.rr_expr.specs.declared.types.Bit.{Bit}
 use Rattle.rr_expr.specs.declared.types.Entity.{Entity}
-use Rattle.rr_expr.specs.declared.types.Entity.TheVariants.{Constant, Signal, Instance}
+use Rattle.rr_expr.specs.declared.types.Entity.TheVariants.{Constant, Signal, Memory, Instance}
 use Rattle.rr_expr.specs.Scopes.{Names, meant, entity_shape, entity_value, range_width}
 use Rattle.rr_expr.specs.Values.{form, value}
 use Rattle.rr_arith.proofs.Ripple.{width-values}
@@ -27,6 +27,7 @@ use Rattle.rr_blast_sites.specs.Signals.{signal_values}
 use Rattle.rr_blast_sites.specs.Finding.{changed, guarded_by, name_place}
 use Rattle.rr_blast_sites.specs.Instances.{World, Reads, place_of, env_in}
 use Rattle.rr_word_gates.proofs.Carrying.{CarriesBit-same, CarriesBit-extends, tabulated, value-read}
+use Rattle.rr_word_gates.proofs.WordLaws.{number_zeros}
 use Rattle.rr_blast_sites.proofs.GrowthLaws.{Reads-extends}
 
 -- whether a word writes a number
@@ -108,6 +109,9 @@ truth_entity s env name e is = ap (λ k. not (is_zero (extend (entity_shape k).w
     whole (Signal id range signed) =
         let xs = tabulate (range_width range) (λ i. env (record { signal = id; place = i })) in
         ap (λ k. not (is_zero (extend k signed xs))) (sym (length_tabulate (range_width range) (λ i. env (record { signal = id; place = i })))) ∙ ap (λ ys. not (is_zero ys)) (tabulated xs (signed && top xs))
+    whole (Memory first low words range signed) =
+        let xs = tabulate (range_width range) (λ i. false) in
+        ap (λ k. not (is_zero (extend k signed xs))) (sym (length_tabulate (range_width range) (λ i. false))) ∙ ap (λ ys. not (is_zero ys)) (tabulated xs (signed && top xs))
     whole Instance = ap (λ xs. not (is_zero xs)) (tabulated [] (false && top []))
 
 pub constant_truth : (i : Inputs) (n : Netlist) (W : World) (name : List ℕ) (bits : List Bool) (signed : Bool) (w : Wire) (e : Entity) → e ≡ meant i.scope.now name → e ≡ Constant bits signed → IsWire n w → ((input : ℕ → Bool) → wire_value n input w ≡ not (is_zero bits)) → CarriesBit n w (λ input. name_truth i.scope.now (env_in (place_of i W) input) name)
@@ -116,6 +120,14 @@ constant_truth i n W name bits signed w e is k h v = record { wire = h; value = 
 pub instance_truth : (i : Inputs) (n : Netlist) (W : World) (name : List ℕ) (w : Wire) (e : Entity) → e ≡ meant i.scope.now name → e ≡ Instance → IsWire n w → ((input : ℕ → Bool) → wire_value n input w ≡ false) → CarriesBit n w (λ input. name_truth i.scope.now (env_in (place_of i W) input) name)
 unfolding number
 instance_truth i n W name w e is k h v = record { wire = h; value = λ input. v input ∙ sym (truth_entity i.scope.now (env_in (place_of i W) input) name Instance (sym k ∙ is)) }
+
+-- of itself a memory is never read
+pub memory_truth : (i : Inputs) (n : Netlist) (W : World) (name : List ℕ) (first low words : ℕ) (range : Option (ℕ × ℕ)) (signed : Bool) (w : Wire) (e : Entity) → e ≡ meant i.scope.now name → e ≡ Memory first low words range signed → IsWire n w → ((input : ℕ → Bool) → wire_value n input w ≡ false) → CarriesBit n w (λ input. name_truth i.scope.now (env_in (place_of i W) input) name)
+memory_truth i n W name first low words range signed w e is k h v = record {
+  wire = h;
+  value = λ input. v input
+      ∙ sym (truth_entity i.scope.now (env_in (place_of i W) input) name (Memory first low words range signed) (sym k ∙ is) ∙ ap (λ m. not (m == 0)) (number_zeros (range_width range) (tabulate (range_width range) (λ i. false)) refl));
+}
 
 pub signal_truth : (i : Inputs) (n m : Netlist) (W : World) (name : List ℕ) (id : ℕ) (range : Option (ℕ × ℕ)) (signed : Bool) (ws us : List Wire) (w : Wire) (e : Entity) (count : ℕ) → e ≡ meant i.scope.now name → e ≡ Signal id range signed → Reads n i W
     → ((input : ℕ → Bool) → wire_values n input ws ≡ get_or (signal_values n input i.signals.now) id []) → count ≡ min (range_width range) (length ws) → us ≡ take count ws

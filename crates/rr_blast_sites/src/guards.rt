@@ -60,11 +60,12 @@ pub fn name_wire(b: &mut Builder, name: &str, inputs: &Inputs) -> Result<Wire, A
     match inputs.scope.meaning(name) {
         Entity::Constant { bits, .. } => Ok(b.constant(bits.to_u128() != 0)),
         Entity::Signal { id, range, .. } => {
-            let wires = signal_wires(inputs.signals, id);
+            let wires = signal_wires(inputs.signals, id as usize);
             let count = range_width(range).min(wires.len());
             let out = of_all(b, Connective::Or, &wires[..count])?;
             Ok(out)
         }
+        Entity::Memory { .. } => Ok(b.constant(false)),
         Entity::Instance => Ok(b.constant(false)),
     }
 }

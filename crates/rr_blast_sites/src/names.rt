@@ -12,11 +12,11 @@ use rr_word_gates::{constants, extended};
 use std::alloc::{AllocError, Global};
 
 /// The wires of a signal, none where there is no such signal.
-pub fn signal_wires<'a>(signals: &'a [Vec<Wire>], id: u32) -> &'a [Wire]
+pub fn signal_wires<'a>(signals: &'a [Vec<Wire>], id: usize) -> &'a [Wire]
     ensures value { (n : Netlist) (input : ℕ → Bool) → wire_values n input result.now ≡ slice_index_or (signal_values n input signals.now) id [] }
     ensures wires { (n : Netlist) → AreSignals n signals.now → AreWires n result.now }
 {
-    match signals.get(id as usize) {
+    match signals.get(id) {
         Some(wires) => wires.as_slice(),
         None => &[],
     }
@@ -41,7 +41,14 @@ pub fn name_word(
         }
         Entity::Signal { id, .. } => {
             let width = entity_shape(entity).width;
-            let out = extended(alloc, b, signal_wires(signals, *id), width, false)?;
+            let wires = signal_wires(signals, *id as usize);
+            let out = extended(alloc, b, wires, width, false)?;
+            Ok(out)
+        }
+        // Of itself a memory is never read.
+        Entity::Memory { .. } => {
+            let width = entity_shape(entity).width;
+            let out = extended(alloc, b, &[], width, false)?;
             Ok(out)
         }
         Entity::Instance => Ok(Vec::new(alloc)),

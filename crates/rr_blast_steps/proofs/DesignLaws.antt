@@ -29,8 +29,8 @@ use Rattle.rr_blast_steps.specs.Designs.{ran_blocks, signal_widths}
 use Rattle.rr_flat_instance.specs.Flats.{instance_block, instance_flat}
 use Rattle.rr_blast_body.specs.Overwrites.{body_instance}
 use Rattle.rr_blast_stmt.specs.Running.{Values, ran}
-use Rattle.rr_signal_wires.specs.Words.{Holds}
-use Rattle.rr_meaning.proofs.Scoping.{IsSound, number_of, wide}
+use Rattle.rr_signal_wires.specs.Words.{HasWord, Holds}
+use Rattle.rr_meaning.proofs.Scoping.{IsNumber, IsSound, number_of, wide, word_of}
 use Rattle.rr_blast_stmt.proofs.RanLaws.{made}
 
 pub width_there : (signals : List Signal) (id : ℕ) → id < length signals → get_or (signal_widths signals) id 0 ≡ (signal_at (map plain_signal signals) id).width
@@ -38,11 +38,17 @@ width_there [] id l = absurd (omega arith)
 width_there (x ∷ xs) zero l = refl
 width_there (x ∷ xs) (suc id) l = width_there xs id (omega arith)
 
-pub scope_holds : (d : Design) (s : Names) → IsSound d → IsScope d.signals s → Holds s (signal_widths d.signals)
-scope_holds d s f h name id range signed q =
-    let n = number_of d.signals s name id range signed h q in
+number_has : (d : Design) (id : ℕ) (range : Option (ℕ × ℕ)) → IsSound d → IsNumber d.signals id range → HasWord (signal_widths d.signals) range id
+number_has d id range f n =
     let w = wide d id f n.inside in
     (omega (arith, n.inside, length-map d.signals (λ (x : Signal). x.width)), width_there d.signals id n.inside ∙ w.range ∙ ap range_width n.range_is)
+
+pub scope_holds : (d : Design) (s : Names) → IsSound d → IsScope d.signals s → Holds s (signal_widths d.signals)
+scope_holds d s f h = record {
+  signals = λ name id range signed q. number_has d id range f (number_of d.signals s name id range signed h q);
+  memories = λ name first low words range signed q k l. number_has d (first + k) range f (word_of d.signals s name first low words range signed k h q l);
+  few = omega (arith, f.numbers, length-map d.signals (λ (x : Signal). x.width));
+}
 
 -- blocks
 

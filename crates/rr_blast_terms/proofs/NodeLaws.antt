@@ -8,11 +8,15 @@ use Rattle.rr_syntax.specs.declared.tree.Expr.TheVariants as expr
 use Rattle.rr_syntax.specs.View.{plain, plain_list}
 use Rattle.rr_syntax.proofs.Rows.{plain_concat, plain_repeat}
 use Rattle.rr_expr.specs.declared.types.Bit.{Bit}
+use Rattle.rr_expr.specs.declared.types.Entity.{Entity}
+use Rattle.rr_expr.specs.declared.types.Entity.TheVariants.{Constant, Signal, Memory, Instance}
 use Rattle.rr_expr.specs.Faults.{constant_count, fault, faults}
+use Rattle.rr_expr.specs.Memories.{index_shape}
 use Rattle.rr_expr.specs.Scopes.{Names, meant, entity_range}
 use Rattle.rr_expr.specs.Selects.{place, lowest_place, integer_with}
 use Rattle.rr_expr.specs.Values.{form, value, nowhere}
-use Rattle.rr_flat.specs.Targets.{bit_there, bits_there, is_constant, target_bits, targets_bits}
+use Rattle.rr_flat.specs.Targets.{bit_there, bits_there, index_bits, is_constant, target_bits, targets_bits}
+use Rattle.rr_flat.proofs.Bits.{index_length}
 use Rattle.rr_flat.proofs.Relaxing.{none_parts}
 use Rattle.rr_cycle.specs.Exec.{Environment, write}
 use Rattle.rr_cycle.proofs.TargetBits.{index_fixed}
@@ -61,7 +65,7 @@ fixed-Part s token name l r e = refl
 
 pub fixed-Bit : (s : Names) (token : ℕ) (name : Bor (List ℕ)) (i : Bor Expr) (e : Environment) → is_constant s (plain i.now) ≡ true → target_bits s e (plain (expr.Bit token name i)) ≡ target_bits s nowhere (plain (expr.Bit token name i))
 unfolding plain target_bits
-fixed-Bit s token name i e h = ap (λ (z : ℤ). bit_there (meant s name.now) (place (entity_range (meant s name.now)) z) ∷ []) (index_fixed s (plain i.now) e h)
+fixed-Bit s token name i e h = ap (λ (z : ℤ). index_bits (meant s name.now) z) (index_fixed s (plain i.now) e h)
 
 pub fixed-Indexed : (s : Names) (token : ℕ) (name : Bor (List ℕ)) (f n : Bor Expr) (up : Bool) (e : Environment) → is_constant s (plain f.now) ≡ true →
     target_bits s e (plain (expr.Indexed token name f n up)) ≡ target_bits s nowhere (plain (expr.Indexed token name f n up))
@@ -81,18 +85,34 @@ lowest_one r z = by (nat_lt r.0 r.1) refl
     by false q = refl
 
 pub bits-Bit : (s : Names) (token : ℕ) (name : Bor (List ℕ)) (i : Bor Expr) (e : Environment) →
-    target_bits s e (plain (expr.Bit token name i)) ≡ bits_there (meant s name.now) (lowest_place (entity_range (meant s name.now)) true (integer_with (form s (plain i.now)) (value s (plain i.now) e)) 1) 1
-unfolding plain target_bits bits_there
-bits-Bit s token name i e = ap (λ (z : ℤ). bit_there (meant s name.now) z ∷ []) (lowest_one (entity_range (meant s name.now)) (integer_with (form s (plain i.now)) (value s (plain i.now) e)))
+    target_bits s e (plain (expr.Bit token name i)) ≡ index_bits (meant s name.now) (integer_with (form s (plain i.now)) (value s (plain i.now) e))
+unfolding plain target_bits
+bits-Bit s token name i e = refl
+
+-- but of a memory an index names a bit
+abbrev pub IsNoMemory : Entity → Type 0
+IsNoMemory e = (first low words : ℕ) (range : Option (ℕ × ℕ)) (signed : Bool) → e ≡ Memory first low words range signed → ⊥
+
+pub one_bit_of : (e : Entity) → IsNoMemory e → (index_shape e).width ≡ 1
+one_bit_of (Constant bits signed) none = refl
+one_bit_of (Signal id range signed) none = refl
+one_bit_of (Memory first low words range signed) none = absurd (none first low words range signed refl)
+one_bit_of Instance none = refl
+
+pub bit_of_index : (e : Entity) (z : ℤ) → IsNoMemory e → bits_there e (lowest_place (entity_range e) true z 1) 1 ≡ index_bits e z
+unfolding bits_there
+bit_of_index (Constant bits signed) z none = ap (λ (p : ℤ). bit_there (Constant bits signed) p ∷ []) (sym (lowest_one (entity_range (Constant bits signed)) z))
+bit_of_index (Signal id range signed) z none = ap (λ (p : ℤ). bit_there (Signal id range signed) p ∷ []) (sym (lowest_one (entity_range (Signal id range signed)) z))
+bit_of_index (Memory first low words range signed) z none = absurd (none first low words range signed refl)
+bit_of_index Instance z none = ap (λ (p : ℤ). bit_there Instance p ∷ []) (sym (lowest_one (entity_range Instance) z))
 
 pub bits-Indexed : (s : Names) (token : ℕ) (name : Bor (List ℕ)) (f n : Bor Expr) (up : Bool) (e : Environment) (w : ℕ) → w ≡ (form s (plain (expr.Indexed token name f n up))).width →
     target_bits s e (plain (expr.Indexed token name f n up)) ≡ bits_there (meant s name.now) (lowest_place (entity_range (meant s name.now)) up (integer_with (form s (plain f.now)) (value s (plain f.now) e)) w) w
 unfolding plain target_bits form
 bits-Indexed s token name f n up e w q = rw q refl
 
-pub size-Bit : (s : Names) (token : ℕ) (name : Bor (List ℕ)) (i : Bor Expr) (e : Environment) → length (target_bits s e (plain (expr.Bit token name i))) ≡ 1
-unfolding plain target_bits
-size-Bit s token name i e = refl
+pub size-Bit : (s : Names) (token : ℕ) (name : Bor (List ℕ)) (i : Bor Expr) (e : Environment) → length (target_bits s e (plain (expr.Bit token name i))) ≡ (index_shape (meant s name.now)).width
+size-Bit s token name i e = ap length (bits-Bit s token name i e) ∙ index_length (meant s name.now) (integer_with (form s (plain i.now)) (value s (plain i.now) e))
 
 pub size-Indexed : (s : Names) (token : ℕ) (name : Bor (List ℕ)) (f n : Bor Expr) (up : Bool) (e : Environment) (w : ℕ) → w ≡ (form s (plain (expr.Indexed token name f n up))).width →
     length (target_bits s e (plain (expr.Indexed token name f n up))) ≡ w

@@ -1,12 +1,13 @@
-//! Targets of assignments on wires (IEEE 1364-2005 sections 5.2.1, 6.1 and 9.2).
+//! Targets of assignments on wires (IEEE 1364-2005 sections 5.2.1, 5.2.2, 6.1 and 9.2).
 ghost use Rattle.std.specs.Prelude.{◌≡◌, ◌≤◌, ◌+◌, ℕ, Bool, false, None, List, IfOk, OnOk, drop, length};
 ghost use Rattle.rr_circuit.specs.Values.{Extends};
 ghost use Rattle.rr_syntax.specs.View.{plain, plain_list};
 ghost use Rattle.rr_expr.specs.Faults.{fault, faults};
+ghost use Rattle.rr_expr.specs.Memories.{index_shape};
 ghost use Rattle.rr_expr.specs.Scopes.{entity_range, entity_shape, meant};
 ghost use Rattle.rr_expr.specs.Selects.{integer_with, lowest_place};
 ghost use Rattle.rr_expr.specs.Values.{form, nowhere, value};
-ghost use Rattle.rr_flat.specs.Targets.{bits_there, is_constant as is_constant_in, target_bits, targets_bits};
+ghost use Rattle.rr_flat.specs.Targets.{bits_there, index_bits, is_constant as is_constant_in, target_bits, targets_bits};
 ghost use Rattle.rr_cycle.specs.Exec.{Environment, write};
 ghost use Rattle.rr_signal_wires.specs.GuardedPieces.{AreGuardedPieces, put_guarded_pieces};
 ghost use Rattle.rr_signal_wires.specs.Words.{AreWords, Holds, carried, widths_of};
@@ -14,7 +15,7 @@ ghost use Rattle.rr_signal_wires.specs.Words.{AreWords, Holds, carried, widths_o
 use crate::expression::own_wires;
 use rr_circuit::{Builder, Wire};
 use rr_expr::{Entity, Scope, constant, shape_of};
-use rr_signal_wires::{GuardedPiece, Moving, add_fixed, add_moving};
+use rr_signal_wires::{GuardedPiece, Moving, MovingWord, add_fixed, add_moving, add_word};
 use rr_syntax::Expr;
 use std::alloc::{AllocError, Global};
 
@@ -63,8 +64,61 @@ fn add_select(
             Ok(from + count)
         }
         Entity::Constant { .. } => Ok(from + count),
+        // A part of a memory is none of its words.
+        Entity::Memory { .. } => Ok(from + count),
         Entity::Instance => Ok(from + count),
     }
+}
+
+/// The bits that an index names: a bit, but a word of a memory, whatever its name stands for.
+fn add_index(
+    alloc: Global,
+    b: &mut Builder,
+    list: &mut Vec<GuardedPiece>,
+    name: &str,
+    index: &Expr,
+    scope: &Scope,
+    words: &[Vec<Wire>],
+    from: u32,
+) -> Result<u32, AllocError>
+    requires width { (entity_shape (meant scope.now name.now)).width ≤ 128 }
+    requires shaped { fault scope.now (plain index.now) false ≡ None }
+    requires few { from + (index_shape (meant scope.now name.now)).width ≤ 128 }
+    requires words { AreWords b.old words.now }
+    requires holds { Holds scope.now (widths_of words.now) }
+    requires guarded_pieces { AreGuardedPieces b.old (widths_of words.now) list.old.items }
+    ensures extends { Extends b.old b.new }
+    ensures next { IfOk result (λ r. r ≡ from + (index_shape (meant scope.now name.now)).width) }
+    ensures guarded_pieces { OnOk result (AreGuardedPieces b.new (widths_of words.now) list.new.items) }
+    ensures value { OnOk result ((env : ℕ → Bool) (vs : List Bool) (e : Environment) →
+        put_guarded_pieces b.new env list.new.items vs e
+        ≡ write (index_bits (meant scope.now name.now) (integer_with (form scope.now (plain index.now)) (value scope.now (plain index.now) (carried b.old env words.now))))
+        (drop from vs) (put_guarded_pieces b.old env list.old.items vs e)) }
+{
+    if let Entity::Memory {
+        first,
+        low,
+        words: count,
+        range,
+        ..
+    } = scope.meaning(name)
+    {
+        let own = shape_of(index, scope);
+        let bits = own_wires(alloc, b, index, scope, words)?;
+        let run = MovingWord {
+            first,
+            low,
+            words: count,
+            range,
+            index: bits.as_slice(),
+            signed: own.signed,
+            from,
+        };
+        let after = add_word(b, list, &run)?;
+        return Ok(after);
+    }
+    let next = add_select(alloc, b, list, name, index, true, 1, scope, words, from)?;
+    Ok(next)
 }
 
 /// Whether no signal stands in an expression.
@@ -115,7 +169,7 @@ fn add_guarded_pieces(
                 let next = add_fixed(alloc, b, list, target, scope, from)?;
                 return Ok(next);
             }
-            let next = add_select(alloc, b, list, name, index, true, 1, scope, words, from)?;
+            let next = add_index(alloc, b, list, name, index, scope, words, from)?;
             Ok(next)
         }
         Expr::Indexed {

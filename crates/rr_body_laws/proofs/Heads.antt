@@ -5,7 +5,7 @@ use Rattle.rr_expr.specs.Scopes.{Names}
 use Rattle.rr_flat.specs.Faults.{and_then, each}
 use Rattle.rr_declarations.specs.Parameters.{add_parameters, add_item_parameters, parameters}
 use Rattle.rr_declarations.specs.Declarations.{Declarations, know_ports, know_item, known, know_port_item, add_plain_name, plain_names, brackets, declare_ports, declare_item, declarations}
-use Rattle.rr_declarations.specs.Heads.{signals_in_order, declared, numbered, head}
+use Rattle.rr_declarations.specs.Heads.{declared_in_order, declared, numbered, head}
 use Rattle.rr_token_numbers.proofs.Folds.{fold_mapped}
 use Rattle.rr_flat_instance.proofs.Lists.{and_then_same, each_mapped}
 use Rattle.rr_body_laws.specs.Bodies.{Bodies, item_with, module_with}
@@ -60,8 +60,8 @@ module _ (f : Bodies) where
       (each (declare_item bracketed all) (map (item_with f) m.items)) (each (declare_item bracketed all) m.items)
       refl (each_mapped (item_with f) (declare_item bracketed all) (declare_item_with bracketed all) m.items)
 
-  signals_with : (m : ModuleDeclaration) (d : Declarations) → signals_in_order (module_with f m) d ≡ signals_in_order m d
-  unfolding signals_in_order module_with
+  signals_with : (m : ModuleDeclaration) (d : Declarations) → declared_in_order (module_with f m) d ≡ declared_in_order m d
+  unfolding declared_in_order module_with
   signals_with m d = refl
 
   declared_with : (i bits : ℕ) (m : ModuleDeclaration) (names : Names) → declared i bits (module_with f m) names ≡ declared i bits m names
@@ -78,10 +78,10 @@ module _ (f : Bodies) where
   unfolding head
   head_with i base bits given m =
       and_then_same (parameters given (module_with f m)) (parameters given m)
-      (λ names. and_then (declared i bits (module_with f m) names) (λ d. numbered i base d.bits (signals_in_order (module_with f m) d) names))
-      (λ names. and_then (declared i bits m names) (λ d. numbered i base d.bits (signals_in_order m d) names))
+      (λ names. and_then (declared i bits (module_with f m) names) (λ d. numbered i base d.bits (declared_in_order (module_with f m) d) names))
+      (λ names. and_then (declared i bits m names) (λ d. numbered i base d.bits (declared_in_order m d) names))
       (parameters_with given m)
       (λ names. and_then_same (declared i bits (module_with f m) names) (declared i bits m names)
-      (λ d. numbered i base d.bits (signals_in_order (module_with f m) d) names) (λ d. numbered i base d.bits (signals_in_order m d) names)
+      (λ d. numbered i base d.bits (declared_in_order (module_with f m) d) names) (λ d. numbered i base d.bits (declared_in_order m d) names)
       (declared_with i bits m names)
       (λ d. ap (λ z. numbered i base d.bits z names) (signals_with m d)))

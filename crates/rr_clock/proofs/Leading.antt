@@ -4,7 +4,7 @@ use Rattle.std.proofs.lemmas.Bool.{cases_lt}
 use Rattle.std.proofs.lemmas.List.{get_or_past}
 use Rattle.rr_syntax.specs.Tree.{Tree, Name, Literal, Bit as BitSelect, Part, Indexed, Unary, Binary, Cond, Concat, Repeat, Cast, Paren}
 use Rattle.rr_expr.specs.declared.types.Entity.{Entity}
-use Rattle.rr_expr.specs.declared.types.Entity.TheVariants.{Constant, Signal as SignalEntity, Instance}
+use Rattle.rr_expr.specs.declared.types.Entity.TheVariants.{Constant, Signal as SignalEntity, Memory, Instance}
 use Rattle.rr_expr.specs.Scopes.{meant}
 use Rattle.rr_flat.specs.declared.signal.Port.{Port}
 use Rattle.rr_flat.specs.declared.signal.Port.TheVariants.{Inner, Input, Output}
@@ -23,6 +23,7 @@ pub scalar_is : (e : Entity) (id : ℕ) → scalar_of e ≡ Some id → (signed 
 scalar_is (Constant bits signed) id h = cc
 scalar_is (SignalEntity x None signed) id h = (signed, ap (λ z. SignalEntity z None signed) (some_same x id h))
 scalar_is (SignalEntity x (Some r) signed) id h = cc
+scalar_is (Memory first low words range signed) id h = cc
 scalar_is Instance id h = cc
 
 pub is_scalar_of : (e : Entity) (id : ℕ) (signed : Bool) → e ≡ SignalEntity id None signed → scalar_of e ≡ Some id

@@ -1,6 +1,8 @@
 -- a design without a part: one scope, no signal, nothing that writes a bit
-use Rattle.std.proofs.Common.{ℕ, [], ◌∷◌, Bool, true, None, refl, arith, inl, inr}
+use Rattle.std.proofs.Common.{ℕ, zero, suc, [], ◌∷◌, Bool, true, None, refl, arith, inl, inr}
 use Rattle.rr_expr.specs.declared.types.Bit.{Bit}
+use Rattle.rr_expr.specs.Reading.{IsBitOf}
+use Rattle.rr_expr.specs.Scopes.{lookup, meant}
 use Rattle.rr_flat.specs.declared.design.Step.{Step}
 use Rattle.rr_flat.specs.declared.design.Step.TheVariants.{Driver, Wire, Block}
 use Rattle.rr_flat.specs.Clocks.{OneClock}
@@ -8,13 +10,19 @@ use Rattle.rr_flat.specs.Elaborated.{IsSound}
 use Rattle.rr_flat.specs.Lawful.{Lawful, AssignedSomewhere}
 use Rattle.rr_flat.specs.Ordered.{Ordered, IsStep}
 use Rattle.rr_flat.specs.Plain.{Flat}
-use Rattle.rr_flat.specs.Writers.{Writer, Driven, Clocked, Combinational, Writes, BitNames}
+use Rattle.rr_flat.specs.Signals.{Text}
+use Rattle.rr_flat.specs.Writers.{scope_at, Writer, Driven, Clocked, Combinational, Writes, BitNames}
 
 abbrev pub empty : Flat
 empty = record { top = 0; signals = []; starts = []; scopes = [] ∷ []; drivers = []; clocked = []; combinational = []; initials = []; walk = []; inputs = []; outputs = []; owners = 0 ∷ []; reached = 0 ∷ [] }
 
+nothing_stands : (i : ℕ) (x : Text) (b : Bit) → IsBitOf (meant (scope_at empty i) x) b → ⊥
+unfolding meant lookup
+nothing_stands zero x b h = h
+nothing_stands (suc i) x b h = h
+
 pub sound : IsSound empty
-sound = record { drivers = tt; inputs = tt }
+sound = record { drivers = tt; inputs = tt; variables = λ i j x y b h k. absurd (nothing_stands i x b h) }
 
 pub one_clock : OneClock empty None None true
 one_clock = record { chosen = refl; direction = refl; all = tt }
@@ -44,7 +52,7 @@ lawful = record {
   unread = tt;
   one_writer = λ x y b w v. absurd (nothing_written x b w);
   kinds = record { combinational = λ k l. absurd (omega (arith, l)); one = λ id a b. nothing_assigned id true a };
-  no_race = λ j k l m id a i n range signed h e f. absurd (omega (arith, l));
+  no_race = λ j k l m id a i n h e f. absurd (omega (arith, l));
   no_latches = λ k l. absurd (omega (arith, l));
   ranks = (λ b. 0, λ b c n. absurd (nothing_named b c n));
 }

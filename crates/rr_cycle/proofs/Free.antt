@@ -1,11 +1,12 @@
 -- nothing writes an input of the top
-use Rattle.std.proofs.Common.{◌≡◌, ℕ, get_or, Bool, true, false, Option, Some, None, sym, arith, inl, inr, pos, subst}
+use Rattle.std.proofs.Common.{◌≡◌, ◌∙◌, ap, ℕ, ◌+◌, ◌-◌, get_or, Bool, true, false, Some, None, sym, arith, inl, inr, pos, subst}
 use Rattle.std.proofs.lemmas.Bool.{or_cases, and_parts, eqb-true}
 use Rattle.std.proofs.lemmas.List.Elements.{All-get_or}
 use Rattle.rr_syntax.specs.Tree.{Tree}
 use Rattle.rr_expr.specs.declared.types.Bit.{Bit}
 use Rattle.rr_expr.specs.declared.types.Entity.{Entity}
-use Rattle.rr_expr.specs.declared.types.Entity.TheVariants.{Signal}
+use Rattle.rr_expr.specs.declared.types.Entity.TheVariants.{Constant, Signal, Memory, Instance}
+use Rattle.rr_expr.specs.Reading.{IsBitOf}
 use Rattle.rr_expr.specs.Scopes.{meant}
 use Rattle.rr_expr.specs.Values.{nowhere}
 use Rattle.rr_flat.specs.declared.signal.Port.TheVariants.{Input}
@@ -24,11 +25,21 @@ use Rattle.rr_flat.proofs.Lists.{all_index}
 use Rattle.rr_flat.proofs.Bits.{place_has, bits_of_name}
 
 -- a name that may be driven or assigned is no input
-no_drive : (flat : Flat) (e : Entity) (fixed : Bool) (id : ℕ) (range : Option (ℕ × ℕ)) (signed : Bool) → MayDrive flat e fixed → e ≡ Signal id range signed → (signal_at flat.signals id).port ≡ Input → ⊥
-no_drive flat e fixed id range signed h q p = (subst (λ x. MayDrive flat x fixed) q h).1 p
+same_port : (flat : Flat) (m n : ℕ) → m ≡ n → (signal_at flat.signals n).port ≡ Input → (signal_at flat.signals m).port ≡ Input
+same_port flat m n q p = ap (λ (k : ℕ). (signal_at flat.signals k).port) q ∙ p
 
-no_assign : (flat : Flat) (e : Entity) (id : ℕ) (range : Option (ℕ × ℕ)) (signed : Bool) → MayAssign flat e → e ≡ Signal id range signed → (signal_at flat.signals id).port ≡ Input → ⊥
-no_assign flat e id range signed h q p = (subst (MayAssign flat) q h).1 p
+no_drive : (flat : Flat) (e : Entity) (fixed : Bool) (b : Bit) → MayDrive flat e fixed → IsBitOf e b → (signal_at flat.signals b.signal).port ≡ Input → ⊥
+no_drive flat (Constant bits signed) fixed b h i p = h
+no_drive flat (Signal id range signed) fixed b h i p = h.1 (same_port flat id b.signal (sym i.0) p)
+no_drive flat (Memory first low words range signed) fixed b h i p = h
+no_drive flat Instance fixed b h i p = h
+
+no_assign : (flat : Flat) (e : Entity) (b : Bit) → MayAssign flat e → IsBitOf e b → (signal_at flat.signals b.signal).port ≡ Input → ⊥
+no_assign flat (Constant bits signed) b h i p = h
+no_assign flat (Signal id range signed) b h i p = h.1 (same_port flat id b.signal (sym i.0) p)
+no_assign flat (Memory first low words range signed) b h i p =
+    (h (b.signal - first) (omega (arith, i.0, i.1))).1 (same_port flat (first + (b.signal - first)) b.signal (omega (arith, i.0)) p)
+no_assign flat Instance b h i p = h
 
 whole_signal : (flat : Flat) (id i : ℕ) (b : Bit) → get_or (signal_bits flat id) i None ≡ Some b → b.signal ≡ id
 whole_signal flat id i b h =
@@ -48,8 +59,7 @@ no_driver_of flat (Written t j) value i b r a w h =
     let s = scope_at flat j in
     let p = target_named s t b (target_written s nowhere t b (place_has _ b i w)) in
     let may = All-get_or (λ p. MayDrive flat (meant s (part_name p)) (is_fixed s p)) (target_parts t) p.0 p.1.0 p.1.1.0 r.1 in
-    let q = p.1.1.2 in
-    no_drive flat (meant s (part_name p.1.0)) (is_fixed s p.1.0) b.signal q.0 q.1.0 (subst (λ x. MayDrive flat (meant s (part_name x)) (is_fixed s x)) p.1.1.1 may) q.1.1 h.1
+    no_drive flat (meant s (part_name p.1.0)) (is_fixed s p.1.0) b (subst (λ x. MayDrive flat (meant s (part_name x)) (is_fixed s x)) p.1.1.1 may) p.1.1.2 h.1
 
 no_block_of : (flat : Flat) (block : Block) (b : Bit) → BlockTargets flat block → writes_at_all flat block b ≡ true → IsTopInput (signal_at flat.signals b.signal) → ⊥
 no_block_of flat block b r w h = elim (or_cases (writes_now flat block b) (writes_later flat block b) w) [
@@ -61,8 +71,7 @@ no_block_of flat block b r w h = elim (or_cases (writes_now flat block b) (write
     by now a =
         let s = scope_at flat block.scope in
         let may = All-get_or (λ a. MayAssign flat (meant s (part_name a.part))) (assigned_by block.body) a.0 a.1.0 a.1.1.0 r in
-        let q = a.1.1.2.1 in
-        no_assign flat (meant s (part_name a.1.0.part)) b.signal q.0 q.1.0 (subst (λ x. MayAssign flat (meant s (part_name x.part))) a.1.1.1 may) q.1.1 h.1
+        no_assign flat (meant s (part_name a.1.0.part)) b (subst (λ x. MayAssign flat (meant s (part_name x.part))) a.1.1.1 may) a.1.1.2.1 h.1
 
 pub inputs_free : (flat : Flat) → IsSound flat → RightTargets flat → (b : Bit) → IsInputBit flat b → (x : Writer) → Writes flat x b → ⊥
 unfolding Writes

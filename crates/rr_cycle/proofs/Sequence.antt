@@ -1,25 +1,27 @@
 -- clocked blocks may run one after the other: what one writes by `=` no other reads
-use Rattle.std.proofs.Common.{◌≡◌, ℕ, zero, suc, ◌+◌, ◌≤◌, ◌<◌, max, List, [], ◌∷◌, ◌++◌, length, get_or, drop, drop-cons, flat_map, refl, ap, ◌∙◌, sym, arith, Bool, true, false, cond, ◌||◌, Option, ◌⊎◌, inl, inr, length-append, pos}
+use Rattle.std.proofs.Common.{◌≡◌, ℕ, zero, suc, ◌+◌, ◌≤◌, ◌<◌, max, List, [], ◌∷◌, ◌++◌, length, get_or, drop, drop-cons, flat_map, refl, ap, ◌∙◌, sym, arith, Bool, true, false, not, cond, ◌&&◌, ◌||◌, nat_eq, nat_lt, Some, is_none, ◌⊎◌, inl, inr, length-append, pos}
 use mathlib.Core.Path.{fun_ext}
-use Rattle.std.proofs.lemmas.Bool.{cases_eq, both_ways, or_cases, and_parts, eqb-true}
+use Rattle.std.proofs.lemmas.Bool.{cases_eq, both_ways, or_cases, and_parts, eqb-true, ltb-true, ltb-false, not-true}
 use Rattle.std.proofs.lemmas.List.{get_or_append_left, get_or-append-add, drop_all}
 use Rattle.rr_syntax.specs.Tree.{Tree, Trees, Name, Literal, Bit as BitSelect, Part, Indexed, Unary, Binary, Cond, Concat, Repeat, Cast, Paren, End, More, Identifier, Statement, Statements, Arm, Arms, Null, Block as Sequence, If, IfElse, Case, Assign, For, Done, Then, CaseItem, NoArms, MoreArms}
 use Rattle.rr_expr.specs.declared.types.Bit.{Bit}
 use Rattle.rr_expr.specs.declared.types.Entity.{Entity}
-use Rattle.rr_expr.specs.declared.types.Entity.TheVariants.{Constant, Signal, Instance}
+use Rattle.rr_expr.specs.declared.types.Entity.TheVariants.{Constant, Signal, Memory, Instance}
 use Rattle.rr_expr.specs.declared.types.Shape.{Shape}
 use Rattle.rr_expr.specs.Reading.{IsBitOf, NamesAt, NamesBit, NamesBits}
-use Rattle.rr_expr.specs.Faults.{constant_count, constant_span}
-use Rattle.rr_expr.specs.Scopes.{Names, meant, entity_shape, entity_range}
+use Rattle.rr_expr.specs.Faults.{fault, constant_count, constant_span}
+use Rattle.rr_expr.specs.Scopes.{Names, meant, entity_shape, entity_range, range_width}
 use Rattle.rr_expr.specs.Selects.{place, lowest_place, integer_with}
 use Rattle.rr_expr.specs.Values.{form, value, nowhere}
+use Rattle.rr_expr.proofs.MemoryWords.{index_among}
 use Rattle.rr_expr.proofs.NamedBits.{value_by_named_bits}
 use Rattle.rr_flat.specs.Latches.{is_default}
+use Rattle.rr_flat.specs.Elaborated.{OneVariable}
 use Rattle.rr_flat.specs.Lawful.{NoRace, OneWriter, AssignedIn}
 use Rattle.rr_flat.specs.Plain.{Flat}
 use Rattle.rr_flat.specs.Plain as plain
 use Rattle.rr_flat.specs.Reads.{Assigned, TargetReads, TargetsRead, StatementReads, StatementsRead, ArmReads, ArmsRead, names_in, names_in_parts, index_names, index_names_in, names_read, names_read_by, names_read_by_arm, names_read_by_arms, assigned_by, assigned_by_all, assigned_by_arm, assigned_by_arms, assigned_parts, writes, write_any, arm_writes, arms_write}
-use Rattle.rr_flat.specs.Targets.{has_bit, is_bit_of, is_constant, target_bits, target_parts, targets_parts, part_name, is_fixed, may_write}
+use Rattle.rr_flat.specs.Targets.{has_bit, variable_of, is_bit_of, is_constant, target_bits, target_parts, targets_parts, part_name, is_fixed, may_write}
 use Rattle.rr_flat.specs.Writers.{scope_at, block_at, no_block, Writer, Clocked, Writes, writes_now, writes_later}
 use Rattle.rr_cycle.specs.Cycles.{after_block, AfterBlocks, updates_of_block, IsNext}
 use Rattle.rr_cycle.specs.Exec.{Environment, assigned, is_true, labels_of, case_shape, is_matched, executed, executed_all, executed_arm, executed_case, executed_default, Update, updates, updates_of_all, updates_of_arm, updates_of_case, updates_of_default, applied}
@@ -28,7 +30,7 @@ use Rattle.rr_cycle.proofs.Local.{outside, test_same, match_same}
 use Rattle.rr_cycle.proofs.Settling.{search_below, true_or_not}
 use Rattle.rr_cycle.proofs.TargetBits.{Agree, target_local}
 use Rattle.rr_cycle.proofs.Writes.{write_agree}
-use Rattle.rr_flat.proofs.Bits.{or_left, or_right, missed, one_of_name, bits_of_name}
+use Rattle.rr_flat.proofs.Bits.{or_left, or_right, missed, index_of_name, bits_of_name}
 
 abbrev Within : (Bit → Type 0) → (Bit → Type 0) → Type 0
 Within P R = (b : Bit) → P b → R b
@@ -163,17 +165,12 @@ to_left P xs ys a = (a.0, (a.1.0, (omega (arith, a.1.1.0, length-append xs ys), 
 to_right : {X : Type 0} (P : X → Type 0) (xs ys : List X) → Among P ys → Among P (xs ++ ys)
 to_right P xs ys a = (length xs + a.0, (a.1.0, (omega (arith, a.1.1.0, length-append xs ys), get_or-append-add xs ys a.0 a.1.0 ∙ a.1.1.1, a.1.1.2)))
 
--- a name of the signal of this bit
+-- a name of what this bit is one of
 abbrev pub Stands : Names → Bit → List ℕ → Type 0
-Stands s b text = (range : Option (ℕ × ℕ)) × ((signed : Bool) × (meant s text ≡ Signal b.signal range signed))
+Stands s b text = IsBitOf (meant s text) b
 
 abbrev OfName : Names → Bit → Identifier → Type 0
 OfName s b n = Stands s b n.text
-
-of_entity : (e : Entity) (b : Bit) → IsBitOf e b → (range : Option (ℕ × ℕ)) × ((signed : Bool) × (e ≡ Signal b.signal range signed))
-of_entity (Constant bits signed) b h = absurd h
-of_entity (Signal id range signed) b h = (range, (signed, ap (λ (k : ℕ). Signal k range signed) (sym h.0)))
-of_entity Instance b h = absurd h
 
 at_select : (k : Bool) (e : Entity) (from : _) (n : ℕ) (index : Type 0) (b : Bit) → NamesAt k e from n index b → IsBitOf e b ⊎ index
 at_select true e from n index b h = inl h.0
@@ -183,15 +180,15 @@ mutual
   unfolding names_in NamesBit
 
   bit_named : (s : Names) (t : Tree) (b : Bit) → NamesBit s t b → Among (OfName s b) (names_in t)
-  bit_named s (Name token name) b h = here (OfName s b) (record { token = token; text = name }) [] (of_entity (meant s name) b h)
+  bit_named s (Name token name) b h = here (OfName s b) (record { token = token; text = name }) [] h
   bit_named s (Literal token n) b h = absurd h
-  bit_named s (BitSelect token name i) b h = elim (at_select _ (meant s name) _ _ (NamesBit s i b) b h) [
-    | inl p ↦ here (OfName s b) (record { token = token; text = name }) (names_in i) (of_entity (meant s name) b p)
+  bit_named s (BitSelect token name i) b h = elim (index_among (is_none (fault s i true)) (meant s name) (integer_with (form s i) (value s i nowhere)) (NamesBit s i b) b h) [
+    | inl p ↦ here (OfName s b) (record { token = token; text = name }) (names_in i) p
     | inr p ↦ to_right (OfName s b) (record { token = token; text = name } ∷ []) (names_in i) (bit_named s i b p)
   ]
-  bit_named s (Part token name l r) b h = here (OfName s b) (record { token = token; text = name }) (names_in l ++ names_in r) (of_entity (meant s name) b h.0)
+  bit_named s (Part token name l r) b h = here (OfName s b) (record { token = token; text = name }) (names_in l ++ names_in r) h.0
   bit_named s (Indexed token name f n up) b h = elim (at_select _ (meant s name) _ _ (NamesBit s f b) b h) [
-    | inl p ↦ here (OfName s b) (record { token = token; text = name }) (names_in f ++ names_in n) (of_entity (meant s name) b p)
+    | inl p ↦ here (OfName s b) (record { token = token; text = name }) (names_in f ++ names_in n) p
     | inr p ↦ to_right (OfName s b) (record { token = token; text = name } ∷ []) (names_in f ++ names_in n) (to_left (OfName s b) (names_in f) (names_in n) (bit_named s f b p))
   ]
   bit_named s (Unary op t) b h = bit_named s t b h
@@ -263,13 +260,19 @@ mutual
   arms_named s (MoreArms a rest) b (inl h) = to_left (OfName s b) (names_read_by_arm a) (names_read_by_arms rest) (arm_named s a b h)
   arms_named s (MoreArms a rest) b (inr h) = to_right (OfName s b) (names_read_by_arm a) (names_read_by_arms rest) (arms_named s rest b h)
 
--- an assignment, of a kind, of the signal of this bit
+-- an assignment, of a kind, of what this bit is one of
 abbrev pub OfKind : Names → Bit → Bool → Assigned → Type 0
 OfKind s b now a = (a.now ≡ now) × Stands s b (part_name a.part)
 
-of_test : (e : Entity) (b : Bit) → is_bit_of e b ≡ true → (range : Option (ℕ × ℕ)) × ((signed : Bool) × (e ≡ Signal b.signal range signed))
+of_test : (e : Entity) (b : Bit) → is_bit_of e b ≡ true → IsBitOf e b
 of_test (Constant bits signed) b h = absurd (both_ways false refl h)
-of_test (Signal id range signed) b h = (range, (signed, ap (λ (k : ℕ). Signal k range signed) (eqb-true id b.signal (and_parts _ _ h).0)))
+of_test (Signal id range signed) b h =
+    let p = and_parts (nat_eq id b.signal) (nat_lt b.place (range_width range)) h in
+    (sym (eqb-true id b.signal p.0), ltb-true b.place (range_width range) p.1)
+of_test (Memory first low words range signed) b h =
+    let p = and_parts (not (nat_lt b.signal first)) (nat_lt b.signal (first + words) && nat_lt b.place (range_width range)) h in
+    let q = and_parts (nat_lt b.signal (first + words)) (nat_lt b.place (range_width range)) p.1 in
+    (ltb-false b.signal first (not-true (nat_lt b.signal first) p.0), ltb-true b.signal (first + words) q.0, ltb-true b.place (range_width range) q.1)
 of_test Instance b h = absurd (both_ways false refl h)
 
 abbrev pub OfPart : Names → Bit → Tree → Type 0
@@ -301,7 +304,7 @@ mutual
   target_named s (BitSelect token name i) b h =
       here (OfPart s b) (BitSelect token name i) []
       (of_test (meant s name) b (either_way (is_constant s i) (has_bit (target_bits s nowhere (BitSelect token name i)) b) (is_bit_of (meant s name) b) (is_bit_of (meant s name) b ≡ true)
-      (λ x. one_of_name (meant s name) (place (entity_range (meant s name)) (integer_with (form s i) (value s i nowhere))) b x) (λ x. x)
+      (λ x. index_of_name (meant s name) (integer_with (form s i) (value s i nowhere)) b x) (λ x. x)
       (or_nothing (cond (is_constant s i) (has_bit (target_bits s nowhere (BitSelect token name i)) b) (is_bit_of (meant s name) b)) h)))
   target_named s (Part token name l r) b h =
       here (OfPart s b) (Part token name l r) []
@@ -370,20 +373,65 @@ mutual
     | inr i ↦ to_right (OfKind s b now) (assigned_by_arm arm) (assigned_by_arms rest) (arms_written now s rest b i)
   ]
 
+variable_there : (e : Entity) (b : Bit) → IsBitOf e b → (id : ℕ) × (variable_of e ≡ Some id)
+variable_there (Constant bits signed) b h = absurd h
+variable_there (Signal id range signed) b h = (id, refl)
+variable_there (Memory first low words range signed) b h = (first, refl)
+variable_there Instance b h = absurd h
+
 -- what a clocked block writes by `=`, no other reads
-no_race_bit : (flat : Flat) → NoRace flat → (j k : ℕ) → j < length flat.clocked → k < length flat.clocked → (b : Bit) → writes_now flat (block_at flat.clocked j) b ≡ true →
+no_race_bit : (flat : Flat) → NoRace flat → OneVariable flat → (j k : ℕ) → j < length flat.clocked → k < length flat.clocked → (b : Bit) → writes_now flat (block_at flat.clocked j) b ≡ true →
     StatementReads (scope_at flat (block_at flat.clocked k).scope) (block_at flat.clocked k).body b → j ≡ k
-no_race_bit flat race j k lj lk b w r =
+no_race_bit flat race own j k lj lk b w r =
     let x = block_at flat.clocked j in
     let y = block_at flat.clocked k in
     let a = write_named true (scope_at flat x.scope) x.body b w in
     let n = read_named (scope_at flat y.scope) y.body b r in
-    let assigned_there : AssignedIn flat x b.signal true = (a.0, (a.1.0, (a.1.1.2.1.0, (a.1.1.2.1.1.0, (a.1.1.0, a.1.1.1, a.1.1.2.0, a.1.1.2.1.1.1))))) in
-    race j k lj lk b.signal assigned_there n.0 n.1.0 n.1.1.2.0 n.1.1.2.1.0 n.1.1.0 n.1.1.1 n.1.1.2.1.1
+    let v = variable_there (meant (scope_at flat x.scope) (part_name a.1.0.part)) b a.1.1.2.1 in
+    let assigned_there : AssignedIn flat x v.0 true = (a.0, (a.1.0, (a.1.1.0, a.1.1.1, a.1.1.2.0, v.1))) in
+    race j k lj lk v.0 assigned_there n.0 n.1.0 n.1.1.0 n.1.1.1 (own y.scope x.scope n.1.0.text (part_name a.1.0.part) b n.1.1.2 a.1.1.2.1 ∙ v.1)
+
+abbrev number_of : Writer → ℕ
+number_of (Clocked k) = k
+number_of x = 0
+
+module _ (flat : Flat) (one : OneWriter flat) where
+  other_writer : (j k : ℕ) → j < length flat.clocked → k < length flat.clocked → (b : Bit) → writes_now flat (block_at flat.clocked j) b ≡ true → writes_now flat (block_at flat.clocked k) b ≡ true → j ≡ k
+  unfolding Writes
+  other_writer j k lj lk b v w =
+      ap number_of
+      (one (Clocked j) (Clocked k) b (lj, or_left (writes_now flat (block_at flat.clocked j) b) (writes_later flat (block_at flat.clocked j) b) v)
+      (lk, or_left (writes_now flat (block_at flat.clocked k) b) (writes_later flat (block_at flat.clocked k) b) w))
+
+  -- the block that writes a bit by `=`, or none
+  abbrev Found : Bit → Type 0
+  Found b = ((k : ℕ) × ((k < length flat.clocked) × (writes_now flat (block_at flat.clocked k) b ≡ true))) ⊎ ((k : ℕ) → k < length flat.clocked → writes_now flat (block_at flat.clocked k) b ≡ true → ⊥)
+
+  abbrev found : (b : Bit) → Found b
+  found b = search_below (λ k. writes_now flat (block_at flat.clocked k) b ≡ true) (λ k. true_or_not (writes_now flat (block_at flat.clocked k) b)) (length flat.clocked)
+
+  abbrev left : Environment → (b : Bit) → Found b → Bool
+  left env b (inl q) = after_block flat (block_at flat.clocked q.0) env b
+  left env b (inr q) = env b
+
+  left_by : (env : Environment) (b : Bit) (f : Found b) (k : ℕ) → k < length flat.clocked → writes_now flat (block_at flat.clocked k) b ≡ true → left env b f ≡ after_block flat (block_at flat.clocked k) env b
+  left_by env b (inl q) k l w = ap (λ (n : ℕ). after_block flat (block_at flat.clocked n) env b) (other_writer q.0 k q.1.0 l b q.1.1 w)
+  left_by env b (inr q) k l w = absurd (q k l w)
+
+  left_else : (env : Environment) (b : Bit) (f : Found b) → ((k : ℕ) → k < length flat.clocked → writes_now flat (block_at flat.clocked k) b ≡ false) → left env b f ≡ env b
+  left_else env b (inl q) none = absurd (both_ways (writes_now flat (block_at flat.clocked q.0) b) (none q.0 q.1.0) q.1.1)
+  left_else env b (inr q) none = refl
+
+  -- there is a state after the edge
+  pub some_next : (env : Environment) → (next : Environment) × IsNext flat env next
+  some_next env =
+      let mid : Environment = λ b. left env b (found b) in
+      let blocks : AfterBlocks flat env mid = record { written = λ k b l w. left_by env b (found b) k l w; others = λ b h. left_else env b (found b) h } in
+      (applied (flat_map (updates_of_block flat env) flat.clocked) mid, (mid, (blocks, refl)))
 
 -- The blocks in order
 
-module _ (flat : Flat) (race : NoRace flat) (one : OneWriter flat) where
+module _ (flat : Flat) (race : NoRace flat) (one : OneWriter flat) (own : OneVariable flat) where
   abbrev block : ℕ → plain.Block
   block k = block_at flat.clocked k
 
@@ -402,16 +450,7 @@ module _ (flat : Flat) (race : NoRace flat) (one : OneWriter flat) where
   -- each block reads what it would read in the settled environment
   reads_settled : (k : ℕ) → k < length flat.clocked → (env : Environment) → Agree (after k env) env (StatementReads (scope_at flat (block k).scope) (block k).body)
   reads_settled k l env b r =
-      untouched k env b (λ j m. missed (writes_now flat (block j) b) (λ t. let q = no_race_bit flat race j k (omega arith) l b t r in absurd (omega arith)))
-
-  abbrev number_of : Writer → ℕ
-  number_of (Clocked k) = k
-  number_of x = 0
-
-  other_writer : (j k : ℕ) → j < length flat.clocked → k < length flat.clocked → (b : Bit) → writes_now flat (block j) b ≡ true → writes_now flat (block k) b ≡ true → j ≡ k
-  unfolding Writes
-  other_writer j k lj lk b v w =
-      ap number_of (one (Clocked j) (Clocked k) b (lj, or_left (writes_now flat (block j) b) (writes_later flat (block j) b) v) (lk, or_left (writes_now flat (block k) b) (writes_later flat (block k) b) w))
+      untouched k env b (λ j m. missed (writes_now flat (block j) b) (λ t. let q = no_race_bit flat race own j k (omega arith) l b t r in absurd (omega arith)))
 
   -- a bit that block k writes by `=` has its value in the block's last environment, from there on
   written_after : (i : ℕ) → i ≤ length flat.clocked → (env : Environment) (k : ℕ) (b : Bit) → k < i → writes_now flat (block k) b ≡ true → after i env b ≡ after_block flat (block k) env b
@@ -420,11 +459,11 @@ module _ (flat : Flat) (race : NoRace flat) (one : OneWriter flat) where
   written_after (suc i) l env k b m w = elim (cases_eq k i) [
     | inl q ↦
         let R : Bit → Type 0 = λ c. StatementReads (scope_at flat (block k).scope) (block k).body c ⊎ (c ≡ b) in
-        let there : after k env b ≡ env b = untouched k env b (λ j n. missed (writes_now flat (block j) b) (λ t. let e = other_writer j k (omega arith) (omega arith) b t w in absurd (omega arith))) in
+        let there : after k env b ≡ env b = untouched k env b (λ j n. missed (writes_now flat (block j) b) (λ t. let e = other_writer flat one j k (omega arith) (omega arith) b t w in absurd (omega arith))) in
         let same : Agree (after k env) env R = λ c r. elim r [ inl x ↦ reads_settled k (omega arith) env c x | inr x ↦ rw x there ] in
         rw (← q) (agree_after (scope_at flat (block k).scope) R (block k).body (after k env) env (λ c x. inl x) same b (inr refl))
     | inr q ↦
-        outside (scope_at flat (block i).scope) (block i).body (after i env) b (missed (writes_now flat (block i) b) (λ t. q (sym (other_writer i k (omega arith) (omega arith) b t w))))
+        outside (scope_at flat (block i).scope) (block i).body (after i env) b (missed (writes_now flat (block i) b) (λ t. q (sym (other_writer flat one i k (omega arith) (omega arith) b t w))))
         ∙ written_after i (omega arith) env k b (omega arith) w
   ]
 

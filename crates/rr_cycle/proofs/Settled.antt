@@ -10,7 +10,7 @@ use Rattle.rr_cycle.specs.Designs.{IsInOrder, IsLawful}
 use Rattle.rr_cycle.specs.Exec.{Environment, applied}
 use Rattle.rr_cycle.specs.Performing.{base, performed, run_blocks, updates_of_blocks}
 use Rattle.rr_cycle.proofs.Free.{free_inputs}
-use Rattle.rr_cycle.proofs.Sequence.{next_in_order, only_next}
+use Rattle.rr_cycle.proofs.Sequence.{some_next, next_in_order, only_next}
 use Rattle.rr_cycle.proofs.Ranked.{one_settled, run_once}
 use Rattle.rr_cycle.proofs.Settling.{settled_by_steps}
 use Rattle.rr_cycle.proofs.EmptyDesign.{empty, lawful, ordered, sound}
@@ -41,11 +41,11 @@ settled_met = (empty, (None, (true, ([], (sound, (None, (lawful, ordered)))))))
 
 -- Next states
 
-pub next_is : (flat : Flat) → IsLawful flat → (env : Environment) → IsNext flat env (applied (updates_of_blocks flat flat.clocked env) (run_blocks flat flat.clocked env))
-next_is flat l env = next_in_order flat l.1.no_race l.1.one_writer env
+pub next_is : (flat : Flat) → IsSound flat → IsLawful flat → (env : Environment) → IsNext flat env (applied (updates_of_blocks flat flat.clocked env) (run_blocks flat flat.clocked env))
+next_is flat f l env = next_in_order flat l.1.no_race l.1.one_writer f.variables env
 
 pub next_exists : (flat : Flat) → IsLawful flat → (env : Environment) → (next : Environment) × IsNext flat env next
-next_exists flat l env = (applied (updates_of_blocks flat flat.clocked env) (run_blocks flat flat.clocked env), next_is flat l env)
+next_exists flat l env = some_next flat l.1.one_writer env
 
 pub next_only : (flat : Flat) (env e f : Environment) → IsNext flat env e → IsNext flat env f → e ≡ f
 next_only flat env e f h k = only_next flat env e f h k

@@ -28,9 +28,9 @@ use Rattle.rr_cycle.specs.Performing.{act, performed, any_writes, any_is, base}
 use Rattle.rr_cycle.proofs.Local.{outside, statement_local}
 use Rattle.rr_cycle.proofs.Orders.{Steps, performed as steps_done, untouched, settles}
 use Rattle.rr_cycle.proofs.TargetBits.{Agree}
-use Rattle.rr_cycle.proofs.Wiring.{length_there, side_bit}
+use Rattle.rr_cycle.proofs.Wiring.{side_bit}
 use Rattle.rr_cycle.proofs.Writes.{write_agree, write_outside, write_there}
-use Rattle.rr_flat.proofs.Bits.{cases_place, missed, or_left, or_right, has_place, place_has}
+use Rattle.rr_flat.proofs.Bits.{cases_place, missed, or_left, or_right, has_place, place_has, index_length, there_length}
 
 -- a number below n with a property, or none
 pub search_below : (P : ℕ → Type 0) → ((k : ℕ) → P k ⊎ (P k → ⊥)) → (n : ℕ) → ((k : ℕ) × ((k < n) × P k)) ⊎ ((k : ℕ) → k < n → P k → ⊥)
@@ -52,11 +52,11 @@ mutual
   unfolding target_bits form
 
   pub target_size : (s : Names) (e : Environment) (t : Tree) → length (target_bits s e t) ≤ (form s t).width
-  target_size s e (Name token name) = omega (arith, length_there (meant s name) (pos 0) (entity_shape (meant s name)).width)
+  target_size s e (Name token name) = omega (arith, there_length (meant s name) (pos 0) (entity_shape (meant s name)).width)
   target_size s e (Literal token n) = omega arith
-  target_size s e (BitSelect token name i) = omega arith
-  target_size s e (Part token name l r) = omega (arith, length_there (meant s name) (place (entity_range (meant s name)) (integer_with (form s r) (value s r nowhere))) (constant_span s l r))
-  target_size s e (Indexed token name x n up) = omega (arith, length_there (meant s name) (lowest_place (entity_range (meant s name)) up (integer_with (form s x) (value s x e)) (constant_count s n)) (constant_count s n))
+  target_size s e (BitSelect token name i) = omega (arith, index_length (meant s name) (integer_with (form s i) (value s i e)))
+  target_size s e (Part token name l r) = omega (arith, there_length (meant s name) (place (entity_range (meant s name)) (integer_with (form s r) (value s r nowhere))) (constant_span s l r))
+  target_size s e (Indexed token name x n up) = omega (arith, there_length (meant s name) (lowest_place (entity_range (meant s name)) up (integer_with (form s x) (value s x e)) (constant_count s n)) (constant_count s n))
   target_size s e (Unary op t) = omega arith
   target_size s e (Binary op l r) = omega arith
   target_size s e (Cond a b c) = omega arith
@@ -72,7 +72,7 @@ mutual
 pub driven_size : (flat : Flat) (side : Side) → length (driven_by flat side) ≤ (side_shape flat side).width
 unfolding driven_by side_shape
 driven_size flat (Written t i) = target_size (scope_at flat i) nowhere t
-driven_size flat (Whole id) = omega (arith, length_there (entity_of_signal flat id) (pos 0) (signal_at flat.signals id).width)
+driven_size flat (Whole id) = omega (arith, there_length (entity_of_signal flat id) (pos 0) (signal_at flat.signals id).width)
 
 place_below : {X : Type 0} → (xs : List (Option X)) (i : ℕ) (x : X) → get_or xs i None ≡ Some x → i < length xs
 place_below [] i x h = cc

@@ -7,14 +7,14 @@ use Rattle.rr_expr.specs.declared.types.ExprFault.{ExprFault}
 use Rattle.rr_expr.specs.Faults.{fault, constant_count}
 use Rattle.rr_expr.specs.Reading.{NamesBit}
 use Rattle.rr_expr.specs.Scopes.{Names, meant, entity_range}
-use Rattle.rr_expr.specs.Selects.{place, lowest_place, integer_with}
+use Rattle.rr_expr.specs.Selects.{lowest_place, integer_with}
 use Rattle.rr_expr.specs.Values.{form, value, nowhere}
 use Rattle.rr_expr.proofs.NamedBits.{value_by_named_bits, constant_names}
 use Rattle.rr_flat.specs.Reads.{TargetReads, TargetsRead}
-use Rattle.rr_flat.specs.Targets.{is_bit_of, bit_there, bits_there, target_bits, targets_bits, has_bit, is_constant, target_parts, targets_parts, part_name, is_fixed, may_write, must_write}
+use Rattle.rr_flat.specs.Targets.{is_bit_of, bits_there, index_bits, target_bits, targets_bits, has_bit, is_constant, target_parts, targets_parts, part_name, is_fixed, may_write, must_write}
 use Rattle.rr_cycle.specs.Exec.{Environment}
 use Rattle.rr_flat.proofs.Bits.{has_append, or_left, or_right}
-use Rattle.rr_flat.proofs.Bits.{one_of_name, bits_of_name}
+use Rattle.rr_flat.proofs.Bits.{index_of_name, bits_of_name}
 
 -- the environments have the same bits here
 abbrev pub Agree : Environment → Environment → (Bit → Type 0) → Type 0
@@ -37,7 +37,7 @@ mutual
   pub target_local : (s : Names) (e f : Environment) (t : Tree) → Agree e f (TargetReads s t) → target_bits s e t ≡ target_bits s f t
   target_local s e f (Name token name) h = refl
   target_local s e f (Literal token n) h = refl
-  target_local s e f (BitSelect token name i) h = ap (λ (z : ℤ). bit_there (meant s name) (place (entity_range (meant s name)) z) ∷ []) (index_same s i e f h)
+  target_local s e f (BitSelect token name i) h = ap (λ (z : ℤ). index_bits (meant s name) z) (index_same s i e f h)
   target_local s e f (Part token name l r) h = refl
   target_local s e f (Indexed token name x n up) h =
       ap (λ (z : ℤ). bits_there (meant s name) (lowest_place (entity_range (meant s name)) up z (constant_count s n)) (constant_count s n)) (index_same s x e f h)
@@ -88,7 +88,7 @@ mutual
   target_written s e (BitSelect token name i) b h =
       or_no (cond (is_constant s i) (has_bit (target_bits s nowhere (BitSelect token name i)) b) (is_bit_of (meant s name) b))
       (by_index (is_constant s i) (has_bit (target_bits s e (BitSelect token name i)) b) (has_bit (target_bits s nowhere (BitSelect token name i)) b) (is_bit_of (meant s name) b)
-      (λ k x. rw (index_fixed s i e k) at x) (one_of_name (meant s name) (place (entity_range (meant s name)) (integer_with (form s i) (value s i e))) b) h)
+      (λ k x. rw (index_fixed s i e k) at x) (index_of_name (meant s name) (integer_with (form s i) (value s i e)) b) h)
   target_written s e (Part token name l r) b h = or_no (has_bit (target_bits s nowhere (Part token name l r)) b) h
   target_written s e (Indexed token name f n up) b h =
       or_no (cond (is_constant s f) (has_bit (target_bits s nowhere (Indexed token name f n up)) b) (is_bit_of (meant s name) b))

@@ -1,5 +1,5 @@
 -- a bit of a wiring side stands on the bit that it takes alone
-use Rattle.std.proofs.Common.{◌≡◌, ℕ, zero, suc, ◌-◌, ◌<◌, ◌≤◌, List, [], ◌∷◌, ◌++◌, length, get_or, map, Bool, true, false, cond, ◌&&◌, Option, Some, None, refl, ap, ◌∙◌, sym, arith, ◌⊎◌, inl, inr, ℤ, pos, negsuc, ◌+ℤ◌, length-append}
+use Rattle.std.proofs.Common.{◌≡◌, ℕ, zero, suc, ◌-◌, ◌<◌, ◌≤◌, List, [], ◌∷◌, ◌++◌, length, get_or, map, Bool, true, false, cond, ◌&&◌, Option, Some, None, refl, ap, ◌∙◌, sym, subst, arith, ◌⊎◌, inl, inr, ℤ, pos, negsuc, ◌+ℤ◌, length-append}
 use Rattle.std.proofs.Math.IntN.{+ℤ_assoc}
 use Rattle.std.proofs.lemmas.Int.{ints}
 use Rattle.std.proofs.lemmas.Bool.{cases_lt, and_parts, both_ways, lt-ltb, le-ltb}
@@ -9,15 +9,18 @@ use Rattle.rr_bits.proofs.Places.{get_tabulate, length_tabulate}
 use Rattle.rr_syntax.specs.Tree.{Tree, Trees, Name, Literal, Bit as BitSelect, Part, Indexed, Unary, Binary, Cond, Concat, Repeat, Cast, Paren, End, More}
 use Rattle.rr_expr.specs.declared.types.Bit.{Bit}
 use Rattle.rr_expr.specs.declared.types.Entity.{Entity}
-use Rattle.rr_expr.specs.declared.types.Entity.TheVariants.{Constant, Signal, Instance}
+use Rattle.rr_expr.specs.declared.types.Entity.TheVariants.{Constant, Signal, Memory, Instance}
 use Rattle.rr_expr.specs.Faults.{constant_count, constant_span}
+use Rattle.rr_expr.specs.Memories.{bit_value, word_at, word_signal, word_bits, index_value}
 use Rattle.rr_expr.specs.Scopes.{Names, meant, entity_shape, entity_range, entity_value, range_width}
 use Rattle.rr_expr.specs.Selects.{place, lowest_place, integer_with}
 use Rattle.rr_expr.specs.Values.{form, widths, value, values, own, nowhere}
+use Rattle.rr_expr.proofs.MemoryWords.{length_index_value}
 use Rattle.rr_flat.specs.Plain.{Side, Written, Whole, Flat}
-use Rattle.rr_flat.specs.Targets.{bit_there, bits_there, target_bits}
+use Rattle.rr_flat.specs.Targets.{bit_there, bits_there, index_bits, target_bits}
 use Rattle.rr_flat.specs.Writers.{scope_at, signal_bits, is_wiring, are_wiring, nothing, taken, all_taken, side_is_wiring, side_taken, taken_at}
-use Rattle.rr_cycle.specs.Cycles.{bit_value, signal_value, side_value}
+pub use Rattle.rr_flat.proofs.Bits.{there_length as length_there}
+use Rattle.rr_cycle.specs.Cycles.{signal_value, side_value}
 use Rattle.rr_cycle.specs.Exec.{Environment}
 use Rattle.rr_cycle.proofs.TargetBits.{index_fixed}
 
@@ -26,11 +29,6 @@ pub record Takes (xs ys : List Bool) (bits : List (Option Bit)) (e f : Environme
   pub first : length xs ≡ length bits
   pub second : length ys ≡ length bits
   pub same : (j : ℕ) → ((c : Bit) → get_or bits j None ≡ Some c → e c ≡ f c) → get_or xs j false ≡ get_or ys j false
-
-pub length_there : (e : Entity) (p : ℤ) (n : ℕ) → length (bits_there e p n) ≡ n
-unfolding bits_there
-length_there e p zero = refl
-length_there e p (suc n) = ap suc (length_there e (p +ℤ pos 1) n)
 
 pub there_at : (e : Entity) (p : ℤ) (n j : ℕ) → j < n → get_or (bits_there e p n) j None ≡ bit_there e (p +ℤ pos j)
 unfolding bits_there
@@ -44,6 +42,7 @@ there_at e p (suc n) (suc j) l = there_at e (p +ℤ pos 1) n j (omega arith) ∙
 -- one bit of a name
 name_bit : (m : Entity) (z : ℤ) (e f : Environment) → ((c : Bit) → bit_there m z ≡ Some c → e c ≡ f c) → bit_in (entity_value e m) z ≡ bit_in (entity_value f m) z
 name_bit (Constant bits signed) z e f h = refl
+name_bit (Memory first low words range signed) z e f h = refl
 name_bit Instance z e f h = refl
 name_bit (Signal id range signed) (negsuc n) e f h = refl
 name_bit (Signal id range signed) (pos n) e f h = by_cases (cases_lt n (range_width range))
@@ -61,6 +60,7 @@ name_bit (Signal id range signed) (pos n) e f h = by_cases (cases_lt n (range_wi
 length_entity : (m : Entity) (e : Environment) → length (entity_value e m) ≡ (entity_shape m).width
 length_entity (Constant bits signed) e = refl
 length_entity (Signal id range signed) e = length_tabulate (range_width range) (λ i. e (record { signal = id; place = i }))
+length_entity (Memory first low words range signed) e = length_tabulate (range_width range) (λ i. false)
 length_entity Instance e = refl
 
 zero_left : (n : ℕ) → pos 0 +ℤ pos n ≡ pos n
@@ -100,6 +100,34 @@ selected m p n e f =
         get_or_past (select (entity_value e m) p n) j false (rw (length_tabulate n (λ i. bit_in (entity_value e m) (p +ℤ pos i))) l)
         ∙ sym (get_or_past (select (entity_value f m) p n) j false (rw (length_tabulate n (λ i. bit_in (entity_value f m) (p +ℤ pos i))) l))
 
+same_bits : (e f : Environment) (o : Option Bit) → ((c : Bit) → o ≡ Some c → e c ≡ f c) → bit_value e o ≡ bit_value f o
+same_bits e f None h = refl
+same_bits e f (Some c) h = h c refl
+
+mapped : (bits : List (Option Bit)) (e f : Environment) → Takes (map (bit_value e) bits) (map (bit_value f) bits) bits e f
+mapped bits e f = record {
+  first = length-map bits (bit_value e);
+  second = length-map bits (bit_value f);
+  same = λ j h. by_cases j h (cases_lt j (length bits));
+}
+  where
+    by_cases : (j : ℕ) → ((c : Bit) → get_or bits j None ≡ Some c → e c ≡ f c) → ((j < length bits) ⊎ (length bits ≤ j)) → get_or (map (bit_value e) bits) j false ≡ get_or (map (bit_value f) bits) j false
+    by_cases j h (inl l) = get_or-map (bit_value e) bits j None false l ∙ same_bits e f (get_or bits j None) h ∙ sym (get_or-map (bit_value f) bits j None false l)
+    by_cases j h (inr l) =
+        get_or_past (map (bit_value e) bits) j false (rw (length-map bits (bit_value e)) l) ∙ sym (get_or_past (map (bit_value f) bits) j false (rw (length-map bits (bit_value f)) l))
+
+-- what an index reads
+indexed : (m : Entity) (z : ℤ) (e f : Environment) → Takes (index_value e m z) (index_value f m z) (index_bits m z) e f
+unfolding bits_there
+indexed (Constant bits signed) z e f = selected (Constant bits signed) (place (entity_range (Constant bits signed)) z) 1 e f
+indexed (Signal id range signed) z e f = selected (Signal id range signed) (place (entity_range (Signal id range signed)) z) 1 e f
+indexed (Memory first low words range signed) z e f = mapped (word_bits range (word_signal first (word_at low words z))) e f
+indexed Instance z e f = selected Instance (place (entity_range Instance) z) 1 e f
+
+indexed_by : (m : Entity) (x y z : ℤ) (e f : Environment) → x ≡ z → y ≡ z → Takes (index_value e m x) (index_value f m y) (index_bits m z) e f
+indexed_by m x y z e f p q =
+    subst (λ (u : ℤ). Takes (index_value e m u) (index_value f m y) (index_bits m z) e f) (sym p) (subst (λ (u : ℤ). Takes (index_value e m z) (index_value f m u) (index_bits m z) e f) (sym q) (indexed m z e f))
+
 -- a word that stands on no bit
 fixed : (xs : List Bool) (bits : List (Option Bit)) (e f : Environment) → length xs ≡ length bits → Takes xs xs bits e f
 fixed xs bits e f h = record { first = h; second = h; same = λ j k. refl }
@@ -124,7 +152,7 @@ unfoldable mutual
   pub raw : Names → Tree → Environment → List Bool
   raw s (Name token name) e = entity_value e (meant s name)
   raw s (Literal token n) e = word n.width n.value
-  raw s (BitSelect token name i) e = select (entity_value e (meant s name)) (place (entity_range (meant s name)) (integer_with (form s i) (value s i e))) 1
+  raw s (BitSelect token name i) e = index_value e (meant s name) (integer_with (form s i) (value s i e))
   raw s (Part token name l r) e = select (entity_value e (meant s name)) (place (entity_range (meant s name)) (integer_with (form s r) (value s r nowhere))) (constant_span s l r)
   raw s (Indexed token name x n up) e =
       select (entity_value e (meant s name)) (lowest_place (entity_range (meant s name)) up (integer_with (form s x) (value s x e)) (constant_count s n)) (constant_count s n)
@@ -183,7 +211,7 @@ mutual
   raw_length : (s : Names) (t : Tree) (e : Environment) → is_wiring s t ≡ true → length (raw s t e) ≡ (form s t).width
   raw_length s (Name token name) e h = length_entity (meant s name) e
   raw_length s (Literal token n) e h = word_length n.width n.value
-  raw_length s (BitSelect token name i) e h = length_tabulate 1 _
+  raw_length s (BitSelect token name i) e h = length_index_value e (meant s name) (integer_with (form s i) (value s i e))
   raw_length s (Part token name l r) e h = length_tabulate (constant_span s l r) _
   raw_length s (Indexed token name x n up) e h = length_tabulate (constant_count s n) _
   raw_length s (Unary op t) e h = absurd (both_ways false refl h)
@@ -200,13 +228,6 @@ mutual
       let p = and_parts (is_wiring s t) (are_wiring s ts) h in
       length-append (values s ts e) (own s t e) ∙ omega (arith, values_length s ts e p.1, ap length (own_raw s t e p.0 (raw_length s t e p.0)), raw_length s t e p.0)
 
-selected_one : (s : Names) (name : List ℕ) (i : Tree) (e f : Environment) →
-    Takes (select (entity_value e (meant s name)) (place (entity_range (meant s name)) (integer_with (form s i) (value s i nowhere))) 1)
-    (select (entity_value f (meant s name)) (place (entity_range (meant s name)) (integer_with (form s i) (value s i nowhere))) 1)
-    (bit_there (meant s name) (place (entity_range (meant s name)) (integer_with (form s i) (value s i nowhere))) ∷ []) e f
-unfolding bits_there
-selected_one s name i e f = selected (meant s name) (place (entity_range (meant s name)) (integer_with (form s i) (value s i nowhere))) 1 e f
-
 mutual
   unfolding raw value taken is_wiring form target_bits nothing bits_there
 
@@ -214,7 +235,8 @@ mutual
   raw_takes s (Name token name) e f h = whole_name (meant s name) e f
   raw_takes s (Literal token n) e f h =
       fixed (word n.width n.value) (map (λ i. None) (bits_there Instance (pos 0) n.width)) e f (word_length n.width n.value ∙ sym (length-map (bits_there Instance (pos 0) n.width) (λ i. None) ∙ length_there Instance (pos 0) n.width))
-  raw_takes s (BitSelect token name i) e f h = rw (index_fixed s i e h, index_fixed s i f h) (selected_one s name i e f)
+  raw_takes s (BitSelect token name i) e f h =
+      indexed_by (meant s name) (integer_with (form s i) (value s i e)) (integer_with (form s i) (value s i f)) (integer_with (form s i) (value s i nowhere)) e f (index_fixed s i e h) (index_fixed s i f h)
   raw_takes s (Part token name l r) e f h = selected (meant s name) (place (entity_range (meant s name)) (integer_with (form s r) (value s r nowhere))) (constant_span s l r) e f
   raw_takes s (Indexed token name x n up) e f h =
       rw (index_fixed s x e h, index_fixed s x f h)
@@ -243,22 +265,6 @@ side_extended : (flat : Flat) (side : Side) (e : Environment) (w : ℕ) (signed 
 unfolding side_value side_is_wiring side_raw raw
 side_extended flat (Written t i) e w signed h = raw_value (scope_at flat i) t e w signed h
 side_extended flat (Whole id) e w signed h = refl
-
-same_bits : (e f : Environment) (o : Option Bit) → ((c : Bit) → o ≡ Some c → e c ≡ f c) → bit_value e o ≡ bit_value f o
-same_bits e f None h = refl
-same_bits e f (Some c) h = h c refl
-
-mapped : (bits : List (Option Bit)) (e f : Environment) → Takes (map (bit_value e) bits) (map (bit_value f) bits) bits e f
-mapped bits e f = record {
-  first = length-map bits (bit_value e);
-  second = length-map bits (bit_value f);
-  same = λ j h. by_cases j h (cases_lt j (length bits));
-}
-  where
-    by_cases : (j : ℕ) → ((c : Bit) → get_or bits j None ≡ Some c → e c ≡ f c) → ((j < length bits) ⊎ (length bits ≤ j)) → get_or (map (bit_value e) bits) j false ≡ get_or (map (bit_value f) bits) j false
-    by_cases j h (inl l) = get_or-map (bit_value e) bits j None false l ∙ same_bits e f (get_or bits j None) h ∙ sym (get_or-map (bit_value f) bits j None false l)
-    by_cases j h (inr l) =
-        get_or_past (map (bit_value e) bits) j false (rw (length-map bits (bit_value e)) l) ∙ sym (get_or_past (map (bit_value f) bits) j false (rw (length-map bits (bit_value f)) l))
 
 side_takes : (flat : Flat) (side : Side) (e f : Environment) → side_is_wiring flat side ≡ true → Takes (side_raw flat side e) (side_raw flat side f) (side_taken flat side) e f
 unfolding side_raw side_taken side_is_wiring raw

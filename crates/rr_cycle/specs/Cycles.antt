@@ -1,9 +1,10 @@
 -- The cycles of a flat design: the environments that are settled, the state after a clock edge, and runs (IEEE 1364-2005
 -- sections 6.1, 9.2.2, 9.9 and 11). They are equations on whole environments; no order of evaluation stands in them.
-use Rattle.std.specs.Prelude.{ℕ, ◌<◌, ◌≡◌, max, List, [], ◌∷◌, length, map, flat_map, Bool, true, false, cond, Option, Some, None, get_or, nat_eq}
+use Rattle.std.specs.Prelude.{ℕ, ◌<◌, ◌≡◌, max, List, [], ◌∷◌, length, map, flat_map, Bool, true, false, cond, Option, get_or, nat_eq}
 use Rattle.rr_bits.specs.Words.{number, word, extend}
 use Rattle.rr_expr.specs.declared.types.Bit.{Bit}
 use Rattle.rr_expr.specs.declared.types.Shape.{Shape}
+pub use Rattle.rr_expr.specs.Memories.{bit_value}
 use Rattle.rr_expr.specs.Scopes.{env_of}
 use Rattle.rr_expr.specs.Values.{form, value}
 use Rattle.rr_flat.specs.Signals.{signal_at}
@@ -13,10 +14,6 @@ use Rattle.rr_flat.specs.Writers.{scope_at, driver_at, block_at, signal_bits, Wr
 use Rattle.rr_cycle.specs.Exec.{Environment, executed, Update, updates, applied}
 
 -- Drivers
-
-abbrev pub bit_value : Environment → Option Bit → Bool
-bit_value env None = false
-bit_value env (Some b) = env b
 
 -- the word that a signal has
 abbrev pub signal_value : Flat → ℕ → Environment → List Bool

@@ -29,7 +29,8 @@ abbrev pub rest : List Bool → List Bool
 rest [] = []
 rest (v ∷ vs) = vs
 
--- the bits of a target take those of a value, lowest first; a bit that is not there takes none
+-- the bits of a target take those of a value, lowest first; a bit that is not there takes none, so that a word that a memory
+-- does not have takes nothing (section 5.2.2)
 unfoldable pub write : List (Option Bit) → List Bool → Environment → Environment
 write [] vs env = env
 write (None ∷ bs) vs env = write bs (rest vs) env

@@ -41,12 +41,13 @@ pub fn one_settled_environment()
     ensures met { (flat : Flat) × ((clock : Option ℕ) × ((rising : Bool) × ((steps : List Step) × (IsSound flat × IsInOrder flat clock rising steps)))) }
 {}
 
-/// A lawful design has exactly one next state after each settled environment: what the updates of the
-/// clocked blocks, run one after the other, make of what their `=` leaves.
+/// A lawful design has exactly one next state after each settled environment: where it is as elaboration
+/// makes it, what the updates of the clocked blocks, run one after the other, make of what their `=`
+/// leaves.
 #[tactic(auto, using(crate::proofs::Settled::nexts))]
 pub fn one_next_state()
     ensures exists { (flat : Flat) → IsLawful flat → (env : Environment) → (next : Environment) × IsNext flat env next }
-    ensures computed { (flat : Flat) → IsLawful flat → (env : Environment)
+    ensures computed { (flat : Flat) → IsSound flat → IsLawful flat → (env : Environment)
         → IsNext flat env (applied (updates_of_blocks flat flat.clocked env) (run_blocks flat flat.clocked env)) }
     ensures only { (flat : Flat) (env e f : Environment) → IsNext flat env e → IsNext flat env f → e ≡ f }
 {}

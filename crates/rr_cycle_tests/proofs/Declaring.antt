@@ -15,7 +15,9 @@ use Rattle.rr_syntax.specs.Tree.{Tree}
 use Rattle.rr_syntax.specs.View.{plain, plain_arm, plain_arms, plain_list, plain_statement, plain_statements}
 use Rattle.rr_syntax.proofs.Rows.{plain_block, plain_case}
 use Rattle.rr_expr.specs.declared.types.Entity.{Entity}
-use Rattle.rr_expr.specs.declared.types.Entity.TheVariants.{Signal}
+use Rattle.rr_expr.specs.declared.types.Bit.{Bit}
+use Rattle.rr_expr.specs.declared.types.Entity.TheVariants.{Signal, Memory}
+use Rattle.rr_expr.specs.Reading.{IsBitOf}
 use Rattle.rr_expr.specs.Scopes.{Names, lookup, meant, or_instance, range_width}
 use Rattle.rr_expr.specs.Faults.{fault}
 use Rattle.rr_flat.specs.declared.fault.FlatFault.{FlatFault}
@@ -37,19 +39,29 @@ lookup_last (x ∷ xs) name at e = elim (cases_Bool (bytes_eq at x.0)) [
 
 pub holds_none : (n : ℕ) → Holds [] n
 unfolding meant lookup
-holds_none n name id range signed q = cc
+holds_none n name b i = absurd i
 
-pub holds_more : (s : Names) (name : List ℕ) (id : ℕ) (range : Option (ℕ × ℕ)) (signed : Bool) (n : ℕ) → range_width range ≤ 128 → id < n → Holds s n → Holds (s ++ (name, Signal id range signed) ∷ []) n
+-- each bit of what a name stands for is one of a signal that has a value
+abbrev pub IsInside : ℕ → Entity → Type 0
+IsInside n e = (b : Bit) → IsBitOf e b → (b.signal < n) × (b.place < 128)
+
+pub signal_inside : (id : ℕ) (range : Option (ℕ × ℕ)) (signed : Bool) (n : ℕ) → range_width range ≤ 128 → id < n → IsInside n (Signal id range signed)
+signal_inside id range signed n w l b i = (omega (arith, i.0, l), omega (arith, i.1, w))
+
+pub memory_inside : (first low words : ℕ) (range : Option (ℕ × ℕ)) (signed : Bool) (n : ℕ) → range_width range ≤ 128 → first + words ≤ n → IsInside n (Memory first low words range signed)
+memory_inside first low words range signed n w l b i = (omega (arith, i.1, l), omega (arith, i.2, w))
+
+holds_more : (s : Names) (name : List ℕ) (e : Entity) (n : ℕ) → IsInside n e → Holds s n → Holds (s ++ (name, e) ∷ []) n
 unfolding meant
-holds_more s name id range signed n w l h at id' range' signed' q = go (lookup at s) refl (sym (ap or_instance (lookup_last s name at (Signal id range signed))) ∙ q)
+holds_more s name e n w h at b i = go (lookup at s) refl (subst (λ (x : Entity). IsBitOf x b) (ap or_instance (lookup_last s name at e)) i)
   where
-    new : (b : Bool) → or_instance (cond b (Some (Signal id range signed)) None) ≡ Signal id' range' signed' → (id' < n) × (range_width range' ≤ 128)
-    new true e = let i : id ≡ id' = cc in let r : range ≡ range' = cc in (omega (arith, i), omega (arith, ap range_width r))
-    new false e = cc
+    new : (t : Bool) → IsBitOf (or_instance (cond t (Some e) None)) b → (b.signal < n) × (b.place < 128)
+    new true i = w b i
+    new false i = absurd i
 
-    go : (o : Option Entity) → lookup at s ≡ o → or_instance (or_last o (cond (bytes_eq at name) (Some (Signal id range signed)) None)) ≡ Signal id' range' signed' → (id' < n) × (range_width range' ≤ 128)
-    go None e q = new (bytes_eq at name) q
-    go (Some x) e q = h at id' range' signed' (ap or_instance e ∙ q)
+    go : (o : Option Entity) → lookup at s ≡ o → IsBitOf (or_instance (or_last o (cond (bytes_eq at name) (Some e) None))) b → (b.signal < n) × (b.place < 128)
+    go None q i = new (bytes_eq at name) i
+    go (Some x) q i = h at b (subst (λ (y : Entity). IsBitOf y b) (sym (ap or_instance q)) i)
 
 -- expressions and statements without faults, one after the other
 
@@ -134,6 +146,6 @@ whole-For s h b = refl
 
 pub ruleset whole_nodes = (stmt_lemmas, and_parts, whole-Null, whole-For, whole-Block, whole-If, whole-IfElse, whole-Case, whole-Assign)
 
-pub declared : (r : Bool) (old new : Names) (name : List ℕ) (id : ℕ) (range : Option (ℕ × ℕ)) (signed : Bool) (n : ℕ) → new ≡ (if r then old ++ (name, Signal id range signed) ∷ [] else old) → range_width range ≤ 128 → id < n → Holds old n → Holds new n
-declared true old new name id range signed n e w l h = subst (λ (s : Names). Holds s n) (sym e) (holds_more old name id range signed n w l h)
-declared false old new name id range signed n e w l h = subst (λ (s : Names). Holds s n) (sym e) h
+pub declared : (r : Bool) (old new : Names) (name : List ℕ) (e : Entity) (n : ℕ) → new ≡ (if r then old ++ (name, e) ∷ [] else old) → IsInside n e → Holds old n → Holds new n
+declared true old new name e n q w h = subst (λ (s : Names). Holds s n) (sym q) (holds_more old name e n w h)
+declared false old new name e n q w h = subst (λ (s : Names). Holds s n) (sym q) h

@@ -12,6 +12,8 @@ mod dumps;
 #[cfg(test)]
 mod loops;
 #[cfg(test)]
+mod memories;
+#[cfg(test)]
 mod runs;
 #[cfg(test)]
 mod statements;

@@ -293,7 +293,7 @@ const REFUSED: [Refused; 25] = [
 ];
 
 /// Refusals of starting values and of `initial` items.
-const REFUSED_STARTS: [Refused; 10] = [
+const REFUSED_STARTS: [Refused; 12] = [
     (
         "module m(output reg q = a, input a);wire [128:0] w;endmodule",
         &None,
@@ -337,7 +337,17 @@ const REFUSED_STARTS: [Refused; 10] = [
     (
         "module m(output reg [1:0] y);initial y[0] = 1'b1;endmodule",
         &None,
-        "6 Syntax at 38",
+        "24 BadTarget at 37",
+    ),
+    (
+        "module m(output reg [1:0] y);initial y[1:0] = 2'b1;endmodule",
+        &None,
+        "6 Syntax at 40",
+    ),
+    (
+        "module m(output y);reg r [0:1];initial r = 1'b1;assign y = r[0];endmodule",
+        &None,
+        "12 BadRange at 39",
     ),
     (
         "module m(output reg y);initial #1 y = 1'b1;endmodule",

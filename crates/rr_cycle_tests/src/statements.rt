@@ -1,5 +1,5 @@
 //! Statements run by hand, by IEEE 1364-2005 section 9.
-ghost use Rattle.std.specs.Prelude.{◌≡◌, ◌<◌, ◌≤◌, [], ℕ, IfOk, OnOk, true, length};
+ghost use Rattle.std.specs.Prelude.{◌≡◌, ◌+◌, ◌<◌, ◌≤◌, [], ℕ, IfOk, OnOk, true, length};
 ghost use Rattle.rr_syntax.specs.View.{plain, plain_arms, plain_list, plain_statement, plain_statements};
 ghost use Rattle.rr_expr.specs.Scopes.{range_width};
 ghost use Rattle.rr_flat.specs.Shapes.{shape_faults, list_faults, statement_faults, statements_faults, arms_faults};
@@ -49,6 +49,39 @@ fn declare<'a>(
 {
     let _ = scope.add(name, Entity::Signal { id, range, signed })?;
     Ok(())
+}
+
+/// A name of a memory (section 4.9.3).
+fn declare_words<'a>(
+    scope: &mut Scope<'a>,
+    name: &'a str,
+    first: u32,
+    low: u32,
+    words: u32,
+    range: Option<(u32, u32)>,
+) -> Result<(), AllocError>
+    requires { range_width range ≤ 128 }
+    ensures { OnOk result ((n : ℕ) → first + words ≤ n → Holds scope.old n → Holds scope.new n) }
+{
+    let memory = Entity::Memory {
+        first,
+        low,
+        words,
+        range,
+        signed: false,
+    };
+    let _ = scope.add(name, memory)?;
+    Ok(())
+}
+
+/// `reg signed [3:0] i; reg [7:0] m [2:4];`, numbered in this order.
+fn words<'a>(alloc: Global) -> Result<Scope<'a>, AllocError>
+    ensures { IfOk result (λ s. Holds s 4) }
+{
+    let mut scope = Scope::new(alloc);
+    declare(&mut scope, "i", 0, Some((3, 0)), true)?;
+    declare_words(&mut scope, "m", 1, 2, 3, Some((7, 0)))?;
+    Ok(scope)
 }
 
 /// `reg [3:0] a; reg [7:0] b; reg c; reg signed [3:0] i;`, numbered in this order.
@@ -154,13 +187,15 @@ fn values_of(alloc: Global, values: [u128; 4]) -> Result<Vec<u128>, AllocError>
     Vec::from_array(alloc, values).map_err(AllocError::from)
 }
 
-/// The values of `a`, `b`, `c` and `i` after the `=` of a statement, and after its `<=`.
+/// The values of the four signals of a scope after the `=` of a statement, and after its `<=`.
 fn run(
     alloc: Global,
+    scope: &Scope,
     stmt: &Stmt,
     values: [u128; 4],
-) -> Result<(Vec<u128>, Vec<u128>), AllocError> {
-    let scope = names(alloc)?;
+) -> Result<(Vec<u128>, Vec<u128>), AllocError>
+    requires { Holds scope.now 4 }
+{
     let mut machine = Machine {
         env: Env {
             values: values_of(alloc, values)?,
@@ -171,8 +206,8 @@ fn run(
             values: Vec::new(alloc),
         },
     };
-    if is_shaped(stmt, &scope) {
-        execute(stmt, &scope, &mut machine)?;
+    if is_shaped(stmt, scope) {
+        execute(stmt, scope, &mut machine)?;
     }
     let now = machine.env.values.clone()?;
     apply(&mut machine.env.values, machine.later.as_slice());
@@ -182,12 +217,15 @@ fn run(
 
 fn gives(
     alloc: Global,
+    scope: &Scope,
     stmt: &Stmt,
     values: [u128; 4],
     now: [u128; 4],
     then: [u128; 4],
-) -> Result<bool, AllocError> {
-    let (first, second) = run(alloc, stmt, values)?;
+) -> Result<bool, AllocError>
+    requires { Holds scope.now 4 }
+{
+    let (first, second) = run(alloc, scope, stmt, values)?;
     Ok(first.as_slice() == now.as_slice() && second.as_slice() == then.as_slice())
 }
 
@@ -361,9 +399,67 @@ const CASES: [Case; 23] = [
 
 #[test]
 fn statements_by_hand(rt: HostRuntime) -> Result<(), Fail> {
+    let scope = names(rt.alloc())?;
     for (place, case) in CASES.iter().enumerate() {
         assert!(rt;
-            gives(rt.alloc(), case.0, case.1, case.2, case.3)?,
+            gives(rt.alloc(), &scope, case.0, case.1, case.2, case.3)?,
+            "{place}"
+        );
+    }
+    Ok(())
+}
+
+macro_rules! word {
+    ($index:expr) => {
+        Expr::Bit { token: 0, name: "m", index: &$index }
+    };
+}
+
+/// `m[i] <= 8'd9;`
+const WORD: Stmt<'static> = assign!(word!(name!("i")), false, number!(8, false, 9, 0));
+
+/// `begin m[i] = m[i] + 8'd1; i = 4'sd4; m[i] <= m[2]; end`: each index as it is when it is taken.
+const WORDS: Stmt<'static> = Stmt::Block {
+    label: None,
+    body: &[
+        assign!(
+            word!(name!("i")),
+            true,
+            binary!(word!(name!("i")), 14, number!(8, false, 1, 0))
+        ),
+        assign!(name!("i"), true, number!(4, true, 4, 0)),
+        assign!(word!(name!("i")), false, word!(number!(32, true, 2, 0))),
+    ],
+};
+
+/// `{m[i], i} = 12'd1202;`: where there is no such word, its bits are left out.
+const JOINED: Stmt<'static> = assign!(
+    Expr::Concat {
+        parts: &[word!(name!("i")), name!("i")]
+    },
+    true,
+    number!(12, false, 1202, 0)
+);
+
+/// Statements on `i` and the words 2 to 4 of `m`, the index 1, 5 or below 0 where no word has it.
+const CASES_OF_WORDS: [Case; 9] = [
+    (&WORD, [2, 1, 2, 3], [2, 1, 2, 3], [2, 9, 2, 3]),
+    (&WORD, [4, 1, 2, 3], [4, 1, 2, 3], [4, 1, 2, 9]),
+    (&WORD, [1, 1, 2, 3], [1, 1, 2, 3], [1, 1, 2, 3]),
+    (&WORD, [5, 1, 2, 3], [5, 1, 2, 3], [5, 1, 2, 3]),
+    (&WORD, [13, 1, 2, 3], [13, 1, 2, 3], [13, 1, 2, 3]),
+    (&WORDS, [2, 6, 0, 0], [4, 7, 0, 0], [4, 7, 0, 7]),
+    (&WORDS, [7, 6, 0, 0], [4, 6, 0, 0], [4, 6, 0, 6]),
+    (&JOINED, [3, 0, 0, 0], [2, 0, 75, 0], [2, 0, 75, 0]),
+    (&JOINED, [0, 1, 1, 1], [2, 1, 1, 1], [2, 1, 1, 1]),
+];
+
+#[test]
+fn words_by_hand(rt: HostRuntime) -> Result<(), Fail> {
+    let scope = words(rt.alloc())?;
+    for (place, case) in CASES_OF_WORDS.iter().enumerate() {
+        assert!(rt;
+            gives(rt.alloc(), &scope, case.0, case.1, case.2, case.3)?,
             "{place}"
         );
     }

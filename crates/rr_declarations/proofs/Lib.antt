@@ -1,4 +1,5 @@
 pub mod Steps
 pub mod Firsts
 pub mod Listings
+pub mod JoinedSignals
 pub mod HeadLemmas

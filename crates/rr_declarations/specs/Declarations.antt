@@ -1,5 +1,5 @@
--- The declarations of a module (IEEE 1364-2005 sections 3.2, 3.3, 3.9, 3.11 and 12.3).
-use Rattle.std.specs.Prelude.{ℕ, ◌+◌, Bool, true, false, not, List, [], ◌∷◌, ◌++◌, length, fold, Option, Some, None, Result, Ok, is_some, is_none, nat_lt, nat_eq, ◌&&◌, ◌||◌, if◌then◌else◌, slice_index_or, slice_set}
+-- The declarations of a module (IEEE 1364-2005 sections 3.2, 3.3, 3.9, 3.11, 4.9.3 and 12.3).
+use Rattle.std.specs.Prelude.{ℕ, ◌+◌, ◌*◌, Bool, true, false, not, List, [], ◌∷◌, ◌++◌, length, fold, Option, Some, None, Result, Ok, Err, is_some, is_none, nat_lt, nat_eq, ◌&&◌, ◌||◌, if◌then◌else◌, slice_index_or, slice_set}
 use Rattle.rr_syntax.specs.declared.tree.Dir.{Dir}
 use Rattle.rr_syntax.specs.declared.tree.Dir.TheVariants as dir
 use Rattle.rr_syntax.specs.Tree.{Tree, Identifier, DeclaredName, PortDeclaration, Range, ModuleItem, Ports, Nets, Variables, Integers, Parameters, Assigns, Always, Initial, Instances, ModuleDeclaration}
@@ -9,11 +9,12 @@ use Rattle.rr_expr.specs.declared.types.Entity.TheVariants as entity
 use Rattle.rr_flat.specs.declared.signal.Port.{Port}
 use Rattle.rr_flat.specs.declared.signal.Port.TheVariants.{Inner, Input, Output}
 use Rattle.rr_declarations.specs.declared.declare.Declaration.{Declaration}
-use Rattle.rr_flat.specs.declared.fault.Limit.TheVariants.{FlatBits}
+use Rattle.rr_flat.specs.declared.fault.Limit.TheVariants.{Words, FlatBits}
 use Rattle.rr_flat.specs.declared.fault.FlatFault.{FlatFault}
 use Rattle.rr_flat.specs.declared.fault.FlatFault.TheVariants.{NameTwice, UnknownName, BadRange, TooMany}
-use Rattle.rr_flat.specs.Faults.{fault_if, first_fault_or, and_then, each}
+use Rattle.rr_flat.specs.Faults.{fault_if, faults_in, first_fault_or, and_then, each}
 use Rattle.rr_starts.specs.Starts.{start_of, constant_faults}
+pub use Rattle.rr_memory_words.specs.Words.{words_of, word_count}
 use Rattle.rr_declarations.specs.Values.{range_in}
 use Rattle.rr_flat.specs.Signals.{with_name}
 use Rattle.rr_declarations.specs.Parameters.{width_faults}
@@ -93,9 +94,11 @@ start_or known w start (Some t) = start_of known w t
 
 -- Signals
 
--- a signal, and that a `wire` or `reg` may declare it once more: a port without `reg`
+-- a signal, with the lowest index and the number of its words where it has words (section 4.9.3), and that a `wire` or `reg` may
+-- declare it once more: a port without `reg`
 pub record Declared : Type 0 where
   pub signal : Signal
+  pub words : Option (ℕ × ℕ)
   pub again : Bool
 
 -- the signals of an instance in the order of their declarations, and the bits of the design so far; names are the
@@ -121,29 +124,56 @@ signal_of i k n start = record {
   signed = k.signed;
   width = range_width k.range;
   token = n.token;
+  word = None;
   start = start;
 }
 
-abbrev pub with_signal : Declaration → DeclaredName → ℕ → Declarations → Declarations
-with_signal k n start d = record d {
+-- the bits of all words
+abbrev pub declared_bits : Declaration → Option (ℕ × ℕ) → ℕ
+declared_bits k words = word_count words * range_width k.range
+
+abbrev pub with_signal : Declaration → DeclaredName → Option (ℕ × ℕ) → ℕ → Declarations → Declarations
+with_signal k n words start d = record d {
   names = with_name d.names n.text (entity.Signal (length d.list) None false);
-  list = d.list ++ (record { signal = signal_of d.instance k n start; again = is_port k.port && not k.variable }) ∷ [];
-  bits = d.bits + range_width k.range;
+  list = d.list ++ (record { signal = signal_of d.instance k n start; words = words; again = is_port k.port && not k.variable }) ∷ [];
+  bits = d.bits + declared_bits k words;
 }
 
 -- the declaration that lifts the bits of the design above 65,536
-abbrev pub counted : Declaration → DeclaredName → ℕ → Declarations → Result Declarations FlatFault
-counted k n start d =
-    first_fault_or (fault_if (nat_lt 65536 (d.bits + range_width k.range)) (TooMany FlatBits (d.bits + range_width k.range))) (with_signal k n start d)
+abbrev pub counted : Declaration → DeclaredName → Option (ℕ × ℕ) → ℕ → Declarations → Result Declarations FlatFault
+counted k n words start d =
+    first_fault_or (fault_if (nat_lt 65536 (d.bits + declared_bits k words)) (TooMany FlatBits (d.bits + declared_bits k words))) (with_signal k n words start d)
 
--- one more signal; a port must stand in the brackets
+-- the bounds of the words of a name: only a variable that is no port has some
+abbrev pub indices : Declaration → DeclaredName → Option Range
+indices k n = if k.variable && not (is_port k.port) then n.words else None
+
+-- its words, where the bounds have no fault
+abbrev pub words_in : Result (Option (ℕ × ℕ)) FlatFault → Option (ℕ × ℕ)
+words_in (Ok r) = words_of r
+words_in (Err f) = None
+
+abbrev pub declared_words : Names → Declaration → DeclaredName → Option (ℕ × ℕ)
+declared_words known k n = words_in (range_in known (indices k n))
+
+-- more words than 256
+abbrev pub words_faults : Option (ℕ × ℕ) → List FlatFault
+words_faults words = fault_if (nat_lt 256 (word_count words)) (TooMany Words (word_count words))
+
+-- of a new name, which in a port must stand in the brackets
+abbrev pub new_faults : Names → Names → Declaration → DeclaredName → Declarations → List FlatFault
+new_faults brackets known k n d =
+    fault_if (is_some (lookup n.text d.names)) (NameTwice n.token) ++ (fault_if (is_port k.port && is_none (lookup n.text brackets)) (UnknownName n.token) ++ (faults_in (range_in known (indices k n)) ++ (width_faults n.token k.range ++ start_faults known (starting k n))))
+
+-- one more signal
 unfoldable pub declare_new : Names → Names → Declaration → DeclaredName → Declarations → Result Declarations FlatFault
 declare_new brackets known k n d =
-    and_then (first_fault_or (fault_if (is_some (lookup n.text d.names)) (NameTwice n.token) ++ (fault_if (is_port k.port && is_none (lookup n.text brackets)) (UnknownName n.token) ++ (width_faults n.token k.range ++ start_faults known (starting k n)))) d)
-    (counted k n (start_or known (range_width k.range) 0 (starting k n)))
+    and_then (first_fault_or (new_faults brackets known k n d) d) (λ e.
+    and_then (first_fault_or (words_faults (declared_words known k n)) e)
+    (counted k n (declared_words known k n) (start_or known (range_width k.range) 0 (starting k n))))
 
 abbrev pub no_declared : Declared
-no_declared = record { signal = no_signal; again = false }
+no_declared = record { signal = no_signal; words = None; again = false }
 
 abbrev pub declared_at : List Declared → ℕ → Declared
 declared_at list place = slice_index_or list place no_declared
@@ -155,7 +185,7 @@ is_same_range (Some r) None = false
 is_same_range (Some r) (Some s) = nat_eq r.0 s.0 && nat_eq r.1 s.1
 
 abbrev pub redeclared : Declaration → ℕ → Declared → Declared
-redeclared k start x = record { signal = record x.signal { variable = k.variable; signed = k.signed || x.signal.signed; start = start }; again = false }
+redeclared k start x = record { signal = record x.signal { variable = k.variable; signed = k.signed || x.signal.signed; start = start }; words = None; again = false }
 
 -- what a port begins with that is declared once more
 abbrev pub start_again : Names → Option Tree → Declared → ℕ
@@ -172,6 +202,7 @@ abbrev pub again_place : Option Entity → List Declared → Option ℕ
 again_place None list = None
 again_place (Some (entity.Constant bits signed)) list = None
 again_place (Some (entity.Signal id range signed)) list = if (declared_at list id).again then Some id else None
+again_place (Some (entity.Memory first low words range signed)) list = None
 again_place (Some entity.Instance) list = None
 
 abbrev pub repeated_place : Bool → Option ℕ → Option ℕ
@@ -181,8 +212,9 @@ abbrev pub declare_at : Names → Names → Declaration → DeclaredName → Dec
 declare_at brackets known k n d None = declare_new brackets known k n d
 declare_at brackets known k n d (Some place) = declare_again known k n place d
 
+-- a name with words declares no port once more
 unfoldable pub declare : Names → Names → Declaration → DeclaredName → Declarations → Result Declarations FlatFault
-declare brackets known k n d = declare_at brackets known k n d (repeated_place k.repeats (again_place (lookup n.text d.names) d.list))
+declare brackets known k n d = declare_at brackets known k n d (repeated_place (k.repeats && is_none n.words) (again_place (lookup n.text d.names) d.list))
 
 -- Declarations and what they say of their names
 
@@ -209,9 +241,9 @@ inner_declaration variable signed range = record { port = Inner; variable = vari
 abbrev pub integer_declaration : Declaration
 integer_declaration = record { port = Inner; variable = true; repeats = false; signed = true; range = Some (31, 0) }
 
--- an `integer` has no starting value here
+-- an `integer` has no words and no starting value here
 abbrev pub integer_name : Identifier → DeclaredName
-integer_name i = record { token = i.token; text = i.text; value = None }
+integer_name i = record { token = i.token; text = i.text; words = None; value = None }
 
 abbrev pub declare_integer : Names → Names → Identifier → Declarations → Result Declarations FlatFault
 declare_integer brackets known i d = declare brackets known integer_declaration (integer_name i) d

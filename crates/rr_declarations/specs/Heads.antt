@@ -1,5 +1,5 @@
 -- The head of an instance: its parameters and its signals (IEEE 1364-2005 section 12).
-use Rattle.std.specs.Prelude.{ℕ, ◌+◌, List, [], ◌∷◌, ◌++◌, length, fold, Option, Some, None, Result, nat_lt, if◌then◌else◌, option_map, slice_get, option_to_list}
+use Rattle.std.specs.Prelude.{ℕ, ◌+◌, List, [], ◌∷◌, ◌++◌, length, fold, Option, Some, None, Result, nat_lt, if◌then◌else◌, slice_get, option_to_list}
 use Rattle.rr_syntax.specs.Tree.{Identifier, DeclaredName, PortDeclaration, ModuleDeclaration}
 use Rattle.rr_expr.specs.Scopes.{Names, lookup}
 use Rattle.rr_expr.specs.declared.types.Entity.{Entity}
@@ -9,6 +9,7 @@ use Rattle.rr_flat.specs.declared.fault.FlatFault.{FlatFault}
 use Rattle.rr_flat.specs.declared.fault.FlatFault.TheVariants.{TooMany}
 use Rattle.rr_flat.specs.Faults.{fault_if, first_fault_or, and_then}
 use Rattle.rr_flat.specs.Signals.{with_name}
+use Rattle.rr_memory_words.specs.Words.{word_count, words_signals, words_entity}
 use Rattle.rr_declarations.specs.Parameters.{parameters}
 use Rattle.rr_declarations.specs.Declarations.{Declared, Declarations, is_port, known, brackets, declarations, plain_names}
 use Rattle.rr_flat.specs.Signals.{Text, Signal}
@@ -22,44 +23,61 @@ pub record Head : Type 0 where
   pub signals : List Signal
   pub scope : Names
 
--- the signal that a name stands for
-abbrev pub named_signal : List Declared → Option Entity → Option Signal
-named_signal list None = None
-named_signal list (Some (entity.Constant bits signed)) = None
-named_signal list (Some (entity.Signal id range signed)) = option_map (λ x. x.signal) (slice_get list id)
-named_signal list (Some entity.Instance) = None
+-- the declaration that a name stands for
+abbrev pub named_declared : List Declared → Option Entity → Option Declared
+named_declared list None = None
+named_declared list (Some (entity.Constant bits signed)) = None
+named_declared list (Some (entity.Signal id range signed)) = slice_get list id
+named_declared list (Some (entity.Memory first low words range signed)) = None
+named_declared list (Some entity.Instance) = None
 
 -- the ports in the order of the brackets
-unfoldable pub with_port : Declarations → List Signal → Text → List Signal
-with_port d signals name = signals ++ option_to_list (named_signal d.list (lookup name d.names))
+unfoldable pub with_port : Declarations → List Declared → Text → List Declared
+with_port d order name = order ++ option_to_list (named_declared d.list (lookup name d.names))
 
-abbrev pub with_identifier : Declarations → List Signal → Identifier → List Signal
-with_identifier d signals i = with_port d signals i.text
+abbrev pub with_identifier : Declarations → List Declared → Identifier → List Declared
+with_identifier d order i = with_port d order i.text
 
-abbrev pub with_declarator : Declarations → List Signal → DeclaredName → List Signal
-with_declarator d signals n = with_port d signals n.text
+abbrev pub with_declarator : Declarations → List Declared → DeclaredName → List Declared
+with_declarator d order n = with_port d order n.text
 
-unfoldable pub with_ports : Declarations → List Signal → PortDeclaration → List Signal
-with_ports d signals p = fold (with_declarator d) signals p.names
+unfoldable pub with_ports : Declarations → List Declared → PortDeclaration → List Declared
+with_ports d order p = fold (with_declarator d) order p.names
 
--- then the other signals in the order of their declarations
-unfoldable pub with_inner : List Signal → Declared → List Signal
-with_inner signals x = if is_port x.signal.port then signals else signals ++ x.signal ∷ []
+-- then the others in the order of the text
+unfoldable pub with_inner : List Declared → Declared → List Declared
+with_inner order x = if is_port x.signal.port then order else order ++ x ∷ []
+
+unfoldable pub declared_in_order : ModuleDeclaration → Declarations → List Declared
+declared_in_order m d = fold with_inner (fold (with_ports d) (fold (with_identifier d) [] (plain_names m.header)) m.groups) d.list
+
+-- the one signal of a declaration, or its words in the order of their indices
+abbrev pub signals_of : Declared → List Signal
+signals_of x = words_signals x.signal x.words
+
+-- what its name stands for, where its first signal has number k
+abbrev pub entity_of : ℕ → Declared → Entity
+entity_of k x = words_entity k x.signal x.words
+
+-- the signals of all declarations of a list
+unfoldable pub joined : List Declared → List Signal
+joined [] = []
+joined (x ∷ xs) = signals_of x ++ joined xs
 
 unfoldable pub signals_in_order : ModuleDeclaration → Declarations → List Signal
-signals_in_order m d = fold with_inner (fold (with_ports d) (fold (with_identifier d) [] (plain_names m.header)) m.groups) d.list
+signals_in_order m d = joined (declared_in_order m d)
 
--- each signal by its number, where the next has number k
-unfoldable pub with_signals : ℕ → List Signal → Names → Names
+-- each name by the numbers of its signals, where the next signal has number k
+unfoldable pub with_signals : ℕ → List Declared → Names → Names
 with_signals k [] names = names
-with_signals k (s ∷ ss) names = with_signals (k + 1) ss (with_name names s.name (entity.Signal k s.range s.signed))
+with_signals k (x ∷ xs) names = with_signals (k + word_count x.words) xs (with_name names x.signal.name (entity_of k x))
 
 -- the numbers of signals end at 65,536, since each signal has a bit or more and the bits do: so this count never comes
 -- where that of the declarations did not
-unfoldable pub numbered : ℕ → ℕ → ℕ → List Signal → Names → Result Head FlatFault
-numbered i base bits signals names =
-    first_fault_or (fault_if (nat_lt 65536 (base + length signals)) (TooMany FlatBits (base + length signals)))
-    (record { instance = i; base = base; bits = bits; signals = signals; scope = with_signals base signals names })
+unfoldable pub numbered : ℕ → ℕ → ℕ → List Declared → Names → Result Head FlatFault
+numbered i base bits list names =
+    first_fault_or (fault_if (nat_lt 65536 (base + length (joined list))) (TooMany FlatBits (base + length (joined list))))
+    (record { instance = i; base = base; bits = bits; signals = joined list; scope = with_signals base list names })
 
 -- the names of the port brackets, then the declarations
 unfoldable pub declared : ℕ → ℕ → ModuleDeclaration → Names → Result Declarations FlatFault
@@ -71,4 +89,4 @@ unfoldable pub head : ℕ → ℕ → ℕ → Names → ModuleDeclaration → Re
 head i base bits given m =
     and_then (parameters given m) (λ names.
     and_then (declared i bits m names) (λ d.
-    numbered i base d.bits (signals_in_order m d) names))
+    numbered i base d.bits (declared_in_order m d) names))

@@ -4,7 +4,7 @@ use Rattle.rr_bits.specs.Words.{extend}
 use Rattle.rr_syntax.specs.Tree.{ParamAssignment, ParameterDeclaration, ModuleItem, Ports, Nets, Variables, Integers, Parameters, Assigns, Always, Initial, Instances, ModuleDeclaration}
 use Rattle.rr_expr.specs.Scopes.{Names, lookup, range_width}
 use Rattle.rr_expr.specs.declared.types.Entity.{Entity}
-use Rattle.rr_expr.specs.declared.types.Entity.TheVariants.{Constant, Signal, Instance}
+use Rattle.rr_expr.specs.declared.types.Entity.TheVariants.{Constant, Signal, Memory, Instance}
 use Rattle.rr_flat.specs.declared.fault.FlatFault.{FlatFault}
 use Rattle.rr_flat.specs.declared.fault.FlatFault.TheVariants.{NameTwice, TooWide}
 use Rattle.rr_flat.specs.Faults.{fault_if, among, and_then, each}
@@ -16,6 +16,7 @@ abbrev pub given_or : Option Entity → List Bool × Bool → List Bool × Bool
 given_or None own = own
 given_or (Some (Constant bits signed)) own = (bits, signed)
 given_or (Some (Signal id range signed)) own = own
+given_or (Some (Memory first low words range signed)) own = own
 given_or (Some Instance) own = own
 
 -- a `localparam` is not overridden

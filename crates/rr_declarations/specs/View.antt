@@ -8,7 +8,7 @@ use Rattle.rr_declarations.specs.Declarations as declarations
 use Rattle.rr_declarations.specs.Heads.{Head}
 
 abbrev pub plain_declared : Declared → declarations.Declared
-plain_declared x = record { signal = plain_signal x.signal; again = x.again }
+plain_declared x = record { signal = plain_signal x.signal; words = x.words; again = x.again }
 
 abbrev pub plain_list : List Declared → List declarations.Declared
 plain_list list = map plain_declared list

@@ -1,21 +1,23 @@
-//! The declarations of a module (IEEE 1364-2005 sections 3.2, 3.3, 3.9 and 12.3).
-ghost use Rattle.std.specs.Prelude.{◌≡◌, ◌≤◌, ◌<◌, ◌^◌, ℕ, [], MatchResult, OnOk, All, option_map, slice_get, IfSome, map, Ok, Some, None, length, ◌||◌, if◌then◌else◌};
+//! The declarations of a module (IEEE 1364-2005 sections 3.2, 3.3, 3.9, 4.9.3 and 12.3).
+ghost use Rattle.std.specs.Prelude.{◌≡◌, ◌≤◌, ◌<◌, ◌^◌, ℕ, [], MatchResult, OnOk, All, option_map, slice_get, IfSome, map, Ok, Some, None, length, fold, is_some, is_none, ◌&&◌, ◌||◌, if◌then◌else◌};
 ghost use Rattle.rr_expr.specs.Scopes.{lookup, range_width as width_of_range};
 ghost use Rattle.rr_syntax.specs.View.{plain_port, plain_identifier, plain_declarator, plain_range, plain_item};
-ghost use Rattle.rr_flat.specs.Faults.{Refuses, each};
+ghost use Rattle.rr_flat.specs.Faults.{Refuses, each, fault_if, faults_in, sooner};
+ghost use Rattle.rr_flat.specs.declared.fault.FlatFault.TheVariants.{NameTwice, UnknownName};
+ghost use Rattle.rr_declarations.specs.Parameters.{width_faults};
 ghost use Rattle.rr_declarations.specs.Declarations.{port_of as port_in, is_reg as is_reg_in, is_port as is_port_in, inner_declaration as inner_declared, is_same_range as is_same, counted, declare_new as declare_new_in, declare_again as declare_again_in, again_place as again_place_in, repeated_place, declared_at, declare as declare_in, declare_integer as declare_integer_in, declare_ports as declare_ports_in, declare_nets as declare_nets_in, declare_variables as declare_variables_in, declare_item as declare_item_in};
-ghost use Rattle.rr_declarations.specs.Heads.{named_signal};
-ghost use Rattle.rr_flat.specs.View.{plain_signal};
-ghost use Rattle.rr_declarations.specs.View.{plain_declarations, plain_list};
+ghost use Rattle.rr_declarations.specs.Heads.{named_declared};
+ghost use Rattle.rr_memory_words.specs.Words.{AreWords};
+ghost use Rattle.rr_declarations.specs.View.{plain_declared, plain_declarations, plain_list};
 ghost use Rattle.rr_declarations.specs.Sound.{IsRange, ArePlaces, IsDeclared};
-ghost use Rattle.rr_flat.specs.Sound.{IsOwn};
 
 use crate::FLAT_BITS;
 use crate::parameters::put;
 use crate::starts::{start_or, starting};
 use crate::values::{range_of, range_width};
+use crate::words::{bits_of_words, bounds_of, few_words, has_no_words};
 use rr_expr::{Entity, Scope};
-use rr_flat::{FlatFault, Limit, Port, Signal, note_if};
+use rr_flat::{FlatFault, Limit, Port, Signal, note, note_if};
 use rr_syntax::{Bounds, Declarator, Dir, Group, Item, Named};
 use std::alloc::Global;
 use std::marker::Model;
@@ -40,10 +42,12 @@ const INTEGER: Declaration = Declaration {
     range: Some((31, 0)),
 };
 
-/// A signal, and that a `wire` or `reg` may declare it once more: a port without `reg`.
+/// A signal, with the lowest index and the number of its words where it has words (section 4.9.3), and
+/// that a `wire` or `reg` may declare it once more: a port without `reg`.
 #[derive(Clone, Copy)]
 pub(crate) struct Declared<'a> {
     pub(crate) signal: Signal<'a>,
+    pub(crate) words: Option<(u32, u32)>,
     pub(crate) again: bool,
 }
 
@@ -124,13 +128,13 @@ fn is_same_range(one: Option<(u32, u32)>, other: Option<(u32, u32)>) -> bool
     }
 }
 
-/// The signal at a place.
-fn signal_at<'a>(list: &[Declared<'a>], place: u32) -> Option<Signal<'a>>
-    ensures value { option_map plain_signal result ≡ option_map (λ x. x.signal) (slice_get (plain_list list.now) place) }
-    ensures sound { (i : ℕ) → All (IsDeclared i) list.now → IfSome result (λ s. IsOwn i s) }
+/// The declaration at a place.
+fn declared_there<'a>(list: &[Declared<'a>], place: u32) -> Option<Declared<'a>>
+    ensures value { option_map plain_declared result ≡ slice_get (plain_list list.now) place }
+    ensures sound { (i : ℕ) → All (IsDeclared i) list.now → IfSome result (λ x. IsDeclared i x) }
 {
     match list.get(place as usize) {
-        Some(declared) => Some(declared.signal),
+        Some(declared) => Some(*declared),
         None => None,
     }
 }
@@ -153,8 +157,34 @@ fn again_place(entity: &Option<Entity>, list: &[Declared]) -> Option<u32>
 {
     match entity {
         Some(Entity::Signal { id, .. }) => again_at(*id, list),
-        Some(Entity::Constant { .. }) | Some(Entity::Instance) | None => None,
+        Some(Entity::Constant { .. })
+        | Some(Entity::Memory { .. })
+        | Some(Entity::Instance)
+        | None => None,
     }
+}
+
+/// The first fault of a new name but for its starting value: it is there already, a port stands in no
+/// brackets, the bounds of its words have one, or its range has more than 128 bits.
+#[tactic(auto, using(crate::proofs::Firsts::narrow), unfolding(rr_syntax::specs::View::plain_declarator))]
+fn note_new(
+    names: &Scope,
+    brackets: &Scope,
+    one: &Declaration,
+    name: &Declarator,
+    bounds: &Result<Option<(u32, u32)>, FlatFault>,
+) -> Option<FlatFault>
+    requires { IsRange one.now.range }
+    ensures all { result ≡ fold sooner (fold sooner (fold sooner (fold sooner None (fault_if (is_some (lookup (plain_declarator name.now).text names.now)) (NameTwice (plain_declarator name.now).token))) (fault_if (is_port_in one.now.port && is_none (lookup (plain_declarator name.now).text brackets.now)) (UnknownName (plain_declarator name.now).token))) (faults_in bounds.now)) (width_faults (plain_declarator name.now).token one.now.range) }
+    ensures narrow { result ≡ None → width_of_range one.now.range ≤ 128 }
+{
+    let twice = names.find(name.name).is_some();
+    let stray = is_port(one.port) && brackets.find(name.name).is_none();
+    let width = range_width(one.range);
+    let found = note_if(None, twice, FlatFault::NameTwice(name.token));
+    let found = note_if(found, stray, FlatFault::UnknownName(name.token));
+    let found = note(found, bounds);
+    note_if(found, width > 128, FlatFault::TooWide(name.token, width))
 }
 
 impl<'a> Declarations<'a> {
@@ -172,25 +202,27 @@ impl<'a> Declarations<'a> {
         }
     }
 
-    /// One more signal, of a width that is that of its range, with that starting value.
+    /// One more signal, of a width that is that of its range, with those words and that starting value.
     #[tactic(auto, unfolding(rr_syntax::specs::View::plain_declarator))]
     fn append(
         &mut self,
         one: &Declaration,
         name: &Declarator<'a>,
+        words: Option<(u32, u32)>,
         width: u32,
         start: u128,
     ) -> Result<(), FlatFault>
         requires width { width ≡ width_of_range one.now.range }
         requires low { 1 ≤ width }
         requires high { width ≤ 128 }
+        requires words { AreWords one.now.variable one.now.port words }
         requires start { start < 2 ^ width }
         ensures value { MatchResult result
-            (λ _. counted one.now (plain_declarator name.now) start (plain_declarations self.old) ≡ Ok (plain_declarations self.new))
-            (Refuses (counted one.now (plain_declarator name.now) start (plain_declarations self.old))) }
+            (λ _. counted one.now (plain_declarator name.now) words start (plain_declarations self.old) ≡ Ok (plain_declarations self.new))
+            (Refuses (counted one.now (plain_declarator name.now) words start (plain_declarations self.old))) }
         ensures same { OnOk result (self.new.instance ≡ self.old.instance) }
     {
-        let bits = self.bits + width as u64;
+        let bits = self.bits + bits_of_words(words, width);
         if bits > FLAT_BITS {
             return Err(FlatFault::TooMany(Limit::FlatBits, bits));
         }
@@ -211,10 +243,12 @@ impl<'a> Declarations<'a> {
             signed: one.signed,
             width,
             token: name.token,
+            word: None,
             start,
         };
         self.list.push_reserved(Declared {
             signal,
+            words,
             again: is_port(one.port) && !one.variable,
         });
         self.bits = bits;
@@ -222,7 +256,7 @@ impl<'a> Declarations<'a> {
     }
 
     /// One more signal; a port must stand in the brackets.
-    #[tactic(auto, using(crate::proofs::Firsts::narrow), unfolding(crate::specs::Declarations::declare_new, rr_syntax::specs::View::plain_declarator))]
+    #[tactic(auto, unfolding(rr_syntax::specs::View::plain_declarator))]
     fn declare_new(
         &mut self,
         brackets: &Scope,
@@ -236,14 +270,12 @@ impl<'a> Declarations<'a> {
             (Refuses (declare_new_in brackets.now known.now one.now (plain_declarator name.now) (plain_declarations self.old))) }
         ensures same { OnOk result (self.new.instance ≡ self.old.instance) }
     {
-        let twice = self.names.find(name.name).is_some();
-        let stray = is_port(one.port) && brackets.find(name.name).is_none();
+        let bounds = bounds_of(one, name, known);
+        let found = note_new(&self.names, brackets, one, name, &bounds);
         let width = range_width(one.range);
-        let found = note_if(None, twice, FlatFault::NameTwice(name.token));
-        let found = note_if(found, stray, FlatFault::UnknownName(name.token));
-        let found = note_if(found, width > 128, FlatFault::TooWide(name.token, width));
         let start = start_or(found, 0, starting(one, name), known, width)?;
-        self.append(one, name, width, start)
+        let words = few_words(one, &bounds)?;
+        self.append(one, name, words, width, start)
     }
 
     /// A port once more, with the same range.
@@ -271,19 +303,23 @@ impl<'a> Declarations<'a> {
         signal.signed = is_signed(one.signed, signal.signed);
         self.list[place as usize] = Declared {
             signal,
+            words: None,
             again: false,
         };
         Ok(())
     }
 
-    /// The signal that has this name.
-    pub(crate) fn named(&self, name: &str) -> Option<Signal<'a>>
-        ensures value { option_map plain_signal result ≡ named_signal (plain_list self.now.list) (lookup name.now self.now.names) }
-        ensures sound { IfSome result (λ s. IsOwn self.now.instance s) }
+    /// The declaration of this name.
+    pub(crate) fn named(&self, name: &str) -> Option<Declared<'a>>
+        ensures value { option_map plain_declared result ≡ named_declared (plain_list self.now.list) (lookup name.now self.now.names) }
+        ensures sound { IfSome result (λ x. IsDeclared self.now.instance x) }
     {
         match self.names.find(name) {
-            Some(Entity::Signal { id, .. }) => signal_at(self.list.as_slice(), id),
-            Some(Entity::Constant { .. }) | Some(Entity::Instance) | None => None,
+            Some(Entity::Signal { id, .. }) => declared_there(self.list.as_slice(), id),
+            Some(Entity::Constant { .. })
+            | Some(Entity::Memory { .. })
+            | Some(Entity::Instance)
+            | None => None,
         }
     }
 
@@ -314,7 +350,7 @@ impl<'a> Declarations<'a> {
             (Refuses (declare_in brackets.now known.now one.now (plain_declarator name.now) (plain_declarations self.old))) }
         ensures same { OnOk result (self.new.instance ≡ self.old.instance) }
     {
-        match self.repeated(one.repeats, name.name) {
+        match self.repeated(one.repeats && has_no_words(name), name.name) {
             None => self.declare_new(brackets, known, one, name),
             Some(place) => self.declare_again(known, one, name, place),
         }
@@ -339,7 +375,7 @@ impl<'a> Declarations<'a> {
         Ok(())
     }
 
-    #[tactic(auto, unfolding(rr_syntax::specs::View::plain_identifier, rr_syntax::specs::View::plain_declarator, rr_syntax::specs::View::plain_value))]
+    #[tactic(auto, unfolding(rr_syntax::specs::View::plain_identifier, rr_syntax::specs::View::plain_declarator, rr_syntax::specs::View::plain_range, rr_syntax::specs::View::plain_value))]
     fn declare_integer(
         &mut self,
         brackets: &Scope,
@@ -354,6 +390,7 @@ impl<'a> Declarations<'a> {
         let name = Declarator {
             token: named.token,
             name: named.name,
+            words: None,
             value: None,
         };
         self.declare(brackets, known, &INTEGER, &name)

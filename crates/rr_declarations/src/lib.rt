@@ -10,6 +10,7 @@ mod known;
 mod parameters;
 mod starts;
 mod values;
+mod words;
 
 /// The greatest number of flat bits: the widths of all signals together.
 pub const FLAT_BITS: u64 = 65536;

@@ -78,7 +78,8 @@ fn given_or(given: &Option<Entity>, own: &(Bits, bool)) -> (Bits, bool)
 {
     match given {
         Some(Entity::Constant { bits, signed }) => (*bits, *signed),
-        Some(Entity::Signal { .. }) | Some(Entity::Instance) | None => *own,
+        Some(Entity::Signal { .. }) | Some(Entity::Memory { .. }) | Some(Entity::Instance) | None =>
+            *own,
     }
 }
 

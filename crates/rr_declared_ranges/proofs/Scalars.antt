@@ -1,6 +1,6 @@
 -- In each instance the names that its module declares as scalars are scalars.
 use Rattle.std.proofs.Common.{◌≡◌, ◌⊎◌, inl, inr, ℕ, zero, suc, ◌+◌, ◌-◌, ◌<◌, Bool, true, false, if◌then◌else◌, is_some, is_none, List, [], ◌∷◌, ◌++◌, length, fold, get_or, Option, Some, None, Result, Ok, refl, sym, subst, ap, ◌∙◌, arith}
-use Rattle.std.specs.Prelude.{slice_get, option_to_list, option_map, nat_lt}
+use Rattle.std.specs.Prelude.{slice_get, option_to_list, nat_lt}
 use Rattle.std.specs.List.{AllByRecursion}
 use Rattle.std.proofs.lemmas.Bool.{both_ways}
 use Rattle.rr_syntax.specs.Tree.{Identifier, DeclaredName, PortDeclaration, ModuleDeclaration}
@@ -12,20 +12,20 @@ use Rattle.rr_flat.specs.declared.fault.FlatFault.TheVariants.{TooMany}
 use Rattle.rr_flat.specs.declared.fault.Limit.TheVariants.{FlatBits}
 use Rattle.rr_declarations.specs.Declarations.{Declared, Declarations, is_port, declared_at, known, know, know_declarator, know_ports, know_port_item, plain_names, add_plain_name, brackets, declarations}
 use Rattle.rr_flat.specs.Faults.{fault_if, first_of, and_then, each}
-use Rattle.rr_declarations.specs.Heads.{Head, head, declared, named_signal, with_port, with_identifier, with_declarator, with_ports, with_inner, signals_in_order, with_signals, numbered}
-use Rattle.rr_flat.specs.Signals.{with_name, Text, Signal, signal_at, no_signal}
+use Rattle.rr_memory_words.specs.Words.{word_count, words_entity}
+use Rattle.rr_declarations.specs.Heads.{Head, head, declared, declared_in_order, entity_of, joined, named_declared, with_port, with_identifier, with_declarator, with_ports, with_inner, with_signals, numbered}
+use Rattle.rr_flat.specs.Signals.{with_name, Text, Signal}
 use Rattle.rr_declarations.specs.Parameters.{parameters}
 use Rattle.rr_flat.specs.Plain.{Flat}
 use Rattle.rr_flatten.specs.Walk.{module_at}
 use Rattle.rr_flat.specs.Writers.{scope_at}
 use Rattle.rr_flat.proofs.Alike.{Alike}
 use Rattle.rr_flatten.proofs.HeadOf.{ok_is, first_ok, settled_is, fold_keeps, fold_over, all_append, all_got, Entries, NoSignal, constants}
-use Rattle.rr_flat.proofs.Lists.{all_index}
-use Rattle.rr_declared_ranges.specs.Ranges.{IsSet, AllBy}
+use Rattle.rr_declared_ranges.specs.Ranges.{IsMade, AllBy}
 use Rattle.rr_declared_ranges.specs.Laws.{NamesHaveRanges}
-use Rattle.rr_declared_ranges.proofs.Declared.{name_at, range_at, port_at, Right, Has, all_later, all_declared, lookup_kept, lookup_new, lookup_with}
+use Rattle.rr_declared_ranges.proofs.Declared.{name_at, range_at, words_at, port_at, Right, Has, all_later, all_declared, lookup_kept, lookup_new, lookup_with}
 use Rattle.rr_declared_ranges.proofs.Members.{Somewhere, all_weaken}
-use Rattle.rr_declared_ranges.proofs.Once.{Each, each_with, found, IsItsName, head_names}
+use Rattle.rr_declared_ranges.proofs.Once.{Each, each_with, found}
 use Rattle.rr_declared_ranges.proofs.Tops.{Headed, heads}
 
 some_is : {X : Type 0} (a b : X) → Some a ≡ Some b → a ≡ b
@@ -118,83 +118,84 @@ module _ (m : ModuleDeclaration) where
       by None q h = absurd (both_ways true h refl)
       by (Some x) q h = found P bracketed name x (bracketed_in bracketed e) q
 
--- The signals in order
+-- The declarations in order
 
 module _ (d : Declarations) where
-  -- what holds of each declared signal holds of each in order
-  module _ (Q : Signal → Type 0) (all : AllByRecursion (λ (x : Declared). Q x.signal) d.list) where
-    found_one : (o : Option Entity) → AllByRecursion Q (option_to_list (named_signal d.list o))
+  -- what holds of each declaration holds of each in order
+  module _ (Q : Declared → Type 0) (all : AllByRecursion Q d.list) where
+    found_one : (o : Option Entity) → AllByRecursion Q (option_to_list (named_declared d.list o))
     found_one None = tt
     found_one (Some (entity.Constant bits signed)) = tt
     found_one (Some (entity.Signal id range signed)) = by (slice_get d.list id) refl
       where
-        by : (o : Option Declared) → slice_get d.list id ≡ o → AllByRecursion Q (option_to_list (option_map (λ x. x.signal) o))
+        by : (o : Option Declared) → slice_get d.list id ≡ o → AllByRecursion Q (option_to_list o)
         by None q = tt
-        by (Some x) q = (all_got (λ (x : Declared). Q x.signal) d.list id x all q, tt)
+        by (Some x) q = (all_got Q d.list id x all q, tt)
+    found_one (Some (entity.Memory first low words range signed)) = tt
     found_one (Some entity.Instance) = tt
 
-    with_one : (name : Text) (s : List Signal) → AllByRecursion Q s → AllByRecursion Q (with_port d s name)
+    with_one : (name : Text) (s : List Declared) → AllByRecursion Q s → AllByRecursion Q (with_port d s name)
     unfolding with_port
-    with_one name s q = all_append Q s (option_to_list (named_signal d.list (lookup name d.names))) q (found_one (lookup name d.names))
+    with_one name s q = all_append Q s (option_to_list (named_declared d.list (lookup name d.names))) q (found_one (lookup name d.names))
 
-    inner_one : (x : Declared) (s : List Signal) → Q x.signal → AllByRecursion Q s → AllByRecursion Q (with_inner s x)
+    inner_one : (x : Declared) (s : List Declared) → Q x → AllByRecursion Q s → AllByRecursion Q (with_inner s x)
     unfolding with_inner
     inner_one x s m q = by (is_port x.signal.port)
       where
-        by : (b : Bool) → AllByRecursion Q (if b then s else s ++ x.signal ∷ [])
+        by : (b : Bool) → AllByRecursion Q (if b then s else s ++ x ∷ [])
         by true = q
-        by false = all_append Q s (x.signal ∷ []) q (m, tt)
+        by false = all_append Q s (x ∷ []) q (m, tt)
 
-    pub all_in_order : (m : ModuleDeclaration) → AllByRecursion Q (signals_in_order m d)
-    unfolding signals_in_order with_ports
+    pub all_in_order : (m : ModuleDeclaration) → AllByRecursion Q (declared_in_order m d)
+    unfolding declared_in_order with_ports
     all_in_order m =
-        fold_over (λ (x : Declared). Q x.signal) (AllByRecursion Q) with_inner (λ x s q p. inner_one x s q p) d.list (fold (with_ports d) (fold (with_identifier d) [] (plain_names m.header)) m.groups) all
+        fold_over Q (AllByRecursion Q) with_inner (λ x s q p. inner_one x s q p) d.list (fold (with_ports d) (fold (with_identifier d) [] (plain_names m.header)) m.groups) all
         (fold_keeps (AllByRecursion Q) (with_ports d) (λ p s q. fold_keeps (AllByRecursion Q) (with_declarator d) (λ n s q. with_one n.text s q) p.names s q) m.groups (fold (with_identifier d) [] (plain_names m.header))
         (fold_keeps (AllByRecursion Q) (with_identifier d) (λ n s q. with_one n.text s q) (plain_names m.header) [] tt))
 
-  -- a declared signal is among them
+  -- one of them is there
   module _ (p : ℕ) (there : p < length d.list) (is : lookup (name_at d.list p) d.names ≡ Some (entity.Signal p None false)) where
     abbrev itself : Text
     itself = name_at d.list p
 
-    abbrev Here : List Signal → Type 0
-    Here ss = Somewhere (λ (s : Signal). s.name ≡ itself) ss
+    abbrev Here : List Declared → Type 0
+    Here xs = Somewhere (λ (x : Declared). x.signal.name ≡ itself) xs
 
     got : (xs : List Declared) (p : ℕ) → p < length xs → slice_get xs p ≡ Some (declared_at xs p)
     got [] p l = absurd (omega (arith, l))
     got (x ∷ xs) zero l = refl
     got (x ∷ xs) (suc p) l = got xs p (omega (arith, l))
 
-    port_stays : (name : Text) (s : List Signal) → Here s → Here (with_port d s name)
+    port_stays : (name : Text) (s : List Declared) → Here s → Here (with_port d s name)
     unfolding with_port
-    port_stays name s h = some_left (λ (x : Signal). x.name ≡ itself) s (option_to_list (named_signal d.list (lookup name d.names))) h
+    port_stays name s h = some_left (λ (x : Declared). x.signal.name ≡ itself) s (option_to_list (named_declared d.list (lookup name d.names))) h
 
-    port_hits : (name : Text) (s : List Signal) → name ≡ itself → Here (with_port d s name)
+    port_hits : (name : Text) (s : List Declared) → name ≡ itself → Here (with_port d s name)
     unfolding with_port Somewhere
     port_hits name s e =
-        let l : named_signal d.list (lookup name d.names) ≡ Some (declared_at d.list p).signal =
-        ap (λ x. named_signal d.list (lookup x d.names)) e ∙ ap (named_signal d.list) is ∙ ap (option_map (λ (x : Declared). x.signal)) (got d.list p there) in
-        some_right (λ (x : Signal). x.name ≡ itself) s (option_to_list (named_signal d.list (lookup name d.names))) (subst (λ o. Here (option_to_list o)) (sym l) (inl refl))
+        let l : named_declared d.list (lookup name d.names) ≡ Some (declared_at d.list p) =
+        ap (λ x. named_declared d.list (lookup x d.names)) e ∙ ap (named_declared d.list) is ∙ got d.list p there in
+        some_right (λ (x : Declared). x.signal.name ≡ itself) s (option_to_list (named_declared d.list (lookup name d.names))) (subst (λ o. Here (option_to_list o)) (sym l) (inl refl))
 
-    ports_stay : (q : PortDeclaration) (s : List Signal) → Here s → Here (with_ports d s q)
+    ports_stay : (q : PortDeclaration) (s : List Declared) → Here s → Here (with_ports d s q)
     unfolding with_ports
     ports_stay q s h = fold_keeps Here (with_declarator d) (λ n s h. port_stays n.text s h) q.names s h
 
-    ports_hit : (q : PortDeclaration) (s : List Signal) → IsPortNamed itself q → Here (with_ports d s q)
+    ports_hit : (q : PortDeclaration) (s : List Declared) → IsPortNamed itself q → Here (with_ports d s q)
     unfolding with_ports
     ports_hit q s h = fold_hits (IsDeclaredAs itself) Here (with_declarator d) (λ n s h. port_stays n.text s h) (λ n s e. port_hits n.text s e) q.names s h
 
-    inner_stays : (x : Declared) (s : List Signal) → Here s → Here (with_inner s x)
+    inner_stays : (x : Declared) (s : List Declared) → Here s → Here (with_inner s x)
     unfolding with_inner
     inner_stays x s h = by (is_port x.signal.port)
       where
-        by : (b : Bool) → Here (if b then s else s ++ x.signal ∷ [])
+        by : (b : Bool) → Here (if b then s else s ++ x ∷ [])
         by true = h
-        by false = some_left (λ (y : Signal). y.name ≡ itself) s (x.signal ∷ []) h
+        by false = some_left (λ (y : Declared). y.signal.name ≡ itself) s (x ∷ []) h
 
-    inner_hits : (x : Declared) (s : List Signal) → (x.signal.name ≡ itself) × (is_port x.signal.port ≡ false) → Here (with_inner s x)
+    inner_hits : (x : Declared) (s : List Declared) → (x.signal.name ≡ itself) × (is_port x.signal.port ≡ false) → Here (with_inner s x)
     unfolding with_inner Somewhere
-    inner_hits x s (e, h) = subst (λ b. Here (if b then s else s ++ x.signal ∷ [])) (sym h) (some_right (λ (y : Signal). y.name ≡ itself) s (x.signal ∷ []) (inl e))
+    inner_hits x s (e, h) = subst (λ b. Here (if b then s else s ++ x ∷ [])) (sym h) (some_right (λ (y : Declared). y.signal.name ≡ itself) s (x ∷ []) (inl e))
 
     inner_there : (xs : List Declared) (p : ℕ) (name : Text) → p < length xs → (declared_at xs p).signal.name ≡ name → is_port (declared_at xs p).signal.port ≡ false →
         Somewhere (λ (x : Declared). (x.signal.name ≡ name) × (is_port x.signal.port ≡ false)) xs
@@ -203,11 +204,11 @@ module _ (d : Declarations) where
     inner_there (x ∷ xs) zero name l e h = inl (e, h)
     inner_there (x ∷ xs) (suc p) name l e h = inr (inner_there xs p name (omega (arith, l)) e h)
 
-    in_order : (m : ModuleDeclaration) → (is_port (port_at d.list p) ≡ true → InBrackets m itself) → Here (signals_in_order m d)
-    unfolding signals_in_order
+    in_order : (m : ModuleDeclaration) → (is_port (port_at d.list p) ≡ true → InBrackets m itself) → Here (declared_in_order m d)
+    unfolding declared_in_order
     in_order m b = by (is_port (port_at d.list p)) refl
       where
-        groups : List Signal
+        groups : List Declared
         groups = fold (with_ports d) (fold (with_identifier d) [] (plain_names m.header)) m.groups
 
         ported : InBrackets m itself → Here (fold with_inner groups d.list)
@@ -222,34 +223,48 @@ module _ (d : Declarations) where
 
 -- The names of a head
 
-abbrev IsSignalNow : Option Entity → Type 0
-IsSignalNow o = (id : ℕ) × ((range : Option (ℕ × ℕ)) × ((signed : Bool) × (o ≡ Some (entity.Signal id range signed))))
-
-numbers_stay : (k : ℕ) (ss : List Signal) (names : Names) (name : Text) (e : Entity) → lookup name names ≡ Some e → lookup name (with_signals k ss names) ≡ Some e
+numbers_stay : (k : ℕ) (xs : List Declared) (names : Names) (name : Text) (e : Entity) → lookup name names ≡ Some e → lookup name (with_signals k xs names) ≡ Some e
 unfolding with_signals
 numbers_stay k [] names name e h = h
-numbers_stay k (s ∷ ss) names name e h = numbers_stay (k + 1) ss (with_name names s.name (entity.Signal k s.range s.signed)) name e (lookup_kept name s.name names (entity.Signal k s.range s.signed) e h)
+numbers_stay k (x ∷ xs) names name e h = numbers_stay (k + word_count x.words) xs (with_name names x.signal.name (entity_of k x)) name e (lookup_kept name x.signal.name names (entity_of k x) e h)
 
-numbers_there : (k : ℕ) (ss : List Signal) (names : Names) (name : Text) → Somewhere (λ (s : Signal). s.name ≡ name) ss → lookup name names ≡ None → IsSignalNow (lookup name (with_signals k ss names))
-unfolding with_signals Somewhere
-numbers_there k [] names name h n = absurd h
-numbers_there k (s ∷ ss) names name (inl e) n =
-    let new : Entity = entity.Signal k s.range s.signed in
-    let got : lookup name (with_name names s.name new) ≡ Some new = subst (λ x. lookup x (with_name names s.name new) ≡ Some new) e (lookup_new s.name names new (ap (λ x. is_some (lookup x names)) e ∙ ap is_some n)) in
-    (k, (s.range, (s.signed, numbers_stay (k + 1) ss (with_name names s.name new) name new got)))
-numbers_there k (s ∷ ss) names name (inr h) n = by (lookup name (with_name names s.name (entity.Signal k s.range s.signed))) refl (numbers_there (k + 1) ss (with_name names s.name (entity.Signal k s.range s.signed)) name h)
-  where
-    new : Entity
-    new = entity.Signal k s.range s.signed
+-- a new name of one declaration alone stands for its signals
+module _ (one : Declared) where
+  abbrev its_name : Text
+  its_name = one.signal.name
 
-    by : (o : Option Entity) → lookup name (with_name names s.name (entity.Signal k s.range s.signed)) ≡ o →
-        (lookup name (with_name names s.name (entity.Signal k s.range s.signed)) ≡ None → IsSignalNow (lookup name (with_signals (k + 1) ss (with_name names s.name (entity.Signal k s.range s.signed))))) →
-        IsSignalNow (lookup name (with_signals (k + 1) ss (with_name names s.name (entity.Signal k s.range s.signed))))
-    by None q r = r q
-    by (Some x) q r = elim (lookup_with name s.name names (entity.Signal k s.range s.signed) x q) [
-      | inl a ↦ absurd (none_some x (sym n ∙ a))
-      | inr a ↦ (k, (s.range, (s.signed, numbers_stay (k + 1) ss (with_name names s.name (entity.Signal k s.range s.signed)) name (entity.Signal k s.range s.signed) (q ∙ ap Some (sym a.1)))))
-    ]
+  abbrev IsNumbered : Names → Type 0
+  IsNumbered scope = (k : ℕ) × (lookup its_name scope ≡ Some (entity_of k one))
+
+  abbrev IsAlone : Declared → Type 0
+  IsAlone x = x.signal.name ≡ its_name → x ≡ one
+
+  numbers_there : (k : ℕ) (xs : List Declared) (names : Names) → AllByRecursion IsAlone xs → Somewhere (λ (x : Declared). x.signal.name ≡ its_name) xs → lookup its_name names ≡ None → IsNumbered (with_signals k xs names)
+  unfolding with_signals Somewhere
+  numbers_there k [] names a h n = absurd h
+  numbers_there k (x ∷ xs) names a (inl e) n =
+      let new : Entity = entity_of k x in
+      let got : lookup its_name (with_name names x.signal.name new) ≡ Some new =
+      subst (λ y. lookup y (with_name names x.signal.name new) ≡ Some new) e (lookup_new x.signal.name names new (ap (λ y. is_some (lookup y names)) e ∙ ap is_some n)) in
+      (k, numbers_stay (k + word_count x.words) xs (with_name names x.signal.name new) its_name new got ∙ ap (λ (y : Declared). Some (entity_of k y)) (a.0 e))
+  numbers_there k (x ∷ xs) names a (inr h) n = by (lookup its_name (with_name names x.signal.name (entity_of k x))) refl (numbers_there (k + word_count x.words) xs (with_name names x.signal.name (entity_of k x)) a.1 h)
+    where
+      by : (o : Option Entity) → lookup its_name (with_name names x.signal.name (entity_of k x)) ≡ o →
+          (lookup its_name (with_name names x.signal.name (entity_of k x)) ≡ None → IsNumbered (with_signals (k + word_count x.words) xs (with_name names x.signal.name (entity_of k x)))) →
+          IsNumbered (with_signals (k + word_count x.words) xs (with_name names x.signal.name (entity_of k x)))
+      by None q r = r q
+      by (Some y) q r = elim (lookup_with its_name x.signal.name names (entity_of k x) y q) [
+        | inl b ↦ absurd (none_some y (sym n ∙ b))
+        | inr b ↦ (
+          k,
+          numbers_stay (k + word_count x.words) xs (with_name names x.signal.name (entity_of k x)) its_name (entity_of k x) (q ∙ ap Some (sym b.1)) ∙ ap (λ (y : Declared). Some (entity_of k y)) (a.0 (sym b.0)),
+        )
+      ]
+
+made_as : (scope : Names) (name : Text) (k : ℕ) (s : Signal) (words : Option (ℕ × ℕ)) → lookup name scope ≡ Some (words_entity k s words) → nat_lt 128 (range_width s.range) ≡ false → nat_lt 256 (word_count words) ≡ false → IsMade scope name s.range words
+unfolding meant
+made_as scope name k s None e n f = record { id = k; signed = s.signed; means = ap or_instance e; narrow = n }
+made_as scope name k s (Some w) e n f = record { first = k; signed = s.signed; means = ap or_instance e; narrow = n; few = f }
 
 pub all_by_index : (P : Declared → Type 0) (xs : List Declared) → ((q : ℕ) → q < length xs → P (declared_at xs q)) → AllByRecursion P xs
 all_by_index P [] h = tt
@@ -261,11 +276,11 @@ signal_is p q r s a b h = cc
 never : (p : ℕ) (r : Option (ℕ × ℕ)) (s : Bool) (e : Entity) → NoSignal e → e ≡ entity.Signal p r s → ⊥
 never p r s (entity.Constant bits signed) n h = cc
 never p r s (entity.Signal id range signed) n h = n
+never p r s (entity.Memory first low words range signed) n h = n
 never p r s entity.Instance n h = cc
 
--- with constants for parameters, a name that is declared is set in the scope
-module _ (m : ModuleDeclaration) (base : ℕ) (bracketed params : Names) (bracketed_is : brackets m ≡ Ok bracketed) (constant : Entries NoSignal params) (d : Declarations) (right : Right bracketed params d.names d.list)
-    (named : Each (IsItsName base (signals_in_order m d)) (with_signals base (signals_in_order m d) params)) where
+-- with constants for parameters, a name that is declared is made in the scope
+module _ (m : ModuleDeclaration) (base : ℕ) (bracketed params : Names) (bracketed_is : brackets m ≡ Ok bracketed) (constant : Entries NoSignal params) (d : Declarations) (right : Right bracketed params d.names d.list) where
   no_constant : (name : Text) (p : ℕ) → p < length d.list → name_at d.list p ≡ name → lookup name params ≡ None
   no_constant name p l n = by (lookup name params) refl
     where
@@ -275,27 +290,21 @@ module _ (m : ModuleDeclaration) (base : ℕ) (bracketed params : Names) (bracke
           let there : lookup name d.names ≡ Some (entity.Signal p None false) = subst (λ x. lookup x d.names ≡ Some (entity.Signal p None false)) n (right.there p l) in
           absurd (never p None false e (found (λ x e. NoSignal e) params name e constant q) (some_is e (entity.Signal p None false) (sym (right.kept name e q) ∙ there)))
 
-  signal_in : (name : Text) (range : Option (ℕ × ℕ)) → Has bracketed params d name range → IsSet (with_signals base (signals_in_order m d) params) name range
-  unfolding meant
-  signal_in name range (p, (l, (n, r))) =
-      let signals = signals_in_order m d in
-      let here : Somewhere (λ (s : Signal). s.name ≡ name) signals = subst (λ x. Somewhere (λ (s : Signal). s.name ≡ x) signals) n
-      (in_order d p l (right.there p l) m (λ h. bracket_found m bracketed (name_at d.list p) bracketed_is (right.ports p l h))) in
-      let is = numbers_there base signals params name here (no_constant name p l n) in
-      let one : (q : ℕ) → q < length d.list → name_at d.list q ≡ name → range_at d.list q ≡ range = λ q k e.
-      let same : q ≡ p = signal_is q p None None false false (sym (right.there q k) ∙ ap (λ x. lookup x d.names) (e ∙ sym n) ∙ right.there p l) in
-      ap (range_at d.list) same ∙ r in
-      let ranges : AllByRecursion (λ (s : Signal). s.name ≡ name → s.range ≡ range) signals = all_in_order d (λ s. s.name ≡ name → s.range ≡ range) (all_by_index (λ x. x.signal.name ≡ name → x.signal.range ≡ range) d.list one) m in
-      let its = found (IsItsName base signals) (with_signals base signals params) name (entity.Signal is.0 is.1.0 is.1.1.0) named is.1.1.1 in
-      let low = its.0 in
-      let high = its.1 in
-      let same : (signal_at signals (is.0 - base)).range ≡ range = all_index (λ (s : Signal). s.name ≡ name → s.range ≡ range) signals (is.0 - base) no_signal ranges (omega (arith, low, high)) its.2 in
-      record {
-        id = is.0;
-        signed = is.1.1.0;
-        means = ap or_instance is.1.1.1 ∙ ap (λ r. entity.Signal is.0 r is.1.1.0) (sym its.3 ∙ same);
-        narrow = ap (λ r. nat_lt 128 (range_width r)) (sym r) ∙ right.narrow p l;
-      }
+  place_made : (p : ℕ) → p < length d.list → IsMade (with_signals base (declared_in_order m d) params) (name_at d.list p) (range_at d.list p) (words_at d.list p)
+  place_made p l =
+      let list = declared_in_order m d in
+      let it : Declared = declared_at d.list p in
+      let alone : (q : ℕ) → q < length d.list → name_at d.list q ≡ name_at d.list p → declared_at d.list q ≡ it = λ q k e.
+      ap (λ (i : ℕ). declared_at d.list i) (signal_is q p None None false false (sym (right.there q k) ∙ ap (λ x. lookup x d.names) e ∙ right.there p l)) in
+      let is = numbers_there it base list params (all_in_order d (IsAlone it) (all_by_index (IsAlone it) d.list alone) m)
+      (in_order d p l (right.there p l) m (λ h. bracket_found m bracketed (name_at d.list p) bracketed_is (right.ports p l h))) (no_constant (name_at d.list p) p l refl) in
+      made_as (with_signals base list params) (name_at d.list p) is.0 it.signal it.words is.1 (right.narrow p l) (right.few p l)
+
+  signal_in : (name : Text) (range words : Option (ℕ × ℕ)) → Has bracketed params d name range words → IsMade (with_signals base (declared_in_order m d) params) name range words
+  signal_in name range words (p, (l, (n, (r, w)))) =
+      let scope : Names = with_signals base (declared_in_order m d) params in
+      subst (λ (v : Option (ℕ × ℕ)). IsMade scope name range v) w
+      (subst (λ (v : Option (ℕ × ℕ)). IsMade scope name v (words_at d.list p)) r (subst (λ (x : Text). IsMade scope x (range_at d.list p) (words_at d.list p)) n (place_made p l)))
 
 pub nothing_right : (bracketed params : Names) → Entries NoSignal params → Right bracketed params params []
 nothing_right bracketed params c = record {
@@ -304,36 +313,39 @@ nothing_right bracketed params c = record {
   kept = λ x e h. h;
   ports = λ p l h. absurd (omega (arith, l));
   narrow = λ p l. absurd (omega (arith, l));
+  few = λ p l. absurd (omega (arith, l));
+  single = λ p l. absurd (omega (arith, l));
 }
 
--- each name that a module declares stands for a signal in the head of an instance, with the declared range
-pub head_by : (i base bits : ℕ) (given : Names) (m : ModuleDeclaration) (h : Head) → head i base bits given m ≡ Ok h → (seen : Names) × AllBy (IsSet h.scope) seen m
+-- each name that a module declares stands for a signal, or a memory, in the head of an instance, with the declared range
+pub head_by : (i base bits : ℕ) (given : Names) (m : ModuleDeclaration) (h : Head) → head i base bits given m ≡ Ok h → (seen : Names) × AllBy (IsMade h.scope) seen m
 unfolding head numbered declared
 head_by i base bits given m h e =
-    let r = first_ok (parameters given m) (λ names. and_then (declared i bits m names) (λ d. numbered i base d.bits (signals_in_order m d) names)) h e in
-    let s = first_ok (declared i bits m r.0) (λ d. numbered i base d.bits (signals_in_order m d) r.0) h r.1.1 in
+    let r = first_ok (parameters given m) (λ names. and_then (declared i bits m names) (λ d. numbered i base d.bits (declared_in_order m d) names)) h e in
+    let s = first_ok (declared i bits m r.0) (λ d. numbered i base d.bits (declared_in_order m d) r.0) h r.1.1 in
     let d = s.0 in
     let first : Declarations = record { instance = i; names = r.0; list = []; bits = bits } in
     let b = first_ok (brackets m) (λ bracketed. declarations bracketed (known m r.0) m first) d s.1.0 in
     let c = constants given m r.0 r.1.0 in
     let a = all_declared b.0 r.0 (known m r.0) m first d (nothing_right b.0 r.0 c) b.1.1 in
-    let signals = signals_in_order m d in
-    let made : Head = record { instance = i; base = base; bits = d.bits; signals = signals; scope = with_signals base signals r.0 } in
+    let list = declared_in_order m d in
+    let signals = joined list in
+    let made : Head = record { instance = i; base = base; bits = d.bits; signals = signals; scope = with_signals base list r.0 } in
     let is : made ≡ h = settled_is (first_of (fault_if (nat_lt 65536 (base + length signals)) (TooMany FlatBits (base + length signals)))) made h s.1.1 in
-    let named : Each (IsItsName base signals) made.scope = subst (λ (h : Head). Each (IsItsName base h.signals) h.scope) (sym is) (head_names i base bits given m h e) in
-    subst (λ (h : Head). (seen : Names) × AllBy (IsSet h.scope) seen m) is
-    (known m r.0, all_later (Has b.0 r.0 d) (IsSet made.scope) (known m r.0) (λ name range p. signal_in m base b.0 r.0 b.1.0 c d a.0 named name range p) m a.1)
+    subst (λ (h : Head). (seen : Names) × AllBy (IsMade h.scope) seen m) is
+    (known m r.0, all_later (Has b.0 r.0 d) (IsMade made.scope) (known m r.0) (λ name range words p. signal_in m base b.0 r.0 b.1.0 c d a.0 name range words p) m a.1)
 
-set_alike : (a b : Names) (name : Text) (range : Option (ℕ × ℕ)) → Alike a b → IsSet a name range → IsSet b name range
-set_alike a b name range h s = record { id = s.id; signed = s.signed; means = sym (h name) ∙ s.means; narrow = s.narrow }
+made_alike : (a b : Names) (name : Text) (range words : Option (ℕ × ℕ)) → Alike a b → IsMade a name range words → IsMade b name range words
+made_alike a b name range None h s = record { id = s.id; signed = s.signed; means = sym (h name) ∙ s.means; narrow = s.narrow }
+made_alike a b name range (Some w) h s = record { first = s.first; signed = s.signed; means = sym (h name) ∙ s.means; narrow = s.narrow; few = s.few }
 
 -- and so in the instance
-pub scope_by : (ms : List ModuleDeclaration) (flat : Flat) → Headed ms flat.scopes flat.owners flat.signals → (i : ℕ) → i < length flat.scopes → (seen : Names) × AllBy (IsSet (scope_at flat i)) seen (module_at ms (get_or flat.owners i 0))
+pub scope_by : (ms : List ModuleDeclaration) (flat : Flat) → Headed ms flat.scopes flat.owners flat.signals → (i : ℕ) → i < length flat.scopes → (seen : Names) × AllBy (IsMade (scope_at flat i)) seen (module_at ms (get_or flat.owners i 0))
 scope_by ms flat h i l =
     let f = h.each i l in
     let m = module_at ms (get_or flat.owners i 0) in
     let b = head_by i f.base f.bits f.given m f.top f.is in
-    (b.0, all_later (IsSet f.top.scope) (IsSet (scope_at flat i)) b.0 (λ name r s. set_alike f.top.scope (scope_at flat i) name r f.alike s) m b.1)
+    (b.0, all_later (IsMade f.top.scope) (IsMade (scope_at flat i)) b.0 (λ name r w s. made_alike f.top.scope (scope_at flat i) name r w f.alike s) m b.1)
 
 pub names_of_source : NamesHaveRanges
 names_of_source source top flat e i l = scope_by source.modules flat (heads source top flat e) i l

@@ -1,5 +1,5 @@
 -- In each instance the names of the loops of its module are integers.
-use Rattle.std.proofs.Common.{◌≡◌, ℕ, Bool, true, false, if◌then◌else◌, ◌||◌, List, [], ◌∷◌, ◌++◌, Option, Some, refl, sym, subst}
+use Rattle.std.proofs.Common.{◌≡◌, ℕ, Bool, true, false, if◌then◌else◌, ◌||◌, List, [], ◌∷◌, ◌++◌, Option, Some, None, refl, sym, subst}
 use Rattle.std.specs.List.{AllByRecursion}
 use Rattle.std.specs.Str.{bytes_eq}
 use Rattle.std.proofs.lemmas.Bool.{both_ways}
@@ -11,7 +11,7 @@ use Rattle.rr_flat.specs.Writers.{scope_at}
 use Rattle.rr_loop_rules.specs.Rules.{LoopNames, contains, with_new, with_integer, loops_of, integers_of_item, integers_of, loop_names}
 use Rattle.rr_flatten.proofs.HeadOf.{fold_over, all_append}
 use Rattle.rr_flat_laws.specs.Names.{module_of}
-use Rattle.rr_declared_ranges.specs.Ranges.{IsSet, ItemBy, AllBy}
+use Rattle.rr_declared_ranges.specs.Ranges.{IsMade, ItemBy, AllBy}
 use Rattle.rr_declared_ranges.specs.Laws.{LoopsAreVectors}
 use Rattle.rr_declared_ranges.proofs.Members.{all_weaken, all_map, all_flat}
 use Rattle.rr_declared_ranges.proofs.Scalars.{names_of_source}
@@ -45,9 +45,9 @@ module _ (Q : Text → Type 0) where
       by false e k more = more k
 
 -- an integer has 32 bits
-module _ (P : Text → Option (ℕ × ℕ) → Type 0) (seen : Names) where
+module _ (P : Text → Option (ℕ × ℕ) → Option (ℕ × ℕ) → Type 0) (seen : Names) where
   abbrev IsLong : Text → Type 0
-  IsLong name = P name (Some (31, 0))
+  IsLong name = P name (Some (31, 0)) None
 
   item_integers : (x : ModuleItem) → ItemBy P seen x → AllByRecursion IsLong (integers_of_item x)
   unfolding integers_of_item
@@ -61,11 +61,11 @@ module _ (P : Text → Option (ℕ × ℕ) → Type 0) (seen : Names) where
   item_integers (Initial body token) h = tt
   item_integers (Instances m token overrides list) h = tt
 
-  loops_long : (m : ModuleDeclaration) → AllBy P seen m → (name : Text) → contains (loop_names m) name ≡ true → P name (Some (31, 0))
+  loops_long : (m : ModuleDeclaration) → AllBy P seen m → (name : Text) → contains (loop_names m) name ≡ true → P name (Some (31, 0)) None
   loops_long m a name c =
       held IsLong (loop_names m) name (all_loops IsLong m (all_flat IsLong integers_of_item m.items (all_weaken (ItemBy P seen) m.items (λ x h. item_integers x h) a.items))) c
 
 pub loops_of_source : LoopsAreVectors
 loops_of_source source top flat e i l name c =
     let b = names_of_source source top flat e i l in
-    loops_long (IsSet (scope_at flat i)) b.0 (module_of source flat i) b.1 name c
+    loops_long (IsMade (scope_at flat i)) b.0 (module_of source flat i) b.1 name c

@@ -13,7 +13,7 @@ use Rattle.rr_expr.specs.Operators.{infixes}
 use Rattle.rr_expr.specs.Scopes.{Names, meant, entity_range, is_scalar, range_width}
 use Rattle.rr_expr.specs.Selects.{integer_with, is_against}
 use Rattle.rr_expr.specs.Values.{form, widths, value, own, nowhere}
-use Rattle.rr_expr.specs.Faults.{fault, faults, first, first_part, or_else, fault_if, width_fault, name_fault, base_fault, count_fault, is_bad, constant_count, constant_span}
+use Rattle.rr_expr.specs.Faults.{fault, faults, first, first_part, or_else, fault_if, width_fault, name_fault, base_fault, index_fault, count_fault, is_bad, constant_count, constant_span}
 use Rattle.rr_expr.specs.Reading.{Occurs, OccursIn, AgreeAt}
 use Rattle.rr_expr.proofs.NamesAlone.{shape_by_names, value_by_names, fault_by_names}
 use Rattle.rr_flat.specs.declared.fault.FlatFault.TheVariants.{BadRange as BadRangeAt}
@@ -29,6 +29,7 @@ use Rattle.rr_declared_starts.specs.Starts.{Valued, BeginsAs}
 abbrev pub IsConstant : Entity → Type 0
 IsConstant (entity.Constant bits signed) = Unit {0}
 IsConstant (entity.Signal id range signed) = ⊥
+IsConstant (entity.Memory first low words range signed) = ⊥
 IsConstant entity.Instance = ⊥
 
 first_none : (f g : Option ExprFault) → or_else f g ≡ None → f ≡ None
@@ -42,10 +43,17 @@ then_none (Some f) g h = cc
 name_constant : (token : ℕ) (e : Entity) → name_fault true token e ≡ None → IsConstant e
 name_constant token (entity.Constant bits signed) h = tt
 name_constant token (entity.Signal id range signed) h = cc
+name_constant token (entity.Memory first low words range signed) h = cc
 name_constant token entity.Instance h = cc
 
 base_constant : (token : ℕ) (e : Entity) → base_fault true token e ≡ None → IsConstant e
 base_constant token e h = name_constant token e (first_none (name_fault true token e) (fault_if (is_scalar e) (BadRange token)) h)
+
+index_constant : (token : ℕ) (e : Entity) → index_fault true token e ≡ None → IsConstant e
+index_constant token (entity.Constant bits signed) h = tt
+index_constant token (entity.Signal id range signed) h = base_constant token (entity.Signal id range signed) h
+index_constant token (entity.Memory first low words range signed) h = cc
+index_constant token entity.Instance h = base_constant token entity.Instance h
 
 mutual
   unfolding fault Occurs
@@ -53,8 +61,8 @@ mutual
   constant_names : (s : Names) (t : Tree) (name : Text) → fault s t true ≡ None → Occurs t name → IsConstant (meant s name)
   constant_names s (Name token x) name h o = subst (λ (n : Text). IsConstant (meant s n)) o (name_constant token (meant s x) h)
   constant_names s (Literal token n) name h o = absurd o
-  constant_names s (BitSelect token x i) name h (inl o) = subst (λ (n : Text). IsConstant (meant s n)) o (base_constant token (meant s x) (first_none (base_fault true token (meant s x)) (fault s i true) h))
-  constant_names s (BitSelect token x i) name h (inr o) = constant_names s i name (then_none (base_fault true token (meant s x)) (fault s i true) h) o
+  constant_names s (BitSelect token x i) name h (inl o) = subst (λ (n : Text). IsConstant (meant s n)) o (index_constant token (meant s x) (first_none (index_fault true token (meant s x)) (fault s i true) h))
+  constant_names s (BitSelect token x i) name h (inr o) = constant_names s i name (then_none (index_fault true token (meant s x)) (fault s i true) h) o
   constant_names s (Part token x l r) name h o =
       let turned = fault_if (is_against (entity_range (meant s x)) (integer_with (form s l) (value s l nowhere)) (integer_with (form s r) (value s r nowhere))) (BadRange token) in
       let third = or_else turned (width_fault token (constant_span s l r)) in

@@ -1,7 +1,7 @@
 -- The signals of a head begin with what the declarations of its module give them.
-use Rattle.std.proofs.Common.{◌≡◌, sym, ap, inl, inr, ℕ, suc, ◌+◌, ◌<◌, Bool, true, false, if◌then◌else◌, List, [], ◌∷◌, ◌++◌, length, fold, Option, Some, None, Ok, refl, subst, arith}
-use Rattle.std.specs.Prelude.{slice_get, option_to_list, option_map, nat_lt}
-use Rattle.std.specs.List.{AllByRecursion, IsDistinct}
+use Rattle.std.proofs.Common.{◌≡◌, sym, ap, inl, inr, ℕ, ◌+◌, Bool, false, List, [], ◌∷◌, length, map, fold, Option, Some, None, Ok, refl, subst, arith}
+use Rattle.std.specs.Prelude.{nat_lt}
+use Rattle.std.specs.List.{AllByRecursion, IsDistinct, range_with_len}
 use Rattle.std.specs.Str.{bytes_eq}
 use Rattle.rr_syntax.specs.Tree.{PortDeclaration, ModuleItem, Ports, Nets, Variables, Integers, Parameters, Assigns, Always, Initial, Instances, ModuleDeclaration}
 use Rattle.rr_expr.specs.Scopes.{Names, lookup, meant, or_instance}
@@ -10,53 +10,43 @@ use Rattle.rr_expr.specs.declared.types.Entity.TheVariants as entity
 use Rattle.rr_flat.specs.declared.fault.FlatFault.TheVariants.{TooMany}
 use Rattle.rr_flat.specs.declared.fault.Limit.TheVariants.{FlatBits}
 use Rattle.rr_flat.specs.Faults.{fault_if, first_of, and_then}
-use Rattle.rr_flat.specs.Signals.{Text, Signal, with_name}
-use Rattle.rr_declarations.specs.Declarations.{Declared, Declarations, is_port, declared_at, known, know, know_declarator, know_identifier, know_ports, know_item, plain_names, brackets, declarations}
-use Rattle.rr_declarations.specs.Heads.{Head, head, declared, named_signal, with_port, with_identifier, with_declarator, with_ports, with_inner, signals_in_order, with_signals, numbered}
+use Rattle.rr_flat.specs.Signals.{Text, Signal}
+use Rattle.rr_memory_words.specs.Words.{indexed_word, words_signals}
+use Rattle.rr_declarations.specs.Declarations.{Declared, Declarations, known, know, know_declarator, know_identifier, know_ports, know_item, brackets, declarations}
+use Rattle.rr_declarations.specs.Heads.{Head, head, declared, declared_in_order, joined, signals_of, with_signals, numbered}
 use Rattle.rr_declarations.specs.Parameters.{parameters}
-use Rattle.rr_flatten.proofs.HeadOf.{first_ok, settled_is, fold_keeps, fold_over, all_append, all_got, Entries, NoSignal, constants}
+use Rattle.rr_flatten.proofs.HeadOf.{first_ok, settled_is, fold_keeps, all_append, all_weaker, Entries, NoSignal, constants}
 use Rattle.rr_flat_laws.proofs.Declaring.{Lists}
-use Rattle.rr_flat_laws.proofs.Texts.{with_stays, with_cases, found_entry}
-use Rattle.rr_declared_starts.specs.Starts.{names_in, values_of}
+use Rattle.rr_flat_laws.proofs.Texts.{with_cases, found_entry}
+use Rattle.rr_flat_laws.proofs.Windows.{stays}
+use Rattle.rr_declared_ranges.proofs.Scalars.{all_in_order, all_by_index}
+use Rattle.rr_declared_starts.specs.Starts.{Valued, names_in, values_of, BeginsAs}
 use Rattle.rr_declared_starts.proofs.Constants.{IsConstant, Carries}
 use Rattle.rr_declared_starts.proofs.Stepping.{Right, Listed, nothing_begun, all_begun}
 
 -- The signals in order
 
-all_by_index : (P : Declared → Type 0) (xs : List Declared) → ((p : ℕ) → p < length xs → P (declared_at xs p)) → AllByRecursion P xs
-all_by_index P [] h = tt
-all_by_index P (x ∷ xs) h = (h 0 (omega arith), all_by_index P xs (λ p l. h (suc p) (omega (arith, l))))
+-- the words of a signal begin as it does
+module _ (seen : Names) (vs : List Valued) where
+  word_right : (s : Signal) (low k : ℕ) → Right seen vs s → Right seen vs (indexed_word s low k)
+  word_right s low k r = record {
+    given = all_weaker (λ v. v.name ≡ s.name → BeginsAs seen v s) (λ v. v.name ≡ s.name → BeginsAs seen v (indexed_word s low k)) vs
+        (λ v g e. let b = g e in record { ranged = b.ranged; constant = b.constant; begins = b.begins }) r.given;
+    none = r.none;
+  }
 
--- what holds of each declared signal holds of each in order
-module _ (d : Declarations) (Q : Signal → Type 0) (all : AllByRecursion (λ (x : Declared). Q x.signal) d.list) where
-  found_one : (o : Option Entity) → AllByRecursion Q (option_to_list (named_signal d.list o))
-  found_one None = tt
-  found_one (Some (entity.Constant bits signed)) = tt
-  found_one (Some (entity.Signal id range signed)) = by (slice_get d.list id) refl
-    where
-      by : (o : Option Declared) → slice_get d.list id ≡ o → AllByRecursion Q (option_to_list (option_map (λ x. x.signal) o))
-      by None q = tt
-      by (Some x) q = (all_got (λ (x : Declared). Q x.signal) d.list id x all q, tt)
-  found_one (Some entity.Instance) = tt
+  words_right : (s : Signal) (low : ℕ) (ks : List ℕ) → Right seen vs s → AllByRecursion (Right seen vs) (map (indexed_word s low) ks)
+  words_right s low [] r = tt
+  words_right s low (k ∷ ks) r = (word_right s low k r, words_right s low ks r)
 
-  with_one : (name : Text) (s : List Signal) → AllByRecursion Q s → AllByRecursion Q (with_port d s name)
-  unfolding with_port
-  with_one name s q = all_append Q s (option_to_list (named_signal d.list (lookup name d.names))) q (found_one (lookup name d.names))
+  signals_right : (s : Signal) (words : Option (ℕ × ℕ)) → Right seen vs s → AllByRecursion (Right seen vs) (words_signals s words)
+  signals_right s None r = (r, tt)
+  signals_right s (Some w) r = words_right s w.0 (range_with_len 0 w.1) r
 
-  inner_one : (x : Declared) (s : List Signal) → Q x.signal → AllByRecursion Q s → AllByRecursion Q (with_inner s x)
-  unfolding with_inner
-  inner_one x s m q = by (is_port x.signal.port)
-    where
-      by : (b : Bool) → AllByRecursion Q (if b then s else s ++ x.signal ∷ [])
-      by true = q
-      by false = all_append Q s (x.signal ∷ []) q (m, tt)
-
-  all_in_order : (m : ModuleDeclaration) → AllByRecursion Q (signals_in_order m d)
-  unfolding signals_in_order with_ports
-  all_in_order m =
-      fold_over (λ (x : Declared). Q x.signal) (AllByRecursion Q) with_inner (λ x s q p. inner_one x s q p) d.list (fold (with_ports d) (fold (with_identifier d) [] (plain_names m.header)) m.groups) all
-      (fold_keeps (AllByRecursion Q) (with_ports d) (λ p s q. fold_keeps (AllByRecursion Q) (with_declarator d) (λ n s q. with_one n.text s q) p.names s q) m.groups (fold (with_identifier d) [] (plain_names m.header))
-      (fold_keeps (AllByRecursion Q) (with_identifier d) (λ n s q. with_one n.text s q) (plain_names m.header) [] tt))
+  joined_right : (list : List Declared) → AllByRecursion (λ (x : Declared). Right seen vs x.signal) list → AllByRecursion (Right seen vs) (joined list)
+  unfolding joined
+  joined_right [] h = tt
+  joined_right (x ∷ xs) h = all_append (Right seen vs) (signals_of x) (joined xs) (signals_right x.signal x.words h.0) (joined_right xs h.1)
 
 -- The constants of the names that declarations see are those of the instance
 
@@ -93,30 +83,28 @@ module _ (params : Names) where
   unfolding known
   only_known m = fold_keeps Only know_item known_item m.items (fold know_ports params m.groups) (fold_keeps Only know_ports known_ports m.groups params (λ n bits signed e. e))
 
-  numbers_stay : (k : ℕ) (ss : List Signal) (names : Names) (n : Text) (e : Entity) → lookup n names ≡ Some e → lookup n (with_signals k ss names) ≡ Some e
-  unfolding with_signals
-  numbers_stay k [] names n e h = h
-  numbers_stay k (s ∷ ss) names n e h = numbers_stay (k + 1) ss (with_name names s.name (entity.Signal k s.range s.signed)) n e (with_stays names s.name n e (entity.Signal k s.range s.signed) h)
-
-  carried : (m : ModuleDeclaration) (k : ℕ) (ss : List Signal) → Carries (known m params) (with_signals k ss params)
+  carried : (m : ModuleDeclaration) (k : ℕ) (list : List Declared) → Carries (known m params) (with_signals k list params)
   unfolding meant
-  carried m k ss name c = by (lookup name (known m params)) refl c
+  carried m k list name c = by (lookup name (known m params)) refl c
     where
-      by : (o : Option Entity) → lookup name (known m params) ≡ o → IsConstant (or_instance o) → or_instance o ≡ or_instance (lookup name (with_signals k ss params))
+      by : (o : Option Entity) → lookup name (known m params) ≡ o → IsConstant (or_instance o) → or_instance o ≡ or_instance (lookup name (with_signals k list params))
       by None q c = absurd c
-      by (Some (entity.Constant bits signed)) q c = sym (ap or_instance (numbers_stay k ss params name (entity.Constant bits signed) (only_known m name bits signed q)))
+      by (Some (entity.Constant bits signed)) q c = sym (ap or_instance (stays k list params name (entity.Constant bits signed) (only_known m name bits signed q)))
       by (Some (entity.Signal id range signed)) q c = absurd c
+      by (Some (entity.Memory first low words range signed)) q c = absurd c
       by (Some entity.Instance) q c = absurd c
 
 -- Heads
 
-no_lists : (bracketed params : Names) (P : Text → Type 0) (i bits : ℕ) → Entries NoSignal params → Lists bracketed params P (record { instance = i; names = params; list = []; bits = bits })
+no_lists : (bracketed params : Names) (P : Text × Bool → Type 0) (i bits : ℕ) → Entries NoSignal params → Lists bracketed params P (record { instance = i; names = params; list = []; bits = bits })
 no_lists bracketed params P i bits h = record {
   kept = λ n x e. e;
   placed = λ p l. absurd (omega (arith, l));
   named = λ n id range signed e. absurd (found_entry NoSignal params n (entity.Signal id range signed) h e);
   true_of = λ p l. absurd (omega (arith, l));
   ported = λ p l. absurd (omega (arith, l));
+  single = λ p l. absurd (omega (arith, l));
+  worded = λ p l. absurd (omega (arith, l));
 }
 
 -- by the names that its declarations see
@@ -129,18 +117,20 @@ pub record Founded (m : ModuleDeclaration) (h : Head) : Type 0 where
 pub founded : (i base bits : ℕ) (given : Names) (m : ModuleDeclaration) (h : Head) → head i base bits given m ≡ Ok h → Founded m h
 unfolding head numbered declared
 founded i base bits given m h e =
-    let r = first_ok (parameters given m) (λ names. and_then (declared i bits m names) (λ d. numbered i base d.bits (signals_in_order m d) names)) h e in
-    let s = first_ok (declared i bits m r.0) (λ d. numbered i base d.bits (signals_in_order m d) r.0) h r.1.1 in
+    let r = first_ok (parameters given m) (λ names. and_then (declared i bits m names) (λ d. numbered i base d.bits (declared_in_order m d) names)) h e in
+    let s = first_ok (declared i bits m r.0) (λ d. numbered i base d.bits (declared_in_order m d) r.0) h r.1.1 in
     let d = s.0 in
     let first : Declarations = record { instance = i; names = r.0; list = []; bits = bits } in
     let b = first_ok (brackets m) (λ bracketed. declarations bracketed (known m r.0) m first) d s.1.0 in
     let lists : Listed b.0 r.0 (known m r.0) first = no_lists b.0 r.0 _ i bits (constants given m r.0 r.1.0) in
     let so = all_begun b.0 r.0 (known m r.0) m first d (lists, nothing_begun b.0 r.0 (known m r.0) first refl) b.1.1 in
-    let signals = signals_in_order m d in
-    let made : Head = record { instance = i; base = base; bits = d.bits; signals = signals; scope = with_signals base signals r.0 } in
+    let list = declared_in_order m d in
+    let signals = joined list in
+    let made : Head = record { instance = i; base = base; bits = d.bits; signals = signals; scope = with_signals base list r.0 } in
     subst (Founded m) (settled_is (first_of (fault_if (nat_lt 65536 (base + length signals)) (TooMany FlatBits (base + length signals)))) made h s.1.1) (record {
       seen = known m r.0;
-      carries = carried r.0 m base signals;
-      begin = all_in_order d (Right (known m r.0) (values_of m)) (all_by_index (λ (x : Declared). Right (known m r.0) (values_of m) x.signal) d.list so.right) m;
+      carries = carried r.0 m base list;
+      begin = joined_right (known m r.0) (values_of m) list
+          (all_in_order d (λ (x : Declared). Right (known m r.0) (values_of m) x.signal) (all_by_index (λ (x : Declared). Right (known m r.0) (values_of m) x.signal) d.list so.right) m);
       once = so.once;
     })

@@ -16,16 +16,17 @@ use Rattle.rr_expr.specs.declared.types.Entity.TheVariants as entity
 use Rattle.rr_expr.specs.declared.types.ExprFault.{ExprFault}
 use Rattle.rr_flat.specs.declared.fault.FlatFault.{FlatFault}
 use Rattle.rr_flat.specs.declared.fault.FlatFault.TheVariants.{NameTwice, UnknownName, BadRange}
-use Rattle.rr_flat.specs.Faults.{fault_if, first_fault_or, and_then, each, answer_of, faults_in}
+use Rattle.rr_flat.specs.Faults.{fault_if, and_then, each, answer_of, faults_in}
 use Rattle.rr_flat.specs.Signals.{Text, Signal, with_name}
 use Rattle.rr_starts.specs.Starts.{start_of}
-use Rattle.rr_declarations.specs.Declarations.{Declared, Declarations, is_port, is_reg, signal_of, with_signal, counted, declare_new, no_declared, declared_at, is_same_range, redeclared, declare_again, again_place, repeated_place, declare_at, declare, declare_integer, integer_name, starting, start_faults, start_or, start_again, port_declaration, inner_declaration, integer_declaration, declare_ports, declare_nets, declare_variables, declare_item, declarations}
+use Rattle.rr_declarations.specs.Declarations.{Declared, Declarations, is_port, is_reg, signal_of, indices, declared_words, declare_new, no_declared, declared_at, is_same_range, redeclared, declare_again, again_place, repeated_place, declare_at, declare, declare_integer, integer_name, starting, start_faults, start_or, start_again, port_declaration, inner_declaration, integer_declaration, declare_ports, declare_nets, declare_variables, declare_item, declarations}
 use Rattle.rr_declarations.specs.Parameters.{width_faults}
 use Rattle.rr_declarations.specs.Values.{range_in}
-use Rattle.rr_flatten.proofs.HeadOf.{ok_is, settled_is, first_ok, all_append, all_weaker}
+use Rattle.rr_flatten.proofs.HeadOf.{ok_is, first_ok, all_append, all_weaker}
 use Rattle.rr_flat_laws.proofs.Answers.{nil_left, nil_right, not_if, settled}
 use Rattle.rr_flat_laws.proofs.Declaring.{Lists, done_ports, done_item}
 use Rattle.rr_flat_laws.proofs.Texts.{some_is, none_some, with_stays, with_new, flat_none, is_none_of}
+use Rattle.rr_flat_laws.proofs.Words.{new_is}
 use Rattle.rr_declared_starts.specs.Starts.{Valued, value_of, values_by, port_values, item_values, values_of, names_in, BeginsAs}
 
 -- Lists
@@ -160,8 +161,8 @@ module _ (seen : Names) where
 
 -- The declarations of a module
 
-abbrev Anything : Text → Type 0
-Anything name = Unit {0}
+abbrev Anything : Text × Bool → Type 0
+Anything z = Unit {0}
 
 module _ (bracketed params seen : Names) where
   abbrev pub Listed : Declarations → Type 0
@@ -197,21 +198,19 @@ module _ (bracketed params seen : Names) where
     more = vs ++ value_of range own.text (starting k own)
 
     new_step : declare_new bracketed seen k own d ≡ Ok t → Begun more t
-    unfolding declare_new
     new_step q =
         let start = start_or seen (range_width k.range) 0 (starting k own) in
         let a = fault_if (is_some (lookup own.text d.names)) (NameTwice own.token) in
         let b = fault_if (is_port k.port && is_none (lookup own.text bracketed)) (UnknownName own.token) in
         let c = width_faults own.token k.range in
         let f = start_faults seen (starting k own) in
-        let r = first_ok (first_fault_or (a ++ (b ++ (c ++ f))) d) (counted k own start) t q in
-        let s = settled (a ++ (b ++ (c ++ f))) d r.0 r.1.0 in
-        let is : with_signal k own start d ≡ t = ap (with_signal k own start) s.1 ∙ settled_is _ (with_signal k own start r.0) t r.1.1 in
-        let new : lookup own.text d.names ≡ None = is_none_of (lookup own.text d.names) (not_if (is_some (lookup own.text d.names)) (NameTwice own.token) (nil_left a (b ++ (c ++ f)) s.0)) in
-        let clear : f ≡ [] = nil_right c f (nil_right b (c ++ f) (nil_right a (b ++ (c ++ f)) s.0)) in
-        let x : Declared = record { signal = signal_of d.instance k own start; again = is_port k.port && not k.variable } in
+        let w = faults_in (range_in seen (indices k own)) in
+        let s = new_is bracketed seen k own d t q in
+        let new : lookup own.text d.names ≡ None = is_none_of (lookup own.text d.names) (not_if (is_some (lookup own.text d.names)) (NameTwice own.token) (nil_left a (b ++ (w ++ (c ++ f))) s.faults)) in
+        let clear : f ≡ [] = nil_right c f (nil_right w (c ++ f) (nil_right b (w ++ (c ++ f)) (nil_right a (b ++ (w ++ (c ++ f))) s.faults))) in
+        let x : Declared = record { signal = signal_of d.instance k own start; words = declared_words seen k own; again = is_port k.port && not k.variable } in
         let e : Entity = entity.Signal (length d.list) None false in
-        subst (Begun more) is (record {
+        subst (Begun more) s.is (record {
           fine = at_more (Fine seen more) d.list x
               (λ p m. fine_other seen vs range own.text (starting k own) (declared_at d.list p) (λ n. none_some (entity.Signal p None false) (sym new ∙ (ap (λ (z : Text). lookup z d.names) n ∙ l.placed p m))) (g.fine p m))
               (fine_own seen vs range own.text x refl refl (unnamed vs d own.text g new) (starting k own) refl ranged clear (λ h. no_value k.variable own.value (and_parts (is_port k.port) (not k.variable) h).1));
@@ -264,15 +263,16 @@ module _ (bracketed params seen : Names) where
             let same : id ≡ place = some_is id place h in
             (range, (signed, (ap (λ (i : ℕ). Some (entity.Signal i range signed)) same, subst (λ (i : ℕ). (declared_at list i).again ≡ true) same e)))
         by false e h = absurd (none_some place h)
+    from_place true (Some (entity.Memory first low words range signed)) list place h = absurd (none_some place h)
     from_place true (Some entity.Instance) list place h = absurd (none_some place h)
 
     declare_step : declare bracketed seen k own d ≡ Ok t → Begun more t
     unfolding declare
-    declare_step q = by (repeated_place k.repeats (again_place (lookup own.text d.names) d.list)) refl q
+    declare_step q = by (repeated_place (k.repeats && is_none own.words) (again_place (lookup own.text d.names) d.list)) refl q
       where
-        by : (o : Option ℕ) → repeated_place k.repeats (again_place (lookup own.text d.names) d.list) ≡ o → declare_at bracketed seen k own d o ≡ Ok t → Begun more t
+        by : (o : Option ℕ) → repeated_place (k.repeats && is_none own.words) (again_place (lookup own.text d.names) d.list) ≡ o → declare_at bracketed seen k own d o ≡ Ok t → Begun more t
         by None e q = new_step q
-        by (Some place) e q = let p = from_place k.repeats (lookup own.text d.names) d.list place e in again_step place p.0 p.1.0 p.1.1.0 p.1.1.1 q
+        by (Some place) e q = let p = from_place (k.repeats && is_none own.words) (lookup own.text d.names) d.list place e in again_step place p.0 p.1.0 p.1.1.0 p.1.1.1 q
 
   -- Items
 

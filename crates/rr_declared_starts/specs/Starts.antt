@@ -1,5 +1,5 @@
--- What the declarations of a module give its variables to begin with (IEEE 1364-2005 sections 6.2.1 and 12.3.3).
-use Rattle.std.specs.Prelude.{◌≡◌, ℕ, ◌<◌, List, [], ◌∷◌, ◌++◌, length, map, All, Option, Some, None, Ok, true}
+-- What the declarations of a module give its variables to begin with (IEEE 1364-2005 sections 4.9.3, 6.2.1 and 12.3.3).
+use Rattle.std.specs.Prelude.{◌≡◌, ℕ, ◌<◌, List, [], ◌∷◌, ◌++◌, length, map, All, Option, Some, None, Ok, true, false}
 use Rattle.std.specs.List.{flat_map, IsDistinct}
 use Rattle.std.specs.Str.{bytes_eq}
 use Rattle.rr_syntax.specs.declared.tree.Dir.{Dir}
@@ -12,6 +12,7 @@ use Rattle.rr_flat.specs.Signals.{Text, Signal, signal_at}
 use Rattle.rr_flat.specs.Writers.{scope_at, entity_of_signal}
 use Rattle.rr_starts.specs.Starts.{start_of}
 use Rattle.rr_declarations.specs.Values.{range_in}
+use Rattle.rr_flat_laws.specs.Declared.{DeclaresAs}
 use Rattle.rr_flat_laws.specs.Names.{module_of, IsSignalOf}
 
 -- Declarations with a value
@@ -69,11 +70,16 @@ pub record BeginsAs (scope : Names) (v : Valued) (s : Signal) : Type 0 where
   pub begins : s.start ≡ start_of scope (range_width s.range) v.value
 
 -- its name stands in instance i for a signal that begins so
-pub record IsGiven (flat : Flat) (i : ℕ) (v : Valued) : Type 0 where
+pub record IsOneBegun (flat : Flat) (i : ℕ) (v : Valued) : Type 0 where
   pub id : ℕ
   pub is : IsSignalOf flat i v.name id
   pub means : meant (scope_at flat i) v.name ≡ entity_of_signal flat id
   pub begins : BeginsAs (scope_at flat i) v (signal_at flat.signals id)
+
+-- so it is where module m declares it without words; each signal of that name begins so, as each word would
+pub record IsGiven (m : ModuleDeclaration) (flat : Flat) (i : ℕ) (v : Valued) : Type 0 where
+  pub one : DeclaresAs m false v.name → IsOneBegun flat i v
+  pub each : (id : ℕ) → IsSignalOf flat i v.name id → BeginsAs (scope_at flat i) v (signal_at flat.signals id)
 
 -- a signal begins with 0 where none of these declarations is one of its name
 abbrev pub IsElseZero : List Valued → Signal → Type 0
@@ -82,9 +88,9 @@ IsElseZero values s = All (λ v. v.name ≡ s.name → ⊥) values → s.start �
 abbrev pub values_at : SourceText → Flat → ℕ → List Valued
 values_at source flat i = values_of (module_of source flat i)
 
--- in each instance each variable that its module declares with a value begins with it, and each other signal with 0; no name
--- is given two values
+-- in each instance each variable that its module declares with a value begins with it, and each other signal, as the words of
+-- memories are, with 0; no name is given two values
 pub record AreStarts (source : SourceText) (flat : Flat) : Type 0 where
-  pub given : (i : ℕ) → i < length flat.owners → All (IsGiven flat i) (values_at source flat i)
+  pub given : (i : ℕ) → i < length flat.owners → All (IsGiven (module_of source flat i) flat i) (values_at source flat i)
   pub once : (i : ℕ) → i < length flat.owners → IsDistinct bytes_eq (names_in (values_at source flat i))
   pub none : (id : ℕ) → id < length flat.signals → IsElseZero (values_at source flat (signal_at flat.signals id).instance) (signal_at flat.signals id)

@@ -221,6 +221,103 @@ fn selects(rt: HostRuntime) -> Result<(), Fail> {
     Ok(())
 }
 
+/// A memory behind another signal, whose words have eight bits, a sign, and the indices 2 to 4.
+fn memory(alloc: Global) -> Result<Scope<'static>, AllocError> {
+    let mut scope = Scope::new(alloc);
+    let entity = Entity::Memory {
+        first: 1,
+        low: 2,
+        words: 3,
+        range: Some((7, 0)),
+        signed: true,
+    };
+    scope.add("m", entity)?;
+    Ok(scope)
+}
+
+/// The word at an index, in a context of sixteen bits with a sign.
+fn word_in_context(index: &Operand, alloc: Global) -> Result<Option<u128>, AllocError> {
+    let scope = memory(alloc)?;
+    let mut values = Vec::new(alloc);
+    values.push(9)?;
+    values.push(129)?;
+    values.push(2)?;
+    values.push(3)?;
+    values.push(5)?;
+    let env = Env { values };
+    let index = literal(2, index);
+    let word = Expr::Bit {
+        token: 0,
+        name: "m",
+        index: &index,
+    };
+    match shape(&word, &scope) {
+        Ok(shape) if shape.width == 8 && shape.signed => Ok(Some(value(
+            &word, &scope, &env, 16, true,
+        ).to_u128())),
+        Ok(_) | Err(_) => Ok(None),
+    }
+}
+
+/// Indices of the three words, and outside: below, above and below 0, also in few bits.
+const WORDS: [(Operand, u128); 9] = [
+    ((32, true, 2), 65409),
+    ((32, true, 3), 2),
+    ((32, true, 4), 3),
+    ((32, true, 1), 0),
+    ((32, true, 5), 0),
+    ((32, true, 4294967294), 0),
+    ((2, false, 2), 65409),
+    ((2, true, 2), 0),
+    ((128, false, 1 << 127), 0),
+];
+
+#[test]
+fn reads_words(rt: HostRuntime) -> Result<(), Fail> {
+    for (index, expected) in WORDS.iter() {
+        let found = word_in_context(index, rt.alloc())?;
+        assert!(rt; found == Some(*expected), "a word that is not {expected}");
+    }
+    Ok(())
+}
+
+/// A memory is read by an index alone, and by none where no signal may stand.
+#[test]
+fn refuses_memories(rt: HostRuntime) -> Result<(), Fail> {
+    let scope = memory(rt.alloc())?;
+    let index = literal(8, &(32, true, 3));
+    let whole = name!(7, "m");
+    let word = Expr::Bit {
+        token: 7,
+        name: "m",
+        index: &index,
+    };
+    let part = Expr::Part {
+        token: 7,
+        name: "m",
+        left: &index,
+        right: &index,
+    };
+    let other = name!(8, "x");
+    let lost = Expr::Bit {
+        token: 7,
+        name: "m",
+        index: &other,
+    };
+    assert!(rt;
+        shape(&whole, &scope).err() == Some(ExprFault::BadRange(7))
+            && shape(&part, &scope).err() == Some(ExprFault::BadRange(7))
+            && shape(&lost, &scope).err() == Some(ExprFault::UnknownName(8))
+            && shape(&word, &scope).err() == None
+    );
+    assert!(rt;
+        constant(&whole, &scope).err() == Some(ExprFault::NotConstant(7))
+            && constant(&part, &scope).err() == Some(ExprFault::NotConstant(7))
+            && constant(&word, &scope).err() == Some(ExprFault::NotConstant(7))
+    );
+    Ok(())
+}
+
 /// The number that an expression without names has in a context.
 fn in_context(expr: &Expr, width: u32, signed: bool, alloc: Global) -> Option<u128> {
     let scope = Scope::new(alloc);

@@ -22,6 +22,8 @@ mod leaves;
 #[cfg(test)]
 mod loops;
 #[cfg(test)]
+mod memories;
+#[cfg(test)]
 mod modules;
 #[cfg(test)]
 mod parts;

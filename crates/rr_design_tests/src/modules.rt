@@ -111,6 +111,7 @@ fn declarators<'a>(
         list.push(Declarator {
             token,
             name: row.3,
+            words: None,
             value: if is_started(row.0) {
                 exprs.get(at)
             } else {

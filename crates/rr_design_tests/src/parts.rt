@@ -5,7 +5,8 @@ use rr_flat::{Part, is_constant};
 use rr_syntax::{Expr, Number, Stmt};
 use rr_text_names::{
     add_assigned_targets, add_names, add_parts, add_read_names, add_statement_names, identifier_of,
-    instance_of, is_fixed, is_input, is_scalar, is_variable, scalar_named, signal_named, signal_of,
+    instance_of, is_fixed, is_input, is_scalar, is_variable, scalar_named, signal_of,
+    variable_named,
 };
 use std::test::Fail;
 
@@ -122,11 +123,11 @@ fn signals_of_a_design(rt: HostRuntime) {
         assert!(rt;
             flat.signal_count() == 4
                 && flat.signal_list().len() == 4
-                && signal_named(flat, 0, "q") == Some(3)
-                && signal_named(flat, 0, "t") == None
+                && variable_named(flat, 0, "q") == Some(3)
+                && variable_named(flat, 0, "t") == None
         );
         assert!(rt;
-            signal_named(flat, 1, "q") == None
+            variable_named(flat, 1, "q") == None
                 && scalar_named(flat, 0, "d") == Some(1)
                 && scalar_named(flat, 0, "q") == None
                 && is_variable(flat, 3)

@@ -1,6 +1,8 @@
-//! Bits of names and selects, by IEEE 1364-2005 section 5.2.1.
+//! Bits of names and selects, by IEEE 1364-2005 sections 5.2.1 and 5.2.2.
 use rr_expr::{Entity, Env, Scope, shape};
-use rr_named_bits::{Piece, Write, add_named_bits, add_pieces, add_target_reads, add_writes};
+use rr_named_bits::{
+    Piece, Reach, Write, add_named_bits, add_pieces, add_target_reads, add_writes,
+};
 use rr_syntax::{Expr, Number};
 use std::alloc::{AllocError, Global};
 use std::test::Fail;
@@ -56,7 +58,38 @@ const MIXED: Expr<'static> = Expr::Concat {
     ],
 };
 
-/// `wire [7:0] d; wire [0:7] u; wire c; wire signed [3:0] i;`, numbered in this order.
+/// `m[i]`, `m[3]`, `m[9]` and `{m[i], c}`.
+const WORD: Expr<'static> = Expr::Bit {
+    token: 0,
+    name: "m",
+    index: &name!(0, "i"),
+};
+
+const THIRD: Expr<'static> = Expr::Bit {
+    token: 0,
+    name: "m",
+    index: &number!(3),
+};
+
+const OUTSIDE: Expr<'static> = Expr::Bit {
+    token: 0,
+    name: "m",
+    index: &number!(9),
+};
+
+const WORD_AND_BIT: Expr<'static> = Expr::Concat {
+    parts: &[
+        Expr::Bit {
+            token: 0,
+            name: "m",
+            index: &name!(0, "i"),
+        },
+        name!(0, "c"),
+    ],
+};
+
+/// `wire [7:0] d; wire [0:7] u; wire c; wire signed [3:0] i; reg [7:0] m [2:5];`, numbered in this
+/// order.
 fn names<'a>(alloc: Global) -> Result<Scope<'a>, AllocError> {
     let mut scope = Scope::new(alloc);
     let _ = scope.add(
@@ -91,6 +124,16 @@ fn names<'a>(alloc: Global) -> Result<Scope<'a>, AllocError> {
             signed: true,
         },
     )?;
+    let _ = scope.add(
+        "m",
+        Entity::Memory {
+            first: 4,
+            low: 2,
+            words: 4,
+            range: Some((7, 0)),
+            signed: false,
+        },
+    )?;
     Ok(scope)
 }
 
@@ -111,7 +154,7 @@ fn pieces(alloc: Global, target: &Expr, i: u128) -> Result<Vec<Piece>, AllocErro
 }
 
 /// What it may write, the bits that it reads as an expression, and those of its indices.
-fn texts(alloc: Global, target: &Expr) -> Result<(Vec<Write>, Vec<Piece>, Vec<Piece>), AllocError> {
+fn texts(alloc: Global, target: &Expr) -> Result<(Vec<Write>, Vec<Reach>, Vec<Reach>), AllocError> {
     let scope = names(alloc)?;
     let mut writes = Vec::new(alloc);
     let mut named = Vec::new(alloc);
@@ -130,6 +173,17 @@ const fn piece(signal: u32, width: u32, from: i64, count: u32) -> Piece {
         width,
         from,
         count,
+    }
+}
+
+const fn one(piece: Piece) -> Reach {
+    Reach { piece, words: 1 }
+}
+
+const fn certain(piece: Piece) -> Write {
+    Write {
+        reach: one(piece),
+        certain: true,
     }
 }
 
@@ -157,24 +211,83 @@ fn whatever_the_values(rt: HostRuntime) -> Result<(), Fail> {
     let alloc = rt.alloc();
     let (writes, named, indices) = texts(alloc, &MIXED)?;
     let first = Write {
-        piece: piece(0, 8, 0, 8),
+        reach: one(piece(0, 8, 0, 8)),
         certain: false,
     };
-    let second = Write {
-        piece: piece(2, 1, 0, 1),
-        certain: true,
-    };
-    let index = piece(3, 4, 0, 4);
+    let second = certain(piece(2, 1, 0, 1));
+    let index = one(piece(3, 4, 0, 4));
     assert!(rt;
         writes.as_slice() == [first, second].as_slice()
-            && named.as_slice() == [first.piece, index, second.piece].as_slice()
+            && named.as_slice() == [first.reach, index, second.reach].as_slice()
             && indices.as_slice() == [index].as_slice()
     );
     let (writes, named, indices) = texts(alloc, &PAIR)?;
     assert!(rt;
         writes.len() == 2
-            && named.as_slice() == [piece(0, 8, 6, 2), piece(2, 1, 0, 1)].as_slice()
+            && named.as_slice() == [one(piece(0, 8, 6, 2)), one(piece(2, 1, 0, 1))].as_slice()
             && indices.is_empty()
     );
+    Ok(())
+}
+
+#[test]
+fn words_in_an_environment(rt: HostRuntime) -> Result<(), Fail> {
+    let alloc = rt.alloc();
+    assert!(rt;
+        pieces(alloc, &WORD, 2)?.as_slice() == [piece(4, 8, 0, 8)].as_slice()
+            && pieces(alloc, &WORD, 5)?.as_slice() == [piece(7, 8, 0, 8)].as_slice()
+            && pieces(alloc, &THIRD, 0)?.as_slice() == [piece(5, 8, 0, 8)].as_slice()
+    );
+    // Below, above, and below 0: as many places, without a bit.
+    let none = Piece::absent(8);
+    assert!(rt;
+        pieces(alloc, &WORD, 1)?.as_slice() == [none].as_slice()
+            && pieces(alloc, &WORD, 6)?.as_slice() == [none].as_slice()
+            && pieces(alloc, &WORD, 13)?.as_slice() == [none].as_slice()
+            && pieces(alloc, &OUTSIDE, 0)?.as_slice() == [none].as_slice()
+    );
+    assert!(rt;
+        pieces(alloc, &WORD_AND_BIT, 4)?.as_slice()
+            == [piece(6, 8, 0, 8), piece(2, 1, 0, 1)].as_slice()
+    );
+    Ok(())
+}
+
+#[test]
+fn words_whatever_the_values(rt: HostRuntime) -> Result<(), Fail> {
+    let alloc = rt.alloc();
+    let all = Reach {
+        piece: piece(4, 8, 0, 8),
+        words: 4,
+    };
+    let index = one(piece(3, 4, 0, 4));
+    let (writes, named, indices) = texts(alloc, &WORD_AND_BIT)?;
+    let first = Write {
+        reach: all,
+        certain: false,
+    };
+    let second = certain(piece(2, 1, 0, 1));
+    assert!(rt;
+        writes.as_slice() == [first, second].as_slice()
+            && named.as_slice() == [all, index, second.reach].as_slice()
+            && indices.as_slice() == [index].as_slice()
+    );
+    let (writes, named, indices) = texts(alloc, &THIRD)?;
+    let third = certain(piece(5, 8, 0, 8));
+    assert!(rt;
+        writes.as_slice() == [third].as_slice()
+            && named.as_slice() == [third.reach].as_slice()
+            && indices.is_empty()
+    );
+    let (writes, named, indices) = texts(alloc, &OUTSIDE)?;
+    let outside = certain(Piece::absent(8));
+    assert!(rt;
+        writes.as_slice() == [outside].as_slice()
+            && named.as_slice() == [outside.reach].as_slice()
+            && indices.is_empty()
+    );
+    // The memory by itself has no value, and so no bits.
+    let (writes, named, indices) = texts(alloc, &name!(0, "m"))?;
+    assert!(rt; writes.is_empty() && named.is_empty() && indices.is_empty());
     Ok(())
 }

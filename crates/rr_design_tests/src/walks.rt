@@ -398,10 +398,15 @@ const FAULTS_OF_INITIALS: [Case; 7] = [
     ),
 ];
 
-/// Number of the instance, name and width of each signal, and its starting value where that is not 0.
+/// Number of the instance, name, index of the word if it is one, and width of each signal, and its starting
+/// value where that is not 0.
 fn signals_told(text: &mut String, signals: &[Signal], starts: &[u128]) -> Result<(), AllocError> {
     for (s, start) in signals.iter().zip(starts.iter()) {
-        write!(text, "{}.{}:{}", s.instance, s.name, s.width)?;
+        write!(text, "{}.{}", s.instance, s.name)?;
+        if let Some(index) = s.word {
+            write!(text, "[{index}]")?;
+        }
+        write!(text, ":{}", s.width)?;
         if *start != 0 {
             write!(text, "={start}")?;
         }

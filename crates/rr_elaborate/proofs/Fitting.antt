@@ -128,7 +128,7 @@ fit_value (Some t) h = fit t h.1
 
 fit_declarator : (n : DeclaredName) → Fit (spell_declarator n) → FitLiteralsDeclarator n
 unfolding spell_declarator FitLiteralsDeclarator
-fit_declarator n h = fit_value n.value h.1
+fit_declarator n h = (fit_range n.words (front (spell_range n.words) _ h.1), fit_value n.value (back (spell_range n.words) _ h.1))
 
 fit_port : (p : PortDeclaration) → Fit (spell_port p) → FitLiteralsPort p
 unfolding spell_port FitLiteralsPort

@@ -1,9 +1,9 @@
 -- The parts of items have their token numbers from the bare parts and the number of their first token.
-use Rattle.std.proofs.Common.{ℕ, ◌≡◌, ◌+◌, Bool, List, [], ◌∷◌, length, map, Option, None, Some, refl, ap, sym}
+use Rattle.std.proofs.Common.{ℕ, ◌≡◌, ◌∙◌, ◌+◌, Bool, List, [], ◌∷◌, length, map, Option, None, Some, refl, ap, sym}
 use Rattle.rr_syntax.specs.Words.{Word, keyword_signed, keyword_integer}
 use Rattle.rr_syntax.specs.Tree.{Tree, Trees, Identifier, Range, PortDeclaration, ParamAssignment, ParameterDeclaration, DeclaredName, NetAssignment, EdgeEvent, EventControl, Star, Edges, Levels, NamedConnection, Connections, Positions, Names, ModuleInstance, bare_identifier, bare_range, bare_port, bare_assignment, bare_parameter, bare_value, bare_declarator, bare_pair, bare_edge, bare_events, bare_connection, bare_connections, bare_overrides, bare_instance}
 use Rattle.rr_syntax.specs.Expressions.{spell}
-use Rattle.rr_syntax.specs.Items.{spell_where, spell_identifier, spell_type, spell_dir, spell_declarator, spell_assignment, spell_edge, spell_connection, NumberedEach, NumberedSeparated, NumberedAll, NumberedIdentifier, NumberedRange, NumberedType, NumberedPort, NumberedAssignment, NumberedParameter, NumberedValue, NumberedDeclarator, NumberedPair, NumberedEdge, NumberedEvents, NumberedConnection, NumberedConnections, NumberedOverrides, NumberedInstance}
+use Rattle.rr_syntax.specs.Items.{spell_where, spell_identifier, spell_range, spell_type, spell_dir, spell_declarator, spell_assignment, spell_edge, spell_connection, NumberedEach, NumberedSeparated, NumberedAll, NumberedIdentifier, NumberedRange, NumberedType, NumberedPort, NumberedAssignment, NumberedParameter, NumberedValue, NumberedDeclarator, NumberedPair, NumberedEdge, NumberedEvents, NumberedConnection, NumberedConnections, NumberedOverrides, NumberedInstance}
 use Rattle.rr_syntax.proofs.BareExpressions.{spell-bare}
 use Rattle.rr_syntax.proofs.BareItems.{spell_identifier-bare, spell_declarator-bare, spell_type-bare, spell_assignment-bare, spell_edge-bare, spell_connection-bare}
 use Rattle.rr_elaborate.proofs.RenumberedExpressions.{renumbered, renumbered_more, renumbered-bare, renumbered_more-bare}
@@ -78,12 +78,19 @@ unfolding renumbered_value bare_value NumberedValue
 value-bare None at h = refl
 value-bare (Some t) at h = rw (renumbered-bare t (at + 1) h) refl
 
+range-spelled : (r : Option Range) → spell_range (bare_range r) ≡ spell_range r
+unfolding spell_range bare_range
+range-spelled None = refl
+range-spelled (Some r) = rw (spell-bare r.left, spell-bare r.right) refl
+
 unfoldable pub renumbered_declarator : DeclaredName → ℕ → DeclaredName
-renumbered_declarator n at = record { token = at; text = n.text; value = renumbered_value n.value (at + 1) }
+renumbered_declarator n at = record { token = at; text = n.text; words = renumbered_range n.words (at + 1); value = renumbered_value n.value (at + 1 + length (spell_range n.words)) }
 
 pub declarator-bare : (n : DeclaredName) (at : ℕ) → NumberedDeclarator n at → renumbered_declarator (bare_declarator n) at ≡ n
 unfolding renumbered_declarator bare_declarator NumberedDeclarator
-declarator-bare n at h = λ k. record { token = sym h.0 k; text = n.text; value = value-bare n.value (at + 1) h.1 k }
+declarator-bare n at h =
+    let value = ap (λ (w : List Word). renumbered_value (bare_value n.value) (at + 1 + length w)) (range-spelled n.words) ∙ value-bare n.value (at + 1 + length (spell_range n.words)) h.2 in
+    λ k. record { token = sym h.0 k; text = n.text; words = range-bare n.words (at + 1) h.1 k; value = value k }
 
 -- ports
 unfoldable pub renumbered_port : PortDeclaration → ℕ → PortDeclaration

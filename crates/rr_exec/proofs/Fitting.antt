@@ -1,14 +1,12 @@
 -- targets whose bits have values
-use Rattle.std.proofs.Common.{◌≡◌, ◌∙◌, sym, ap, ℕ, ◌<◌, ◌≤◌, true, false, List, [], ◌∷◌, ◌++◌, length, Option, nat_eq, nat_lt, refl, arith, pos, inl, inr, append-nil}
+use Rattle.std.proofs.Common.{◌≡◌, ◌∙◌, sym, ap, ℕ, ◌<◌, ◌≤◌, true, false, List, [], ◌∷◌, ◌++◌, length, Option, refl, arith, pos, inl, inr, append-nil}
 use Rattle.std.specs.List.{All, AllByRecursion}
-use Rattle.std.proofs.lemmas.Bool.{and_parts, both_ways, or_cases, eqb-true, ltb-true}
+use Rattle.std.proofs.lemmas.Bool.{both_ways, or_cases}
 use Rattle.std.proofs.lemmas.List.Elements.{All-from_recursion}
 use Rattle.rr_syntax.specs.Tree.{Tree, Trees, Name, Literal, Bit as BitSelect, Part, Indexed, Unary, Binary, Cond, Concat, Repeat, Cast, Paren, End, More}
 use Rattle.rr_expr.specs.declared.types.Bit.{Bit}
-use Rattle.rr_expr.specs.declared.types.Entity.{Entity}
-use Rattle.rr_expr.specs.declared.types.Entity.TheVariants.{Constant, Signal, Instance}
 use Rattle.rr_expr.specs.Faults.{constant_count, constant_span}
-use Rattle.rr_expr.specs.Scopes.{Names, meant, entity_range, entity_shape, range_width}
+use Rattle.rr_expr.specs.Scopes.{Names, meant, entity_range, entity_shape}
 use Rattle.rr_expr.specs.Selects.{place, lowest_place, integer_with}
 use Rattle.rr_expr.specs.Values.{form, value, nowhere}
 use Rattle.rr_flat.specs.Targets.{has_bit, is_bit_of, target_bits, targets_bits}
@@ -17,9 +15,9 @@ use Rattle.rr_flat.proofs.Shaping.{clear}
 use Rattle.rr_named_bits.specs.declared.piece.Piece.{Piece}
 use Rattle.rr_named_bits.specs.Pieces.{all_bits, bits_of}
 use Rattle.rr_named_bits.proofs.Nodes.{shaped_small}
-use Rattle.rr_named_bits.proofs.Runs.{covers_in}
+use Rattle.rr_named_bits.proofs.Runs.{bit_of, covers_in}
 use Rattle.rr_cycle.specs.Exec.{Environment}
-use Rattle.rr_flat.proofs.Bits.{has_append, or_left, or_right, one_of_name, bits_of_name}
+use Rattle.rr_flat.proofs.Bits.{has_append, or_left, or_right, index_of_name, bits_of_name}
 use Rattle.rr_exec.specs.Work.{Fits, Holds}
 use Rattle.rr_cycle.proofs.Settling.{target_size}
 
@@ -27,17 +25,7 @@ abbrev IsThere : ℕ → Bit → Type 0
 IsThere n b = (b.signal < n) × (b.place < 128)
 
 name_there : (s : Names) (n : ℕ) (name : List ℕ) (b : Bit) → Holds s n → is_bit_of (meant s name) b ≡ true → IsThere n b
-name_there s n name b h i = go (meant s name) refl i
-  where
-    go : (e : Entity) → meant s name ≡ e → is_bit_of e b ≡ true → IsThere n b
-    go (Constant bits signed) q i = absurd (both_ways false refl i)
-    go (Signal id range signed) q i =
-        let p = and_parts (nat_eq id b.signal) (nat_lt b.place (range_width range)) i in
-        let l = h name id range signed q in
-        let u : id ≡ b.signal = eqb-true id b.signal p.0 in
-        let v : b.place < range_width range = ltb-true b.place (range_width range) p.1 in
-        (omega (arith, u, l.0), omega (arith, v, l.1))
-    go Instance q i = absurd (both_ways false refl i)
+name_there s n name b h i = h name b (bit_of (meant s name) b i)
 
 -- a bit of a target is one of a name
 abbrev pub Named : Names → Bit → Type 0
@@ -49,7 +37,7 @@ mutual
   pub target_named : (s : Names) (e : Environment) (t : Tree) (b : Bit) → has_bit (target_bits s e t) b ≡ true → Named s b
   target_named s e (Name token name) b i = (name, bits_of_name (meant s name) (pos 0) (entity_shape (meant s name)).width b i)
   target_named s e (Literal token m) b i = absurd (both_ways false refl i)
-  target_named s e (BitSelect token name x) b i = (name, one_of_name (meant s name) (place (entity_range (meant s name)) (integer_with (form s x) (value s x e))) b i)
+  target_named s e (BitSelect token name x) b i = (name, index_of_name (meant s name) (integer_with (form s x) (value s x e)) b i)
   target_named s e (Part token name l r) b i = (name, bits_of_name (meant s name) (place (entity_range (meant s name)) (integer_with (form s r) (value s r nowhere))) (constant_span s l r) b i)
   target_named s e (Indexed token name f m up) b i =
       (name, bits_of_name (meant s name) (lowest_place (entity_range (meant s name)) up (integer_with (form s f) (value s f e)) (constant_count s m)) (constant_count s m) b i)

@@ -1,9 +1,9 @@
 -- What the types of the code stand for, and what statements need of their scope.
-use Rattle.std.specs.Prelude.{◌≡◌, ℕ, ◌<◌, ◌≤◌, List, map, drop, Bool, true, Option}
+use Rattle.std.specs.Prelude.{◌≡◌, ℕ, ◌<◌, ◌≤◌, List, map, drop, true}
 use Rattle.rr_syntax.specs.Tree.{Trees, End, More, Arms, NoArms, MoreArms}
 use Rattle.rr_expr.specs.declared.types.Bit.{Bit}
-use Rattle.rr_expr.specs.declared.types.Entity.TheVariants.{Signal}
-use Rattle.rr_expr.specs.Scopes.{Names, meant, range_width}
+use Rattle.rr_expr.specs.Reading.{IsBitOf}
+use Rattle.rr_expr.specs.Scopes.{Names, meant}
 use Rattle.rr_expr.specs.Values.{form}
 use Rattle.rr_named_bits.specs.declared.piece.Piece.{Piece}
 use Rattle.rr_named_bits.specs.Pieces.{bits_of, covers}
@@ -25,9 +25,9 @@ pub record IsLater (n : ℕ) (l : Later) : Type 0 where
   pub piece : Fits n l.piece
   pub from : l.from ≤ 128
 
--- each name of a signal stands for one that has a value, of at most 128 bits
+-- each bit of a name is one of a signal that has a value, of at most 128 bits
 abbrev pub Holds : Names → ℕ → Type 0
-Holds s n = (name : List ℕ) (id : ℕ) (range : Option (ℕ × ℕ)) (signed : Bool) → meant s name ≡ Signal id range signed → (id < n) × (range_width range ≤ 128)
+Holds s n = (name : List ℕ) (b : Bit) → IsBitOf (meant s name) b → (b.signal < n) × (b.place < 128)
 
 -- labels that are no wider than the context in which they are compared
 unfoldable pub AreNarrow : Names → ℕ → Trees → Type 0

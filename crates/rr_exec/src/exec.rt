@@ -26,7 +26,8 @@ pub struct Machine {
     pub none: Env,
 }
 
-/// The pieces of a target, its indices taken in the environment as it is.
+/// The pieces of a target, its indices taken in the environment as it is: of a memory the one word
+/// that has the index, or as many places without a bit (IEEE 1364-2005 section 5.2.2).
 fn name_pieces(
     pieces: &mut Vec<Piece>,
     target: &Expr,

@@ -1,5 +1,5 @@
 -- what stands by itself with the width of its own word
-use Rattle.std.proofs.Common.{◌≡◌, ℕ, zero, suc, ◌+◌, ◌*◌, ◌<◌, ◌≤◌, List, Bool, true, false, ◌&&◌, length, get_or, sym, ◌∙◌, ap, arith}
+use Rattle.std.proofs.Common.{◌≡◌, ℕ, ◌*◌, ◌<◌, List, Bool, ◌&&◌, length, get_or, sym, ◌∙◌, ap, arith}
 use Rattle.std.proofs.lemmas.List.{same_lists, get_or_default}
 use denote.Ref.{Bor}
 use Rattle.rr_syntax.specs.declared.tree.Expr.{Expr}
@@ -13,7 +13,7 @@ use Rattle.rr_expr.specs.Faults.{constant_count}
 use Rattle.rr_expr.specs.Operators.{own_with}
 use Rattle.rr_expr.specs.Scopes.{Names}
 use Rattle.rr_expr.specs.Selects.{repeated}
-use Rattle.rr_expr.specs.Values.{own, form, value, widths, values, unsigned_of}
+use Rattle.rr_expr.specs.Values.{own, form, value, widths, values}
 use Rattle.rr_expr.proofs.Equations.{form-Concat, form-Repeat, form-Cast, value-Concat, value-Repeat, value-Cast}
 
 extend_same : (w : ℕ) (signed : Bool) (xs : List Bool) → length xs ≡ w → xs ≡ extend w signed xs

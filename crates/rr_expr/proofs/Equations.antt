@@ -1,5 +1,5 @@
 -- The definitions at each form of the arena tree.
-use Rattle.std.proofs.Common.{◌≡◌, ℕ, ◌+◌, ◌-◌, ◌*◌, ◌≤◌, ◌==◌, List, [], ◌∷◌, ◌++◌, Bool, true, false, cond, not, refl, ap, Some, None, Option, ◌&&◌, ◌||◌, nat_lt, get_or}
+use Rattle.std.proofs.Common.{◌≡◌, ℕ, ◌-◌, ◌*◌, ◌==◌, List, Bool, true, cond, refl, ap, ◌&&◌, ◌||◌, get_or}
 use Rattle.std.proofs.lemmas.Bool.{and_parts, ltb-true}
 use denote.Ref.{Bor}
 use Rattle.rr_syntax.specs.declared.tree.Expr.{Expr, the_lemmas}
@@ -15,11 +15,12 @@ use Rattle.rr_expr.specs.declared.types.Bit.{Bit}
 use Rattle.rr_expr.specs.declared.types.ExprFault.TheVariants.{BadRange, NotConstant}
 use Rattle.rr_expr.specs.declared.operators.Infix.TheVariants.{Either}
 use Rattle.rr_expr.specs.declared.operators.Prefix.TheVariants.{Plus}
-use Rattle.rr_expr.specs.Operators.{infixes, prefixes, one_bit, joined, prefix_shape, infix_shape, own_with, prefix_value, infix_value}
+use Rattle.rr_expr.specs.Operators.{infixes, prefixes, joined, prefix_shape, infix_shape, own_with, prefix_value, infix_value}
 use Rattle.rr_expr.specs.Scopes.{Names, meant, entity_shape, entity_range, entity_value}
 use Rattle.rr_expr.specs.Selects.{place, span, is_against, count, lowest_place, integer_with, repeated}
+use Rattle.rr_expr.specs.Memories.{index_shape, index_value}
 use Rattle.rr_expr.specs.Values.{form, widths, value, values, nowhere, unsigned_of}
-use Rattle.rr_expr.specs.Faults.{first, first_part, fits, fit, fault, faults, is_width, or_else, fault_if, name_fault, base_fault, width_fault, count_fault, takes_constants, is_bad}
+use Rattle.rr_expr.specs.Faults.{first, first_part, fits, fit, fault, faults, is_width, or_else, fault_if, name_fault, base_fault, index_fault, width_fault, count_fault, takes_constants, is_bad}
 
 pub first-Name : (token : ℕ) (name : Bor (List ℕ)) → first (plain (expr.Name token name)) ≡ token
 unfolding plain first
@@ -77,7 +78,7 @@ pub form-Literal : (s : Names) (token : ℕ) (n : Number) → form s (plain (exp
 unfolding plain form
 form-Literal s token n = refl
 
-pub form-Bit : (s : Names) (token : ℕ) (name : Bor (List ℕ)) (i : Bor Expr) → form s (plain (expr.Bit token name i)) ≡ one_bit
+pub form-Bit : (s : Names) (token : ℕ) (name : Bor (List ℕ)) (i : Bor Expr) → form s (plain (expr.Bit token name i)) ≡ index_shape (meant s name.now)
 unfolding plain form
 form-Bit s token name i = refl
 
@@ -173,7 +174,7 @@ pub value-Literal : (s : Names) (token : ℕ) (n : Number) (env : Bit → Bool) 
 unfolding plain value
 value-Literal s token n env w signed = refl
 
-pub value-Bit : (s : Names) (token : ℕ) (name : Bor (List ℕ)) (i : Bor Expr) (env : Bit → Bool) (w : ℕ) (signed : Bool) → value s (plain (expr.Bit token name i)) env w signed ≡ extend w signed (select (entity_value env (meant s name.now)) (place (entity_range (meant s name.now)) (integer_with (form s (plain i.now)) (value s (plain i.now) env))) 1)
+pub value-Bit : (s : Names) (token : ℕ) (name : Bor (List ℕ)) (i : Bor Expr) (env : Bit → Bool) (w : ℕ) (signed : Bool) → value s (plain (expr.Bit token name i)) env w signed ≡ extend w signed (index_value env (meant s name.now) (integer_with (form s (plain i.now)) (value s (plain i.now) env)))
 unfolding plain value
 value-Bit s token name i env w signed = refl
 
@@ -221,7 +222,7 @@ pub fault-Literal : (s : Names) (token : ℕ) (n : Number) (constant : Bool) →
 unfolding plain fault
 fault-Literal s token n constant = refl
 
-pub fault-Bit : (s : Names) (token : ℕ) (name : Bor (List ℕ)) (i : Bor Expr) (constant : Bool) → fault s (plain (expr.Bit token name i)) constant ≡ or_else (base_fault constant token (meant s name.now)) (fault s (plain i.now) constant)
+pub fault-Bit : (s : Names) (token : ℕ) (name : Bor (List ℕ)) (i : Bor Expr) (constant : Bool) → fault s (plain (expr.Bit token name i)) constant ≡ or_else (index_fault constant token (meant s name.now)) (fault s (plain i.now) constant)
 unfolding plain fault
 fault-Bit s token name i constant = refl
 

@@ -5,6 +5,7 @@ pub mod Widths
 pub mod Words
 pub mod Indices
 pub mod Parts
+pub mod MemoryWords
 pub mod Sound
 pub mod NamedBits
 pub mod NamesAlone

@@ -22,6 +22,7 @@ use Rattle.rr_expr.specs.LowBits.{keeps_low, low_infix, low_prefix, LowBitsKept}
 use Rattle.rr_expr.specs.Operators.{infixes, prefixes, joined, truth, reduction_holds, relation_holds, own_with, operation_value, infix_value, prefix_value}
 use Rattle.rr_expr.specs.Scopes.{Names, meant, entity_range, entity_value}
 use Rattle.rr_expr.specs.Selects.{place, span, count, lowest_place, integer_with, repeated}
+use Rattle.rr_expr.specs.Memories.{index_value}
 use Rattle.rr_expr.specs.Values.{form, value, values, nowhere}
 
 -- the second word is the lowest w bits of the first, which has v
@@ -185,7 +186,7 @@ low : (s : Names) (t : Tree) (env : Bit → Bool) (w v : ℕ) (signed : Bool) �
 unfolding keeps_low value
 low s (Name token name) env w v signed h e = extended w v signed (entity_value env (meant s name)) h
 low s (Literal token n) env w v signed h e = extended w v signed (word n.width n.value) h
-low s (BitSelect token name i) env w v signed h e = extended w v signed (select (entity_value env (meant s name)) (place (entity_range (meant s name)) (integer_with (form s i) (value s i env))) 1) h
+low s (BitSelect token name i) env w v signed h e = extended w v signed (index_value env (meant s name) (integer_with (form s i) (value s i env))) h
 low s (Part token name l r) env w v signed h e = extended w v signed (select (entity_value env (meant s name)) (place (entity_range (meant s name)) (integer_with (form s r) (value s r nowhere))) (span (integer_with (form s l) (value s l nowhere)) (integer_with (form s r) (value s r nowhere)))) h
 low s (Indexed token name f n up) env w v signed h e = extended w v signed (select (entity_value env (meant s name)) (lowest_place (entity_range (meant s name)) up (integer_with (form s f) (value s f env)) (count (integer_with (form s n) (value s n nowhere)))) (count (integer_with (form s n) (value s n nowhere)))) h
 low s (Unary op t) env w v signed h e = prefix_low (get_or prefixes op Plus) (form s t) (value s t env) w v signed (keeps_low t) h (low s t env w v signed h) e

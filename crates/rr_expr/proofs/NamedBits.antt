@@ -1,5 +1,5 @@
 -- the value depends only on the bits that are named
-use Rattle.std.proofs.Common.{◌≡◌, ℕ, ◌-◌, ◌*◌, ◌==◌, ◌<◌, ◌≤◌, ◌⊎◌, inl, inr, Bool, true, false, cond, List, ◌++◌, Option, Some, None, is_none, refl, sym, ◌∙◌, ap, get_or, ℤ, pos, negsuc, ◌+ℤ◌}
+use Rattle.std.proofs.Common.{◌≡◌, ℕ, ◌-◌, ◌*◌, ◌==◌, ◌<◌, ◌≤◌, ◌⊎◌, inl, inr, Bool, true, false, cond, List, ◌++◌, map, Option, Some, None, is_none, refl, sym, ◌∙◌, ap, get_or, ℤ, pos, negsuc, ◌+ℤ◌}
 use Rattle.std.proofs.lemmas.List.{get_or_past}
 use Rattle.std.proofs.lemmas.Bool.{cases_lt}
 use Rattle.rr_syntax.specs.Tree.{Tree, Trees, Name, Literal, Bit as BitSelect, Part, Indexed, Unary, Binary, Cond, Concat, Repeat, Cast, Paren, End, More}
@@ -7,7 +7,7 @@ use Rattle.rr_bits.specs.Words.{extend, select, tabulate, is_zero, bit_in}
 use Rattle.rr_bits.proofs.Places.{tabulate_same, get_tabulate, length_tabulate}
 use Rattle.rr_expr.specs.declared.types.Bit.{Bit}
 use Rattle.rr_expr.specs.declared.types.Entity.{Entity}
-use Rattle.rr_expr.specs.declared.types.Entity.TheVariants.{Constant, Signal, Instance}
+use Rattle.rr_expr.specs.declared.types.Entity.TheVariants.{Constant, Signal, Memory, Instance}
 use Rattle.rr_expr.specs.declared.types.ExprFault.{ExprFault}
 use Rattle.rr_expr.specs.declared.types.ExprFault.TheVariants.{BadRange, NotConstant}
 use Rattle.rr_expr.specs.declared.operators.Infix.TheVariants.{Either}
@@ -15,9 +15,11 @@ use Rattle.rr_expr.specs.declared.operators.Prefix.TheVariants.{Plus}
 use Rattle.rr_expr.specs.Operators.{infixes, prefixes, own_with, prefix_value, infix_value}
 use Rattle.rr_expr.specs.Scopes.{Names, meant, entity_range, entity_value, is_scalar, range_width}
 use Rattle.rr_expr.specs.Selects.{place, lowest_place, integer_with, repeated, is_against}
+use Rattle.rr_expr.specs.Memories.{word_at, word_signal, word_bits, bit_value, index_value}
 use Rattle.rr_expr.specs.Values.{form, widths, value, values, nowhere}
-use Rattle.rr_expr.specs.Faults.{fault, faults, first, first_part, or_else, fault_if, width_fault, name_fault, base_fault, count_fault, is_bad, constant_count, constant_span}
-use Rattle.rr_expr.specs.Reading.{IsBitOf, IsWithin, NamesAt, NamesBit, NamesBits}
+use Rattle.rr_expr.specs.Faults.{fault, faults, first, first_part, or_else, fault_if, width_fault, name_fault, base_fault, index_fault, count_fault, is_bad, constant_count, constant_span}
+use Rattle.rr_expr.specs.Reading.{IsBitOf, IsWithin, IsWordBit, NamesAt, NamesIndex, NamesBit, NamesBits}
+use Rattle.rr_expr.proofs.MemoryWords.{no_word_value, some_word_value, index_within, names_any}
 
 first_none : (f g : Option ExprFault) → or_else f g ≡ None → f ≡ None
 first_none None g h = refl
@@ -30,6 +32,7 @@ then_none (Some f) g h = cc
 no_signal : (token : ℕ) (e : Entity) (b : Bit) → name_fault true token e ≡ None → IsBitOf e b → ⊥
 no_signal token (Constant bits signed) b h r = r
 no_signal token (Signal id range signed) b h r = cc
+no_signal token (Memory first low words range signed) b h r = cc
 no_signal token Instance b h r = r
 
 no_base : (token : ℕ) (e : Entity) (b : Bit) → base_fault true token e ≡ None → IsBitOf e b → ⊥
@@ -40,6 +43,12 @@ none_at true e from n index b p q r = p r.0
 none_at false e from n index b p q (inl r) = p r
 none_at false e from n index b p q (inr r) = q r
 
+none_index : (token : ℕ) (k : Bool) (e : Entity) (i : ℤ) (index : Type 0) (b : Bit) → index_fault true token e ≡ None → (index → ⊥) → NamesIndex k e i index b → ⊥
+none_index token k (Constant bits signed) i index b h q r = none_at k (Constant bits signed) (place (entity_range (Constant bits signed)) i) 1 index b (no_base token (Constant bits signed) b h) q r
+none_index token k (Signal id range signed) i index b h q r = none_at k (Signal id range signed) (place (entity_range (Signal id range signed)) i) 1 index b (no_base token (Signal id range signed) b h) q r
+none_index token k (Memory first low words range signed) i index b h q r = cc
+none_index token k Instance i index b h q r = none_at k Instance (place (entity_range Instance) i) 1 index b (no_base token Instance b h) q r
+
 -- a constant names no bit
 mutual
   unfolding fault NamesBit
@@ -48,9 +57,9 @@ mutual
   constant_names s (Name token name) b h r = no_signal token (meant s name) b h r
   constant_names s (Literal token n) b h r = r
   constant_names s (BitSelect token name i) b h r =
-      none_at (is_none (fault s i true)) (meant s name) (place (entity_range (meant s name)) (integer_with (form s i) (value s i nowhere))) 1 (NamesBit s i b) b
-      (no_base token (meant s name) b (first_none (base_fault true token (meant s name)) (fault s i true) h))
-      (constant_names s i b (then_none (base_fault true token (meant s name)) (fault s i true) h)) r
+      none_index token (is_none (fault s i true)) (meant s name) (integer_with (form s i) (value s i nowhere)) (NamesBit s i b) b
+      (first_none (index_fault true token (meant s name)) (fault s i true) h)
+      (constant_names s i b (then_none (index_fault true token (meant s name)) (fault s i true) h)) r
   constant_names s (Part token name u v) b h r =
       let rest = or_else (fault s u true) (or_else (fault s v true) (or_else (fault_if (is_against (entity_range (meant s name)) (integer_with (form s u) (value s u nowhere)) (integer_with (form s v) (value s v nowhere))) (BadRange token)) (width_fault token (constant_span s u v)))) in
       no_base token (meant s name) b (first_none (base_fault true token (meant s name)) rest h) r.0
@@ -86,6 +95,7 @@ mutual
 entity_same : (e : Entity) (env other : Bit → Bool) → ((b : Bit) → IsBitOf e b → env b ≡ other b) → entity_value env e ≡ entity_value other e
 entity_same (Constant bits signed) env other h = refl
 entity_same (Signal id range signed) env other h = tabulate_same (range_width range) (λ i. env (record { signal = id; place = i })) (λ i. other (record { signal = id; place = i })) (λ i l. h (record { signal = id; place = i }) (refl, l))
+entity_same (Memory first low words range signed) env other h = refl
 entity_same Instance env other h = refl
 
 bit_same : (w : ℕ) (f g : ℕ → Bool) (z : ℤ) → ((m : ℕ) → m < w → z ≡ pos m → f m ≡ g m) → bit_in (tabulate w f) z ≡ bit_in (tabulate w g) z
@@ -103,7 +113,21 @@ select_same (Signal id range signed) from n env other h =
     let g : ℕ → Bool = λ i. other (record { signal = id; place = i }) in
     tabulate_same n (λ k. bit_in (tabulate (range_width range) f) (from +ℤ pos k)) (λ k. bit_in (tabulate (range_width range) g) (from +ℤ pos k))
     (λ k l. bit_same (range_width range) f g (from +ℤ pos k) (λ m b z. h (record { signal = id; place = m }) (refl, b) (k, l, z)))
+select_same (Memory first low words range signed) from n env other h = refl
 select_same Instance from n env other h = refl
+
+word_same : (range : Option (ℕ × ℕ)) (word : Option ℕ) (env other : Bit → Bool) → ((b : Bit) → IsWordBit range word b → env b ≡ other b) → map (bit_value env) (word_bits range word) ≡ map (bit_value other) (word_bits range word)
+word_same range None env other h = no_word_value env range ∙ sym (no_word_value other range)
+word_same range (Some id) env other h =
+    some_word_value env range id
+    ∙ tabulate_same (range_width range) (λ i. env (record { signal = id; place = i })) (λ i. other (record { signal = id; place = i })) (λ i l. h (record { signal = id; place = i }) (refl, l))
+    ∙ sym (some_word_value other range id)
+
+index_same : (e : Entity) (i : ℤ) (index : Bit → Type 0) (env other : Bit → Bool) → ((b : Bit) → NamesIndex true e i (index b) b → env b ≡ other b) → index_value env e i ≡ index_value other e i
+index_same (Constant bits signed) i index env other h = refl
+index_same (Signal id range signed) i index env other h = select_same (Signal id range signed) (place (entity_range (Signal id range signed)) i) 1 env other (λ b u w. h b (u, w))
+index_same (Memory first low words range signed) i index env other h = word_same range (word_signal first (word_at low words i)) env other h
+index_same Instance i index env other h = refl
 
 ext : (f g : ℕ → Bool → List Bool) → ((w : ℕ) (signed : Bool) → f w signed ≡ g w signed) → f ≡ g
 ext f g h = λ i w signed. h w signed i
@@ -122,6 +146,17 @@ select_at true e n from x y z index env other c v h =
 select_at false e n from x y z index env other c v h =
     ap (λ (f : ℕ → Bool → List Bool). select (entity_value env e) (from f) n) (v (λ b r. h b (inr r))) ∙ ap (λ (xs : List Bool). select xs (from y) n) (entity_same e env other (λ b r. h b (inl r)))
 
+-- an index, constant or any other
+index_at : (k : Bool) (e : Entity) (from : (ℕ → Bool → List Bool) → ℤ) (x y z : ℕ → Bool → List Bool) (index : Bit → Type 0) (env other : Bit → Bool)
+    → (k ≡ true → (x ≡ z) × (y ≡ z)) → (((b : Bit) → index b → env b ≡ other b) → x ≡ y) → ((b : Bit) → NamesIndex k e (from z) (index b) b → env b ≡ other b)
+    → index_value env e (from x) ≡ index_value other e (from y)
+index_at true e from x y z index env other c v h =
+    let p = c refl in
+    ap (λ (f : ℕ → Bool → List Bool). index_value env e (from f)) p.0 ∙ index_same e (from z) index env other h ∙ sym (ap (λ (f : ℕ → Bool → List Bool). index_value other e (from f)) p.1)
+index_at false e from x y z index env other c v h =
+    ap (λ (f : ℕ → Bool → List Bool). index_value env e (from f)) (v (λ b r. h b (names_any e (from z) (index b) b (inr r))))
+    ∙ index_same e (from y) index env other (λ b r. h b (names_any e (from z) (index b) b (inl (index_within e (from y) (index b) b r))))
+
 mutual
   unfolding value NamesBit
 
@@ -130,7 +165,7 @@ mutual
   value_same s (Literal token n) env other h = refl
   value_same s (BitSelect token name i) env other h =
       ext (value s (BitSelect token name i) env) (value s (BitSelect token name i) other) (λ w signed. ap (extend w signed)
-      (select_at (is_none (fault s i true)) (meant s name) 1 (λ f. place (entity_range (meant s name)) (integer_with (form s i) f)) (value s i env) (value s i other) (value s i nowhere) (NamesBit s i) env other
+      (index_at (is_none (fault s i true)) (meant s name) (λ f. integer_with (form s i) f) (value s i env) (value s i other) (value s i nowhere) (NamesBit s i) env other
       (λ e. (value_same s i env nowhere (λ b r. absurd (constant_names s i b (none_is (fault s i true) e) r)), value_same s i other nowhere (λ b r. absurd (constant_names s i b (none_is (fault s i true) e) r))))
       (value_same s i env other) h))
   value_same s (Part token name l r) env other h =

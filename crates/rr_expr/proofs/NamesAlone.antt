@@ -9,8 +9,9 @@ use Rattle.rr_expr.specs.declared.operators.Prefix.TheVariants.{Plus}
 use Rattle.rr_expr.specs.Operators.{infixes, prefixes, joined, prefix_shape, infix_shape, own_with, prefix_value, infix_value}
 use Rattle.rr_expr.specs.Scopes.{Names, meant, entity_shape, entity_range, entity_value}
 use Rattle.rr_expr.specs.Selects.{place, span, count, is_against, lowest_place, integer_with, repeated}
+use Rattle.rr_expr.specs.Memories.{index_shape, index_value}
 use Rattle.rr_expr.specs.Values.{form, widths, value, values, nowhere, unsigned_of}
-use Rattle.rr_expr.specs.Faults.{fault, faults, first, first_part, or_else, fault_if, width_fault, name_fault, base_fault, count_fault, takes_constants, is_bad}
+use Rattle.rr_expr.specs.Faults.{fault, faults, first, first_part, or_else, fault_if, width_fault, name_fault, base_fault, index_fault, count_fault, takes_constants, is_bad}
 use Rattle.rr_expr.specs.Reading.{Occurs, OccursIn}
 
 mutual
@@ -22,7 +23,7 @@ mutual
   same s u (BitSelect token x i) h =
       let m = h x (inl refl) in
       let p = same s u i (λ n o. h n (inr o)) in
-      (refl, λ k env w signed. extend w signed (select (entity_value env (m k)) (place (entity_range (m k)) (integer_with (p.0 k) (p.1 k env))) 1))
+      (λ k. index_shape (m k), λ k env w signed. extend w signed (index_value env (m k) (integer_with (p.0 k) (p.1 k env))))
   same s u (Part token x l r) h =
       let m = h x (inl refl) in
       let p = same s u l (λ n o. h n (inr (inl o))) in
@@ -77,7 +78,7 @@ mutual
   same_fault s u (BitSelect token x i) h =
       let m = h x (inl refl) in
       let p = same_fault s u i (λ n o. h n (inr o)) in
-      λ k constant. or_else (base_fault constant token (m k)) (p k constant)
+      λ k constant. or_else (index_fault constant token (m k)) (p k constant)
   same_fault s u (Part token x l r) h =
       let m = h x (inl refl) in
       let p = same s u l (λ n o. h n (inr (inl o))) in

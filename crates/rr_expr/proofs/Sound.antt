@@ -3,7 +3,7 @@ use Rattle.std.proofs.Common.{◌≡◌, ℕ, ◌-◌, ◌*◌, List, ◌==◌, 
 use Rattle.std.proofs.lemmas.Bool.{and_from, and_parts, ltb-true}
 use Rattle.rr_syntax.specs.Tree.{Tree, Trees, Name, Literal, Bit, Part, Indexed, Unary, Binary, Cond, Concat, Repeat, Cast, Paren, End, More}
 use Rattle.rr_expr.specs.declared.types.Entity.{Entity}
-use Rattle.rr_expr.specs.declared.types.Entity.TheVariants.{Constant, Signal, Instance}
+use Rattle.rr_expr.specs.declared.types.Entity.TheVariants.{Constant, Signal, Memory, Instance}
 use Rattle.rr_expr.specs.declared.types.ExprFault.{ExprFault}
 use Rattle.rr_expr.specs.declared.types.ExprFault.TheVariants.{TooWide, BadRange, NotConstant}
 use Rattle.rr_expr.specs.declared.types.Shape.{Shape}
@@ -12,10 +12,11 @@ use Rattle.rr_expr.specs.declared.operators.Infix.TheVariants.{Arithmetic, Divid
 use Rattle.rr_expr.specs.declared.operators.Prefix.{Prefix}
 use Rattle.rr_expr.specs.declared.operators.Prefix.TheVariants.{Plus, Minus, Invert, Reduced}
 use Rattle.rr_expr.specs.Operators.{infixes, prefixes, prefix_shape, infix_shape}
-use Rattle.rr_expr.specs.Scopes.{Names, meant, entity_shape, entity_range, is_scalar}
+use Rattle.rr_expr.specs.Scopes.{Names, meant, entity_shape, entity_range, is_scalar, range_width}
+use Rattle.rr_expr.specs.Memories.{index_shape}
 use Rattle.rr_expr.specs.Selects.{integer_with, is_against}
 use Rattle.rr_expr.specs.Values.{form, widths, value, nowhere}
-use Rattle.rr_expr.specs.Faults.{fits, fit, fault, faults, or_else, fault_if, width_fault, name_fault, base_fault, count_fault, takes_constants, constant_count, constant_span, is_bad, first, first_part, is_width}
+use Rattle.rr_expr.specs.Faults.{fits, fit, fault, faults, or_else, fault_if, width_fault, name_fault, base_fault, index_fault, count_fault, takes_constants, constant_count, constant_span, is_bad, first, first_part, is_width}
 
 none_parts : (f g : Option ExprFault) → or_else f g ≡ None → (f ≡ None) × (g ≡ None)
 none_parts None g h = (refl, h)
@@ -32,6 +33,8 @@ named : (constant : Bool) (token : ℕ) (e : Entity) → name_fault constant tok
 named constant token (Constant bits signed) h = sized token (entity_shape (Constant bits signed)).width h
 named false token (Signal id range signed) h = sized token (entity_shape (Signal id range signed)).width h
 named true token (Signal id range signed) h = cc
+named false token (Memory first low words range signed) h = cc
+named true token (Memory first low words range signed) h = cc
 named constant token Instance h = cc
 
 counted : (f : Option ExprFault) (token n : ℕ) → f ≡ None → count_fault f token n ≡ None → is_width n ≡ true
@@ -42,9 +45,17 @@ counted None token n e h = by_cases (n == 0) h
     by_cases true g = cc
     by_cases false g = sized token n g
 
--- the name of a select
+-- the name of a part
 base_named : (constant : Bool) (token : ℕ) (e : Entity) → base_fault constant token e ≡ None → is_width (entity_shape e).width ≡ true
 base_named constant token e h = named constant token e (none_parts (name_fault constant token e) (fault_if (is_scalar e) (BadRange token)) h).0
+
+-- and of an index
+index_named : (constant : Bool) (token : ℕ) (e : Entity) → index_fault constant token e ≡ None → is_width (entity_shape e).width ≡ true
+index_named constant token (Constant bits signed) h = base_named constant token (Constant bits signed) h
+index_named constant token (Signal id range signed) h = base_named constant token (Signal id range signed) h
+index_named false token (Memory first low words range signed) h = sized token (range_width range) h
+index_named true token (Memory first low words range signed) h = cc
+index_named constant token Instance h = base_named constant token Instance h
 
 abbrev turned : Names → ℕ → List ℕ → Tree → Tree → Option ExprFault
 turned s token name l r = fault_if (is_against (entity_range (meant s name)) (integer_with (form s l) (value s l nowhere)) (integer_with (form s r) (value s r nowhere))) (BadRange token)
@@ -56,8 +67,8 @@ mutual
   fits_without_fault s constant (Name token name) h = named constant token (meant s name) h
   fits_without_fault s constant (Literal token n) h = sized token n.width h
   fits_without_fault s constant (Bit token name i) h =
-      let p = none_parts (base_fault constant token (meant s name)) (fault s i constant) h in
-      and_from (is_width (entity_shape (meant s name)).width) (fits s i) (base_named constant token (meant s name) p.0) (fits_without_fault s constant i p.1)
+      let p = none_parts (index_fault constant token (meant s name)) (fault s i constant) h in
+      and_from (is_width (entity_shape (meant s name)).width) (fits s i) (index_named constant token (meant s name) p.0) (fits_without_fault s constant i p.1)
   fits_without_fault s constant (Part token name l r) h =
       let w = width_fault token (constant_span s l r) in
       let p = none_parts (base_fault constant token (meant s name)) (or_else (fault s l true) (or_else (fault s r true) (or_else (turned s token name l r) w))) h in
@@ -144,12 +155,18 @@ last_two false b w h = cc
 wider : (a b : ℕ) → 1 ≤ a → 1 ≤ max a b
 wider a b h = omega arith
 
+index_positive : (e : Entity) → is_width (entity_shape e).width ≡ true → 1 ≤ (index_shape e).width
+index_positive (Constant bits signed) h = omega arith
+index_positive (Signal id range signed) h = omega arith
+index_positive (Memory first low words range signed) h = positive (range_width range) h
+index_positive Instance h = omega arith
+
 -- an expression that fits has a bit
 pub width_positive : (s : Names) (t : Tree) → fits s t ≡ true → 1 ≤ (form s t).width
 unfolding fits form
 width_positive s (Name token name) h = positive (entity_shape (meant s name)).width h
 width_positive s (Literal token n) h = positive n.width h
-width_positive s (Bit token name i) h = omega arith
+width_positive s (Bit token name i) h = index_positive (meant s name) (and_parts (is_width (entity_shape (meant s name)).width) (fits s i) h).0
 width_positive s (Part token name l r) h = positive (constant_span s l r) (last_of (is_width (entity_shape (meant s name)).width) (fits s l) (fits s r) (is_width (constant_span s l r)) h)
 width_positive s (Indexed token name f n up) h = positive (constant_count s n) (last_of (is_width (entity_shape (meant s name)).width) (fits s f) (fits s n) (is_width (constant_count s n)) h)
 width_positive s (Unary op t) h = prefix_positive (get_or prefixes op Plus) (form s t) (width_positive s t h)

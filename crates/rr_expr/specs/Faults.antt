@@ -3,14 +3,14 @@ use Rattle.std.specs.Prelude.{ℕ, ◌-◌, ◌*◌, ◌==◌, min, List, Bool, 
 use Rattle.rr_bits.specs.Words.{is_zero, top}
 use Rattle.rr_syntax.specs.Tree.{Tree, Trees, Name, Literal, Bit, Part, Indexed, Unary, Binary, Cond, Concat, Repeat, Cast, Paren, End, More}
 use Rattle.rr_expr.specs.declared.types.Entity.{Entity}
-use Rattle.rr_expr.specs.declared.types.Entity.TheVariants.{Constant, Signal, Instance}
+use Rattle.rr_expr.specs.declared.types.Entity.TheVariants.{Constant, Signal, Memory, Instance}
 use Rattle.rr_expr.specs.declared.types.Shape.{Shape}
 use Rattle.rr_expr.specs.declared.types.ExprFault.{ExprFault}
 use Rattle.rr_expr.specs.declared.types.ExprFault.TheVariants.{UnknownName, BadRange, NotConstant, TooWide}
 use Rattle.rr_expr.specs.declared.operators.Infix.{Infix}
 use Rattle.rr_expr.specs.declared.operators.Infix.TheVariants.{Arithmetic, Divide, Remainder, Power, Shifted, Compared, Both, Either}
 use Rattle.rr_expr.specs.Operators.{infixes, joined, own_with}
-use Rattle.rr_expr.specs.Scopes.{Names, meant, entity_shape, entity_range, is_scalar}
+use Rattle.rr_expr.specs.Scopes.{Names, meant, entity_shape, entity_range, is_scalar, range_width}
 use Rattle.rr_expr.specs.Selects.{span, count, is_against, integer_with}
 use Rattle.rr_expr.specs.Values.{form, widths, value, nowhere}
 
@@ -77,15 +77,23 @@ fault_if b f = cond b (Some f) None
 abbrev pub width_fault : ℕ → ℕ → Option ExprFault
 width_fault token w = cond (is_width w) None (Some (TooWide token (min w 4294967295)))
 
--- of a name, where signals are not allowed if constant
+-- of a name, where signals are not allowed if constant; a memory has no value but by an index
 abbrev pub name_fault : Bool → ℕ → Entity → Option ExprFault
 name_fault constant token (Constant bits signed) = width_fault token (entity_shape (Constant bits signed)).width
 name_fault constant token (Signal id range signed) = cond constant (Some (NotConstant token)) (width_fault token (entity_shape (Signal id range signed)).width)
+name_fault constant token (Memory first low words range signed) = cond constant (Some (NotConstant token)) (Some (BadRange token))
 name_fault constant token Instance = Some (UnknownName token)
 
--- of the name of a select
+-- of the name of a part
 abbrev pub base_fault : Bool → ℕ → Entity → Option ExprFault
 base_fault constant token e = or_else (name_fault constant token e) (fault_if (is_scalar e) (BadRange token))
+
+-- of the name of an index: a bit is asked of what is no scalar, a word of a memory
+abbrev pub index_fault : Bool → ℕ → Entity → Option ExprFault
+index_fault constant token (Constant bits signed) = base_fault constant token (Constant bits signed)
+index_fault constant token (Signal id range signed) = base_fault constant token (Signal id range signed)
+index_fault constant token (Memory first low words range signed) = cond constant (Some (NotConstant token)) (width_fault token (range_width range))
+index_fault constant token Instance = base_fault constant token Instance
 
 -- the operators whose operands are constant
 abbrev pub takes_constants : Infix → Bool
@@ -120,7 +128,7 @@ unfoldable mutual
   pub fault : Names → Tree → Bool → Option ExprFault
   fault s (Name token name) constant = name_fault constant token (meant s name)
   fault s (Literal token n) constant = width_fault token n.width
-  fault s (Bit token name i) constant = or_else (base_fault constant token (meant s name)) (fault s i constant)
+  fault s (Bit token name i) constant = or_else (index_fault constant token (meant s name)) (fault s i constant)
   fault s (Part token name l r) constant =
       or_else (base_fault constant token (meant s name)) (or_else (fault s l true) (or_else (fault s r true)
       (or_else (fault_if (is_against (entity_range (meant s name)) (integer_with (form s l) (value s l nowhere)) (integer_with (form s r) (value s r nowhere))) (BadRange token))

@@ -1,6 +1,7 @@
 pub mod Operators
 pub mod Scopes
 pub mod Selects
+pub mod Memories
 pub mod Values
 pub mod Faults
 pub mod FormFaults

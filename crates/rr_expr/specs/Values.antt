@@ -6,9 +6,10 @@ use Rattle.rr_expr.specs.declared.types.Bit.{Bit}
 use Rattle.rr_expr.specs.declared.types.Shape.{Shape}
 use Rattle.rr_expr.specs.declared.operators.Infix.TheVariants.{Either}
 use Rattle.rr_expr.specs.declared.operators.Prefix.TheVariants.{Plus}
-use Rattle.rr_expr.specs.Operators.{infixes, prefixes, one_bit, joined, prefix_shape, infix_shape, own_with, prefix_value, infix_value}
+use Rattle.rr_expr.specs.Operators.{infixes, prefixes, joined, prefix_shape, infix_shape, own_with, prefix_value, infix_value}
 use Rattle.rr_expr.specs.Scopes.{Names, meant, entity_shape, entity_range, entity_value, env_of}
 use Rattle.rr_expr.specs.Selects.{place, span, count, lowest_place, integer_with, repeated}
+use Rattle.rr_expr.specs.Memories.{index_shape, index_value}
 
 -- an unsigned word of that many bits
 abbrev pub unsigned_of : ℕ → Shape
@@ -24,7 +25,7 @@ unfoldable mutual
   pub form : Names → Tree → Shape
   form s (Name token name) = entity_shape (meant s name)
   form s (Literal token n) = record { width = n.width; signed = n.signed }
-  form s (BitSelect token name i) = one_bit
+  form s (BitSelect token name i) = index_shape (meant s name)
   form s (Part token name l r) = unsigned_of (span (integer_with (form s l) (value s l nowhere)) (integer_with (form s r) (value s r nowhere)))
   form s (Indexed token name f n up) = unsigned_of (count (integer_with (form s n) (value s n nowhere)))
   form s (Unary op t) = prefix_shape (get_or prefixes op Plus) (form s t)
@@ -42,8 +43,7 @@ unfoldable mutual
   pub value : Names → Tree → (Bit → Bool) → ℕ → Bool → List Bool
   value s (Name token name) env w signed = extend w signed (entity_value env (meant s name))
   value s (Literal token n) env w signed = extend w signed (word n.width n.value)
-  value s (BitSelect token name i) env w signed =
-      extend w signed (select (entity_value env (meant s name)) (place (entity_range (meant s name)) (integer_with (form s i) (value s i env))) 1)
+  value s (BitSelect token name i) env w signed = extend w signed (index_value env (meant s name) (integer_with (form s i) (value s i env)))
   value s (Part token name l r) env w signed =
       extend w signed (select (entity_value env (meant s name)) (place (entity_range (meant s name)) (integer_with (form s r) (value s r nowhere))) (span (integer_with (form s l) (value s l nowhere)) (integer_with (form s r) (value s r nowhere))))
   value s (Indexed token name f n up) env w signed =

@@ -21,7 +21,7 @@ pub(crate) fn capped(number: u128) -> u32
 }
 
 /// The number of bits of a range or a scalar, or the greatest `u32` where it is greater.
-fn range_width(range: &Option<(u32, u32)>) -> u32
+pub(crate) fn range_width(range: &Option<(u32, u32)>) -> u32
     ensures { result ≡ min (width_of_range range.now) 4294967295 }
 {
     match range {
@@ -36,13 +36,13 @@ fn range_width(range: &Option<(u32, u32)>) -> u32
     }
 }
 
-/// The width of a name, or the greatest `u32` where it is greater.
+/// The width of a name, of a memory that of a word, or the greatest `u32` where it is greater.
 pub(crate) fn entity_width(entity: &Entity) -> u32
     ensures { result ≡ min (shape_of_entity entity.now).width 4294967295 }
 {
     match entity {
         Entity::Constant { bits, .. } => bits.width(),
-        Entity::Signal { range, .. } => range_width(range),
+        Entity::Signal { range, .. } | Entity::Memory { range, .. } => range_width(range),
         Entity::Instance => 0,
     }
 }
@@ -51,12 +51,14 @@ pub(crate) fn is_signed(entity: &Entity) -> bool
     ensures { result ≡ (shape_of_entity entity.now).signed }
 {
     match entity {
-        Entity::Constant { signed, .. } | Entity::Signal { signed, .. } => *signed,
+        Entity::Constant { signed, .. }
+        | Entity::Signal { signed, .. }
+        | Entity::Memory { signed, .. } => *signed,
         Entity::Instance => false,
     }
 }
 
-/// The shape of a name whose width is from 1 to 128.
+/// The shape of a name whose width is from 1 to 128, of a memory that of a word.
 pub fn entity_shape(entity: &Entity) -> Shape
     requires fits { IsTrue (is_a_width (shape_of_entity entity.now).width) }
     ensures value { result ≡ shape_of_entity entity.now }
@@ -77,7 +79,7 @@ pub fn entity_range(entity: &Entity) -> (u32, u32)
             range: Some(range),
             ..
         } => *range,
-        Entity::Signal { range: None, .. } | Entity::Instance => (0, 0),
+        Entity::Signal { range: None, .. } | Entity::Memory { .. } | Entity::Instance => (0, 0),
     }
 }
 
@@ -88,7 +90,7 @@ pub(crate) fn is_scalar(entity: &Entity) -> bool
     matches!(entity, Entity::Signal { range: None, .. })
 }
 
-/// The value of a name.
+/// The value of a name; a memory, which has none of its own, is read as 0.
 pub(crate) fn entity_value(entity: &Entity, env: &[u128]) -> Bits
     requires { IsTrue (is_a_width (shape_of_entity entity.now).width) }
     ensures value { result ≡ value_of_entity (env_of env.now) entity.now }
@@ -100,6 +102,7 @@ pub(crate) fn entity_value(entity: &Entity, env: &[u128]) -> Bits
             range_width(range),
             env.get(*id as usize).copied().unwrap_or(0),
         ),
+        Entity::Memory { range, .. } => Bits::from_u128(range_width(range), 0),
         Entity::Instance => Bits::from_u128(1, 0),
     }
 }

@@ -4,7 +4,8 @@ ghost use Rattle.rr_expr.specs.Reading.{ValueByNamedBits, ShapeByNames, ValueByN
 
 /// The value of an expression depends only on the bits that it names: two environments that agree on
 /// these give it one value in each context. A select by a constant index names the bits at its
-/// places, and by any other index all bits of its name and those that the index names.
+/// places, of a memory those of its word, and by any other index all bits of its name, of a memory
+/// those of all words, and those that the index names.
 #[tactic(auto, using(crate::proofs::NamedBits::value_by_named_bits))]
 pub fn value_laws()
     ensures named { ValueByNamedBits }

@@ -11,6 +11,7 @@ ghost use Rattle.rr_expr.specs.Values.{form, value as value_of, own, nowhere};
 
 mod entities;
 mod laws;
+mod memories;
 mod notes;
 mod operators;
 mod scope;
@@ -21,6 +22,7 @@ mod values;
 
 pub use entities::{entity_range, entity_shape};
 pub use laws::{context_laws, scope_laws, value_laws};
+pub use memories::{index_shape, word_at};
 use notes::Notes;
 pub use operators::{
     Infix, Operation, Prefix, Reduction, Relation, Shift, infix_of, joined, prefix_of,

@@ -1,17 +1,19 @@
 //! Width and sign of an expression, or its first fault.
 ghost use Rattle.std.specs.Prelude.{◌≡◌, ◌≤◌, ◌*◌, ◌-◌, ◌==◌, ◌&&◌, IfOk, IfErr, IsTrue, Some, None, true};
 ghost use Rattle.rr_syntax.specs.View.{plain, plain_list};
-ghost use Rattle.rr_expr.specs.Faults.{fits, fit, fault, faults, first, first_part, is_bad as bad, takes_constants as constants_of, base_fault, name_fault, width_fault, count_fault, fault_if, or_else, is_width as is_a_width, constant_count, constant_span};
+ghost use Rattle.rr_expr.specs.Faults.{fits, fit, fault, faults, first, first_part, is_bad as bad, takes_constants as constants_of, base_fault, index_fault, name_fault, width_fault, count_fault, fault_if, or_else, is_width as is_a_width, constant_count, constant_span};
 ghost use Rattle.rr_expr.specs.FormFaults.{part_fault, indexed_fault, binary_fault};
 ghost use Rattle.rr_expr.specs.Indices.{integer_of};
 ghost use Rattle.rr_expr.specs.Notes.{Noted, integer_in};
 ghost use Rattle.rr_expr.specs.Selects.{span, is_against as turned};
 ghost use Rattle.rr_expr.specs.declared.types.ExprFault.TheVariants.{BadRange};
-ghost use Rattle.rr_expr.specs.Operators.{joined as joined_shape, one_bit, infix_shape as infix_shaped};
+ghost use Rattle.rr_expr.specs.Memories.{index_shape as shape_of_index};
+ghost use Rattle.rr_expr.specs.Operators.{joined as joined_shape, infix_shape as infix_shaped};
 ghost use Rattle.rr_expr.specs.Scopes.{meant, entity_shape as shape_of_entity};
 ghost use Rattle.rr_expr.specs.Values.{form, value as value_of, nowhere, widths, unsigned_of};
 
 use crate::entities::{capped, entity_range, entity_shape, entity_width, is_scalar};
+use crate::memories::index_shape;
 use crate::notes::{Known, Notes};
 use crate::operators::{Infix, infix_of, infix_shape, joined, prefix_of, prefix_shape};
 use crate::scope::Scope;
@@ -78,6 +80,8 @@ fn name_shape(entity: &Entity, token: u32, constant: bool) -> Result<Shape, Expr
     match entity {
         Entity::Instance => Err(ExprFault::UnknownName(token)),
         Entity::Signal { .. } if constant => Err(ExprFault::NotConstant(token)),
+        Entity::Memory { .. } if constant => Err(ExprFault::NotConstant(token)),
+        Entity::Memory { .. } => Err(ExprFault::BadRange(token)),
         Entity::Constant { .. } | Entity::Signal { .. } => {
             sized(token, entity_width(entity) as u128)?;
             Ok(entity_shape(entity))
@@ -85,7 +89,7 @@ fn name_shape(entity: &Entity, token: u32, constant: bool) -> Result<Shape, Expr
     }
 }
 
-/// Checks the name of a select.
+/// Checks the name of a part.
 fn check_base(entity: &Entity, token: u32, constant: bool) -> Result<(), ExprFault>
     ensures none { IfOk result (λ a. base_fault constant token entity.now ≡ None) }
     ensures fits { IfOk result (λ a. IsTrue (is_a_width (shape_of_entity entity.now).width)) }
@@ -96,6 +100,24 @@ fn check_base(entity: &Entity, token: u32, constant: bool) -> Result<(), ExprFau
         return Err(ExprFault::BadRange(token));
     }
     Ok(())
+}
+
+/// Checks the name of an index, by which a word of a memory is read.
+fn check_indexed(entity: &Entity, token: u32, constant: bool) -> Result<(), ExprFault>
+    ensures none { IfOk result (λ a. index_fault constant token entity.now ≡ None) }
+    ensures fits { IfOk result (λ a. IsTrue (is_a_width (shape_of_entity entity.now).width)) }
+    ensures fault { IfErr result (λ f. index_fault constant token entity.now ≡ Some f) }
+{
+    match entity {
+        Entity::Memory { .. } if constant => Err(ExprFault::NotConstant(token)),
+        Entity::Memory { .. } => {
+            sized(token, entity_width(entity) as u128)?;
+            Ok(())
+        }
+        Entity::Constant { .. } | Entity::Signal { .. } | Entity::Instance => {
+            check_base(entity, token, constant)
+        }
+    }
 }
 
 /// The shape of a part from one index to another.
@@ -243,7 +265,7 @@ fn index_in<'e>(
     Ok(index)
 }
 
-/// The shape of a bit of a name.
+/// The shape of a bit of a name, or of a word of a memory.
 #[cycle(shapes)]
 #[tactic(auto, using(crate::proofs::Equations::shapes))]
 fn bit_in<'e>(
@@ -256,14 +278,17 @@ fn bit_in<'e>(
 ) -> Result<Shape, ExprFault>
     requires noted { Noted scope.now notes.old }
     ensures noted { Noted scope.now notes.new }
-    ensures none { IfOk result (λ a. or_else (base_fault constant token (meant scope.now name.now)) (fault scope.now (plain index.now) constant) ≡ None) }
+    ensures none { IfOk result (λ a. or_else (index_fault constant token (meant scope.now name.now)) (fault scope.now (plain index.now) constant) ≡ None) }
     ensures fits { IfOk result (λ a. IsTrue (is_a_width (shape_of_entity (meant scope.now name.now)).width && fits scope.now (plain index.now))) }
-    ensures value { IfOk result (λ a. a ≡ one_bit) }
-    ensures fault { IfErr result (λ f. or_else (base_fault constant token (meant scope.now name.now)) (fault scope.now (plain index.now) constant) ≡ Some f) }
+    ensures value { IfOk result (λ a. a ≡ shape_of_index (meant scope.now name.now)) }
+    ensures low { IfOk result (λ a. 1 ≤ a.width) }
+    ensures high { IfOk result (λ a. a.width ≤ 128) }
+    ensures fault { IfErr result (λ f. or_else (index_fault constant token (meant scope.now name.now)) (fault scope.now (plain index.now) constant) ≡ Some f) }
 {
-    check_base(&scope.meaning(name), token, constant)?;
+    let base = scope.meaning(name);
+    check_indexed(&base, token, constant)?;
     shape_in(index, scope, constant, notes)?;
-    Ok(unsigned(1))
+    Ok(index_shape(&base))
 }
 
 /// The shape of the bits of a name from one index to another.

@@ -10,7 +10,9 @@ pub struct Shape {
 }
 
 /// What a name stands for: a parameter with its value, a net or variable with its number and its
-/// declared range `[left:right]` where it has one, or an instance, which no expression may name.
+/// declared range `[left:right]` where it has one, a memory, or an instance, which no expression may
+/// name. The words of a memory (IEEE 1364-2005 section 4.9.3) are the signals from `first` on in the
+/// order of their indices, of which `low` is the lowest; range and sign are those of a word.
 #[derive(Clone, Copy, Debug, PartialEq, Eq)]
 pub enum Entity {
     Constant {
@@ -19,6 +21,13 @@ pub enum Entity {
     },
     Signal {
         id: u32,
+        range: Option<(u32, u32)>,
+        signed: bool,
+    },
+    Memory {
+        first: u32,
+        low: u32,
+        words: u32,
         range: Option<(u32, u32)>,
         signed: bool,
     },
@@ -41,7 +50,7 @@ pub struct Env {
 
 /// Why an expression has no shape, with the number of the token at which it shows: a name that is
 /// not there or that stands for an instance; a select of a scalar, against the direction of its
-/// declaration or of no bits, or a replication count below 1; a signal, a zero divisor or a negative
+/// declaration or of no bits, a memory without an index, or a replication count below 1; a signal, a zero divisor or a negative
 /// exponent where a constant must stand; a width outside 1 to 128, given whole, or as 2^32 - 1 where
 /// it is greater.
 #[derive(Clone, Copy, Debug, PartialEq, Eq)]

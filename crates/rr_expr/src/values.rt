@@ -4,6 +4,7 @@ ghost use Rattle.rr_bits.specs.Words.{is_zero, select, extend};
 ghost use Rattle.rr_syntax.specs.View.{plain, plain_list};
 ghost use Rattle.rr_expr.specs.Faults.{fits, fit, constant_count, constant_span, is_width as is_a_width};
 ghost use Rattle.rr_expr.specs.Indices.{integer_of};
+ghost use Rattle.rr_expr.specs.Memories.{index_value as value_of_index};
 ghost use Rattle.rr_expr.specs.Notes.{Noted, integer_in};
 ghost use Rattle.rr_expr.specs.Operators.{infix_value, infix_shape as infix_shaped, prefix_value, prefix_shape as prefix_shaped, own_with, relation_holds, joined as joined_shape};
 ghost use Rattle.rr_expr.specs.Scopes.{env_of, meant, entity_shape as shape_of_entity, entity_range as range_of_entity, entity_value as value_of_entity};
@@ -11,6 +12,7 @@ ghost use Rattle.rr_expr.specs.Selects.{integer_with, repeated as repeated_list,
 ghost use Rattle.rr_expr.specs.Values.{form, nowhere, unsigned_of, value as value_of, own, widths, values as values_of};
 
 use crate::entities::{entity_range, entity_shape, entity_value};
+use crate::memories::{index_shape, index_value};
 use crate::notes::{Known, Notes};
 use crate::operators::{
     Infix, Prefix, Relation, computed, holds, infix_of, joined, prefix_of, reduced, shifted, truth,
@@ -39,7 +41,7 @@ pub(crate) fn own_shape<'e>(expr: &'e Expr<'e>, scope: &Scope, notes: &mut Notes
             width: number.width,
             signed: number.signed,
         },
-        Expr::Bit { .. } => unsigned(1),
+        Expr::Bit { name, .. } => index_shape(&scope.meaning(name)),
         Expr::Part { left, right, .. } => {
             let left = constant_index(left, scope, notes);
             unsigned(span_of(left, constant_index(right, scope, notes)))
@@ -296,7 +298,7 @@ fn extended(word: Bits, context: Shape) -> Bits
     word.extend(context.width, context.signed)
 }
 
-/// The bit of a name at an index.
+/// The bit of a name at an index, or the word of a memory.
 #[cycle(values)]
 #[tactic(auto, using(crate::proofs::Equations::values_of))]
 fn bit_value<'e>(
@@ -309,12 +311,12 @@ fn bit_value<'e>(
     requires name { IsTrue (is_a_width (shape_of_entity (meant scope.now name.now)).width) }
     requires index { IsTrue (fits scope.now (plain index.now)) }
     requires noted { Noted scope.now notes.old }
-    ensures value { result ≡ select (value_of_entity (env_of env.now) (meant scope.now name.now)) (place (range_of_entity (meant scope.now name.now)) (integer_with (form scope.now (plain index.now)) (value_of scope.now (plain index.now) (env_of env.now)))) 1 }
+    ensures value { result ≡ value_of_index (env_of env.now) (meant scope.now name.now) (integer_with (form scope.now (plain index.now)) (value_of scope.now (plain index.now) (env_of env.now))) }
     ensures noted { Noted scope.now notes.new }
 {
     let base = scope.meaning(name);
     let index = own_index(index, scope, env, notes);
-    picked(entity_value(&base, env), entity_range(&base), index, 1)
+    index_value(&base, env, index)
 }
 
 /// The bits of a name from one index to another.

@@ -1,5 +1,6 @@
-//! Expressions over four signals of one width, `a` and `b` without a sign, `s` and `t` with one, and
-//! the parameter `P`, which is 9 in four bits. The bits of `t` rise.
+//! Expressions over four signals of one width, `a` and `b` without a sign, `s` and `t` with one, the
+//! parameter `P`, which is 9 in four bits, and two memories over these signals: the words 2 to 5 of `m`
+//! are all four, and those 0 and 1 of `w`, which have a sign, are `b` and `s`. The bits of `t` rise.
 ghost use Rattle.std.specs.Prelude.{◌≡◌, ◌≤◌, IfOk};
 ghost use Rattle.rr_choice.specs.Choices.{total_bits};
 
@@ -47,6 +48,18 @@ pub(crate) fn names(alloc: Global, width: u32) -> Result<Scope<'static>, AllocEr
     let bits = Bits::from_u128(4, 9);
     let signed = false;
     scope.add("P", Entity::Constant { bits, signed })?;
+    for (name, first, low, words, signed) in [("m", 0, 2, 4, false), ("w", 1, 0, 2, true)] {
+        scope.add(
+            name,
+            Entity::Memory {
+                first,
+                low,
+                words,
+                range,
+                signed,
+            },
+        )?;
+    }
     Ok(scope)
 }
 

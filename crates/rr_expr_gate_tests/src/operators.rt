@@ -41,6 +41,25 @@ const OPERANDS: [&str; 23] = [
     "a[a[0] + b[0]]",
 ];
 
+/// Words of memories by an index, which may be outside.
+const INDICES: [&str; 15] = [
+    "m[2]",
+    "m[5]",
+    "m[1]",
+    "m[6]",
+    "m[-3]",
+    "m[P]",
+    "w[0]",
+    "m[a]",
+    "m[s]",
+    "w[b]",
+    "w[t]",
+    "m[a[0] + 2]",
+    "m[{s[0], t[0]} + 2]",
+    "w[w[a[0]]]",
+    "m[s[0] + 3] + w[a[0]]",
+];
+
 /// Operators before an operand.
 const PREFIXES: [&str; 14] = [
     "+s",
@@ -222,6 +241,12 @@ fn check_all(alloc: Global, texts: &[&str]) -> Result<bool, Fail> {
 #[test]
 fn operands_are_their_values(rt: HostRuntime) -> Result<(), Fail> {
     assert!(rt; check_all(rt.alloc(), &OPERANDS)?);
+    Ok(())
+}
+
+#[test]
+fn indices_of_memories_are_their_values(rt: HostRuntime) -> Result<(), Fail> {
+    assert!(rt; check_all(rt.alloc(), &INDICES)?);
     Ok(())
 }
 

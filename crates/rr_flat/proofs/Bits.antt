@@ -1,11 +1,18 @@
--- Lists of bits, and the bits of names.
-use Rattle.std.proofs.Common.{◌≡◌, ℕ, zero, suc, ◌<◌, List, [], ◌∷◌, ◌++◌, length, get_or, Bool, true, false, ◌||◌, nat_eq, nat_lt, Option, Some, None, refl, ap, ◌∙◌, sym, subst, arith, ◌⊎◌, inl, inr, ℤ, pos, ◌+ℤ◌, int_lt, unsigned_abs}
-use Rattle.std.proofs.lemmas.Bool.{cases_Bool, and_parts, and_from, eqb-true, eq-eqb, both_ways, or_cases}
+-- Lists of bits, the bits of names, and how many a target names.
+use Rattle.std.proofs.Common.{◌≡◌, ℕ, zero, suc, ◌+◌, ◌<◌, ◌≤◌, List, [], ◌∷◌, ◌++◌, length, length-append, map, get_or, Bool, true, false, cond, ◌||◌, nat_eq, nat_lt, Option, Some, None, refl, ap, ◌∙◌, sym, subst, arith, ◌⊎◌, inl, inr, ℤ, pos, ◌+ℤ◌, ◌-ℤ◌, int_lt, unsigned_abs}
+use Rattle.std.specs.List.{range_with_len}
+use Rattle.std.proofs.lemmas.Bool.{cases_Bool, and_parts, and_from, eqb-true, eq-eqb, ltb-true, lt-ltb, le-ltb, both_ways, or_cases}
+use Rattle.rr_syntax.specs.Tree.{Tree, Trees, Name, Literal, Bit as BitSelect, Part, Indexed, Unary, Binary, Cond, Concat, Repeat, Cast, Paren, End, More}
 use Rattle.rr_expr.specs.declared.types.Bit.{Bit}
 use Rattle.rr_expr.specs.declared.types.Entity.{Entity}
-use Rattle.rr_expr.specs.declared.types.Entity.TheVariants.{Constant, Signal, Instance}
-use Rattle.rr_expr.specs.Scopes.{range_width}
-use Rattle.rr_flat.specs.Targets.{same_bit, has_bit, is_bit_of, bit_there, bits_there}
+use Rattle.rr_expr.specs.declared.types.Entity.TheVariants.{Constant, Signal, Memory, Instance}
+use Rattle.rr_expr.specs.Faults.{constant_count}
+use Rattle.rr_expr.specs.Memories.{word_at, word_signal, word_bits, index_shape}
+use Rattle.rr_expr.specs.Reading.{IsWordBit}
+use Rattle.rr_expr.specs.Scopes.{Names, meant, entity_range, range_width}
+use Rattle.rr_expr.specs.Selects.{place}
+use Rattle.rr_expr.proofs.MemoryWords.{length_word_bits, word_bit_there, is_word_bit}
+use Rattle.rr_flat.specs.Targets.{same_bit, has_bit, is_bit_of, bit_there, bits_there, index_bits, target_bits, targets_bits}
 
 abbrev pub bit_at : ℕ → ℕ → Bit
 bit_at s p = record { signal = s; place = p }
@@ -90,6 +97,7 @@ place_inside (p ∷ ps) b (suc i) h = let l = place_inside ps b i h in omega ari
 -- a bit that is there is one of its name
 pub bit_is_of : (e : Entity) (p : ℤ) (b : Bit) → bit_there e p ≡ Some b → is_bit_of e b ≡ true
 bit_is_of (Constant bits signed) p b h = cc
+bit_is_of (Memory first low words range signed) p b h = cc
 bit_is_of Instance p b h = cc
 bit_is_of (Signal id range signed) p b h = elim (cases_Bool (int_lt p (pos 0))) [
   | inl t ↦ absurd (let g : None ≡ Some b = rw t at h in cc)
@@ -121,3 +129,103 @@ bits_of_name e p (suc n) b h =
       | inl t ↦ one_of_name e p b t
       | inr t ↦ bits_of_name e (p +ℤ pos 1) n b t
     ]
+
+-- the words of memories: as runs of places, a word of a signal that there is as all its places
+
+there_is : (id : ℕ) (range : Option (ℕ × ℕ)) (signed : Bool) (m : ℕ) → m < range_width range → bit_there (Signal id range signed) (pos m) ≡ Some (bit_at id m)
+there_is id range signed m h = rw (le-ltb m 0 (omega arith), lt-ltb m (range_width range) h) refl
+
+run_from : (id : ℕ) (range : Option (ℕ × ℕ)) (signed : Bool) (a n : ℕ) → a + n ≤ range_width range → map (λ (i : ℕ). Some (bit_at id i)) (range_with_len a n) ≡ bits_there (Signal id range signed) (pos a) n
+unfolding bits_there
+run_from id range signed a zero h = refl
+run_from id range signed a (suc n) h =
+    let e : Some (bit_at id a) ≡ bit_there (Signal id range signed) (pos a) = sym (there_is id range signed a (omega (arith, h))) in
+    let r = run_from id range signed (a + 1) n (omega (arith, h)) in
+    λ i. e i ∷ r i
+
+pub word_run : (range : Option (ℕ × ℕ)) (id : ℕ) (signed : Bool) → word_bits range (Some id) ≡ bits_there (Signal id range signed) (pos 0) (range_width range)
+word_run range id signed = run_from id range signed 0 (range_width range) (omega arith)
+
+none_from : (a n : ℕ) (p : ℤ) → map (λ (i : ℕ). None) (range_with_len a n) ≡ bits_there Instance p n
+unfolding bits_there
+none_from a zero p = refl
+none_from a (suc n) p = ap (λ z. None ∷ z) (none_from (a + 1) n (p +ℤ pos 1))
+
+pub no_word_run : (range : Option (ℕ × ℕ)) (p : ℤ) → word_bits range None ≡ bits_there Instance p (range_width range)
+no_word_run range p = none_from 0 (range_width range) p
+
+-- the bits of a word
+
+pub has_word : (range : Option (ℕ × ℕ)) (word : Option ℕ) (b : Bit) → has_bit (word_bits range word) b ≡ true → IsWordBit range word b
+has_word range word b h =
+    let p = has_place (word_bits range word) b h in
+    (is_word_bit range word p.0 b p.1).0
+
+pub word_has : (range : Option (ℕ × ℕ)) (word : Option ℕ) (b : Bit) → IsWordBit range word b → has_bit (word_bits range word) b ≡ true
+word_has range word b w = place_has (word_bits range word) b b.place (word_bit_there range word b w)
+
+-- a word that has an index is one of the memory
+pub word_below : (low words : ℕ) (i : ℤ) (k : ℕ) → word_at low words i ≡ Some k → k < words
+word_below low words i k h = go (int_lt i (pos low)) (nat_lt (unsigned_abs (i -ℤ pos low)) words) refl h
+  where
+    go : (t u : Bool) → nat_lt (unsigned_abs (i -ℤ pos low)) words ≡ u → cond t None (cond u (Some (unsigned_abs (i -ℤ pos low))) None) ≡ Some k → k < words
+    go true u f e = cc
+    go false false f e = cc
+    go false true f e =
+        let q : unsigned_abs (i -ℤ pos low) ≡ k = cc in
+        let l : unsigned_abs (i -ℤ pos low) < words = ltb-true (unsigned_abs (i -ℤ pos low)) words f in
+        rw q at l
+
+word_of_name : (first low words : ℕ) (range : Option (ℕ × ℕ)) (signed : Bool) (i : ℤ) (b : Bit) → has_bit (word_bits range (word_signal first (word_at low words i))) b ≡ true
+    → is_bit_of (Memory first low words range signed) b ≡ true
+word_of_name first low words range signed i b h = go (word_at low words i) refl h
+  where
+    go : (o : Option ℕ) → word_at low words i ≡ o → has_bit (word_bits range (word_signal first o)) b ≡ true → is_bit_of (Memory first low words range signed) b ≡ true
+    go None e t = absurd (has_word range None b t)
+    go (Some k) e t =
+        let w = has_word range (Some (first + k)) b t in
+        let l : k < words = word_below low words i k e in
+        rw (le-ltb b.signal first (omega (arith, w.0)), lt-ltb b.signal (first + words) (omega (arith, w.0, l)), lt-ltb b.place (range_width range) w.1) refl
+
+pub index_of_name : (e : Entity) (i : ℤ) (b : Bit) → has_bit (index_bits e i) b ≡ true → is_bit_of e b ≡ true
+index_of_name (Constant bits signed) i b h = one_of_name (Constant bits signed) (place (entity_range (Constant bits signed)) i) b h
+index_of_name (Signal id range signed) i b h = one_of_name (Signal id range signed) (place (entity_range (Signal id range signed)) i) b h
+index_of_name (Memory first low words range signed) i b h = word_of_name first low words range signed i b h
+index_of_name Instance i b h = one_of_name Instance (place (entity_range Instance) i) b h
+
+-- as many bits whatever the indices are
+
+pub there_length : (e : Entity) (p : ℤ) (n : ℕ) → length (bits_there e p n) ≡ n
+unfolding bits_there
+there_length e p zero = refl
+there_length e p (suc n) = ap suc (there_length e (p +ℤ pos 1) n)
+
+pub index_length : (e : Entity) (i : ℤ) → length (index_bits e i) ≡ (index_shape e).width
+index_length (Constant bits signed) i = refl
+index_length (Signal id range signed) i = refl
+index_length (Memory first low words range signed) i = length_word_bits range (word_signal first (word_at low words i))
+index_length Instance i = refl
+
+mutual
+  unfolding target_bits
+
+  pub target_length : (s : Names) (env other : Bit → Bool) (t : Tree) → length (target_bits s env t) ≡ length (target_bits s other t)
+  target_length s env other (Name token name) = refl
+  target_length s env other (Literal token n) = refl
+  target_length s env other (BitSelect token name i) = index_length (meant s name) _ ∙ sym (index_length (meant s name) _)
+  target_length s env other (Part token name l r) = refl
+  target_length s env other (Indexed token name f n up) = there_length (meant s name) _ (constant_count s n) ∙ sym (there_length (meant s name) _ (constant_count s n))
+  target_length s env other (Unary op t) = refl
+  target_length s env other (Binary op l r) = refl
+  target_length s env other (Cond a b c) = refl
+  target_length s env other (Concat ts) = targets_length s env other ts
+  target_length s env other (Repeat n ts) = refl
+  target_length s env other (Cast signed t) = refl
+  target_length s env other (Paren t) = refl
+
+  pub targets_length : (s : Names) (env other : Bit → Bool) (ts : Trees) → length (targets_bits s env ts) ≡ length (targets_bits s other ts)
+  targets_length s env other End = refl
+  targets_length s env other (More t ts) =
+      let here = target_length s env other t in
+      let rest = targets_length s env other ts in
+      omega (arith, here, rest, length-append (targets_bits s env ts) (target_bits s env t), length-append (targets_bits s other ts) (target_bits s other t))

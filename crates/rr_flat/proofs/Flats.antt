@@ -16,7 +16,7 @@ use Rattle.rr_flat.specs.Signals.{with_name}
 use Rattle.rr_flat.specs.Signals as plain_signals
 use Rattle.rr_flat.specs.Signals.{signal_at, no_signal}
 use Rattle.rr_flat.specs.View.{plain_signal}
-use Rattle.rr_flat.specs.Sound.{IsNamed, AreNamed, IsOwn, IsHead}
+use Rattle.rr_flat.specs.Sound.{IsWord, IsNamed, AreNamed, IsOwn, IsHead}
 use Rattle.rr_flat.specs.declared.design.Side as declared_side
 use Rattle.rr_flat.specs.declared.design.Side.TheVariants as side
 use Rattle.rr_flat.specs.declared.design.Driver.{Driver}
@@ -66,6 +66,12 @@ entity_first signals more (entity.Signal id range signed) h =
     let lt : id - 0 < length signals = omega (arith, h.1) in
     let at : signal_at (signals ++ more) (id - 0) ≡ signal_at signals (id - 0) = get_or-append signals more no_signal (id - 0) lt in
     (omega arith, omega (arith, h.1, length-append signals more), ap (λ s. s.range) at ∙ h.2, ap (λ s. s.signed) at ∙ h.3)
+entity_first signals more (entity.Memory first low words range signed) h = (
+  omega arith,
+  omega (arith, h.1, length-append signals more),
+  h.2,
+  λ k lt. subst (λ (z : plain_signals.Signal). IsWord low range signed k z) (sym (get_or-append signals more no_signal (first + k - 0) (omega (arith, h.1, lt)))) (h.3 k lt),
+)
 entity_first signals more entity.Instance h = tt
 
 entity_of_head : (base : ℕ) (signals more : List plain_signals.Signal) (e : Entity) → base ≡ length signals → IsNamed base more e → IsNamed 0 (signals ++ more) e
@@ -74,6 +80,13 @@ entity_of_head base signals more (entity.Signal id range signed) b h =
     let n : id - 0 ≡ length signals + (id - base) = omega (arith, b, h.0) in
     let at : signal_at (signals ++ more) (id - 0) ≡ signal_at more (id - base) = rw n (get_or-append-add signals more (id - base) no_signal) in
     (omega arith, omega (arith, b, h.1, length-append signals more), ap (λ s. s.range) at ∙ h.2, ap (λ s. s.signed) at ∙ h.3)
+entity_of_head base signals more (entity.Memory first low words range signed) b h =
+    (omega arith, omega (arith, b, h.1, length-append signals more), h.2, λ k lt. subst (λ (z : plain_signals.Signal). IsWord low range signed k z) (sym (at k)) (h.3 k lt))
+  where
+    at : (k : ℕ) → signal_at (signals ++ more) (first + k - 0) ≡ signal_at more (first + k - base)
+    at k =
+        let n : first + k - 0 ≡ length signals + (first + k - base) = omega (arith, b, h.0) in
+        rw n (get_or-append-add signals more (first + k - base) no_signal)
 entity_of_head base signals more entity.Instance b h = tt
 
 scope_first : (signals more : List Signal) (names : Names) → IsScope signals names → IsScope (signals ++ more) names

@@ -46,7 +46,7 @@ lawful = record {
   unread = tt;
   one_writer = λ x y b w v. absurd (nothing_written x b w);
   kinds = record { combinational = λ k l. absurd (omega (arith, l)); one = λ id a b. nothing_assigned id true a };
-  no_race = λ j k l m id a i n range signed h e f. absurd (omega (arith, l));
+  no_race = λ j k l m id a i n h e f. absurd (omega (arith, l));
   no_latches = λ k l. absurd (omega (arith, l));
   ranks = (λ b. 0, λ b c n. absurd (nothing_named b c n));
 }

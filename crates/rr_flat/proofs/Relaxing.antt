@@ -2,12 +2,12 @@
 use Rattle.std.proofs.Common.{◌≡◌, ℕ, ◌-◌, ◌*◌, ◌==◌, Bool, true, false, Option, None, Some, refl}
 use Rattle.rr_syntax.specs.Tree.{Tree, Trees, Name, Literal, Bit as BitSelect, Part, Indexed, Unary, Binary, Cond, Concat, Repeat, Cast, Paren, End, More}
 use Rattle.rr_expr.specs.declared.types.Entity.{Entity}
-use Rattle.rr_expr.specs.declared.types.Entity.TheVariants.{Constant, Signal, Instance}
+use Rattle.rr_expr.specs.declared.types.Entity.TheVariants.{Constant, Signal, Memory, Instance}
 use Rattle.rr_expr.specs.declared.types.ExprFault.{ExprFault}
 use Rattle.rr_expr.specs.declared.types.ExprFault.TheVariants.{BadRange}
 use Rattle.rr_expr.specs.Scopes.{Names, meant, is_scalar}
 use Rattle.rr_expr.specs.Values.{widths}
-use Rattle.rr_expr.specs.Faults.{fault, faults, or_else, fault_if, width_fault, name_fault, base_fault, count_fault, constant_count, first, first_part}
+use Rattle.rr_expr.specs.Faults.{fault, faults, or_else, fault_if, width_fault, name_fault, base_fault, index_fault, count_fault, constant_count, first, first_part}
 
 pub none_parts : (f g : Option ExprFault) → or_else f g ≡ None → (f ≡ None) × (g ≡ None)
 none_parts None g h = (refl, h)
@@ -19,12 +19,19 @@ both_none f g h k = rw (h, k) refl
 name_relaxed : (token : ℕ) (e : Entity) → name_fault true token e ≡ None → name_fault false token e ≡ None
 name_relaxed token (Constant bits signed) h = h
 name_relaxed token (Signal id range signed) h = cc
+name_relaxed token (Memory first low words range signed) h = cc
 name_relaxed token Instance h = cc
 
 base_relaxed : (token : ℕ) (e : Entity) → base_fault true token e ≡ None → base_fault false token e ≡ None
 base_relaxed token e h =
     let p = none_parts (name_fault true token e) (fault_if (is_scalar e) (BadRange token)) h in
     both_none (name_fault false token e) (fault_if (is_scalar e) (BadRange token)) (name_relaxed token e p.0) p.1
+
+index_relaxed : (token : ℕ) (e : Entity) → index_fault true token e ≡ None → index_fault false token e ≡ None
+index_relaxed token (Constant bits signed) h = base_relaxed token (Constant bits signed) h
+index_relaxed token (Signal id range signed) h = base_relaxed token (Signal id range signed) h
+index_relaxed token (Memory first low words range signed) h = cc
+index_relaxed token Instance h = base_relaxed token Instance h
 
 by_bool : (s : Names) (t : Tree) → (fault s t true ≡ None → fault s t false ≡ None) → (k : Bool) → fault s t true ≡ None → fault s t k ≡ None
 by_bool s t f true h = h
@@ -37,8 +44,8 @@ mutual
   relax s (Name token name) h = name_relaxed token (meant s name) h
   relax s (Literal token n) h = h
   relax s (BitSelect token name i) h =
-      let p = none_parts (base_fault true token (meant s name)) (fault s i true) h in
-      both_none (base_fault false token (meant s name)) (fault s i false) (base_relaxed token (meant s name) p.0) (relax s i p.1)
+      let p = none_parts (index_fault true token (meant s name)) (fault s i true) h in
+      both_none (index_fault false token (meant s name)) (fault s i false) (index_relaxed token (meant s name) p.0) (relax s i p.1)
   relax s (Part token name l r) h =
       let p = none_parts (base_fault true token (meant s name)) _ h in
       both_none (base_fault false token (meant s name)) _ (base_relaxed token (meant s name) p.0) p.1

@@ -1,6 +1,6 @@
 -- The laws that a flat design keeps so that each cycle has one meaning: one clock that is used as a clock alone, one
 -- writer a bit, no latch, no race and no combinational loop.
-use Rattle.std.specs.Prelude.{ℕ, ◌<◌, ◌≡◌, ◌⊎◌, List, [], ◌∷◌, length, Bool, true, false, not, cond, ◌&&◌, ◌==◌, Option, Some, None, get_or, IsTrue}
+use Rattle.std.specs.Prelude.{ℕ, ◌+◌, ◌<◌, ◌≡◌, ◌⊎◌, List, [], ◌∷◌, length, Bool, true, false, not, cond, ◌&&◌, ◌==◌, Option, Some, None, get_or, IsTrue}
 use Rattle.std.specs.List.{All}
 use Rattle.rr_syntax.specs.declared.token.Number.{Number}
 use Rattle.rr_syntax.specs.Expressions.{is_target}
@@ -8,7 +8,7 @@ use Rattle.rr_syntax.specs.Tree.{Tree, Trees, Name, Literal, Bit as BitSelect, P
 use Rattle.rr_syntax.specs.Words.{keyword_case, keyword_casez}
 use Rattle.rr_expr.specs.declared.types.Bit.{Bit}
 use Rattle.rr_expr.specs.declared.types.Entity.{Entity}
-use Rattle.rr_expr.specs.declared.types.Entity.TheVariants.{Constant, Signal as SignalEntity, Instance}
+use Rattle.rr_expr.specs.declared.types.Entity.TheVariants.{Constant, Signal as SignalEntity, Memory, Instance}
 use Rattle.rr_expr.specs.Scopes.{meant}
 use Rattle.rr_flat.specs.declared.signal.Port.TheVariants.{Input}
 use Rattle.rr_flat.specs.Signals.{Text, signal_at}
@@ -16,7 +16,7 @@ use Rattle.rr_flat.specs.Plain.{Side, Written, Whole, Driver, Block, Initial, Fl
 use Rattle.rr_flat.specs.Clocks.{IsInputNamed, IsBareName, NameLeads, OneClock}
 use Rattle.rr_flat.specs.Latches.{NoLatch}
 use Rattle.rr_flat.specs.Reads.{LiteralToken, Assigned, names_in, literals_in, names_of, names_read, assigned_by}
-use Rattle.rr_flat.specs.Targets.{target_parts, part_name, is_fixed}
+use Rattle.rr_flat.specs.Targets.{variable_of, is_memory, target_parts, part_name, is_indexed, is_fixed}
 use Rattle.rr_flat.specs.Writers.{scope_at, driver_at, block_at, initial_at, entity_of_signal, Writer, Writes, BitNames}
 
 -- 11: the word for the clock names a scalar input of the top
@@ -25,17 +25,25 @@ ClockNamed flat None = Unit {0}
 ClockNamed flat (Some name) = (id : ℕ) × IsInputNamed flat name id
 
 -- 24, of a name or select: a continuous assignment drives a net by constant indices, a procedural one and an `initial` item
--- set a variable (sections 6.1, 9.2 and 9.9.1), and none an input port or a parameter
+-- set a variable (sections 6.1, 9.2 and 9.9.1), and none an input port or a parameter; the words of a memory are variables
+-- (section 4.9.3)
 abbrev pub MayDrive : Flat → Entity → Bool → Type 0
 MayDrive flat (Constant bits signed) fixed = ⊥
 MayDrive flat (SignalEntity id range signed) fixed =
     ((signal_at flat.signals id).variable ≡ false) × ((signal_at flat.signals id).port ≡ Input → ⊥) × (fixed ≡ true)
+MayDrive flat (Memory first low words range signed) fixed = ⊥
 MayDrive flat Instance fixed = ⊥
 
 abbrev pub MayAssign : Flat → Entity → Type 0
 MayAssign flat (Constant bits signed) = ⊥
 MayAssign flat (SignalEntity id range signed) = ((signal_at flat.signals id).variable ≡ true) × ((signal_at flat.signals id).port ≡ Input → ⊥)
+MayAssign flat (Memory first low words range signed) =
+    (k : ℕ) → k < words → ((signal_at flat.signals (first + k)).variable ≡ true) × ((signal_at flat.signals (first + k)).port ≡ Input → ⊥)
 MayAssign flat Instance = ⊥
+
+-- an `initial` item sets a variable as a whole, and of a memory a word
+abbrev pub MayStart : Flat → Entity → Bool → Type 0
+MayStart flat e indexed = MayAssign flat e × (indexed ≡ is_memory e)
 
 -- a whole signal is the net of a declaration with a value (section 6.1.1), where the value is written in its own
 -- instance, else an input port that is connected
@@ -56,7 +64,7 @@ BlockTargets flat block = MayAssignAll flat block.scope block.body
 
 -- an `initial` item sets variables, as an `always` does (section 9.9)
 abbrev pub InitialTargets : Flat → Initial → Type 0
-InitialTargets flat x = MayAssignAll flat x.scope x.body
+InitialTargets flat x = All (λ a. MayStart flat (meant (scope_at flat x.scope) (part_name a.part)) (is_indexed a.part)) (assigned_by x.body)
 
 pub record RightTargets (flat : Flat) : Type 0 where
   pub drivers : (k : ℕ) → k < length flat.drivers → DriverTarget flat (driver_at flat k).target (driver_at flat k).value
@@ -146,12 +154,12 @@ NoClockRead flat (Some clock) = ClockUnread flat clock
 abbrev pub OneWriter : Flat → Type 0
 OneWriter flat = (x y : Writer) (b : Bit) → Writes flat x b → Writes flat y b → x ≡ y
 
--- 18: combinational blocks assign by `=` alone, and each variable is assigned by one kind alone (sections 9.2.1, 9.2.2)
+-- 18: combinational blocks assign by `=` alone, and each variable is assigned by one kind alone, a memory as one variable
+-- (sections 9.2.1, 9.2.2)
 abbrev pub AssignedIn : Flat → Block → ℕ → Bool → Type 0
 AssignedIn flat block id now =
-    (i : ℕ) × ((a : Assigned) × ((range : Option (ℕ × ℕ)) × ((signed : Bool) ×
-    ((i < length (assigned_by block.body)) × (get_or (assigned_by block.body) i a ≡ a) × (a.now ≡ now)
-    × (meant (scope_at flat block.scope) (part_name a.part) ≡ SignalEntity id range signed)))))
+    (i : ℕ) × ((a : Assigned) × ((i < length (assigned_by block.body)) × (get_or (assigned_by block.body) i a ≡ a) × (a.now ≡ now)
+    × (variable_of (meant (scope_at flat block.scope) (part_name a.part)) ≡ Some id)))
 
 abbrev pub AssignedSomewhere : Flat → ℕ → Bool → Type 0
 AssignedSomewhere flat id now =
@@ -166,9 +174,9 @@ pub record RightKinds (flat : Flat) : Type 0 where
 abbrev pub NoRace : Flat → Type 0
 NoRace flat =
     (j k : ℕ) → j < length flat.clocked → k < length flat.clocked → (id : ℕ) → AssignedIn flat (block_at flat.clocked j) id true →
-    (i : ℕ) (n : Identifier) (range : Option (ℕ × ℕ)) (signed : Bool) → i < length (names_read (block_at flat.clocked k).body) →
+    (i : ℕ) (n : Identifier) → i < length (names_read (block_at flat.clocked k).body) →
     get_or (names_read (block_at flat.clocked k).body) i n ≡ n →
-    meant (scope_at flat (block_at flat.clocked k).scope) n.text ≡ SignalEntity id range signed → j ≡ k
+    variable_of (meant (scope_at flat (block_at flat.clocked k).scope) n.text) ≡ Some id → j ≡ k
 
 -- 20: no combinational block keeps a value
 abbrev pub NoLatches : Flat → Type 0

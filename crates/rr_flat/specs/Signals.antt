@@ -8,7 +8,8 @@ use Rattle.rr_flat.specs.declared.signal.Port.TheVariants.{Inner}
 abbrev pub Text : Type 0
 Text = List ℕ
 
--- `start` is the starting value of the declaration, 0 where it has none (section 6.2.1)
+-- `start` is the starting value of the declaration, 0 where it has none (section 6.2.1); `word` is the declared index of a word
+-- of a memory (section 4.9.3), of any other signal none
 pub record Signal : Type 0 where
   pub instance : ℕ
   pub name : Text
@@ -19,10 +20,11 @@ pub record Signal : Type 0 where
   pub width : ℕ
   pub token : ℕ
   pub start : ℕ
+  pub word : Option ℕ
 
 -- what stands where there is none
 abbrev pub no_signal : Signal
-no_signal = record { instance = 0; name = []; variable = false; port = Inner; range = None; signed = false; width = 1; token = 0; start = 0 }
+no_signal = record { instance = 0; name = []; variable = false; port = Inner; range = None; signed = false; width = 1; token = 0; start = 0; word = None }
 
 abbrev pub signal_at : List Signal → ℕ → Signal
 signal_at signals id = slice_index_or signals id no_signal

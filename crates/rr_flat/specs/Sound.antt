@@ -1,5 +1,5 @@
 -- What every flat design keeps.
-use Rattle.std.specs.Prelude.{◌≡◌, ℕ, ◌+◌, ◌-◌, ◌^◌, ◌<◌, ◌≤◌, true, false, List, [], ◌∷◌, length, map, All, Option, Some, None, get_or, slice_index_or}
+use Rattle.std.specs.Prelude.{◌≡◌, ℕ, ◌+◌, ◌-◌, ◌^◌, ◌<◌, ◌≤◌, Bool, true, false, List, [], ◌∷◌, length, map, All, Option, Some, None, get_or, slice_index_or}
 use Rattle.std.specs.List.{AllByRecursion, range_with_len}
 use Rattle.rr_syntax.specs.Tree.{Tree, Trees, End, More, Statement, NamedConnection, Connections, Positions}
 use Rattle.rr_syntax.specs.Tree.{Names as Named}
@@ -8,6 +8,7 @@ use Rattle.rr_syntax.specs.Statements.{WellFormedStatement, FitLiteralsStatement
 use Rattle.rr_syntax.specs.View.{plain, plain_statement}
 use Rattle.rr_expr.specs.Scopes.{Names, range_width}
 use Rattle.rr_expr.specs.Faults.{fault}
+use Rattle.rr_flat.specs.declared.signal.Port.TheVariants.{Inner}
 use Rattle.rr_flat.specs.declared.signal.Signal.{Signal}
 use Rattle.rr_flat.specs.View.{plain_signal}
 use Rattle.rr_expr.specs.declared.types.Entity.{Entity}
@@ -32,17 +33,29 @@ pub record IsOwn (i : ℕ) (s : Signal) : Type 0 where
   pub high : s.width ≤ 128
   pub start : s.start < 2 ^ s.width
 
--- a constant, or one of these signals, of which the first has number base, with its range and sign
+-- the k-th word of a memory with this lowest index: a variable of its range and sign that is no port (section 4.9.3)
+pub record IsWord (low : ℕ) (bounds : Option (ℕ × ℕ)) (sign : Bool) (k : ℕ) (s : plain.Signal) : Type 0 where
+  pub range : s.range ≡ bounds
+  pub signed : s.signed ≡ sign
+  pub word : s.word ≡ Some (low + k)
+  pub variable : s.variable ≡ true
+  pub port : s.port ≡ Inner
+
+-- a constant, or one of these signals, of which the first has number base, with its range and sign, or some of them one after
+-- the other, which are the words of a memory
 abbrev pub IsNamed : ℕ → List plain.Signal → Entity → Type 0
 IsNamed base signals (entity.Constant bits signed) = Unit {0}
 IsNamed base signals (entity.Signal id range signed) =
     (base ≤ id) × (id < base + length signals) × ((signal_at signals (id - base)).range ≡ range) × ((signal_at signals (id - base)).signed ≡ signed)
+IsNamed base signals (entity.Memory first low words range signed) =
+    (base ≤ first) × (first + words ≤ base + length signals) × (1 ≤ words)
+    × ((k : ℕ) → k < words → IsWord low range signed k (signal_at signals (first + k - base)))
 IsNamed base signals entity.Instance = Unit {0}
 
 abbrev pub AreNamed : ℕ → List plain.Signal → Names → Type 0
 AreNamed base signals names = All (λ e. IsNamed base signals e.1) names
 
--- each signal is one of the instance, each signal among the names is one of these, and all are few
+-- each signal is one of the instance, each signal or word among the names is one of these, and all are few
 pub record IsHead (i base bits : ℕ) (signals : List Signal) (scope : Names) : Type 0 where
   pub signals_in : All (IsOwn i) signals
   pub scope_in : AreNamed base (map plain_signal signals) scope

@@ -1,10 +1,11 @@
 -- The bits that the targets of assignments name (IEEE 1364-2005 sections 6.1 and 9.2, annex A.8.5).
-use Rattle.std.specs.Prelude.{ℕ, zero, suc, List, [], ◌∷◌, ◌++◌, Bool, true, false, cond, ◌&&◌, ◌||◌, Option, Some, None, is_none, nat_eq, nat_lt, ℤ, pos, ◌+ℤ◌, int_lt, unsigned_abs}
+use Rattle.std.specs.Prelude.{ℕ, zero, suc, ◌+◌, List, [], ◌∷◌, ◌++◌, Bool, true, false, not, cond, ◌&&◌, ◌||◌, Option, Some, None, is_none, nat_eq, nat_lt, ℤ, pos, ◌+ℤ◌, int_lt, unsigned_abs}
 use Rattle.rr_syntax.specs.Tree.{Tree, Trees, Name, Literal, Bit as BitSelect, Part, Indexed, Unary, Binary, Cond, Concat, Repeat, Cast, Paren, End, More}
 use Rattle.rr_expr.specs.declared.types.Bit.{Bit}
 use Rattle.rr_expr.specs.declared.types.Entity.{Entity}
-use Rattle.rr_expr.specs.declared.types.Entity.TheVariants.{Constant, Signal, Instance}
+use Rattle.rr_expr.specs.declared.types.Entity.TheVariants.{Constant, Signal, Memory, Instance}
 use Rattle.rr_expr.specs.Faults.{fault, constant_count, constant_span}
+use Rattle.rr_expr.specs.Memories.{word_at, word_signal, word_bits}
 use Rattle.rr_expr.specs.Scopes.{Names, meant, entity_shape, entity_range, range_width}
 use Rattle.rr_expr.specs.Selects.{place, lowest_place, integer_with}
 use Rattle.rr_expr.specs.Values.{form, value, nowhere}
@@ -12,17 +13,32 @@ use Rattle.rr_expr.specs.Values.{form, value, nowhere}
 abbrev pub same_bit : Bit → Bit → Bool
 same_bit a b = nat_eq a.signal b.signal && nat_eq a.place b.place
 
--- whether a bit is one of the signal that a name stands for
+-- the variable or net that a name stands for, a memory by the signal of its first word: 18 and 19 take it as one variable
+abbrev pub variable_of : Entity → Option ℕ
+variable_of (Constant bits signed) = None
+variable_of (Signal id range signed) = Some id
+variable_of (Memory first low words range signed) = Some first
+variable_of Instance = None
+
+abbrev pub is_memory : Entity → Bool
+is_memory (Constant bits signed) = false
+is_memory (Signal id range signed) = false
+is_memory (Memory first low words range signed) = true
+is_memory Instance = false
+
+-- whether a bit is one of the signal or of the words that a name stands for
 abbrev pub is_bit_of : Entity → Bit → Bool
 is_bit_of (Constant bits signed) b = false
 is_bit_of (Signal id range signed) b = nat_eq id b.signal && nat_lt b.place (range_width range)
+is_bit_of (Memory first low words range signed) b = not (nat_lt b.signal first) && (nat_lt b.signal (first + words) && nat_lt b.place (range_width range))
 is_bit_of Instance b = false
 
--- the bit of a name at a place, where there is one
+-- the bit of a name at a place, where there is one; a memory has places only in its words
 abbrev pub bit_there : Entity → ℤ → Option Bit
 bit_there (Constant bits signed) p = None
 bit_there (Signal id range signed) p =
     cond (int_lt p (pos 0)) None (cond (nat_lt (unsigned_abs p) (range_width range)) (Some (record { signal = id; place = unsigned_abs p })) None)
+bit_there (Memory first low words range signed) p = None
 bit_there Instance p = None
 
 -- the bits of a name at n places from one up
@@ -30,14 +46,20 @@ unfoldable pub bits_there : Entity → ℤ → ℕ → List (Option Bit)
 bits_there e p zero = []
 bits_there e p (suc n) = bit_there e p ∷ bits_there e (p +ℤ pos 1) n
 
+-- the bits that an index of a name names: one bit, but all of a word of a memory (section 5.2.2), as many for every index
+abbrev pub index_bits : Entity → ℤ → List (Option Bit)
+index_bits (Constant bits signed) i = bit_there (Constant bits signed) (place (entity_range (Constant bits signed)) i) ∷ []
+index_bits (Signal id range signed) i = bit_there (Signal id range signed) (place (entity_range (Signal id range signed)) i) ∷ []
+index_bits (Memory first low words range signed) i = word_bits range (word_signal first (word_at low words i))
+index_bits Instance i = bit_there Instance (place (entity_range Instance) i) ∷ []
+
 -- the bits that a target names where its indices are taken in an environment, lowest first; the first part of a
 -- concatenation has the top bits, and a bit that is not there is none (section 5.2.1)
 unfoldable mutual
   pub target_bits : Names → (Bit → Bool) → Tree → List (Option Bit)
   target_bits s env (Name token name) = bits_there (meant s name) (pos 0) (entity_shape (meant s name)).width
   target_bits s env (Literal token n) = []
-  target_bits s env (BitSelect token name i) =
-      bit_there (meant s name) (place (entity_range (meant s name)) (integer_with (form s i) (value s i env))) ∷ []
+  target_bits s env (BitSelect token name i) = index_bits (meant s name) (integer_with (form s i) (value s i env))
   target_bits s env (Part token name l r) =
       bits_there (meant s name) (place (entity_range (meant s name)) (integer_with (form s r) (value s r nowhere))) (constant_span s l r)
   target_bits s env (Indexed token name f n up) =
@@ -99,6 +121,21 @@ part_name (Repeat n ts) = []
 part_name (Cast signed t) = []
 part_name (Paren t) = []
 
+-- whether it has an index
+abbrev pub is_indexed : Tree → Bool
+is_indexed (Name token name) = false
+is_indexed (Literal token n) = false
+is_indexed (BitSelect token name i) = true
+is_indexed (Part token name l r) = false
+is_indexed (Indexed token name f n up) = false
+is_indexed (Unary op t) = false
+is_indexed (Binary op l r) = false
+is_indexed (Cond a b c) = false
+is_indexed (Concat ts) = false
+is_indexed (Repeat n ts) = false
+is_indexed (Cast signed t) = false
+is_indexed (Paren t) = false
+
 -- whether its index is constant; the bounds of a part always are
 abbrev pub is_fixed : Names → Tree → Bool
 is_fixed s (Name token name) = true
@@ -114,7 +151,8 @@ is_fixed s (Repeat n ts) = true
 is_fixed s (Cast signed t) = true
 is_fixed s (Paren t) = true
 
--- by an index that is not constant every bit of the name may be written, and none is for certain
+-- by an index that is not constant every bit of the name may be written, of a memory those of every word, and none is for
+-- certain
 unfoldable pub may_write : Names → List Tree → Bit → Bool
 may_write s [] b = false
 may_write s (t ∷ ts) b = cond (is_fixed s t) (has_bit (target_bits s nowhere t) b) (is_bit_of (meant s (part_name t)) b) || may_write s ts b

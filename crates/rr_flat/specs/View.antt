@@ -14,7 +14,7 @@ use Rattle.rr_flat.specs.Plain as plain_design
 use Rattle.rr_flat.specs.Plain.{Written, Whole}
 
 abbrev pub plain_signal : Signal → signals.Signal
-plain_signal s = record { instance = s.instance; name = s.name.now; variable = s.variable; port = s.port; range = s.range; signed = s.signed; width = s.width; token = s.token; start = s.start }
+plain_signal s = record { instance = s.instance; name = s.name.now; variable = s.variable; port = s.port; range = s.range; signed = s.signed; width = s.width; token = s.token; start = s.start; word = s.word }
 
 abbrev pub plain_side : declared_side.Side → plain_design.Side
 plain_side (side.Text e scope) = Written (plain e.now) scope

@@ -23,6 +23,8 @@ pub enum Limit {
     Turns,
     /// Tokens of the bodies of loops, once for each turn.
     Unfolded,
+    /// Words of a memory (IEEE 1364-2005 section 4.9.3).
+    Words,
 }
 
 /// Refusals 7 to 16 and 37, in this order, with the numbers of the tokens at which they stand: no top

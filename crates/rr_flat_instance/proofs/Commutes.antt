@@ -66,7 +66,7 @@ pub scalar_alike : (a b : Names) (name : List ℕ) → Alike a b → IsScalar b 
 scalar_alike a b name h s = (s.0, (s.1.0, h name ∙ s.1.1))
 
 pub width_alike : (a b : Names) (name : List ℕ) (w : ℕ) → Alike a b → HasWidth b name w → HasWidth a name w
-width_alike a b name w h s = record { shape = rw (h name) s.shape; width = s.width }
+width_alike a b name w h s = record { shape = rw (h name) s.shape; width = s.width; single = rw (h name) s.single }
 
 module _ (ss : List Site) (ps : List Pick) where
   -- one driver or block more

@@ -1,12 +1,12 @@
 -- Declarations see nothing of an instance: the head of a module is that of its instance.
-use Rattle.std.proofs.Common.{◌≡◌, ◌∙◌, ap, ℕ, Bool, true, false, List, [], map, Option, Some, None, Ok, refl, fold}
+use Rattle.std.proofs.Common.{◌≡◌, ◌∙◌, ap, ℕ, Bool, true, false, List, [], map, Option, Some, None, Ok, refl, fold, is_none}
 use Rattle.rr_syntax.specs.Tree.{DeclaredName, Range, ModuleItem, Ports, Nets, Variables, Integers, Parameters, Assigns, Always, Initial, Instances, ModuleDeclaration}
 use Rattle.rr_expr.specs.Scopes.{Names, lookup}
 use Rattle.rr_flat.specs.Faults.{and_then, each}
 use Rattle.rr_declarations.specs.Values.{range_in}
 use Rattle.rr_declarations.specs.Parameters.{add_parameters, add_item_parameters, parameters}
 use Rattle.rr_declarations.specs.Declarations.{Declarations, know_declarator, know_ports, know_item, known, know_port_item, add_plain_name, plain_names, brackets, inner_declaration, again_place, repeated_place, declare_new, declare_again, declare_at, declare, declare_nets, declare_ports, declare_item, declarations}
-use Rattle.rr_declarations.specs.Heads.{signals_in_order, declared, numbered, head}
+use Rattle.rr_declarations.specs.Heads.{declared_in_order, declared, numbered, head}
 use Rattle.rr_choice.specs.declared.pick.Pick.{Pick}
 use Rattle.rr_choice.specs.Sites.{Site}
 use Rattle.rr_instance.specs.Instances.{instance_net, instance_item, instance_module}
@@ -87,7 +87,7 @@ module _ (ss : List Site) (ps : List Pick) where
   declare_net_instance : (bracketed all : Names) (r : Option (ℕ × ℕ)) (signed : Bool) (n : DeclaredName) (d : Declarations)
       → declare bracketed all (inner_declaration false signed r) (instance_net ss ps n) d ≡ declare bracketed all (inner_declaration false signed r) n d
   unfolding declare instance_net
-  declare_net_instance bracketed all r signed n d = net_at_instance bracketed all r signed n d (repeated_place true (again_place (lookup n.text d.names) d.list))
+  declare_net_instance bracketed all r signed n d = net_at_instance bracketed all r signed n d (repeated_place (is_none n.words) (again_place (lookup n.text d.names) d.list))
 
   declare_nets_instance : (bracketed all : Names) (signed : Bool) (range : Option Range) (list : List DeclaredName) (d : Declarations) → declare_nets bracketed all signed range (map (instance_net ss ps) list) d ≡ declare_nets bracketed all signed range list d
   unfolding declare_nets
@@ -116,8 +116,8 @@ module _ (ss : List Site) (ps : List Pick) where
       (each (declare_item bracketed all) (map (instance_item ss ps) m.items)) (each (declare_item bracketed all) m.items)
       refl (each_mapped (instance_item ss ps) (declare_item bracketed all) (declare_item_instance bracketed all) m.items)
 
-  signals_instance : (m : ModuleDeclaration) (d : Declarations) → signals_in_order (instance_module ss ps m) d ≡ signals_in_order m d
-  unfolding signals_in_order instance_module
+  signals_instance : (m : ModuleDeclaration) (d : Declarations) → declared_in_order (instance_module ss ps m) d ≡ declared_in_order m d
+  unfolding declared_in_order instance_module
   signals_instance m d = refl
 
   declared_instance : (i bits : ℕ) (m : ModuleDeclaration) (names : Names) → declared i bits (instance_module ss ps m) names ≡ declared i bits m names
@@ -134,10 +134,10 @@ module _ (ss : List Site) (ps : List Pick) where
   unfolding head
   head_instance i base bits given m =
       and_then_same (parameters given (instance_module ss ps m)) (parameters given m)
-      (λ names. and_then (declared i bits (instance_module ss ps m) names) (λ d. numbered i base d.bits (signals_in_order (instance_module ss ps m) d) names))
-      (λ names. and_then (declared i bits m names) (λ d. numbered i base d.bits (signals_in_order m d) names))
+      (λ names. and_then (declared i bits (instance_module ss ps m) names) (λ d. numbered i base d.bits (declared_in_order (instance_module ss ps m) d) names))
+      (λ names. and_then (declared i bits m names) (λ d. numbered i base d.bits (declared_in_order m d) names))
       (parameters_instance given m)
       (λ names. and_then_same (declared i bits (instance_module ss ps m) names) (declared i bits m names)
-      (λ d. numbered i base d.bits (signals_in_order (instance_module ss ps m) d) names) (λ d. numbered i base d.bits (signals_in_order m d) names)
+      (λ d. numbered i base d.bits (declared_in_order (instance_module ss ps m) d) names) (λ d. numbered i base d.bits (declared_in_order m d) names)
       (declared_instance i bits m names)
       (λ d. ap (λ z. numbered i base d.bits z names) (signals_instance m d)))

@@ -2,7 +2,7 @@
 use Rattle.std.proofs.Common.{◌≡◌, ap, sym, subst, false, ◌⊎◌, inl, inr, ℕ, zero, suc, ◌+◌, ◌<◌, ◌≤◌, List, [], ◌∷◌, length, Option, Some, None, refl, arith}
 use Rattle.std.specs.List.{All, AllByRecursion, Contains}
 use Rattle.std.proofs.lemmas.Bool.{cases_lt, cases_order}
-use Rattle.rr_syntax.specs.Items.{spell_all, spell_type, spell_declarator, spell_item, spell_parameters, spell_ports, spell_module, WellFormedValue, WellFormedDeclarator, WellFormedItem, WellFormedModule, WellFormedSource, NumberedEach, NumberedSeparated, NumberedAll, NumberedValue, NumberedDeclarator, NumberedItem, NumberedModule, NumberedSource}
+use Rattle.rr_syntax.specs.Items.{spell_all, spell_range, spell_type, spell_declarator, spell_item, spell_parameters, spell_ports, spell_module, WellFormedValue, WellFormedDeclarator, WellFormedItem, WellFormedModule, WellFormedSource, NumberedEach, NumberedSeparated, NumberedAll, NumberedValue, NumberedDeclarator, NumberedItem, NumberedModule, NumberedSource}
 use Rattle.rr_syntax.specs.Tree.{Tree, DeclaredName, ModuleItem, Ports, Nets, Variables, Integers, Parameters, Assigns, Always, Initial, Instances, ModuleDeclaration, SourceText}
 use Rattle.rr_expr.specs.Faults.{first}
 use Rattle.rr_expr.specs.Scopes.{Names}
@@ -137,15 +137,15 @@ module _ (ss : List Site) (low high : ℕ) (loops : LoopNames) (names : Names) (
 
 -- nets
 
-value_apart : (o : Option Tree) (token at : ℕ) → token ≡ at → WellFormedValue o → NumberedValue o (at + 1) → (t : Tree) → o ≡ Some t → token ≡ first t → ⊥
+value_apart : (o : Option Tree) (token at : ℕ) → token < at → WellFormedValue o → NumberedValue o at → (t : Tree) → o ≡ Some t → token ≡ first t → ⊥
 unfolding WellFormedValue NumberedValue
 value_apart None token at e w n t q h = absurd (cc)
 value_apart (Some u) token at e w n t q h =
-    let s : u ≡ t = cc in let f = first_is u (at + 1 + 1) w n in let g = ap first s in omega (arith, e, f, g, h)
+    let s : u ≡ t = cc in let f = first_is u (at + 1) w n in let g = ap first s in omega (arith, e, f, g, h)
 
 net_apart : (x : DeclaredName) (at : ℕ) → WellFormedDeclarator x → NumberedDeclarator x at → IsApart x
 unfolding WellFormedDeclarator NumberedDeclarator
-net_apart x at w n = value_apart x.value x.token at n.0 w n.1
+net_apart x at w n = let e = n.0 in value_apart x.value x.token (at + 1 + length (spell_range x.words)) (omega (arith, e)) w.1 n.2
 
 nets_each : (xs : List DeclaredName) (at : ℕ) → AllByRecursion WellFormedDeclarator xs → NumberedEach spell_declarator NumberedDeclarator xs at → AllByRecursion IsApart xs
 unfolding NumberedEach

@@ -1,6 +1,7 @@
 -- No fault comes into an expression or a statement.
 use Rattle.std.proofs.Common.{◌≡◌, sym, subst, inl, inr, ℕ, ◌==◌, Bool, true, false, ◌&&◌, if◌then◌else◌, List, [], ◌∷◌, ◌++◌, Option, Some, None, Ok, refl, fold}
 use Rattle.std.specs.List.{Contains}
+use Rattle.std.proofs.lemmas.Bool.{both_ways}
 use Rattle.rr_syntax.specs.Tree.{Tree, Trees, End, More, Statement, Statements, Arm, Arms, Null, Block, If, IfElse, Case, Assign, For, Done, Then, CaseItem, NoArms, MoreArms, Literal}
 use Rattle.rr_expr.specs.declared.types.ExprFault.{ExprFault}
 use Rattle.rr_expr.specs.declared.types.Entity.{Entity}
@@ -11,6 +12,7 @@ use Rattle.rr_expr.specs.Scopes.{Names, meant, entity_shape}
 use Rattle.rr_expr.specs.Values.{form}
 use Rattle.rr_flat.specs.declared.fault.FlatFault.{FlatFault}
 use Rattle.rr_flat.specs.Faults.{sooner, fault_or, first_of, first_fault_or, answer_of, faults_in}
+use Rattle.rr_flat.specs.Targets.{is_memory}
 use Rattle.rr_flat.specs.Shapes.{shape, shape_faults, list_faults, statement_faults, statements_faults, arm_faults, arms_faults}
 use Rattle.rr_choice.specs.declared.pick.Pick.{Pick}
 use Rattle.rr_choice.specs.Sites as sites
@@ -87,12 +89,13 @@ shape_none names t e = rw e refl
 -- a name of a width
 aim_none : (names : Names) (target : List ℕ) (w : ℕ) → HasWidth names target w → fault names (named target) false ≡ None
 unfolding fault
-aim_none names target w h = by_entity (meant names target) h.shape
+aim_none names target w h = by_entity (meant names target) h.shape h.single
   where
-    by_entity : (e : Entity) → (entity_shape e).width ≡ w → name_fault false fresh e ≡ None
-    by_entity (entity.Constant bits signed) q = rw (q, h.width) refl
-    by_entity (entity.Signal id range signed) q = rw (q, h.width) refl
-    by_entity entity.Instance q = let bad : false ≡ true = subst (λ (k : ℕ). is_width k ≡ true) (sym q) h.width in absurd (cc)
+    by_entity : (e : Entity) → (entity_shape e).width ≡ w → is_memory e ≡ false → name_fault false fresh e ≡ None
+    by_entity (entity.Constant bits signed) q m = rw (q, h.width) refl
+    by_entity (entity.Signal id range signed) q m = rw (q, h.width) refl
+    by_entity (entity.Memory first low words range signed) q m = absurd (both_ways true m refl)
+    by_entity entity.Instance q m = let bad : false ≡ true = subst (λ (k : ℕ). is_width k ≡ true) (sym q) h.width in absurd (cc)
 
 literal_none : (names : Names) (w value : ℕ) → is_width w ≡ true → fault names (Literal fresh (unsigned_number w value)) false ≡ None
 unfolding fault

@@ -6,6 +6,7 @@ use Rattle.rr_syntax.specs.Tree.{Tree, DeclaredName, NetAssignment, NamedConnect
 use Rattle.rr_expr.specs.Faults.{first, is_width}
 use Rattle.rr_expr.specs.Scopes.{Names, meant, entity_shape}
 use Rattle.rr_flat.specs.Plain.{Side, Written, Whole, Flat}
+use Rattle.rr_flat.specs.Targets.{is_memory}
 use Rattle.rr_flatten.specs.Walk.{module_at}
 use Rattle.rr_flat.specs.Writers.{scope_at, driver_at}
 use Rattle.rr_instance.specs.Firsts.{first_token}
@@ -76,10 +77,11 @@ IsAimOfItem ss target w (Always events body token) = IsAimAt ss (first_token bod
 IsAimOfItem ss target w (Initial body token) = ⊥
 IsAimOfItem ss target w (Instances m token overrides list) = ⊥
 
--- a name of that width, which is 1 to 128
+-- a name of that width, which is 1 to 128; a memory is assigned by its words alone
 pub record HasWidth (names : Names) (name : List ℕ) (w : ℕ) : Type 0 where
   pub shape : (entity_shape (meant names name)).width ≡ w
   pub width : is_width w ≡ true
+  pub single : is_memory (meant names name) ≡ false
 
 -- in the body of an `always` no literal site has the token of a name
 unfoldable pub NamesStayOfItem : List Site → ModuleItem → Type 0

@@ -25,7 +25,7 @@ use Rattle.rr_flatten.specs.Tables.{place_of}
 use Rattle.rr_flatten.specs.Walk.{Walked, Enter, scope_at, loops_at, module_at, with_driver, expression_faults, assign, net_value, net_with, net, always, noted, overrides, connections, checked, with_instance, join_port, join_at, join, join_value, join_named, join_positions, joined, item, opened, enter_by, enter}
 use Rattle.rr_flatten.specs.Walk as walk
 use Rattle.rr_flatten.proofs.HeadOf.{ok_is, not_ok, first_ok, each_keeps, all_append, all_weaker}
-use Rattle.rr_flat_laws.specs.Declared.{Declares, ports_of}
+use Rattle.rr_flat_laws.specs.Declared.{single, DeclaresAs, ports_of}
 use Rattle.rr_flat_laws.specs.Drivers.{signal_instance, number_in, signal_number, driver_of_pair, driver_of_value, driver_of_net, assigned_by, is_assignment, Child, children_by, is_child_of, connected_in_order, connected_value, connected_name, connected, port_driver, driver_of_connection, is_connection}
 use Rattle.rr_flat_laws.specs.Hierarchy.{IsDue}
 use Rattle.rr_flat_laws.specs.Names.{module_of}
@@ -37,7 +37,7 @@ use Rattle.rr_flat_laws.proofs.Naming.{Fine, FineWalk, Is, named_found}
 use Rattle.rr_flat_laws.proofs.Opening.{opened_head}
 use Rattle.rr_flat_laws.proofs.Shares.{filter_all, filter_nothing, filter_both, all_flat, Share, share_none, share_twice, Numbers, numbers_twice, numbers_weaker}
 use Rattle.rr_flat_laws.proofs.Tabling.{Table, placed}
-use Rattle.rr_flat_laws.proofs.Texts.{Distinct, here, later, all_in, in_map, flat_none, none_of}
+use Rattle.rr_flat_laws.proofs.Texts.{Distinct, here, later, all_in, in_map, flat_none, none_of, is_none_of}
 
 abbrev number : Walked → ℕ
 number w = length w.flat.scopes
@@ -263,17 +263,17 @@ module _ (source : SourceText) (F : Flat) (whole : Fine source.modules F.signals
     named : signal_number F i n ≡ id
     instance : signal_instance F id ≡ i
 
-  known_of : (w : Walked) (i : ℕ) (n : Text) → FineWalk ms w → Grows w.flat F → (id : ℕ) × Is ms w.flat.signals i n id → Known w i n
-  known_of w i n f g (id, (l, (a, b))) =
+  known_of : (w : Walked) (i : ℕ) (n : Text) (id : ℕ) → FineWalk ms w → Grows w.flat F → Is w.flat.signals i n id → (signal_at w.flat.signals id).word ≡ None → Known w i n
+  known_of w i n id f g (l, (a, b)) whole_word =
       let e : signal_at F.signals id ≡ signal_at w.flat.signals id = ap (λ (ss : List Signal). signal_at ss id) g.signals.1 ∙ get_or_append_left w.flat.signals g.signals.0 no_signal id l in
       let long : length F.signals ≡ length w.flat.signals + length g.signals.0 = ap length g.signals.1 ∙ length-append w.flat.signals g.signals.0 in
       let m : id < length F.signals = omega (arith, l, long) in
-      let there : Is ms F.signals i n id = (m, (ap (λ (s : Signal). s.instance) e ∙ a, ap (λ (s : Signal). s.name) e ∙ b)) in
+      let there : Is F.signals i n id = (m, (ap (λ (s : Signal). s.instance) e ∙ a, ap (λ (s : Signal). s.name) e ∙ b)) in
       record {
         id = id;
-        found = ap place_of (named_found ms w.flat.signals w.flat.scopes w.flat.owners i n id f (l, (a, b)));
+        found = ap place_of (named_found ms w.flat.signals w.flat.scopes w.flat.owners i n id f (l, (a, b)) whole_word);
         same = sym e;
-        named = number_is (lookup n (scope_in F i)) id (signal_at F.signals id).range (signal_at F.signals id).signed (named_found ms F.signals F.scopes F.owners i n id whole there);
+        named = number_is (lookup n (scope_in F i)) id (signal_at F.signals id).range (signal_at F.signals id).signed (named_found ms F.signals F.scopes F.owners i n id whole there (ap (λ (s : Signal). s.word) e ∙ whole_word));
         instance = there.1.0;
       }
 
@@ -286,7 +286,7 @@ module _ (source : SourceText) (F : Flat) (whole : Fine source.modules F.signals
       let a = at_end i k w h (grows_back w t F (assign_same i p w t e) g) in
       made_one i w t (driver_of_pair i p) h.there a.0 (within_pair i p) (ap (λ (u : Walked). u.flat.drivers) (sym s.1)) (ap (λ (u : Walked). length u.flat.scopes) (sym s.1))
 
-  made_net : (i k : ℕ) (n : DeclaredName) (w t : Walked) → Declares (module_at ms k) n.text → Here i k w → Grows t.flat F → net i n w ≡ Ok t → Made i w t (driver_of_net F i n) []
+  made_net : (i k : ℕ) (n : DeclaredName) (w t : Walked) → DeclaresAs (module_at ms k) false n.text → Here i k w → Grows t.flat F → net i n w ≡ Ok t → Made i w t (driver_of_net F i n) []
   unfolding net net_value
   made_net i k n w t c h g e = by n.value e
     where
@@ -294,7 +294,9 @@ module _ (source : SourceText) (F : Flat) (whole : Fine source.modules F.signals
       gw = grows_back w t F (net_same i n w t e) g
 
       known : Known w i n.text
-      known = known_of w i n.text h.fine gw ((h.fine.filled i h.there).has n.text (subst (λ (z : ℕ). Declares (module_at ms z) n.text) (sym h.owner) c))
+      known =
+          let q = (h.fine.filled i h.there).has n.text false (subst (λ (z : ℕ). DeclaresAs (module_at ms z) false n.text) (sym h.owner) c) in
+          known_of w i n.text q.0 h.fine gw q.1.0 (is_none_of (signal_at w.flat.signals q.0).word q.1.1)
 
       by : (o : Option Tree) → net_with i n.token n.text o w ≡ Ok t → Made i w t (driver_of_value F i n o) []
       by None q = made_none i w t (ap (λ (u : Walked). u.flat.drivers) (ok_is w t q)) (ap (λ (u : Walked). length u.flat.scopes) (sym (ok_is w t q)))
@@ -343,7 +345,7 @@ module _ (source : SourceText) (F : Flat) (whole : Fine source.modules F.signals
   port_known : (n k : ℕ) (name : Text) (w : Walked) → Here n k w → Grows w.flat F → Contains (ports_of (module_at ms k)) name → Known w n name
   port_known n k name w h g c =
       let q = (h.fine.filled n h.there).port name (subst (λ (z : ℕ). Contains (ports_of (module_at ms z)) name) (sym h.owner) c) in
-      known_of w n name h.fine g (q.0, q.1.0)
+      known_of w n name q.0 h.fine g q.1.0 ((h.fine.one q.0 q.1.0.0).whole q.1.1)
 
   positions_drivers : (i n k : ℕ) (left : List Text) (ts : Trees) (w : Walked) → Here n k w → Grows w.flat F → ((name : Text) → Contains left name → Contains (ports_of (module_at ms k)) name) →
       (join_positions i n left ts w).flat.drivers ≡ w.flat.drivers ++ flat_map (driver_of_connection F i n) (connected_in_order left ts)
@@ -582,9 +584,9 @@ module _ (source : SourceText) (F : Flat) (whole : Fine source.modules F.signals
   made_item above i k sub fs gs s (Ports p) w t c h g e = nothing_made i w t (ok_is w t e)
   made_item above i k sub fs gs s (Nets signed range list) w t c h g e =
       subst (λ kids. Made i w t (flat_map (driver_of_net F i) list) kids) (flat_none list)
-      (made_each (λ (n : DeclaredName). Declares (module_at ms k) n.text) (driver_of_net F i) (λ (n : DeclaredName). none_of Child) i k (net i) (λ n a b p q. let z = net_same i n a b q in (here_same i k a b z p, same_grows a b z))
+      (made_each (λ (n : DeclaredName). DeclaresAs (module_at ms k) false n.text) (driver_of_net F i) (λ (n : DeclaredName). none_of Child) i k (net i) (λ n a b p q. let z = net_same i n a b q in (here_same i k a b z p, same_grows a b z))
       (λ n a b d p u q. made_net i k n a b d p u q) list w t
-      (all_in (λ (n : DeclaredName). Declares (module_at ms k) n.text) list (λ n q. inr (Nets signed range list, (c, in_map (λ (z : DeclaredName). z.text) list n q)))) h g e)
+      (all_in (λ (n : DeclaredName). DeclaresAs (module_at ms k) false n.text) list (λ n q. inr (Nets signed range list, (c, in_map single list n q)))) h g e)
   made_item above i k sub fs gs s (Variables signed range list) w t c h g e = nothing_made i w t (ok_is w t e)
   made_item above i k sub fs gs s (Integers list) w t c h g e = nothing_made i w t (ok_is w t e)
   made_item above i k sub fs gs s (Parameters p) w t c h g e = nothing_made i w t (ok_is w t e)

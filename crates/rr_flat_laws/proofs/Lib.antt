@@ -1,6 +1,8 @@
 pub mod Texts
 pub mod Answers
+pub mod Words
 pub mod Declaring
+pub mod Windows
 pub mod Opening
 pub mod Growing
 pub mod Naming

@@ -69,6 +69,7 @@ placed ms t n k h e = by (lookup n t) refl e
     by None q f = absurd (none_some k f)
     by (Some (entity.Constant bits signed)) q f = absurd (none_some k f)
     by (Some (entity.Signal id range signed)) q f = subst (λ (z : ℕ). (z < length ms) × ((module_at ms z).text ≡ n)) (some_is id k f) (h.named n id range signed q)
+    by (Some (entity.Memory first low words range signed)) q f = absurd (none_some k f)
     by (Some entity.Instance) q f = absurd (none_some k f)
 
 -- the last module that is free is one of the source

@@ -59,7 +59,7 @@ module _ (source : SourceText) (F : Flat) (whole : Fine source.modules F.signals
   own_port i n l p c d =
       let e = whole.even in
       let q = (whole.filled n (omega (arith, l, e))).port p c in
-      let f = named_found source.modules F.signals F.scopes F.owners n p q.0 whole q.1.0 in
+      let f = named_found source.modules F.signals F.scopes F.owners n p q.0 whole q.1.0 ((whole.one q.0 q.1.0.0).whole q.1.1) in
       let s : signal_number F n p ≡ q.0 = number_is (lookup p (scope_at F n)) q.0 (signal_at F.signals q.0).range (signal_at F.signals q.0).signed f in
       record { instance = ap (λ (z : ℕ). signal_instance F z) s ∙ q.1.0.1.0; named = ap (λ (z : ℕ). (signal_at F.signals z).name) s ∙ q.1.0.1.1 }
 
@@ -67,7 +67,7 @@ module _ (source : SourceText) (F : Flat) (whole : Fine source.modules F.signals
   way_in i n l p c =
       let e = whole.even in
       let q = (whole.filled n (omega (arith, l, e))).port p c in
-      let f = named_found source.modules F.signals F.scopes F.owners n p q.0 whole q.1.0 in
+      let f = named_found source.modules F.signals F.scopes F.owners n p q.0 whole q.1.0 ((whole.one q.0 q.1.0.0).whole q.1.1) in
       let s : signal_number F n p ≡ q.0 = number_is (lookup p (scope_at F n)) q.0 (signal_at F.signals q.0).range (signal_at F.signals q.0).signed f in
       subst (λ (z : ℕ). IsPort (signal_at F.signals z)) (sym s) (way_is (signal_at F.signals q.0).port q.1.1)
 

@@ -1,5 +1,5 @@
--- What a module declares (IEEE 1364-2005 sections 3.2, 3.9 and 12.3).
-use Rattle.std.specs.Prelude.{◌⊎◌, List, [], ◌++◌, map, Option, Some, None}
+-- What a module declares (IEEE 1364-2005 sections 3.2, 3.9, 4.9.3 and 12.3).
+use Rattle.std.specs.Prelude.{◌⊎◌, Bool, false, List, [], ◌++◌, map, Option, Some, None, is_some}
 use Rattle.std.specs.List.{Contains, flat_map}
 use Rattle.rr_syntax.specs.declared.tree.Dir.{Dir}
 use Rattle.rr_syntax.specs.declared.tree.Dir.TheVariants as dir
@@ -29,6 +29,27 @@ declared_by (Always events body token) = []
 declared_by (Initial body token) = []
 declared_by (Instances m token overrides list) = []
 
+-- a name, and whether it stands for a memory: of the names that are declared the variables alone have words (section 4.9.3)
+abbrev pub single : DeclaredName → Text × Bool
+single n = (n.text, false)
+
+abbrev pub sorted : DeclaredName → Text × Bool
+sorted n = (n.text, is_some n.words)
+
+abbrev pub single_integer : Identifier → Text × Bool
+single_integer i = (i.text, false)
+
+abbrev pub sorts_by : ModuleItem → List (Text × Bool)
+sorts_by (Ports p) = map single p.names
+sorts_by (Nets signed range list) = map single list
+sorts_by (Variables signed range list) = map sorted list
+sorts_by (Integers list) = map single_integer list
+sorts_by (Parameters p) = []
+sorts_by (Assigns pairs) = []
+sorts_by (Always events body token) = []
+sorts_by (Initial body token) = []
+sorts_by (Instances m token overrides list) = []
+
 -- a port declaration of a module, in its port brackets or among its items (section 12.3.3)
 abbrev pub HasDeclaration : ModuleDeclaration → PortDeclaration → Type 0
 HasDeclaration m p = Contains m.groups p ⊎ Contains m.items (Ports p)
@@ -45,6 +66,11 @@ way_of dir.OutputReg = Output
 abbrev pub Declares : ModuleDeclaration → Text → Type 0
 Declares m name =
     ((p : PortDeclaration) × (Contains m.groups p × Contains (ports_by p) name)) ⊎ ((x : ModuleItem) × (Contains m.items x × Contains (declared_by x) name))
+
+-- it does so as a memory, or else as one signal
+abbrev pub DeclaresAs : ModuleDeclaration → Bool → Text → Type 0
+DeclaresAs m memory name =
+    ((p : PortDeclaration) × (Contains m.groups p × Contains (map single p.names) (name, memory))) ⊎ ((x : ModuleItem) × (Contains m.items x × Contains (sorts_by x) (name, memory)))
 
 abbrev pub plain_ports : Option (List Identifier) → List Text
 plain_ports None = []

@@ -23,6 +23,7 @@ abbrev pub number_in : Option Entity → ℕ
 number_in None = 0
 number_in (Some (entity.Constant bits signed)) = 0
 number_in (Some (entity.Signal id range signed)) = id
+number_in (Some (entity.Memory first low words range signed)) = 0
 number_in (Some entity.Instance) = 0
 
 -- the number of the signal that a name of an instance stands for

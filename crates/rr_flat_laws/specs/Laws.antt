@@ -9,7 +9,7 @@ use Rattle.rr_flat_laws.specs.Hierarchy.{IsTop, AreAssignments, AreConnections, 
 use Rattle.rr_flat_laws.specs.Names.{module_of, NamesAre}
 use Rattle.rr_flat_laws.specs.Rules.{KeepRules}
 
--- each name that an instance declares as a net or a variable is one signal, and each signal is such a name
+-- each name that an instance declares as a net or a variable is one signal, or a memory of words, and each signal is such a name or word
 abbrev pub NamesAreSignals : Type 0
 NamesAreSignals = (source : SourceText) (top : Option Text) (flat : Flat) → flat_of source top ≡ Ok flat → NamesAre source flat
 

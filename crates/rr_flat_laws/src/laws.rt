@@ -2,9 +2,10 @@
 ghost use Rattle.rr_flat_laws.specs.Laws.{NamesAreSignals, AssignmentsAreDrivers, ConnectionsAreDrivers, TopIsFirst, NoOtherDrivers, BlocksAreAlways, RulesKept};
 
 /// In the flat design of a source each name that an instance declares as a net or a variable is
-/// exactly one signal, which the name stands for there, each signal is such a name, and the ports of
-/// an instance are its inputs and outputs, each as it is declared (IEEE 1364-2005 sections 3.2, 3.3
-/// and 12.3).
+/// exactly one signal, which the name stands for there, and a name with words stands for a memory
+/// that has exactly one signal for each word, in the order of the indices. Each signal is such a
+/// name or word, and the ports of an instance are its inputs and outputs, each as it is declared
+/// (IEEE 1364-2005 sections 3.2, 3.3, 4.9.3 and 12.3).
 #[tactic(auto, using(crate::proofs::Naming::names_of_design))]
 pub fn names_are_signals()
     ensures { NamesAreSignals }

@@ -131,11 +131,13 @@ none_some a e = cc
 place_named : (signals : List Signal) (e : Entity) (id : ℕ) → IsNamed 0 (map plain_signal signals) e → place_of (Some e) ≡ Some id → id < length signals
 place_named signals (entity.Constant bits signed) id h e = absurd (none_some id e)
 place_named signals (entity.Signal k range signed) id h e = let lt = h.1 in let n : length (map plain_signal signals) ≡ length signals = length-map signals plain_signal in let same = some_is k id e in omega (arith, lt, n, same)
+place_named signals (entity.Memory first low words range signed) id h e = absurd (none_some id e)
 place_named signals entity.Instance id h e = absurd (none_some id e)
 
 place_in : (n : ℕ) (e : Entity) (id : ℕ) → IsPlace n e → place_of (Some e) ≡ Some id → id < n
 place_in n (entity.Constant bits signed) id h e = absurd (none_some id e)
 place_in n (entity.Signal k range signed) id h e = let same = some_is k id e in omega (arith, h, same)
+place_in n (entity.Memory first low words range signed) id h e = absurd (none_some id e)
 place_in n entity.Instance id h e = absurd (none_some id e)
 
 -- a fact of all entries is one of each that is found

@@ -1,7 +1,7 @@
 -- the signals of a head are those of its instance, and its names stand for these alone
-use Rattle.std.proofs.Common.{◌≡◌, ℕ, zero, suc, ◌+◌, ◌<◌, ◌≤◌, List, [], ◌∷◌, ◌++◌, length, fold, Bool, true, false, not, ◌&&◌, Option, Some, None, Result, Ok, Err, refl, arith, subst, if◌then◌else◌}
-use Rattle.std.specs.Prelude.{slice_get, slice_set, option_to_list, option_map, is_some, is_none, nat_lt}
-use Rattle.std.specs.List.{AllByRecursion}
+use Rattle.std.proofs.Common.{◌≡◌, ℕ, zero, suc, ◌+◌, ◌<◌, ◌≤◌, List, [], ◌∷◌, ◌++◌, length, length-append, map, fold, Bool, true, false, not, ◌&&◌, Option, Some, None, Result, Ok, Err, refl, arith, subst, if◌then◌else◌}
+use Rattle.std.specs.Prelude.{slice_get, slice_set, option_to_list, is_some, is_none, nat_lt}
+use Rattle.std.specs.List.{AllByRecursion, range_with_len}
 use Rattle.rr_flat.proofs.Lists.{all_index}
 use Rattle.rr_syntax.specs.Tree.{DeclaredName, Range, PortDeclaration, ParamAssignment, ParameterDeclaration, ModuleItem, Ports, Nets, Variables, Integers, Parameters, Assigns, Always, Initial, Instances, ModuleDeclaration}
 use Rattle.rr_bits.specs.Words.{extend}
@@ -9,12 +9,14 @@ use Rattle.rr_expr.specs.Scopes.{Names, lookup, range_width}
 use Rattle.rr_expr.specs.declared.types.Entity.{Entity}
 use Rattle.rr_expr.specs.declared.types.Entity.TheVariants as entity
 use Rattle.rr_flat.specs.declared.fault.FlatFault.{FlatFault}
-use Rattle.rr_declarations.specs.Declarations.{Declared, Declarations, starting, start_faults, start_or, start_again, with_signal, counted, declare_new, declared_at, redeclared, declare_again, again_place, repeated_place, declare, declare_at, declare_integer, integer_name, declare_ports, declare_nets, declare_variables, declare_item, declarations, known, brackets, plain_names, signal_of, no_declared, is_port, is_same_range, port_declaration, inner_declaration, integer_declaration}
-use Rattle.rr_flat.specs.declared.fault.FlatFault.TheVariants.{NameTwice, UnknownName, BadRange, TooMany}
+use Rattle.rr_declarations.specs.Declarations.{Declared, Declarations, starting, start_faults, start_or, start_again, with_signal, declared_bits, declared_words, words_faults, new_faults, counted, declare_new, declared_at, redeclared, declare_again, again_place, repeated_place, declare, declare_at, declare_integer, integer_name, declare_ports, declare_nets, declare_variables, declare_item, declarations, known, brackets, plain_names, signal_of, no_declared, is_port, is_same_range, port_declaration, inner_declaration, integer_declaration}
+use Rattle.rr_flat.specs.declared.fault.FlatFault.TheVariants.{NameTwice, BadRange, TooMany}
 use Rattle.rr_flat.specs.declared.fault.Limit.TheVariants.{FlatBits}
 use Rattle.rr_flat.specs.Faults.{among, fault_if, fault_or, first_of, first_fault_or, and_then, each}
 use Rattle.rr_declarations.specs.Values.{constant, range_in}
-use Rattle.rr_declarations.specs.Heads.{Head, named_signal, with_port, with_identifier, with_declarator, with_ports, with_inner, signals_in_order, with_signals, numbered, declared, head}
+use Rattle.rr_declarations.specs.Heads.{Head, named_declared, with_port, with_identifier, with_declarator, with_ports, with_inner, declared_in_order, joined, entity_of, with_signals, numbered, declared, head}
+use Rattle.rr_memory_words.specs.Words.{indexed_word, word_count, words_entity, words_signals}
+use Rattle.rr_memory_words.proofs.Named.{words_long}
 use Rattle.rr_flat.specs.Signals.{with_name}
 use Rattle.rr_declarations.specs.Parameters.{parameter, typed, add_parameter, add_parameters, add_item_parameters, parameters, given_or, override_of, width_faults}
 use Rattle.rr_flat.specs.Signals.{Text, Signal}
@@ -93,6 +95,7 @@ entries_with P names name e p q = by (is_some (lookup name names))
 abbrev pub NoSignal : Entity → Type 0
 NoSignal (entity.Constant bits signed) = Unit {0}
 NoSignal (entity.Signal id range signed) = ⊥
+NoSignal (entity.Memory first low words range signed) = ⊥
 NoSignal entity.Instance = Unit {0}
 
 typed_constant : (signed : Bool) (range : Option (ℕ × ℕ)) (v : List Bool × Bool) → NoSignal (typed signed range v)
@@ -147,18 +150,22 @@ Mine i x = x.signal.instance ≡ i
 abbrev Own : ℕ → Declarations → Type 0
 Own i d = (d.instance ≡ i) × AllByRecursion (Mine i) d.list
 
-own_new : (i : ℕ) (k : _) (n : DeclaredName) (start : ℕ) (d : Declarations) → Own i d → Own i (with_signal k n start d)
-own_new i k n start d h = (h.0, all_append (Mine i) d.list (record { signal = signal_of d.instance k n start; again = is_port k.port && not k.variable } ∷ []) h.1 (h.0, tt))
+own_new : (i : ℕ) (k : _) (n : DeclaredName) (words : Option (ℕ × ℕ)) (start : ℕ) (d : Declarations) → Own i d → Own i (with_signal k n words start d)
+own_new i k n words start d h = (h.0, all_append (Mine i) d.list (record { signal = signal_of d.instance k n start; words = words; again = is_port k.port && not k.variable } ∷ []) h.1 (h.0, tt))
 
 own_declared : (i : ℕ) (bracketed seen : Names) (k : _) (n : DeclaredName) (d t : Declarations) → Own i d → declare_new bracketed seen k n d ≡ Ok t → Own i t
 unfolding declare_new
 own_declared i bracketed seen k n d t h e =
     let start = start_or seen (range_width k.range) 0 (starting k n) in
-    let faults = fault_if (is_some (lookup n.text d.names)) (NameTwice n.token) ++ (fault_if (is_port k.port && is_none (lookup n.text bracketed)) (UnknownName n.token) ++ (width_faults n.token k.range ++ start_faults seen (starting k n))) in
-    let r = first_ok (first_fault_or faults d) (counted k n start) t e in
+    let words = declared_words seen k n in
+    let faults = new_faults bracketed seen k n d in
+    let r = first_ok (first_fault_or faults d) (λ x. and_then (first_fault_or (words_faults words) x) (counted k n words start)) t e in
     let same : d ≡ r.0 = settled_is (first_of faults) d r.0 r.1.0 in
-    let last : with_signal k n start r.0 ≡ t = settled_is (first_of (fault_if (nat_lt 65536 (r.0.bits + range_width k.range)) (TooMany FlatBits (r.0.bits + range_width k.range)))) (with_signal k n start r.0) t r.1.1 in
-    subst (Own i) last (own_new i k n start r.0 (subst (Own i) same h))
+    let s = first_ok (first_fault_or (words_faults words) r.0) (counted k n words start) t r.1.1 in
+    let still : r.0 ≡ s.0 = settled_is (first_of (words_faults words)) r.0 s.0 s.1.0 in
+    let bits = s.0.bits + declared_bits k words in
+    let last : with_signal k n words start s.0 ≡ t = settled_is (first_of (fault_if (nat_lt 65536 bits) (TooMany FlatBits bits))) (with_signal k n words start s.0) t s.1.1 in
+    subst (Own i) last (own_new i k n words start s.0 (subst (Own i) still (subst (Own i) same h)))
 
 own_again : (i : ℕ) (seen : Names) (k : _) (n : DeclaredName) (place : ℕ) (d t : Declarations) → Own i d → declare_again seen k n place d ≡ Ok t → Own i t
 unfolding declare_again
@@ -173,7 +180,7 @@ own_at i bracketed seen k n d t (Some place) h e = own_again i seen k n place d 
 
 own_declare : (i : ℕ) (bracketed seen : Names) (k : _) (n : DeclaredName) (d t : Declarations) → Own i d → declare bracketed seen k n d ≡ Ok t → Own i t
 unfolding declare
-own_declare i bracketed seen k n d t h e = own_at i bracketed seen k n d t (repeated_place k.repeats (again_place (lookup n.text d.names) d.list)) h e
+own_declare i bracketed seen k n d t h e = own_at i bracketed seen k n d t (repeated_place (k.repeats && is_none n.words) (again_place (lookup n.text d.names) d.list)) h e
 
 own_names : (i : ℕ) (bracketed seen : Names) (k : Option (ℕ × ℕ) → _) (range : Option Range) (list : List DeclaredName) (d t : Declarations) → Own i d → and_then (range_in seen range) (λ r. each (declare bracketed seen (k r)) list d) ≡ Ok t → Own i t
 own_names i bracketed seen k range list d t h e =
@@ -210,52 +217,74 @@ own_all i bits m names t e =
 abbrev Of : ℕ → Signal → Type 0
 Of i s = s.instance ≡ i
 
-found_one : (i : ℕ) (list : List Declared) (o : Option Entity) → AllByRecursion (Mine i) list → AllByRecursion (Of i) (option_to_list (named_signal list o))
+found_one : (i : ℕ) (list : List Declared) (o : Option Entity) → AllByRecursion (Mine i) list → AllByRecursion (Mine i) (option_to_list (named_declared list o))
 found_one i list None h = tt
 found_one i list (Some (entity.Constant bits signed)) h = tt
 found_one i list (Some (entity.Signal id range signed)) h = by (slice_get list id) refl
   where
-    by : (o : Option Declared) → slice_get list id ≡ o → AllByRecursion (Of i) (option_to_list (option_map (λ x. x.signal) o))
+    by : (o : Option Declared) → slice_get list id ≡ o → AllByRecursion (Mine i) (option_to_list o)
     by None q = tt
     by (Some x) q = (all_got (Mine i) list id x h q, tt)
+found_one i list (Some (entity.Memory first low words range signed)) h = tt
 found_one i list (Some entity.Instance) h = tt
 
-with_one : (i : ℕ) (d : Declarations) → Own i d → (n : Text) (s : List Signal) → AllByRecursion (Of i) s → AllByRecursion (Of i) (with_port d s n)
+with_one : (i : ℕ) (d : Declarations) → Own i d → (n : Text) (s : List Declared) → AllByRecursion (Mine i) s → AllByRecursion (Mine i) (with_port d s n)
 unfolding with_port
-with_one i d h n s q = all_append (Of i) s (option_to_list (named_signal d.list (lookup n d.names))) q (found_one i d.list (lookup n d.names) h.1)
+with_one i d h n s q = all_append (Mine i) s (option_to_list (named_declared d.list (lookup n d.names))) q (found_one i d.list (lookup n d.names) h.1)
 
-inner_one : (i : ℕ) (x : Declared) (s : List Signal) → Mine i x → AllByRecursion (Of i) s → AllByRecursion (Of i) (with_inner s x)
+inner_one : (i : ℕ) (x : Declared) (s : List Declared) → Mine i x → AllByRecursion (Mine i) s → AllByRecursion (Mine i) (with_inner s x)
 unfolding with_inner
 inner_one i x s m q = by (is_port x.signal.port)
   where
-    by : (b : Bool) → AllByRecursion (Of i) (if b then s else s ++ x.signal ∷ [])
+    by : (b : Bool) → AllByRecursion (Mine i) (if b then s else s ++ x ∷ [])
     by true = q
-    by false = all_append (Of i) s (x.signal ∷ []) q (m, tt)
+    by false = all_append (Mine i) s (x ∷ []) q (m, tt)
 
-in_order : (i : ℕ) (m : ModuleDeclaration) (d : Declarations) → Own i d → AllByRecursion (Of i) (signals_in_order m d)
-unfolding signals_in_order with_ports
+in_order : (i : ℕ) (m : ModuleDeclaration) (d : Declarations) → Own i d → AllByRecursion (Mine i) (declared_in_order m d)
+unfolding declared_in_order with_ports
 in_order i m d h =
-    fold_over (Mine i) (AllByRecursion (Of i)) with_inner (λ x s q p. inner_one i x s q p) d.list (fold (with_ports d) (fold (with_identifier d) [] (plain_names m.header)) m.groups) h.1
-    (fold_keeps (AllByRecursion (Of i)) (with_ports d) (λ p s q. fold_keeps (AllByRecursion (Of i)) (with_declarator d) (λ n s q. with_one i d h n.text s q) p.names s q) m.groups (fold (with_identifier d) [] (plain_names m.header))
-    (fold_keeps (AllByRecursion (Of i)) (with_identifier d) (λ n s q. with_one i d h n.text s q) (plain_names m.header) [] tt))
+    fold_over (Mine i) (AllByRecursion (Mine i)) with_inner (λ x s q p. inner_one i x s q p) d.list (fold (with_ports d) (fold (with_identifier d) [] (plain_names m.header)) m.groups) h.1
+    (fold_keeps (AllByRecursion (Mine i)) (with_ports d) (λ p s q. fold_keeps (AllByRecursion (Mine i)) (with_declarator d) (λ n s q. with_one i d h n.text s q) p.names s q) m.groups (fold (with_identifier d) [] (plain_names m.header))
+    (fold_keeps (AllByRecursion (Mine i)) (with_identifier d) (λ n s q. with_one i d h n.text s q) (plain_names m.header) [] tt))
 
--- a signal with a number from a base up to a bound
+words_of_one : (i : ℕ) (s : Signal) (low : ℕ) → Of i s → (ks : List ℕ) → AllByRecursion (Of i) (map (indexed_word s low) ks)
+words_of_one i s low h [] = tt
+words_of_one i s low h (k ∷ ks) = (h, words_of_one i s low h ks)
+
+signals_one : (i : ℕ) (s : Signal) (words : Option (ℕ × ℕ)) → Of i s → AllByRecursion (Of i) (words_signals s words)
+signals_one i s None h = (h, tt)
+signals_one i s (Some w) h = words_of_one i s w.0 h (range_with_len 0 w.1)
+
+all_joined : (i : ℕ) (list : List Declared) → AllByRecursion (Mine i) list → AllByRecursion (Of i) (joined list)
+unfolding joined
+all_joined i [] h = tt
+all_joined i (x ∷ xs) h = all_append (Of i) (words_signals x.signal x.words) (joined xs) (signals_one i x.signal x.words h.0) (all_joined i xs h.1)
+
+-- a signal with a number from a base up to a bound, or words with such numbers
 abbrev pub Between : ℕ → ℕ → Entity → Type 0
 Between base end (entity.Constant bits signed) = Unit {0}
 Between base end (entity.Signal id range signed) = (base ≤ id) × (id < end)
+Between base end (entity.Memory first low words range signed) = (base ≤ first) × (first + words ≤ end)
 Between base end entity.Instance = Unit {0}
 
 none_between : (base end : ℕ) (e : Entity) → NoSignal e → Between base end e
 none_between base end (entity.Constant bits signed) h = tt
 none_between base end (entity.Signal id range signed) h = absurd h
+none_between base end (entity.Memory first low words range signed) h = absurd h
 none_between base end entity.Instance h = tt
 
-all_between : (base k end : ℕ) (ss : List Signal) (names : Names) → base ≤ k → k + length ss ≤ end → Entries (Between base end) names → Entries (Between base end) (with_signals k ss names)
-unfolding with_signals
+one_between : (base k end : ℕ) (s : Signal) (words : Option (ℕ × ℕ)) → base ≤ k → k + word_count words ≤ end → Between base end (words_entity k s words)
+one_between base k end s None l m = (l, omega (arith, m))
+one_between base k end s (Some w) l m = (l, m)
+
+all_between : (base k end : ℕ) (list : List Declared) (names : Names) → base ≤ k → k + length (joined list) ≤ end → Entries (Between base end) names → Entries (Between base end) (with_signals k list names)
+unfolding with_signals joined
 all_between base k end [] names l m h = h
-all_between base k end (s ∷ ss) names l m h =
-    all_between base (k + 1) end ss (with_name names s.name (entity.Signal k s.range s.signed)) (omega arith) (omega arith)
-    (entries_with (Between base end) names s.name (entity.Signal k s.range s.signed) h (l, omega arith))
+all_between base k end (x ∷ xs) names l m h =
+    let n = words_long x.signal x.words in
+    let both = length-append (words_signals x.signal x.words) (joined xs) in
+    all_between base (k + word_count x.words) end xs (with_name names x.signal.name (entity_of k x)) (omega (arith, l)) (omega (arith, m, n, both))
+    (entries_with (Between base end) names x.signal.name (entity_of k x) h (one_between base k end x.signal x.words l (omega (arith, m, n, both))))
 
 pub record HeadOf (i base : ℕ) (h : Head) : Type 0 where
   pub signals : AllByRecursion (λ (s : Signal). s.instance ≡ i) h.signals
@@ -264,13 +293,14 @@ pub record HeadOf (i base : ℕ) (h : Head) : Type 0 where
 pub head_of : (i base bits : ℕ) (given : Names) (m : ModuleDeclaration) (h : Head) → head i base bits given m ≡ Ok h → HeadOf i base h
 unfolding head numbered
 head_of i base bits given m h e =
-    let r = first_ok (parameters given m) (λ names. and_then (declared i bits m names) (λ d. numbered i base d.bits (signals_in_order m d) names)) h e in
-    let s = first_ok (declared i bits m r.0) (λ d. numbered i base d.bits (signals_in_order m d) r.0) h r.1.1 in
+    let r = first_ok (parameters given m) (λ names. and_then (declared i bits m names) (λ d. numbered i base d.bits (declared_in_order m d) names)) h e in
+    let s = first_ok (declared i bits m r.0) (λ d. numbered i base d.bits (declared_in_order m d) r.0) h r.1.1 in
     let own = own_all i bits m r.0 s.0 s.1.0 in
-    let signals = signals_in_order m s.0 in
-    let made : Head = record { instance = i; base = base; bits = s.0.bits; signals = signals; scope = with_signals base signals r.0 } in
+    let list = declared_in_order m s.0 in
+    let signals = joined list in
+    let made : Head = record { instance = i; base = base; bits = s.0.bits; signals = signals; scope = with_signals base list r.0 } in
     subst (HeadOf i base) (settled_is (first_of (fault_if (nat_lt 65536 (base + length signals)) (TooMany FlatBits (base + length signals)))) made h s.1.1) (record {
-      signals = in_order i m s.0 own;
-      scope = all_between base base (base + length signals) signals r.0 (omega arith) (omega arith)
+      signals = all_joined i list (in_order i m s.0 own);
+      scope = all_between base base (base + length signals) list r.0 (omega arith) (omega arith)
           (all_weaker (λ e. NoSignal e.1) (λ e. Between base (base + length signals) e.1) r.0 (λ e k. none_between base (base + length signals) e.1 k) (constants given m r.0 r.1.0));
     })

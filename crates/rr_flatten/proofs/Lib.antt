@@ -6,6 +6,7 @@ pub mod Grown
 pub mod Walks
 pub mod Ends
 pub mod HeadOf
+pub mod Apart
 pub mod Gives
 pub mod WalkOf
 pub mod Unfolded

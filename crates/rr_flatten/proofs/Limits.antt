@@ -246,6 +246,7 @@ of_count kind.FlatBits count = inr (λ k e. cc)
 of_count kind.Work count = inr (λ k e. cc)
 of_count kind.Turns count = inr (λ k e. cc)
 of_count kind.Unfolded count = inl (count, refl)
+of_count kind.Words count = inr (λ k e. cc)
 
 of_fault : (f : FlatFault) → TellsOfTokens f ⊎ TellsOfElse f
 of_fault fault.NoTop = inr (λ k e. cc)

@@ -44,7 +44,7 @@ statement_unfolded s t u w f e n = record {
   loops = ap is_loop_free e ∙ loops_gone s t;
 }
 
--- an `initial` item holds whole variables alone, also where its loops are unfolded
+-- an `initial` item sets whole variables and words alone, also where its loops are unfolded
 
 pub item_unfolded : (s : Names) (t u : Statement) → IsTrue (is_initial t) → WellFormedStatement t → FitLiteralsStatement t → u ≡ unfold_statement s [] t → initial_faults s u ≡ [] → IsStatement s u
 item_unfolded s t u i w f e n = statement_unfolded s t u w f e (initial_shaped s u (subst (λ x. IsTrue (is_initial x)) (sym e) (initial_kept s t i)) n)

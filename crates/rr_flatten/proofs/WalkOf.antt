@@ -1,5 +1,5 @@
 -- in the flat design of a source no driver aims at an input of the top
-use Rattle.std.proofs.Common.{◌≡◌, ℕ, zero, suc, ◌+◌, ◌-◌, ◌<◌, ◌≤◌, List, [], ◌∷◌, ◌++◌, length, Bool, true, false, not, cond, Option, Some, None, Ok, refl, ap, ◌∙◌, sym, arith, inl, inr, length-append, subst, if◌then◌else◌, nat_eq}
+use Rattle.std.proofs.Common.{◌≡◌, ℕ, zero, suc, ◌+◌, ◌-◌, ◌<◌, ◌≤◌, List, [], ◌∷◌, ◌++◌, length, Bool, true, false, not, cond, Option, Some, None, Ok, refl, ap, ◌∙◌, sym, arith, ◌⊎◌, inl, inr, length-append, subst, if◌then◌else◌, nat_eq}
 use Rattle.std.specs.Prelude.{slice_index_or, slice_set, nat_lt}
 use Rattle.std.specs.List.{AllByRecursion}
 use Rattle.std.specs.Str.{bytes_eq}
@@ -25,14 +25,20 @@ use Rattle.rr_loop_rules.specs.Rules.{LoopNames, loop_names}
 use Rattle.rr_unfold.specs.Unfold.{unfold_statement}
 use Rattle.rr_flatten.specs.Walk.{Walked, scope_at, loops_at, with_driver, assign, net_driver, net_value, net_with, net, with_block, always, initial, join_port, join_at, join, join_value, join_named, join_positions, joined, Enter, module_at, checked, with_instance, instance_of, item, opened, begin, enter_by, enter, nothing, is_way, is_top_port, top_ports, finished, top_place, enter_top, flat_by, flat_of}
 use Rattle.rr_flat.proofs.Lists.{all_index}
-use Rattle.rr_flat.specs.Elaborated.{DrivesOwn, IsTopInput, IsSound}
+use Rattle.rr_flat.specs.Elaborated.{DrivesOwn, IsTopInput, OneVariable, IsSound}
+use Rattle.rr_expr.specs.Reading.{IsBitOf}
+use Rattle.rr_expr.specs.Scopes.{meant}
+use Rattle.rr_expr.specs.declared.types.Bit.{Bit}
+use Rattle.rr_flat.specs.Targets.{variable_of}
+use Rattle.rr_flatten.proofs.Apart.{Apart, apart_with, alone, head_apart, found_meant, both_meant, none_meant}
 use Rattle.rr_flatten.proofs.Gives.{always_gives, initial_gives}
 use Rattle.rr_flatten.proofs.HeadOf.{ok_is, not_ok, settled_is, first_ok, each_keeps, fold_keeps, all_append, all_weaker, Entries, entries_with, Between, HeadOf, head_of}
 
--- a signal of instance k
+-- a signal of instance k, or words of it
 abbrev Local : List Signal → ℕ → Entity → Type 0
 Local signals k (entity.Constant bits signed) = Unit {0}
 Local signals k (entity.Signal id range signed) = (id < length signals) × ((signal_at signals id).instance ≡ k)
+Local signals k (entity.Memory first low words range signed) = (first + words ≤ length signals) × ((j : ℕ) → j < words → (signal_at signals (first + j)).instance ≡ k)
 Local signals k entity.Instance = Unit {0}
 
 abbrev Driven : List Signal → Driver → Type 0
@@ -40,6 +46,7 @@ Driven signals d = DrivesOwn signals d.target d.value
 
 pub record Fine (flat : Flat) : Type 0 where
   pub scopes : (k : ℕ) → k < length flat.scopes → Entries (Local flat.signals k) (slice_index_or flat.scopes k [])
+  pub apart : (k : ℕ) → k < length flat.scopes → Apart (slice_index_or flat.scopes k [])
   pub drivers : AllByRecursion (λ d. DrivesOwn flat.signals d.target d.value) flat.drivers
 
 -- fine, with more instances than this one's number
@@ -47,7 +54,7 @@ abbrev Good : ℕ → Walked → Type 0
 Good i w = Fine w.flat × (i < length w.flat.scopes)
 
 driven : (i : ℕ) (target value : Side) (at : ℕ) (w : Walked) → DrivesOwn w.flat.signals target value → Good i w → Good i (with_driver target value at w)
-driven i target value at w a g = (record { scopes = g.0.scopes; drivers = all_append (Driven w.flat.signals) w.flat.drivers (record { target = target; value = value; token = at } ∷ []) g.0.drivers (a, tt) }, g.1)
+driven i target value at w a g = (record { scopes = g.0.scopes; apart = g.0.apart; drivers = all_append (Driven w.flat.signals) w.flat.drivers (record { target = target; value = value; token = at } ∷ []) g.0.drivers (a, tt) }, g.1)
 
 after_assign : (i : ℕ) (p : NetAssignment) (w t : Walked) → Good i w → assign i p w ≡ Ok t → Good i t
 unfolding assign
@@ -77,6 +84,7 @@ placed signals k names name id h e = by (lookup name names) refl e
     by (Some (entity.Constant bits signed)) q e = absurd (none_some id e)
     by (Some (entity.Signal n range signed)) q e =
         subst (λ m. (m < length signals) × ((signal_at signals m).instance ≡ k)) (some_is n id e) (found_local signals k name names (entity.Signal n range signed) h q)
+    by (Some (entity.Memory first low words range signed)) q e = absurd (none_some id e)
     by (Some entity.Instance) q e = absurd (none_some id e)
 
 after_net_driver : (i at : ℕ) (x : Tree) (o : Option ℕ) (w : Walked) → ((id : ℕ) → o ≡ Some id → (id < length w.flat.signals) × ((signal_at w.flat.signals id).instance ≡ i)) → Good i w → Good i (net_driver i at x o w)
@@ -95,9 +103,9 @@ unfolding net
 after_net i n w t g e = after_net_with i n.token n.text n.value w t g e
 
 after_block : (i : ℕ) (events : EventControl) (s : Statement) (at : ℕ) (w : Walked) → Good i w → Good i (with_block i events s at w)
-after_block i (Star brackets) s at w g = (record { scopes = g.0.scopes; drivers = g.0.drivers }, g.1)
-after_block i (Edges list commas) s at w g = (record { scopes = g.0.scopes; drivers = g.0.drivers }, g.1)
-after_block i (Levels list commas) s at w g = (record { scopes = g.0.scopes; drivers = g.0.drivers }, g.1)
+after_block i (Star brackets) s at w g = (record { scopes = g.0.scopes; apart = g.0.apart; drivers = g.0.drivers }, g.1)
+after_block i (Edges list commas) s at w g = (record { scopes = g.0.scopes; apart = g.0.apart; drivers = g.0.drivers }, g.1)
+after_block i (Levels list commas) s at w g = (record { scopes = g.0.scopes; apart = g.0.apart; drivers = g.0.drivers }, g.1)
 
 after_always : (i : ℕ) (events : EventControl) (s : Statement) (at : ℕ) (w t : Walked) → Good i w → always i events s at w ≡ Ok t → Good i t
 after_always i events s at w t g e =
@@ -105,7 +113,7 @@ after_always i events s at w t g e =
     subst (Good i) r.1.1 (after_block i events (unfold_statement (scope_at w i) [] s) at (record w { count = r.0 }) g)
 
 after_initial : (i : ℕ) (s : Statement) (at : ℕ) (w t : Walked) → Good i w → initial i s at w ≡ Ok t → Good i t
-after_initial i s at w t g e = subst (Good i) (initial_gives i s at w t e).1.1 (record { scopes = g.0.scopes; drivers = g.0.drivers }, g.1)
+after_initial i s at w t g e = subst (Good i) (initial_gives i s at w t e).1.1 (record { scopes = g.0.scopes; apart = g.0.apart; drivers = g.0.drivers }, g.1)
 
 -- connections: instance k is one below the top
 abbrev Joined : ℕ → ℕ → Walked → Type 0
@@ -164,6 +172,7 @@ named i name w g =
     let n = set_length w.flat.scopes i x in (
       record {
         scopes = λ k l. set_at (λ j ns. Entries (Local w.flat.signals j) ns) w.flat.scopes i x g.0.scopes (entries_with (Local w.flat.signals i) (scope_at w i) name entity.Instance (g.0.scopes i g.1) tt) k (omega (arith, l, n));
+        apart = λ k l. set_at (λ j ns. Apart ns) w.flat.scopes i x g.0.apart (apart_with (scope_at w i) name entity.Instance (g.0.apart i g.1) (alone entity.Instance (scope_at w i) tt)) k (omega (arith, l, n));
         drivers = g.0.drivers;
       },
       omega (arith, g.1, n),
@@ -201,6 +210,10 @@ signal_before ss more id l = get_or_append_left ss more no_signal id l
 local_before : (ss more : List Signal) (k : ℕ) (e : Entity) → Local ss k e → Local (ss ++ more) k e
 local_before ss more k (entity.Constant bits signed) h = tt
 local_before ss more k (entity.Signal id range signed) h = (omega (arith, h.0, length-append ss more), ap (λ (s : Signal). s.instance) (signal_before ss more id h.0) ∙ h.1)
+local_before ss more k (entity.Memory first low words range signed) h = (
+  omega (arith, h.0, length-append ss more),
+  λ j l. ap (λ (s : Signal). s.instance) (signal_before ss more (first + j) (omega (arith, h.0, l))) ∙ h.1 j l,
+)
 local_before ss more k entity.Instance h = tt
 
 aims_before : (ss more : List Signal) (target value : Side) → DrivesOwn ss target value → DrivesOwn (ss ++ more) target value
@@ -217,10 +230,17 @@ local_new ss more k (entity.Signal id range signed) a h =
       omega (arith, h.1, length-append ss more),
       ap (λ (s : Signal). s.instance) (get_or-append_right ss more (length ss) id no_signal refl l) ∙ all_index (λ (s : Signal). s.instance ≡ k) more (id - length ss) no_signal a (omega (arith, h.0, h.1)),
     )
+local_new ss more k (entity.Memory first low words range signed) a h = (
+  omega (arith, h.1, length-append ss more),
+  λ j l.
+      let from : length ss ≤ first + j = omega (arith, h.0) in
+      ap (λ (s : Signal). s.instance) (get_or-append_right ss more (length ss) (first + j) no_signal refl from)
+      ∙ all_index (λ (s : Signal). s.instance ≡ k) more ((first + j) - length ss) no_signal a (omega (arith, h.0, h.1, l)),
+)
 local_new ss more k entity.Instance a h = tt
 
-after_opened : (k : ℕ) (h : Head) (names : LoopNames) (w : Walked) → Fine w.flat → HeadOf (length w.flat.scopes) (length w.flat.signals) h → Fine (opened k h names w).flat
-after_opened k h names w f o =
+after_opened : (k : ℕ) (h : Head) (names : LoopNames) (w : Walked) → Fine w.flat → HeadOf (length w.flat.scopes) (length w.flat.signals) h → Apart h.scope → Fine (opened k h names w).flat
+after_opened k h names w f o a =
     let ss = w.flat.signals in
     let more = h.signals in
     let scopes = w.flat.scopes in
@@ -237,6 +257,14 @@ after_opened k h names w f o =
             (all_weaker (λ e. Between (length ss) (length ss + length more) e.1) (λ e. Local (ss ++ more) j e.1) h.scope
             (λ e p. local_new ss more j e.1 (subst (λ i. AllByRecursion (λ (s : Signal). s.instance ≡ i) more) (sym q) o.signals) p) o.scope)
       ];
+      apart = λ j l. elim (cases_lt j (length scopes)) [
+        | inl m ↦ subst Apart (sym (get_or_append_left scopes (h.scope ∷ []) [] j m)) (f.apart j m)
+        | inr m ↦
+            let q : j ≡ length scopes = omega (arith, l, m, length-append scopes (h.scope ∷ [])) in
+            let z : j - length scopes ≡ 0 = omega arith in
+            let got : slice_index_or (scopes ++ h.scope ∷ []) j [] ≡ h.scope = get_or-append_right scopes (h.scope ∷ []) (length scopes) j [] refl m ∙ ap (λ (i : ℕ). slice_index_or (h.scope ∷ []) i []) z in
+            subst Apart (sym got) a
+      ];
       drivers = all_weaker (Driven ss) (Driven (ss ++ more)) w.flat.drivers (λ d p. aims_before ss more d.target d.value p) f.drivers;
     }
 
@@ -249,8 +277,9 @@ after_begin source k given w t f e =
     let fine : Fine r.0.flat = subst (λ v. Fine v.flat) same f in
     let s = first_ok (head (length r.0.flat.scopes) (length r.0.flat.signals) r.0.bits given (module_at source k)) (λ h. Ok (opened k h names r.0)) t r.1.1 in
     let h = head_of (length r.0.flat.scopes) (length r.0.flat.signals) r.0.bits given (module_at source k) s.0 s.1.0 in
+    let a = head_apart (length r.0.flat.scopes) (length r.0.flat.signals) r.0.bits given (module_at source k) s.0 s.1.0 in
     let last : opened k s.0 names r.0 ≡ t = ok_is (opened k s.0 names r.0) t s.1.1 in (
-      subst (λ v. Fine v.flat) last (after_opened k s.0 names r.0 fine h),
+      subst (λ v. Fine v.flat) last (after_opened k s.0 names r.0 fine h a),
       ap (λ (v : Walked). length v.flat.scopes) (sym last) ∙ length-append r.0.flat.scopes (s.0.scope ∷ []) ∙ ap (λ (v : Walked). length v.flat.scopes + 1) (sym same),
     )
 
@@ -269,7 +298,7 @@ after_enter source table zero above k given w t f e = absurd (not_ok _ t e)
 after_enter source table (suc levels) above k given w t f e = after_enter_by source table (enter source table levels) (after_enter source table levels) above k given w t f e
 
 nothing_fine : (limit : Option ℕ) (at : ℕ) → Fine (nothing limit at).flat
-nothing_fine limit at = record { scopes = λ k l. absurd (omega arith); drivers = tt }
+nothing_fine limit at = record { scopes = λ k l. absurd (omega arith); apart = λ k l. absurd (omega arith); drivers = tt }
 
 after_top : (limit : Option ℕ) (source : List ModuleDeclaration) (table : Names) (o : Option ℕ) (w : Walked) → enter_top limit source table o ≡ Ok w → Fine w.flat
 after_top limit source table None w e = absurd (not_ok _ w e)
@@ -308,13 +337,40 @@ top_at (s ∷ ss) more k h =
     top_one more s ss k (is_top_port true s) h refl
     (subst (λ all. Tops all (top_ports true (k + 1) ss)) (sym (append_one more s ss)) (top_at ss (more ++ s ∷ []) (k + 1) (length-append more (s ∷ []) ∙ omega (arith, h))))
 
+-- Bits have one variable
+
+bit_local : (signals : List Signal) (k : ℕ) (e : Entity) (b : Bit) → Local signals k e → IsBitOf e b → (signal_at signals b.signal).instance ≡ k
+bit_local signals k (entity.Constant bits signed) b h i = absurd i
+bit_local signals k (entity.Signal id range signed) b h i = ap (λ (n : ℕ). (signal_at signals n).instance) i.0 ∙ h.1
+bit_local signals k (entity.Memory first low words range signed) b h i =
+    let at : b.signal ≡ first + (b.signal - first) = omega (arith, i.0) in
+    ap (λ (n : ℕ). (signal_at signals n).instance) at ∙ h.1 (b.signal - first) (omega (arith, i.0, i.1))
+bit_local signals k entity.Instance b h i = absurd i
+
+one_variable : (flat : Flat) → Fine flat → OneVariable flat
+one_variable flat f i j x y b h k = go (cases_lt i (length flat.scopes)) (cases_lt j (length flat.scopes))
+  where
+    names_of : ℕ → Names
+    names_of n = slice_index_or flat.scopes n []
+
+    local_of : (n : ℕ) (z : Text) → n < length flat.scopes → Local flat.signals n (meant (names_of n) z)
+    local_of n z l = found_meant (Local flat.signals n) z (names_of n) (f.scopes n l) tt
+
+    go : ((i < length flat.scopes) ⊎ (length flat.scopes ≤ i)) → ((j < length flat.scopes) ⊎ (length flat.scopes ≤ j)) → variable_of (meant (names_of i) x) ≡ variable_of (meant (names_of j) y)
+    go (inl l) (inl m) =
+        let q : i ≡ j = sym (bit_local flat.signals i (meant (names_of i) x) b (local_of i x l) h) ∙ bit_local flat.signals j (meant (names_of j) y) b (local_of j y m) k in
+        let here : IsBitOf (meant (names_of i) y) b = subst (λ (n : ℕ). IsBitOf (meant (names_of n) y) b) (sym q) k in
+        both_meant (names_of i) x y (f.apart i l) b h here ∙ ap (λ (n : ℕ). variable_of (meant (names_of n) y)) q
+    go (inr l) m = absurd (none_meant flat.scopes i x b l h)
+    go (inl l) (inr m) = absurd (none_meant flat.scopes j y b m k)
+
 pub sound_by : (limit : Option ℕ) (source : SourceText) (top : Option Text) (flat : Flat) → flat_by limit source top ≡ Ok flat → IsSound flat
 unfolding flat_by
 sound_by limit source top flat e =
     let r = first_ok (each add_module source.modules []) (λ table. and_then (enter_top limit source.modules table (top_place source.modules table top)) (λ w. Ok (finished source.modules w.flat))) flat e in
     let s = first_ok (enter_top limit source.modules r.0 (top_place source.modules r.0 top)) (λ w. Ok (finished source.modules w.flat)) flat r.1.1 in
     let f = after_top limit source.modules r.0 (top_place source.modules r.0 top) s.0 s.1.0 in
-    subst IsSound (ok_is (finished source.modules s.0.flat) flat s.1.1) (record { drivers = f.drivers; inputs = top_at s.0.flat.signals [] 0 refl })
+    subst IsSound (ok_is (finished source.modules s.0.flat) flat s.1.1) (record { drivers = f.drivers; inputs = top_at s.0.flat.signals [] 0 refl; variables = one_variable s.0.flat f })
 
 pub sound : (source : SourceText) (top : Option Text) (flat : Flat) → flat_of source top ≡ Ok flat → IsSound flat
 sound source top flat e = sound_by None source top flat e

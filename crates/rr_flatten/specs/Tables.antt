@@ -19,6 +19,7 @@ abbrev pub place_of : Option Entity → Option ℕ
 place_of None = None
 place_of (Some (entity.Constant bits signed)) = None
 place_of (Some (entity.Signal id range signed)) = Some id
+place_of (Some (entity.Memory first low words range signed)) = None
 place_of (Some entity.Instance) = None
 
 -- a second module of a name

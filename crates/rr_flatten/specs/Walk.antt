@@ -47,6 +47,7 @@ loops_at w i = slice_index_or w.loops i []
 abbrev pub is_useless : Entity → Bool
 is_useless (entity.Constant bits signed) = false
 is_useless (entity.Signal id range signed) = false
+is_useless (entity.Memory first low words range signed) = false
 is_useless entity.Instance = true
 
 -- the name of a loop stands in loops only
@@ -165,6 +166,7 @@ abbrev pub parameter_faults : ℕ → Option Entity → List FlatFault
 parameter_faults at None = UnknownName at ∷ []
 parameter_faults at (Some (entity.Constant bits signed)) = []
 parameter_faults at (Some (entity.Signal id range signed)) = fault_if signed (PortMismatch at)
+parameter_faults at (Some (entity.Memory first low words range signed)) = []
 parameter_faults at (Some entity.Instance) = []
 
 abbrev pub twice_faults : ℕ → Text → Names → List FlatFault

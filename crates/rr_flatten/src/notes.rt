@@ -140,7 +140,8 @@ fn is_useless(entity: Option<Entity>) -> bool
     ensures { result ≡ useless (or_instance entity) }
 {
     match entity {
-        Some(Entity::Constant { .. }) | Some(Entity::Signal { .. }) => false,
+        Some(Entity::Constant { .. }) | Some(Entity::Signal { .. }) | Some(Entity::Memory { .. }) =>
+            false,
         Some(Entity::Instance) | None => true,
     }
 }

@@ -65,7 +65,9 @@ fn note_parameter(
             *signed,
             FlatFault::PortMismatch(token),
         ),
-        Some(Entity::Constant { .. }) | Some(Entity::Instance) => found,
+        Some(Entity::Constant { .. }) | Some(Entity::Memory { .. }) | Some(Entity::Instance) => {
+            found
+        }
     }
 }
 

@@ -47,7 +47,10 @@ pub(crate) fn place_of(table: &Scope, name: &str) -> Option<u32>
 {
     match table.find(name) {
         Some(Entity::Signal { id, .. }) => Some(id),
-        Some(Entity::Constant { .. }) | Some(Entity::Instance) | None => None,
+        Some(Entity::Constant { .. })
+        | Some(Entity::Memory { .. })
+        | Some(Entity::Instance)
+        | None => None,
     }
 }
 

@@ -1,5 +1,5 @@
 -- The formats of declarations and continuous assignments are exact.
-use Rattle.std.proofs.Common.{◌≡◌, ℕ, zero, suc, ◌+◌, ◌≤◌, ◌<◌, List, [], ◌∷◌, ◌++◌, length, map, refl, ap, ◌∙◌, sym, arith, Bool, true, false, ◌||◌, cond, nat_eq, Option, Some, None, ◌⊎◌, inl, inr, subst, append_assoc}
+use Rattle.std.proofs.Common.{◌≡◌, ℕ, zero, suc, ◌+◌, ◌≤◌, ◌<◌, List, [], ◌∷◌, ◌++◌, length, map, refl, ap, ◌∙◌, sym, arith, Bool, true, false, not, ◌||◌, cond, nat_eq, Option, Some, None, ◌⊎◌, inl, inr, subst, append_assoc}
 use Rattle.std.proofs.lemmas.Bool.Decides.{Decides-eqb}
 use Rattle.std.specs.List.{list_all}
 use Rattle.std.specs.Option.{is_some}
@@ -15,7 +15,7 @@ use Rattle.rr_parse_expr.proofs.Climbs.{mapped_tells, if_tells, if_splits}
 use Rattle.rr_parse_stmt.specs.Reading.{keyword, no_word}
 use Rattle.rr_grammar.specs.Formats.{Format, IsExact, both, after_mark, shaped, respelled, guarded, list}
 use Rattle.rr_grammar.specs.Leaves.{identifier, Ends, expression, EndsTarget, target_of, flag, spell_option, bare_option, where_mark, range, NoType, typed, choice, of_input, of_output, direction}
-use Rattle.rr_grammar.specs.Declarations.{to_declarator, of_declarator, declarator, to_port, of_port, is_output_reg, has_no_value, starts_right, port, to_setting, of_setting, setting, to_pair, of_pair, pair, of_kind, kind, to_parameter, of_parameter, parameter, is_global, head_parameter}
+use Rattle.rr_grammar.specs.Declarations.{to_declarator, of_declarator, declarator, has_no_words, single, is_variable_name, variable, to_port, of_port, is_output_reg, has_no_value, starts_right, port, to_setting, of_setting, setting, to_pair, of_pair, pair, of_kind, kind, to_parameter, of_parameter, parameter, is_global, head_parameter}
 use Rattle.rr_grammar.proofs.Exacts.{both_exact, after_mark_exact, shaped_exact, respelled_exact, guarded_exact, list_exact, mapped_some}
 use Rattle.rr_grammar.proofs.LeavesExact.{identifier_exact, expression_exact, target_exact, reserved, same, eq_of, flag_exact, where_mark_exact, range_exact, typed_exact, choice_exact, ends_at}
 
@@ -96,18 +96,52 @@ unfolding bare_value
 value_bare None = refl
 value_bare (Some t) = refl
 
-pub declarator_words : (n : DeclaredName) → spell_declarator n ≡ Named n.text ∷ spell_option mark_equals spell n.value
+pub declarator_words : (n : DeclaredName) → spell_declarator n ≡ Named n.text ∷ (spell_range n.words ++ spell_option mark_equals spell n.value)
 unfolding spell_declarator
-declarator_words n = ap (λ (us : List Word). Named n.text ∷ us) (value_words n.value)
+declarator_words n = ap (λ (us : List Word). Named n.text ∷ (spell_range n.words ++ us)) (value_words n.value)
 
-pub declarator_bare : (n : DeclaredName) → bare_declarator n ≡ to_declarator (record { token = 0; text = n.text }, bare_option bare n.value)
+pub declarator_bare : (n : DeclaredName) → bare_declarator n ≡ to_declarator (record { token = 0; text = n.text }, (bare_range n.words, bare_option bare n.value))
 unfolding bare_declarator
-declarator_bare n = ap (λ (v : Option Tree). to_declarator (record { token = 0; text = n.text }, v)) (value_bare n.value)
+declarator_bare n = ap (λ (v : Option Tree). to_declarator (record { token = 0; text = n.text }, (bare_range n.words, v))) (value_bare n.value)
+
+-- no range goes on behind one
+no_range : (v : Option Tree) (left : List Word) → Ends left → mark (spell_option mark_equals spell v ++ left) ≡ mark_open_bracket → ⊥
+unfolding mark
+no_range None left u e = u.no_select e
+no_range (Some t) left u e = absurd (omega (arith, e))
 
 pub declarator_exact : (k : ℕ) → IsExact (declarator k)
 unfolding spell_identifier bare_identifier
-declarator_exact k = respelled_exact (shaped (both identifier (where_mark mark_equals (expression k))) to_declarator of_declarator) (shaped_exact (both identifier (where_mark mark_equals (expression k)))
-    (both_exact identifier (where_mark mark_equals (expression k)) identifier_exact (where_mark_exact (expression k) (expression_exact k) mark_equals (omega arith)) (λ b g left v. tt)) to_declarator of_declarator (λ a. refl)) spell_declarator bare_declarator declarator_words declarator_bare
+declarator_exact k =
+    let w = where_mark_exact (expression k) (expression_exact k) mark_equals (omega arith) in
+    let e = both_exact (range k) (where_mark mark_equals (expression k)) (range_exact k) w (λ v g left u. (tt, no_range v left u.0)) in
+    let f = both_exact identifier (both (range k) (where_mark mark_equals (expression k))) identifier_exact e (λ b g left v. tt) in
+    respelled_exact (shaped (both identifier (both (range k) (where_mark mark_equals (expression k)))) to_declarator of_declarator)
+    (shaped_exact (both identifier (both (range k) (where_mark mark_equals (expression k)))) f to_declarator of_declarator (λ a. refl)) spell_declarator bare_declarator declarator_words declarator_bare
+
+words_are_some : (r : Option Range) → is_some (bare_range r) ≡ is_some r
+unfolding bare_range
+words_are_some None = refl
+words_are_some (Some r) = refl
+
+value_is_some : (v : Option Tree) → is_some (bare_value v) ≡ is_some v
+unfolding bare_value
+value_is_some None = refl
+value_is_some (Some t) = refl
+
+pub words_bare : (n : DeclaredName) → has_no_words (bare_declarator n) ≡ has_no_words n
+unfolding bare_declarator
+words_bare n = ap (λ (b : Bool). not b) (words_are_some n.words)
+
+pub variable_bare : (n : DeclaredName) → is_variable_name (bare_declarator n) ≡ is_variable_name n
+unfolding bare_declarator
+variable_bare n = let e = words_are_some n.words in let f = value_is_some n.value in rw (e, f) refl
+
+pub single_exact : (k : ℕ) → IsExact (single k)
+single_exact k = guarded_exact (declarator k) (declarator_exact k) has_no_words words_bare
+
+pub variable_exact : (k : ℕ) → IsExact (variable k)
+variable_exact k = guarded_exact (declarator k) (declarator_exact k) is_variable_name variable_bare
 
 level-comma : infix_level mark_comma ≡ 0
 unfolding infix_level
@@ -120,8 +154,11 @@ pub not_equals : (m : ℕ) (left : List Word) → (m ≡ mark_equals → ⊥) �
 unfolding mark
 not_equals m left h e = h e
 
-pub declarators_exact : (k : ℕ) → IsExact (list (declarator k))
-declarators_exact k = list_exact (declarator k) (declarator_exact k) (λ left. (comma_ends left, not_equals mark_comma left (λ e. absurd (omega (arith, e)))))
+pub singles_exact : (k : ℕ) → IsExact (list (single k))
+singles_exact k = list_exact (single k) (single_exact k) (λ left. (comma_ends left, not_equals mark_comma left (λ e. absurd (omega (arith, e)))))
+
+pub variables_exact : (k : ℕ) → IsExact (list (variable k))
+variables_exact k = list_exact (variable k) (variable_exact k) (λ left. (comma_ends left, not_equals mark_comma left (λ e. absurd (omega (arith, e)))))
 
 -- ---- ports
 
@@ -137,14 +174,9 @@ typed_front k true r ns h left = plainly_by (((typed k).spell (true, r) ++ spell
 typed_front k false (Some r) ns h left = plainly_by (((typed k).spell (false, Some r) ++ spell_separated spell_declarator ns) ++ left) no_word refl (λ e. absurd (omega (arith, e))) (λ e. absurd (omega (arith, e)))
 typed_front k false None ns h left = plainly_by (spell_separated spell_declarator ns ++ left) no_word (named_word (spell_separated spell_declarator ns ++ left) (names_open ns h left)) (λ e. absurd (omega (arith, e))) (λ e. absurd (omega (arith, e)))
 
-typed_names_exact : (k : ℕ) → IsExact (both (typed k) (list (declarator k)))
-typed_names_exact k = both_exact (typed k) (list (declarator k)) (typed_exact k) (declarators_exact k)
+typed_names_exact : (k : ℕ) → IsExact (both (typed k) (list (single k)))
+typed_names_exact k = both_exact (typed k) (list (single k)) (typed_exact k) (singles_exact k)
     (λ ns g left v. (let o = names_open ns g.0 left in (no_keyword (spell_separated spell_declarator ns ++ left) keyword_signed (named_word (spell_separated spell_declarator ns ++ left) o) (omega arith), no_mark_at (spell_separated spell_declarator ns ++ left) mark_open_bracket (named_mark (spell_separated spell_declarator ns ++ left) o) (omega arith))))
-
-value_is_some : (v : Option Tree) → is_some (bare_value v) ≡ is_some v
-unfolding bare_value
-value_is_some None = refl
-value_is_some (Some t) = refl
 
 bare_starts : (ns : List DeclaredName) → list_all has_no_value (map bare_declarator ns) ≡ list_all has_no_value ns
 unfolding bare_declarator
@@ -158,8 +190,8 @@ starts_bare p = ap (λ (b : Bool). is_output_reg p.dir || b) (bare_starts p.name
 pub port_exact : (k : ℕ) → IsExact (port k)
 unfolding spell_port spell_type bare_port
 port_exact k =
-    let parts = both direction (both (typed k) (list (declarator k))) in
-    let e = both_exact direction (both (typed k) (list (declarator k))) direction_exact (typed_names_exact k) (λ x g left v. typed_front k x.0.0 x.0.1 x.1 g.1.0 left) in
+    let parts = both direction (both (typed k) (list (single k))) in
+    let e = both_exact direction (both (typed k) (list (single k))) direction_exact (typed_names_exact k) (λ x g left v. typed_front k x.0.0 x.0.1 x.1 g.1.0 left) in
     let f = respelled_exact (shaped parts to_port of_port) (shaped_exact parts e to_port of_port (λ a. refl)) spell_port bare_port (λ a. refl) (λ a. refl) in
     guarded_exact (respelled (shaped parts to_port of_port) spell_port bare_port NumberedPort) f starts_right starts_bare
 

@@ -7,10 +7,10 @@ use Rattle.rr_syntax.specs.declared.tree.Dir.TheVariants as dir
 use Rattle.rr_syntax.specs.Tree.{Tree, Trees, End, More, Identifier, Range, PortDeclaration, ParamAssignment, ParameterDeclaration, DeclaredName, NetAssignment, EdgeEvent, EventControl, Star, Edges, Levels, NamedConnection, Connections, Positions, Names, ModuleInstance, ModuleItem, Ports, Nets, Variables, Integers, Parameters, Assigns, Always, Initial, Instances, ModuleDeclaration}
 use Rattle.rr_syntax.specs.Expressions.{WellFormed, WellFormedMore, depth, height, is_target}
 use Rattle.rr_syntax.specs.Statements.{WellFormedStatement, depth_statement}
-use Rattle.rr_syntax.specs.Items.{count, greatest, IsTypedOnce, IsHeader, WellFormedRange, MayStart, WellFormedPort, WellFormedAssignment, WellFormedParameter, WellFormedValue, WellFormedDeclarator, WellFormedPair, WellFormedEvents, WellFormedConnection, WellFormedConnections, WellFormedOverrides, WellFormedInstance, WellFormedItem, WellFormedHead, WellFormedModule, depth_range, depth_port, depth_assignment, depth_parameter, depth_value, depth_declarator, depth_pair, depth_events, depth_connection, depth_connections, depth_overrides, depth_instance, depth_item, height_item, depth_module, height_module}
+use Rattle.rr_syntax.specs.Items.{count, greatest, IsTypedOnce, IsHeader, WellFormedRange, HasNoWords, IsVariableName, MayStart, WellFormedPort, WellFormedAssignment, WellFormedParameter, WellFormedValue, WellFormedDeclarator, WellFormedPair, WellFormedEvents, WellFormedConnection, WellFormedConnections, WellFormedOverrides, WellFormedInstance, WellFormedItem, WellFormedHead, WellFormedModule, depth_range, depth_port, depth_assignment, depth_parameter, depth_value, depth_declarator, depth_pair, depth_events, depth_connection, depth_connections, depth_overrides, depth_instance, depth_item, height_item, depth_module, height_module}
 use Rattle.rr_grammar.specs.Formats.{Format, list}
 use Rattle.rr_grammar.specs.Leaves.{identifier, expression, range, AllOption}
-use Rattle.rr_grammar.specs.Declarations.{declarator, is_output_reg, has_no_value, port, setting, pair, parameter, head_parameter}
+use Rattle.rr_grammar.specs.Declarations.{declarator, has_no_words, single, is_variable_name, variable, is_output_reg, has_no_value, port, setting, pair, parameter, head_parameter}
 use Rattle.rr_grammar.specs.Parts.{AllTrees, edge, events}
 use Rattle.rr_grammar.specs.Connections.{optional_closed, connection, connections, overrides, one_instance}
 use Rattle.rr_grammar.specs.ItemForms.{item}
@@ -41,14 +41,14 @@ value_good k (Some t) w d = (w, omega (arith, d))
 
 declarator_good : (k : ℕ) (n : DeclaredName) → WellFormedDeclarator n → depth_declarator n ≤ suc k → (declarator k).Good n
 unfolding WellFormedDeclarator depth_declarator
-declarator_good k n w d = (tt, value_good k n.value w d)
+declarator_good k n w d = (tt, (range_good k n.words w.0 (omega (arith, d)), value_good k n.value w.1 (omega (arith, d))))
 
 -- the names of a port pass the test exactly where each may have the value that it has
-none_good : (v : Option Tree) → IsNone v → not (is_some v) ≡ true
+none_good : {A : Type 0} (v : Option A) → IsNone v → not (is_some v) ≡ true
 none_good None w = refl
 none_good (Some t) w = absurd (cc w)
 
-none_back : (v : Option Tree) → not (is_some v) ≡ true → IsNone v
+none_back : {A : Type 0} (v : Option A) → not (is_some v) ≡ true → IsNone v
 none_back None e = refl
 none_back (Some t) e = absurd cc
 
@@ -80,6 +80,45 @@ starts_back dir.InputWire ns e = values_back ns e
 starts_back dir.Output ns e = values_back ns e
 starts_back dir.OutputWire ns e = values_back ns e
 
+-- the names of ports and nets, and those of variables, pass their tests
+either_true : (a b : Bool) → (a ≡ true) ⊎ (b ≡ true) → (a || b) ≡ true
+either_true true b w = refl
+either_true false b (inl w) = absurd (cc w)
+either_true false b (inr w) = w
+
+either_back : (a b : Bool) → (a || b) ≡ true → (a ≡ true) ⊎ (b ≡ true)
+either_back true b e = inl refl
+either_back false b e = inr e
+
+pub words_back : (n : DeclaredName) → has_no_words n ≡ true → HasNoWords n
+words_back n e = none_back n.words e
+
+pub variable_back : (n : DeclaredName) → is_variable_name n ≡ true → IsVariableName n
+variable_back n e = elim (either_back (has_no_words n) (has_no_value n) e) [ inl h ↦ inl (none_back n.words h) | inr h ↦ inr (none_back n.value h) ]
+
+abbrev pub WellFormedSingle : DeclaredName → Type 0
+WellFormedSingle n = WellFormedDeclarator n × HasNoWords n
+
+abbrev pub WellFormedVariable : DeclaredName → Type 0
+WellFormedVariable n = WellFormedDeclarator n × IsVariableName n
+
+single_good : (k : ℕ) (n : DeclaredName) → WellFormedSingle n → depth_declarator n ≤ suc k → (single k).Good n
+single_good k n w d = (declarator_good k n w.0 d, none_good n.words w.1)
+
+variable_good : (k : ℕ) (n : DeclaredName) → WellFormedVariable n → depth_declarator n ≤ suc k → (variable k).Good n
+variable_good k n w d =
+    (declarator_good k n w.0 d, either_true (has_no_words n) (has_no_value n) (elim (w.1) [ inl h ↦ inl (none_good n.words h) | inr h ↦ inr (none_good n.value h) ]))
+
+together : {A : Type 0} (P Q : A → Type 0) (xs : List A) → AllByRecursion P xs → AllByRecursion Q xs → AllByRecursion (λ x. P x × Q x) xs
+together P Q [] p q = tt
+together P Q (x ∷ xs) p q = ((p.0, q.0), together P Q xs p.1 q.1)
+
+singles_good : (k : ℕ) (ns : List DeclaredName) → AllByRecursion WellFormedDeclarator ns → AllByRecursion HasNoWords ns → greatest depth_declarator ns ≤ suc k → AllByRecursion (single k).Good ns
+singles_good k ns w h d = all_by WellFormedSingle (single k).Good depth_declarator (suc k) (single_good k) ns (together WellFormedDeclarator HasNoWords ns w h) d
+
+variables_good : (k : ℕ) (ns : List DeclaredName) → AllByRecursion WellFormedDeclarator ns → AllByRecursion IsVariableName ns → greatest depth_declarator ns ≤ suc k → AllByRecursion (variable k).Good ns
+variables_good k ns w h d = all_by WellFormedVariable (variable k).Good depth_declarator (suc k) (variable_good k) ns (together WellFormedDeclarator IsVariableName ns w h) d
+
 port_good : (k : ℕ) (p : PortDeclaration) → WellFormedPort p → depth_port p ≤ suc k → (port k).Good p
 unfolding WellFormedPort depth_port
 port_good k p w d = (
@@ -87,7 +126,7 @@ port_good k p w d = (
     tt,
     (
       (tt, range_good k p.range w.0 (omega (arith, d))),
-      (w.1, all_by WellFormedDeclarator (declarator k).Good depth_declarator (suc k) (declarator_good k) p.names w.2 (omega (arith, d))),
+      (w.1, singles_good k p.names w.2 w.4 (omega (arith, d))),
     ),
   ),
   starts_good p.dir p.names w.3,
@@ -153,8 +192,8 @@ instance_good k i w d = (tt, connections_good k i.connections w d)
 pub item_good : (k : ℕ) (i : ModuleItem) → WellFormedItem i → depth_item i ≤ suc k → (item k).Good i
 unfolding WellFormedItem depth_item
 item_good k (Ports p) w d = inl (port_good k p w d)
-item_good k (Nets s r ns) w d = inr (inl ((tt, range_good k r w.0 (omega (arith, d))), (w.1, all_by WellFormedDeclarator (declarator k).Good depth_declarator (suc k) (declarator_good k) ns w.2 (omega (arith, d)))))
-item_good k (Variables s r ns) w d = inr (inr (inl ((tt, range_good k r w.0 (omega (arith, d))), (w.1, all_by WellFormedDeclarator (declarator k).Good depth_declarator (suc k) (declarator_good k) ns w.2 (omega (arith, d))))))
+item_good k (Nets s r ns) w d = inr (inl ((tt, range_good k r w.0 (omega (arith, d))), (w.1, singles_good k ns w.2 w.3 (omega (arith, d)))))
+item_good k (Variables s r ns) w d = inr (inr (inl ((tt, range_good k r w.0 (omega (arith, d))), (w.1, variables_good k ns w.2 w.3 (omega (arith, d))))))
 item_good k (Integers ns) w d = inr (inr (inr (inl (names_good ns w))))
 item_good k (Parameters p) w d = inr (inr (inr (inr (inl (parameter_good k p w d)))))
 item_good k (Assigns ps) w d = inr (inr (inr (inr (inr (inl (w.0, all_by WellFormedPair (pair k).Good depth_pair (suc k) (pair_good k) ps w.1 d))))))

@@ -15,13 +15,13 @@ use Rattle.rr_parse_stmt.proofs.Complete.{reads_statement}
 use Rattle.rr_parse_stmt.proofs.Sound.{FitsStatement, statement_sound}
 use Rattle.rr_grammar.specs.Formats.{Format, IsExact, IsImage, both, after_mark, after_word, before_mark, position, guarded, imaged, list, choose}
 use Rattle.rr_grammar.specs.Leaves.{identifier, Ends, NoType, typed}
-use Rattle.rr_grammar.specs.Declarations.{port, declarator, pair, parameter}
+use Rattle.rr_grammar.specs.Declarations.{port, single, variable, pair, parameter}
 use Rattle.rr_grammar.specs.Parts.{events}
 use Rattle.rr_grammar.specs.Connections.{overrides, one_instance}
 use Rattle.rr_grammar.specs.ItemForms.{NoElse, statement_of, words_of_ports, to_ports, Good_ports, ports_item, words_of_nets, to_nets, Good_nets, nets_item, words_of_variables, to_variables, Good_variables, variables_item, words_of_integers, to_integers, Good_integers, integers_item, words_of_parameters, to_parameters, Good_parameters, parameters_item, words_of_assigns, to_assigns, Good_assigns, assigns_item, words_of_always, to_always, Good_always, always_item, words_of_initial, to_initial, Good_initial, initial_item, words_of_instances, to_instances, Good_instances, instances_item, begins_ports, front_ports, from_ports, begins_nets, front_nets, from_nets, begins_variables, front_variables, from_variables, begins_integers, front_integers, from_integers, begins_parameters, front_parameters, from_parameters, begins_assigns, front_assigns, from_assigns, begins_always, front_always, from_always, begins_initial, front_initial, from_initial, item}
 use Rattle.rr_grammar.proofs.Exacts.{both_exact, after_mark_exact, after_word_exact, before_mark_exact, position_exact, list_exact, guarded_exact, imaged_exact, choose_exact, Tells, tells_choose}
 use Rattle.rr_grammar.proofs.LeavesExact.{identifier_exact, typed_exact, ends_at}
-use Rattle.rr_grammar.proofs.DeclarationsExact.{OpensNamed, names_open, named_word, named_mark, no_keyword, no_mark_at, comma_ends, not_equals, declarators_exact, port_exact, pair_exact, parameter_exact}
+use Rattle.rr_grammar.proofs.DeclarationsExact.{OpensNamed, names_open, named_word, named_mark, no_keyword, no_mark_at, comma_ends, not_equals, singles_exact, variables_exact as names_exact, port_exact, pair_exact, parameter_exact}
 use Rattle.rr_grammar.proofs.PartsExact.{events_exact}
 use Rattle.rr_grammar.proofs.ConnectionsExact.{overrides_exact, instance_exact}
 
@@ -55,8 +55,11 @@ names_before ns h left =
     let us : List Word = spell_separated spell_declarator ns ++ (Marked mark_semicolon ∷ []) in
     no_type (us ++ left) (opens_behind us left (names_open ns h (Marked mark_semicolon ∷ [])))
 
-names_end : (k : ℕ) (left : List Word) → (list (declarator k)).Before (Marked mark_semicolon ∷ left)
-names_end k left = ((semicolon_ends left, not_equals mark_semicolon left (λ e. absurd (omega (arith, e)))), no_comma (declarator k).read left)
+names_end : (k : ℕ) (left : List Word) → (list (single k)).Before (Marked mark_semicolon ∷ left)
+names_end k left = ((semicolon_ends left, not_equals mark_semicolon left (λ e. absurd (omega (arith, e)))), no_comma (single k).read left)
+
+variables_end : (k : ℕ) (left : List Word) → (list (variable k)).Before (Marked mark_semicolon ∷ left)
+variables_end k left = ((semicolon_ends left, not_equals mark_semicolon left (λ e. absurd (omega (arith, e)))), no_comma (variable k).read left)
 
 instances_open : (is : List ModuleInstance) → 0 < length is → (left : List Word) → OpensNamed ((spell_separated spell_instance is ++ (Marked mark_semicolon ∷ [])) ++ left)
 unfolding spell_separated spell_instance
@@ -90,7 +93,7 @@ ports_exact : (k : ℕ) → IsExact (ports_item k)
 ports_exact k = imaged_exact (words_of_ports k) (words_of_ports_exact k) to_ports spell_item bare_item (Good_ports (words_of_ports k).Good) (ports_image k)
 
 words_of_nets_exact : (k : ℕ) → IsExact (words_of_nets k)
-words_of_nets_exact k = after_word_exact (both (typed k) (before_mark (list (declarator k)) mark_semicolon)) (both_exact (typed k) (before_mark (list (declarator k)) mark_semicolon) (typed_exact k) (before_mark_exact (list (declarator k)) (declarators_exact k) mark_semicolon (omega arith) (names_end k)) (λ ns g left v. names_before ns g.0 left)) keyword_wire (omega arith)
+words_of_nets_exact k = after_word_exact (both (typed k) (before_mark (list (single k)) mark_semicolon)) (both_exact (typed k) (before_mark (list (single k)) mark_semicolon) (typed_exact k) (before_mark_exact (list (single k)) (singles_exact k) mark_semicolon (omega arith) (names_end k)) (λ ns g left v. names_before ns g.0 left)) keyword_wire (omega arith)
 
 nets_from : (P : (Bool × Option Range) × List DeclaredName → Type 0) (i : ModuleItem) → Good_nets P i → (Bool × Option Range) × List DeclaredName
 nets_from P (Nets s r ns) w = ((s, r), ns)
@@ -114,7 +117,7 @@ nets_exact : (k : ℕ) → IsExact (nets_item k)
 nets_exact k = imaged_exact (words_of_nets k) (words_of_nets_exact k) to_nets spell_item bare_item (Good_nets (words_of_nets k).Good) (nets_image k)
 
 words_of_variables_exact : (k : ℕ) → IsExact (words_of_variables k)
-words_of_variables_exact k = after_word_exact (both (typed k) (before_mark (list (declarator k)) mark_semicolon)) (both_exact (typed k) (before_mark (list (declarator k)) mark_semicolon) (typed_exact k) (before_mark_exact (list (declarator k)) (declarators_exact k) mark_semicolon (omega arith) (names_end k)) (λ ns g left v. names_before ns g.0 left)) keyword_reg (omega arith)
+words_of_variables_exact k = after_word_exact (both (typed k) (before_mark (list (variable k)) mark_semicolon)) (both_exact (typed k) (before_mark (list (variable k)) mark_semicolon) (typed_exact k) (before_mark_exact (list (variable k)) (names_exact k) mark_semicolon (omega arith) (variables_end k)) (λ ns g left v. names_before ns g.0 left)) keyword_reg (omega arith)
 
 variables_from : (P : (Bool × Option Range) × List DeclaredName → Type 0) (i : ModuleItem) → Good_variables P i → (Bool × Option Range) × List DeclaredName
 variables_from P (Variables s r ns) w = ((s, r), ns)

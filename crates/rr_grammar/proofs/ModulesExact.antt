@@ -11,7 +11,7 @@ use Rattle.rr_parse_expr.proofs.Answered.{not_equal}
 use Rattle.rr_parse_stmt.specs.Reading.{keyword, no_word, name}
 use Rattle.rr_grammar.specs.Formats.{Format, IsExact, IsImage, Anything, both, after_mark, after_word, before_mark, before_word, shaped, respelled, narrowed, imaged, list, repeated, choose, nothing_of}
 use Rattle.rr_grammar.specs.Leaves.{identifier}
-use Rattle.rr_grammar.specs.Declarations.{declarator, port, setting, head_parameter}
+use Rattle.rr_grammar.specs.Declarations.{single, port, setting, head_parameter}
 use Rattle.rr_grammar.specs.Connections.{front_close}
 use Rattle.rr_grammar.specs.ItemForms.{NoElse, item, begins_ports, front_ports}
 use Rattle.rr_grammar.specs.ModuleForms.{front_hash, NoHash, as_they_are, IsNil, some_heads, no_heads, heads, PortList, ports_words, ports_inside, bare_ports, BothNil, AreGroups, AreNames, to_groups, to_names, empty_ports, group_ports, name_ports, ports_in, front_open, NoOpen, same_ports, with_ports, NoPorts, without_ports, port_list, Parts, to_module, of_module, module_words, one_module, modules, ports_numbered}
@@ -43,7 +43,7 @@ comma_stops : (k : ℕ) (p : ParameterDeclaration) (left : List Word) → expect
 unfolding spell_parameter
 comma_stops k p left = expect_comma (setting k).read _ (no_setting k (cond p.local keyword_localparam keyword_parameter) _)
 
-dir_name : (k : ℕ) (d : Dir) (ws : List Word) → (declarator k).read (spell_dir d ++ ws) ≡ None
+dir_name : (k : ℕ) (d : Dir) (ws : List Word) → (single k).read (spell_dir d ++ ws) ≡ None
 unfolding spell_dir mapped chain name
 dir_name k dir.Input ws = refl
 dir_name k dir.InputWire ws = refl
@@ -52,9 +52,9 @@ dir_name k dir.OutputWire ws = refl
 dir_name k dir.OutputReg ws = refl
 
 -- a port declaration begins with a reserved word
-name_stops : (k : ℕ) (p : PortDeclaration) (left : List Word) → expect mark_comma (declarator k).read (Marked mark_comma ∷ (spell_port p ++ left)) ≡ None
+name_stops : (k : ℕ) (p : PortDeclaration) (left : List Word) → expect mark_comma (single k).read (Marked mark_comma ∷ (spell_port p ++ left)) ≡ None
 unfolding spell_port
-name_stops k p left = expect_comma (declarator k).read _ (ap (declarator k).read (append_assoc (spell_dir p.dir) (spell_type p.signed p.range ++ spell_separated spell_declarator p.names) left) ∙ dir_name k p.dir _)
+name_stops k p left = expect_comma (single k).read _ (ap (single k).read (append_assoc (spell_dir p.dir) (spell_type p.signed p.range ++ spell_separated spell_declarator p.names) left) ∙ dir_name k p.dir _)
 
 pub heads_words : (k : ℕ) (ps : List ParameterDeclaration) → (list (head_parameter k)).Good ps → spell_parameters ps ≡ Marked mark_hash ∷ (Marked mark_open_parenthesis ∷ (spell_separated spell_parameter ps ++ (Marked mark_close_parenthesis ∷ [])))
 unfolding spell_parameters
@@ -117,7 +117,7 @@ group_exact : (k : ℕ) → IsExact (group_ports k)
 unfolding spell_ports spell_separated rest bare_header
 group_exact k = imaged_exact (before_mark (list (port k)) mark_close_parenthesis)
     (before_mark_exact (list (port k)) (list_exact_by (port k) (port_exact k) (λ p g left. ((comma_ends (spell_port p ++ left), not_equals mark_comma (spell_port p ++ left) (λ e. absurd (omega (arith, e)))), name_stops k p left)))
-    mark_close_parenthesis (omega arith) (λ left. (((close_ends left, not_equals mark_close_parenthesis left (λ e. absurd (omega (arith, e)))), no_comma (declarator k).read left), no_comma (port k).read left)))
+    mark_close_parenthesis (omega arith) (λ left. (((close_ends left, not_equals mark_close_parenthesis left (λ e. absurd (omega (arith, e)))), no_comma (single k).read left), no_comma (port k).read left)))
     to_groups ports_inside bare_ports (λ x. AreGroups (list (port k)).Good x.0 x.1)
     (record { from = λ b w. b.1; from_good = λ b w. group_from_good (list (port k)).Good b.0 b.1 w; from_is = λ b w. group_is (list (port k)).Good b.0 b.1 w; good = λ a w. (refl, w); spelled = λ a w. refl; bared = λ a. refl })
 

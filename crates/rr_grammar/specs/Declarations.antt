@@ -22,15 +22,32 @@ of_setting a = (record { token = a.token; text = a.text }, a.value)
 abbrev pub setting : ℕ → Format ParamAssignment
 setting k = respelled (shaped (both identifier (after_mark mark_equals (expression k))) to_setting of_setting) spell_assignment bare_assignment NumberedAssignment
 
-abbrev pub to_declarator : Identifier × Option Tree → DeclaredName
-to_declarator x = record { token = x.0.token; text = x.0.text; value = x.1 }
+abbrev pub to_declarator : Identifier × (Option Range × Option Tree) → DeclaredName
+to_declarator x = record { token = x.0.token; text = x.0.text; words = x.1.0; value = x.1.1 }
 
-abbrev pub of_declarator : DeclaredName → Identifier × Option Tree
-of_declarator n = (record { token = n.token; text = n.text }, n.value)
+abbrev pub of_declarator : DeclaredName → Identifier × (Option Range × Option Tree)
+of_declarator n = (record { token = n.token; text = n.text }, (n.words, n.value))
 
--- a net and what drives it, or a variable and its starting value (sections 6.1.1 and 6.2.1, annex A.2.4)
+-- a name, the range of a memory's words and a value, where they stand (sections 4.9.3, 6.1.1 and 6.2.1, annex A.2.4)
 abbrev pub declarator : ℕ → Format DeclaredName
-declarator k = respelled (shaped (both identifier (where_mark mark_equals (expression k))) to_declarator of_declarator) spell_declarator bare_declarator NumberedDeclarator
+declarator k = respelled (shaped (both identifier (both (range k) (where_mark mark_equals (expression k)))) to_declarator of_declarator) spell_declarator bare_declarator NumberedDeclarator
+
+abbrev pub has_no_words : DeclaredName → Bool
+has_no_words n = not (is_some n.words)
+
+abbrev pub has_no_value : DeclaredName → Bool
+has_no_value n = not (is_some n.value)
+
+-- a net and what drives it, or a port
+abbrev pub single : ℕ → Format DeclaredName
+single k = guarded (declarator k) has_no_words
+
+abbrev pub is_variable_name : DeclaredName → Bool
+is_variable_name n = has_no_words n || has_no_value n
+
+-- a variable and its starting value, or a memory, which has none
+abbrev pub variable : ℕ → Format DeclaredName
+variable k = guarded (declarator k) is_variable_name
 
 abbrev pub to_port : Dir × ((Bool × Option Range) × List DeclaredName) → PortDeclaration
 to_port x = record { dir = x.0; signed = x.1.0.0; range = x.1.0.1; names = x.1.1 }
@@ -45,16 +62,13 @@ is_output_reg dir.Output = false
 is_output_reg dir.OutputWire = false
 is_output_reg dir.OutputReg = true
 
-abbrev pub has_no_value : DeclaredName → Bool
-has_no_value n = not (is_some n.value)
-
 -- only ports that are declared `output reg` have starting values (section 12.3.3, annex A.2.3)
 abbrev pub starts_right : PortDeclaration → Bool
 starts_right p = is_output_reg p.dir || list_all has_no_value p.names
 
 -- section 12.3.3, annex A.2.1.2
 abbrev pub port : ℕ → Format PortDeclaration
-port k = guarded (respelled (shaped (both direction (both (typed k) (list (declarator k)))) to_port of_port) spell_port bare_port NumberedPort) starts_right
+port k = guarded (respelled (shaped (both direction (both (typed k) (list (single k)))) to_port of_port) spell_port bare_port NumberedPort) starts_right
 
 abbrev pub to_pair : Tree × Tree → NetAssignment
 to_pair x = record { target = x.0; value = x.1 }

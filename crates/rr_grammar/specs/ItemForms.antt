@@ -9,7 +9,7 @@ use Rattle.rr_parse_expr.specs.Reading.{mark}
 use Rattle.rr_parse_stmt.specs.Reading.{keyword, statement}
 use Rattle.rr_grammar.specs.Formats.{Format, both, after_mark, after_word, before_mark, before_word, position, shaped, respelled, guarded, imaged, list, repeated, choose, nothing_of}
 use Rattle.rr_grammar.specs.Leaves.{identifier, typed}
-use Rattle.rr_grammar.specs.Declarations.{port, declarator, pair, parameter, head_parameter}
+use Rattle.rr_grammar.specs.Declarations.{port, single, variable, pair, parameter, head_parameter}
 use Rattle.rr_grammar.specs.Parts.{events}
 use Rattle.rr_grammar.specs.Connections.{overrides, one_instance}
 
@@ -33,7 +33,7 @@ abbrev pub ports_item : ℕ → Format ModuleItem
 ports_item k = imaged (words_of_ports k) to_ports spell_item bare_item (Good_ports (words_of_ports k).Good) NumberedItem
 
 abbrev pub words_of_nets : ℕ → Format ((Bool × Option Range) × List DeclaredName)
-words_of_nets k = after_word keyword_wire (both (typed k) (before_mark (list (declarator k)) mark_semicolon))
+words_of_nets k = after_word keyword_wire (both (typed k) (before_mark (list (single k)) mark_semicolon))
 
 abbrev pub to_nets : (Bool × Option Range) × List DeclaredName → ModuleItem
 to_nets x = Nets x.0.0 x.0.1 x.1
@@ -46,7 +46,7 @@ abbrev pub nets_item : ℕ → Format ModuleItem
 nets_item k = imaged (words_of_nets k) to_nets spell_item bare_item (Good_nets (words_of_nets k).Good) NumberedItem
 
 abbrev pub words_of_variables : ℕ → Format ((Bool × Option Range) × List DeclaredName)
-words_of_variables k = after_word keyword_reg (both (typed k) (before_mark (list (declarator k)) mark_semicolon))
+words_of_variables k = after_word keyword_reg (both (typed k) (before_mark (list (variable k)) mark_semicolon))
 
 abbrev pub to_variables : (Bool × Option Range) × List DeclaredName → ModuleItem
 to_variables x = Variables x.0.0 x.0.1 x.1

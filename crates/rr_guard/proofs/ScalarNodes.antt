@@ -19,7 +19,7 @@ use Rattle.std.specs.List.{list_any}
 use Rattle.std.specs.Str.{bytes_eq}
 use Rattle.rr_flat.specs.Signals.{Text}
 use Rattle.rr_guard.proofs.Sets.{same_named}
-use Rattle.rr_guard.specs.Names.{texts_of, with_first, firsts, scalars_if, net_name, port_scalars, item_scalars, scalars}
+use Rattle.rr_guard.specs.Names.{texts_of, with_first, firsts, scalars_if, net_name, unless_words, wordless_name, port_scalars, item_scalars, scalars}
 use denote.Ref.{Bor}
 
 pub port-None : (acc : List Identifier) (g : Group) → g.range ≡ None → acc ++ port_scalars (plain_port g) ≡ acc ++ map net_name (map plain_declarator g.names.now)
@@ -29,6 +29,16 @@ port-None acc g e = ap (λ r. acc ++ scalars_if (plain_range r) (map net_name (m
 pub port-Some : (acc : List Identifier) (g : Group) (b : Bounds) → g.range ≡ Some b → acc ++ port_scalars (plain_port g) ≡ acc
 unfolding plain_port plain_range
 port-Some acc g b e = ap (λ r. acc ++ scalars_if (plain_range r) (map net_name (map plain_declarator g.names.now))) e ∙ append-nil acc
+
+pub wordless-None : (acc : List Identifier) (n : Declarator) → n.words ≡ None → acc ++ wordless_name (plain_declarator n) ≡ acc ++ net_name (plain_declarator n) ∷ []
+unfolding plain_declarator plain_range
+wordless-None acc n e = ap (λ r. acc ++ unless_words (plain_range r) (net_name (plain_declarator n))) e
+
+pub wordless-Some : (acc : List Identifier) (n : Declarator) (b : Bounds) → n.words ≡ Some b → acc ++ wordless_name (plain_declarator n) ≡ acc
+unfolding plain_declarator plain_range
+wordless-Some acc n b e = ap (λ r. acc ++ unless_words (plain_range r) (net_name (plain_declarator n))) e ∙ append-nil acc
+
+pub ruleset wordless_nodes = (wordless-None, wordless-Some)
 
 pub ruleset port_nodes = (port-None, port-Some)
 
@@ -44,7 +54,7 @@ pub nets-Some : (acc : List Identifier) (signed : Bool) (b : Bounds) (names : Bo
 unfolding plain_item item_scalars plain_range
 nets-Some acc signed b names = append-nil acc
 
-pub variables-None : (acc : List Identifier) (signed : Bool) (names : Bor (List Declarator)) → acc ++ item_scalars (plain_item (item.Variables signed None names)) ≡ acc ++ map net_name (map plain_declarator names.now)
+pub variables-None : (acc : List Identifier) (signed : Bool) (names : Bor (List Declarator)) → acc ++ item_scalars (plain_item (item.Variables signed None names)) ≡ acc ++ flat_map wordless_name (map plain_declarator names.now)
 unfolding plain_item item_scalars plain_range
 variables-None acc signed names = refl
 

@@ -20,13 +20,21 @@ scalars_if (Some r) names = []
 abbrev pub net_name : DeclaredName → Identifier
 net_name n = record { token = n.token; text = n.text }
 
+-- a variable with words is a memory, no scalar (section 4.9.3)
+abbrev pub unless_words : Option Range → Identifier → List Identifier
+unless_words None x = x ∷ []
+unless_words (Some r) x = []
+
+abbrev pub wordless_name : DeclaredName → List Identifier
+wordless_name n = unless_words n.words (net_name n)
+
 abbrev pub port_scalars : PortDeclaration → List Identifier
 port_scalars p = scalars_if p.range (map net_name p.names)
 
 unfoldable pub item_scalars : ModuleItem → List Identifier
 item_scalars (Ports p) = port_scalars p
 item_scalars (Nets signed range list) = scalars_if range (map net_name list)
-item_scalars (Variables signed range list) = scalars_if range (map net_name list)
+item_scalars (Variables signed range list) = scalars_if range (flat_map wordless_name list)
 item_scalars (Integers list) = []
 item_scalars (Parameters p) = []
 item_scalars (Assigns pairs) = []
@@ -34,8 +42,8 @@ item_scalars (Always events body token) = []
 item_scalars (Initial s token) = []
 item_scalars (Instances m token overrides list) = []
 
--- the inputs, nets and variables of a module that are declared without a range and not as `integer`, in the order of their
--- declarations
+-- the inputs, nets and variables of a module that are declared without a range, not as `integer` and as no memory, in the order
+-- of their declarations
 unfoldable pub scalars : ModuleDeclaration → List Identifier
 scalars m = flat_map port_scalars m.groups ++ flat_map item_scalars m.items
 

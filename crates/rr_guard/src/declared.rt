@@ -1,8 +1,8 @@
-//! The names that a module declares without a range and not as `integer`.
+//! The names that a module declares without a range, not as `integer` and as no memory.
 
 ghost use Rattle.std.specs.Prelude.{◌≡◌, ◌++◌, ◌∷◌, [], IfOk, OnOk, flat_map, map};
 ghost use Rattle.rr_syntax.specs.View.{plain_identifier, plain_item, plain_module, plain_declarator, plain_port};
-ghost use Rattle.rr_guard.specs.Names.{firsts, item_scalars, net_name, port_scalars, scalars as scalars_of, texts_of, with_first};
+ghost use Rattle.rr_guard.specs.Names.{firsts, item_scalars, net_name, port_scalars, scalars as scalars_of, texts_of, with_first, wordless_name};
 
 use crate::texts::TextSet;
 use rr_syntax::{Declarator, Group, Item, Module, Named};
@@ -35,6 +35,26 @@ fn add_declared<'a>(list: &mut Vec<Named<'a>>, names: &[Declarator<'a>]) -> Resu
     Ok(())
 }
 
+/// A variable with words is a memory, which is no scalar.
+#[tactic(auto, using(crate::proofs::ScalarNodes::wordless_nodes))]
+fn push_wordless<'a>(list: &mut Vec<Named<'a>>, name: &Declarator<'a>) -> Result<(), AllocError>
+    ensures { OnOk result (map plain_identifier list.new.items ≡ map plain_identifier list.old.items ++ wordless_name (plain_declarator name.now)) }
+{
+    match name.words {
+        None => push_declared(list, name),
+        Some(_) => Ok(()),
+    }
+}
+
+fn add_variables<'a>(list: &mut Vec<Named<'a>>, names: &[Declarator<'a>]) -> Result<(), AllocError>
+    ensures { OnOk result (map plain_identifier list.new.items ≡ map plain_identifier list.old.items ++ flat_map wordless_name (map plain_declarator names.now)) }
+{
+    for name in names.iter() {
+        push_wordless(list, name)?;
+    }
+    Ok(())
+}
+
 #[tactic(auto, using(crate::proofs::ScalarNodes::port_nodes))]
 fn add_port<'a>(list: &mut Vec<Named<'a>>, group: &Group<'a>) -> Result<(), AllocError>
     ensures { OnOk result (map plain_identifier list.new.items ≡ map plain_identifier list.old.items ++ port_scalars (plain_port group.now)) }
@@ -55,12 +75,12 @@ fn add_item<'a>(list: &mut Vec<Named<'a>>, item: &Item<'a>) -> Result<(), AllocE
             range: None,
             names,
             ..
-        }
-        | Item::Variables {
+        } => add_declared(list, names),
+        Item::Variables {
             range: None,
             names,
             ..
-        } => add_declared(list, names),
+        } => add_variables(list, names),
         Item::Nets { range: Some(_), .. }
         | Item::Variables { range: Some(_), .. }
         | Item::Integers { .. }

@@ -131,7 +131,7 @@ module _ (ss : List Site) (ps : List Pick) where
 
   net_exists : (n : DeclaredName) → StandsNet ss ps n (instance_net ss ps n)
   unfolding instance_net
-  net_exists n = (refl, value_exists n.value)
+  net_exists n = (refl, refl, value_exists n.value)
 
   pair_exists : (p : NetAssignment) → StandsPair ss ps p (instance_pair ss ps p)
   unfolding instance_pair
@@ -302,7 +302,7 @@ module _ (ss : List Site) (ps : List Pick) where
 
   net_same : (n m : DeclaredName) → StandsNet ss ps n m → bare_declarator m ≡ bare_declarator (instance_net ss ps n)
   unfolding instance_net bare_declarator
-  net_same n m h i = record { token = 0; text = h.0 i; value = value_same n.value m.value h.1 i }
+  net_same n m h i = record { token = 0; text = h.0 i; words = h.1 i; value = value_same n.value m.value h.2 i }
 
   pair_same : (p q : NetAssignment) → StandsPair ss ps p q → bare_pair q ≡ bare_pair (instance_pair ss ps p)
   unfolding instance_pair bare_pair

@@ -109,7 +109,7 @@ StandsValue ss ps (Some t) None = ⊥
 StandsValue ss ps (Some t) (Some u) = Stands ss ps t u
 
 abbrev pub StandsNet : List Site → List Pick → DeclaredName → DeclaredName → Type 0
-StandsNet ss ps n m = (m.text ≡ n.text) × StandsValue ss ps n.value m.value
+StandsNet ss ps n m = (m.text ≡ n.text) × (bare_range m.words ≡ bare_range n.words) × StandsValue ss ps n.value m.value
 
 abbrev pub StandsPair : List Site → List Pick → NetAssignment → NetAssignment → Type 0
 StandsPair ss ps p q = IsSame q.target p.target × Stands ss ps p.value q.value

@@ -6,7 +6,7 @@ use Rattle.rr_syntax.specs.Words.{Word, Named, Reserved, Marked, keyword_always,
 use Rattle.rr_syntax.specs.Tree.{Tree, Statement, Null, Block, If, IfElse, Case, Assign, For, DeclaredName, NetAssignment, NamedConnection, Connections, Positions, Names, ModuleInstance, ModuleItem, Ports, Nets, Variables, Integers, Parameters, Assigns, Always, Initial, Instances, ModuleDeclaration, SourceText}
 use Rattle.rr_syntax.specs.Expressions.{spell}
 use Rattle.rr_syntax.specs.Statements.{spell_statement}
-use Rattle.rr_syntax.specs.Items.{spell_each, spell_separated, spell_all, spell_type, spell_value, spell_declarator, spell_pair, spell_events, spell_optional, spell_connection, spell_connections, spell_overrides, spell_instance, spell_item, spell_parameters, spell_ports, spell_module, spell_source, WellFormedValue, WellFormedDeclarator, WellFormedPair, WellFormedConnection, WellFormedConnections, WellFormedInstance, WellFormedItem, WellFormedModule, WellFormedSource, NumberedEach, NumberedSeparated, NumberedAll, NumberedValue, NumberedDeclarator, NumberedPair, NumberedConnection, NumberedConnections, NumberedInstance, NumberedItem, NumberedModule, NumberedSource}
+use Rattle.rr_syntax.specs.Items.{spell_each, spell_separated, spell_all, spell_range, spell_type, spell_value, spell_declarator, spell_pair, spell_events, spell_optional, spell_connection, spell_connections, spell_overrides, spell_instance, spell_item, spell_parameters, spell_ports, spell_module, spell_source, WellFormedValue, WellFormedDeclarator, WellFormedPair, WellFormedConnection, WellFormedConnections, WellFormedInstance, WellFormedItem, WellFormedModule, WellFormedSource, NumberedEach, NumberedSeparated, NumberedAll, NumberedValue, NumberedDeclarator, NumberedPair, NumberedConnection, NumberedConnections, NumberedInstance, NumberedItem, NumberedModule, NumberedSource}
 use Rattle.rr_choice.specs.declared.pick.Pick.{Pick}
 use Rattle.rr_choice.specs.Sites.{Site}
 use Rattle.rr_respell.specs.Pieces.{Piece}
@@ -98,7 +98,7 @@ module _ (T P : ℕ → Type 0) where
 
     net_lifts : (x : DeclaredName) (at : ℕ) → WellFormedDeclarator x → NumberedDeclarator x at → Lifts T P at (net_pieces ss ps x) (spell_declarator x)
     unfolding net_pieces spell_declarator WellFormedDeclarator NumberedDeclarator
-    net_lifts x at w n = keep (Named x.text) (value_lifts x.value (at + 1) w n.1)
+    net_lifts x at w n = keep (Named x.text) (join (words (spell_range x.words)) (value_lifts x.value (at + 1 + length (spell_range x.words)) w.1 n.2))
 
     pair_lifts : (p : NetAssignment) (at : ℕ) → WellFormedPair p → NumberedPair p at → Lifts T P at (pair_pieces ss ps p) (spell_pair p)
     unfolding pair_pieces spell_pair WellFormedPair NumberedPair

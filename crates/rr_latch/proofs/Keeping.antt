@@ -2,65 +2,76 @@
 use Rattle.std.proofs.Common.{◌≡◌, ◌∙◌, sym, ap, subst, ℕ, ◌++◌, inl, inr, Bool, true, false, not, ◌&&◌, ◌||◌, List, [], ◌∷◌, Option, refl}
 use Rattle.std.specs.List.{slice_get}
 use Rattle.std.specs.Prelude.{IfNone, IfSome}
-use Rattle.std.proofs.lemmas.Bool.{both_ways}
+use Rattle.std.proofs.lemmas.Bool.{and_parts, both_ways}
 use Rattle.rr_syntax.specs.Tree.{Statement}
 use Rattle.rr_expr.specs.declared.types.Bit.{Bit}
 use Rattle.rr_expr.specs.Scopes.{Names}
 use Rattle.rr_flat.specs.Latches.{known, kept, NoLatch}
 use Rattle.rr_flat.specs.Reads.{writes}
+use Rattle.rr_named_bits.specs.declared.piece.Reach.{Reach}
 use Rattle.rr_named_bits.specs.declared.writes.Write.{Write}
-use Rattle.rr_named_bits.specs.Lists.{may}
+use Rattle.rr_named_bits.specs.Lists.{covered, may}
 use Rattle.rr_writers.specs.Assigned.{assigns}
 use Rattle.rr_latch.specs.declared.early.Early.{Early}
-use Rattle.rr_latch.specs.Notes.{is_noted, Noted, Unassigned}
+use Rattle.rr_latch.specs.Notes.{is_shut, Noted, Unassigned}
 use Rattle.rr_latch.specs.Paths.{assigned, counted, listed, Logged, Ran}
 use Rattle.rr_latch.specs.Unassigned.{KeepsBit, ReadEarly}
 use Rattle.rr_latch.proofs.Counting.{counted_writes}
 use Rattle.rr_latch.proofs.Knowing.{ext, known_kept, keeps_early, no_latch}
-use Rattle.rr_latch.proofs.Logs.{logged_both}
+use Rattle.rr_latch.proofs.Logs.{logged_both, or_true}
 use Rattle.rr_writers.proofs.Entries.{is_same}
 
--- what is not assigned at its start are the bits that it writes
-pub record Begun (s : Names) (t : Statement) (ws : List Write) (g : Bit → Bool) : Type 0 where
-  pub wrote : (b : Bit) → may ws b ≡ writes true s t b
+-- what is not assigned at its start, and is not shut, are the bits that it writes
+pub record Begun (s : Names) (t : Statement) (rs : List Reach) (g o : Bit → Bool) : Type 0 where
+  pub wrote : (b : Bit) → covered rs b ≡ writes true s t b
   pub left : (b : Bit) → g b ≡ kept s t b
+  pub shut : (b : Bit) → o b ≡ not (writes true s t b)
 
-pub begun : (later : Bool) (s : Names) (t : Statement) (old ws xs : List Write) (f g : Bit → Bool) → old ≡ [] → xs ≡ ws → ((b : Bit) → f b ≡ true) → ((b : Bit) → may ws b ≡ (may old b || assigns later s t b))
-    → ((b : Bit) → g b ≡ (f b && not (may xs b))) → Begun s (counted later t) xs g
+pub begun : (later : Bool) (s : Names) (t : Statement) (old ws ys : List Write) (rs xs zs : List Reach) (f g p o : Bit → Bool) → old ≡ [] → ys ≡ ws → xs ≡ rs → zs ≡ rs → ((b : Bit) → f b ≡ true) → ((b : Bit) → p b ≡ true)
+    → ((b : Bit) → may ws b ≡ (may old b || assigns later s t b)) → ((b : Bit) → covered rs b ≡ may ys b) → ((b : Bit) → g b ≡ (f b && not (covered xs b))) → ((b : Bit) → o b ≡ (p b && not (covered zs b)))
+    → Begun s (counted later t) rs g o
 unfolding may
-begun later s t old ws xs f g o x h w e = record { wrote = wrote; left = λ b. e b ∙ (ap (λ z. z && not (may xs b)) (h b) ∙ ap not (wrote b)) }
+begun later s t old ws ys rs xs zs f g p o e y x z h k w d m n = record {
+  wrote = wrote;
+  left = λ b. m b ∙ (ap (λ q. q && not (covered xs b)) (h b) ∙ ap not (ap (λ q. covered q b) x ∙ wrote b));
+  shut = λ b. n b ∙ (ap (λ q. q && not (covered zs b)) (k b) ∙ ap not (ap (λ q. covered q b) z ∙ wrote b));
+}
   where
-    wrote : (b : Bit) → may xs b ≡ writes true s (counted later t) b
-    wrote b = ap (λ z. may z b) x ∙ (w b ∙ (ap (λ z. may z b || assigns later s t b) o ∙ sym (counted_writes later s t b)))
+    wrote : (b : Bit) → covered rs b ≡ writes true s (counted later t) b
+    wrote b = d b ∙ (ap (λ q. may q b) y ∙ (w b ∙ (ap (λ q. may q b || assigns later s t b) e ∙ sym (counted_writes later s t b))))
 
 -- the bits that are noted after it are those that it keeps
-pub record Listing (s : Names) (t : Statement) (old new : Early) (h : Bit → Bool) : Type 0 where
+pub record Listing (s : Names) (t : Statement) (rs : List Reach) (new : Early) (h : Bit → Bool) : Type 0 where
   pub kept : (b : Bit) → listed new.bits.items b ≡ true → KeepsBit s t b
   pub all : (b : Bit) → KeepsBit s t b → listed new.bits.items b ≡ true
   pub left : new.bits.items ≡ [] → (b : Bit) → h b ≡ true
-  pub unnoted : new.bits.items ≡ [] → (b : Bit) → is_noted new b ≡ false
   pub closed : (b : Bit) → (h b || listed new.bits.items b) ≡ true
-  pub same : (b : Bit) → listed new.bits.items b ≡ is_noted new b
+  pub shut : (b : Bit) → (is_shut new b || covered rs b) ≡ true
 
--- from none the list has exactly what is noted
-listed_is : (old new : Early) (b : Bit) → Logged old.bits.items new.bits.items (is_noted old) (is_noted new) → old.bits.items ≡ [] → is_noted old b ≡ false → listed new.bits.items b ≡ is_noted new b
-listed_is old new b l e u =
+-- from none the list has exactly what has been shut
+listed_is : (old new : Early) (b : Bit) → Logged old.bits.items new.bits.items (is_shut old) (is_shut new) → old.bits.items ≡ [] → listed new.bits.items b ≡ (not (is_shut old b) && is_shut new b)
+listed_is old new b l e =
     let g : new.bits.items ≡ l.more = l.grown ∙ ap (λ z. z ++ l.more) e in
-    ap (λ z. listed z b) g ∙ (l.only b ∙ ap (λ z. not z && is_noted new b) u)
+    ap (λ z. listed z b) g ∙ l.only b
 
-pub listing : (s : Names) (t : Statement) (ws : List Write) (g : Bit → Bool) (now : List (List ℕ)) (a c : List Bit) (x y z : Early) → Begun s t ws g → ((b : Bit) → is_noted x b ≡ false) → x.bits.items ≡ []
-    → Ran (known s g t) g (assigned now) a c → Noted (ReadEarly s g t) x y → Noted (Unassigned now (λ b. may ws b ≡ true)) y z → Listing s t x z (assigned now)
+not_false : (x : Bool) → not x ≡ true → x ≡ false
+not_false true e = cc
+not_false false e = refl
+
+pub listing : (s : Names) (t : Statement) (rs : List Reach) (g : Bit → Bool) (now : List (List ℕ)) (a c : List Bit) (x y z : Early) → Begun s t rs g (is_shut x) → x.bits.items ≡ []
+    → Ran (known s g t) g (assigned now) a c → Noted (ReadEarly s g t) x y → Noted (Unassigned now (λ b. covered rs b ≡ true)) y z → Listing s t rs z (assigned now)
 unfolding listed
-listing s t ws g now a c x y z n u e r m w = record {
-  kept = λ b k. elim (w.only b (sym (is b) ∙ k)) [
-    | inl i ↦ elim (m.only b i) [ inl j ↦ absurd (both_ways (is_noted x b) (u b) j) | inr p ↦ keeps_early s t b (subst (early b) same p) ]
-    | inr p ↦ record { written = sym (n.wrote b) ∙ p.0; kept = inr (sym (ends b) ∙ p.1) }
-  ];
+listing s t rs g now a c x y z n e r m w = record {
+  kept = λ b k.
+      let p = and_parts (not (is_shut x b)) (is_shut z b) (sym (is b) ∙ k) in
+      elim (w.only b p.1) [
+        | inl i ↦ elim (m.only b i) [ inl j ↦ absurd (both_ways (is_shut x b) (not_false (is_shut x b) p.0) j) | inr q ↦ keeps_early s t b (subst (early b) same q) ]
+        | inr q ↦ record { written = sym (n.wrote b) ∙ q.0; kept = inr (sym (ends b) ∙ q.1) }
+      ];
   all = all;
   left = λ none b. open_none none b (assigned now b) refl;
-  unnoted = unnoted;
   closed = λ b. closed b (assigned now b) refl;
-  same = is;
+  shut = λ b. shut b (writes true s t b) refl;
 }
   where
     same : g ≡ kept s t
@@ -72,39 +83,49 @@ listing s t ws g now a c x y z n u e r m w = record {
     ends : (b : Bit) → assigned now b ≡ known s (kept s t) t b
     ends b = r.set b ∙ ap (λ q. known s q t b) same
 
-    is : (b : Bit) → listed z.bits.items b ≡ is_noted z b
-    is b = listed_is x z b (logged_both x.bits.items y.bits.items z.bits.items (is_noted x) (is_noted y) (is_noted z) m.log w.log m.keeps w.keeps) e (u b)
+    is : (b : Bit) → listed z.bits.items b ≡ (not (is_shut x b) && is_shut z b)
+    is b = listed_is x z b (logged_both x.bits.items y.bits.items z.bits.items (is_shut x) (is_shut y) (is_shut z) m.log w.log m.keeps w.keeps) e
+
+    -- a bit that it writes is listed where it is shut
+    noted : (b : Bit) → writes true s t b ≡ true → is_shut z b ≡ true → listed z.bits.items b ≡ true
+    noted b k q = is b ∙ (ap (λ v. not v && is_shut z b) (n.shut b ∙ ap not k) ∙ q)
 
     all : (b : Bit) → KeepsBit s t b → listed z.bits.items b ≡ true
     all b k = elim k.kept [
-      | inl p ↦ is b ∙ w.keeps b (m.all b (subst (early b) (sym same) p))
-      | inr q ↦ is b ∙ w.all b (n.wrote b ∙ k.written, ends b ∙ q)
+      | inl p ↦ noted b k.written (w.keeps b (m.all b (subst (early b) (sym same) p)))
+      | inr q ↦ noted b k.written (w.all b (n.wrote b ∙ k.written, ends b ∙ q))
     ]
 
-    unnoted : z.bits.items ≡ [] → (b : Bit) → is_noted z b ≡ false
-    unnoted none b = sym (is b) ∙ ap (λ q. listed q b) none
-
-    written : (b : Bit) → assigned now b ≡ false → may ws b ≡ true
+    written : (b : Bit) → assigned now b ≡ false → writes true s t b ≡ true
     written b q = go (writes true s t b) refl
       where
-        go : (v : Bool) → writes true s t b ≡ v → may ws b ≡ true
-        go true k = n.wrote b ∙ k
+        go : (v : Bool) → writes true s t b ≡ v → writes true s t b ≡ true
+        go true k = k
         go false k = absurd (both_ways (assigned now b) q (r.set b ∙ known_kept s g t b (n.left b ∙ ap not k)))
+
+    left_listed : (b : Bit) → assigned now b ≡ false → listed z.bits.items b ≡ true
+    left_listed b q = noted b (written b q) (w.all b (n.wrote b ∙ written b q, q))
 
     closed : (b : Bit) (v : Bool) → assigned now b ≡ v → (assigned now b || listed z.bits.items b) ≡ true
     closed b true q = ap (λ k. k || listed z.bits.items b) q
-    closed b false q = ap (λ k. k || listed z.bits.items b) q ∙ (is b ∙ w.all b (written b q, q))
+    closed b false q = ap (λ k. k || listed z.bits.items b) q ∙ left_listed b q
 
     open_none : z.bits.items ≡ [] → (b : Bit) (v : Bool) → assigned now b ≡ v → assigned now b ≡ true
     open_none none b true q = q
-    open_none none b false q = absurd (both_ways (is_noted z b) (unnoted none b) (w.all b (written b q, q)))
+    open_none none b false q = let bad : false ≡ true = sym (ap (λ k. listed k b) none) ∙ left_listed b q in cc
 
-pub block_listed : (later : Bool) (s : Names) (t : Statement) (old ws xs ys : List Write) (f g : Bit → Bool) (now : List (List ℕ)) (a c : List Bit) (x y z : Early) → old ≡ [] → xs ≡ ws → ys ≡ ws → ((b : Bit) → f b ≡ true)
-    → ((b : Bit) → may ws b ≡ (may old b || assigns later s t b)) → ((b : Bit) → g b ≡ (f b && not (may xs b))) → ((b : Bit) → is_noted x b ≡ false) → x.bits.items ≡ []
-    → Ran (known s g (counted later t)) g (assigned now) a c → Noted (ReadEarly s g (counted later t)) x y → Noted (Unassigned now (λ b. may ys b ≡ true)) y z → Listing s (counted later t) x z (assigned now)
-block_listed later s t old ws xs ys f g now a c x y z o p q h w e u n r m v =
-    let P : List Write → Type 0 = λ k. Noted (Unassigned now (λ b. may k b ≡ true)) y z in
-    listing s (counted later t) xs g now a c x y z (begun later s t old ws xs f g o p h w e) u n r m (subst P (q ∙ sym p) v)
+    shut : (b : Bit) (v : Bool) → writes true s t b ≡ v → (is_shut z b || covered rs b) ≡ true
+    shut b true q = ap (λ k. is_shut z b || k) (n.wrote b ∙ q) ∙ or_true (is_shut z b)
+    shut b false q = ap (λ k. k || covered rs b) (w.keeps b (m.keeps b (n.shut b ∙ ap not q)))
+
+-- the same of the lists and tables of the code
+pub block_listed : (later : Bool) (s : Names) (t : Statement) (old ws ys : List Write) (rs us vs ns : List Reach) (f g p : Bit → Bool) (now : List (List ℕ)) (a c : List Bit) (x y z : Early) → old ≡ [] → ys ≡ ws → us ≡ rs → vs ≡ rs → ns ≡ rs
+    → ((b : Bit) → f b ≡ true) → ((b : Bit) → p b ≡ true) → x.bits.items ≡ [] → ((b : Bit) → may ws b ≡ (may old b || assigns later s t b)) → ((b : Bit) → covered rs b ≡ may ys b) → ((b : Bit) → g b ≡ (f b && not (covered us b)))
+    → ((b : Bit) → is_shut x b ≡ (p b && not (covered vs b))) → Ran (known s g (counted later t)) g (assigned now) a c → Noted (ReadEarly s g (counted later t)) x y → Noted (Unassigned now (λ b. covered ns b ≡ true)) y z
+    → Listing s (counted later t) rs z (assigned now)
+block_listed later s t old ws ys rs us vs ns f g p now a c x y z o q i j k h l e w d m n r v u =
+    let P : List Reach → Type 0 = λ b. Noted (Unassigned now (λ d. covered b d ≡ true)) y z in
+    listing s (counted later t) rs g now a c x y z (begun later s t old ws ys rs us vs f g p (is_shut x) o q i j h l w d m n) e r v (subst P k u)
 
 -- the first bit of a list
 

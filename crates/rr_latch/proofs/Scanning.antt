@@ -1,18 +1,20 @@
 -- Loops over the bits of pieces.
-use Rattle.std.proofs.Common.{◌≡◌, ◌∙◌, sym, ap, ℕ, ◌+◌, ◌<◌, ◌≤◌, inl, inr, Bool, true, false, cond, not, ◌&&◌, ◌||◌, List, [], ◌∷◌, ◌++◌, length, get_or, take, drop, refl, arith, length-drop, ◌-◌}
+use Rattle.std.proofs.Common.{◌≡◌, ◌∙◌, sym, ap, subst, ℕ, ◌+◌, ◌<◌, ◌≤◌, inl, inr, Bool, true, false, cond, not, ◌&&◌, ◌||◌, List, [], ◌∷◌, ◌++◌, length, get_or, take, drop, refl, arith, length-drop, ◌-◌}
 use Rattle.std.proofs.lemmas.List.{take_more, get_or-drop}
 use Rattle.rr_expr.specs.declared.types.Bit.{Bit}
 use Rattle.rr_flat.specs.Targets.{same_bit}
 use Rattle.rr_named_bits.specs.declared.piece.Piece.{Piece}
+use Rattle.rr_named_bits.specs.declared.piece.Reach.{Reach}
 use Rattle.rr_named_bits.specs.declared.writes.Write.{Write}
-use Rattle.rr_named_bits.specs.Lists.{covered, Grown, may, must}
+use Rattle.rr_named_bits.specs.Lists.{covered, Grown, must, reaches}
 use Rattle.rr_named_bits.specs.Pieces.{covers}
-use Rattle.rr_named_bits.proofs.Growing.{may-push, must-push}
+use Rattle.rr_named_bits.proofs.Growing.{must-push}
 use Rattle.rr_latch.specs.Paths.{listed, Logged}
-use Rattle.rr_writers.proofs.Marking.{below, below_none, below_next, below_all, Ranged}
 use Rattle.rr_latch.proofs.Logs.{and_true, listed-append, logged_none, logged_both}
+use Rattle.rr_writers.proofs.Elements.{take_all}
 use Rattle.rr_writers.proofs.Entries.{or_assoc, or_false, same_is}
-use Rattle.rr_writers.proofs.Marking.{take_all}
+use Rattle.rr_writers.proofs.Marking.{below, below_next, Ranged}
+use Rattle.rr_writers.proofs.Reaching.{word_piece, first_words, next_word}
 
 -- bits that are assigned
 
@@ -49,15 +51,26 @@ assigning_next p low high place f g h a b c r l k m s t =
     assigning_more (below p place) (same_bit (record { signal = p.signal; place = place })) (below p (place + 1)) f g h a b c
     (λ x. below_next p low high place r l k x ∙ or_swap (same_bit (record { signal = p.signal; place = place }) x) (below p place x)) m s t
 
+-- the words of a reach in turn
+pub words_next : (r : Reach) (k : ℕ) (p : Piece) (f g h : Bit → Bool) (a b c : List Bit) → p ≡ word_piece r k → Assigning (reaches (first_words r k)) f g a b → ((x : Bit) → h x ≡ (g x || covers p x)) → Logged b c g h
+    → Assigning (reaches (first_words r (k + 1))) f h a c
+words_next r k p f g h a b c e m s t =
+    assigning_more (reaches (first_words r k)) (covers p) (reaches (first_words r (k + 1))) f g h a b c (λ x. next_word r k x ∙ ap (λ z. reaches (first_words r k) x || covers z x) (sym e)) m s t
+
+pub words_done : (r : Reach) (k : ℕ) (f g : Bit → Bool) (a b : List Bit) → k ≡ r.words → Assigning (reaches (first_words r k)) f g a b → Assigning (reaches r) f g a b
+words_done r k f g a b e m =
+    let F : ℕ → Type 0 = λ z. Assigning (reaches (first_words r z)) f g a b in
+    subst F e m
+
 -- the certain writes in turn
-pub must_next : (ws : List Write) (w : Write) (f g h : Bit → Bool) (a b c : List Bit) → w.certain ≡ true → Assigning (must ws) f g a b → ((x : Bit) → h x ≡ (g x || covers w.piece x)) → Logged b c g h
+pub must_next : (ws : List Write) (w : Write) (f g h : Bit → Bool) (a b c : List Bit) → w.certain ≡ true → Assigning (must ws) f g a b → ((x : Bit) → h x ≡ (g x || reaches w.reach x)) → Logged b c g h
     → Assigning (must (ws ++ w ∷ [])) f h a c
 must_next ws w f g h a b c e m s t =
-    assigning_more (must ws) (covers w.piece) (must (ws ++ w ∷ [])) f g h a b c (λ x. must-push ws w x ∙ ap (λ z. must ws x || (z && covers w.piece x)) e) m s t
+    assigning_more (must ws) (reaches w.reach) (must (ws ++ w ∷ [])) f g h a b c (λ x. must-push ws w x ∙ ap (λ z. must ws x || (z && reaches w.reach x)) e) m s t
 
 pub must_skip : (ws : List Write) (w : Write) (f g : Bit → Bool) (a b : List Bit) → w.certain ≡ false → Assigning (must ws) f g a b → Assigning (must (ws ++ w ∷ [])) f g a b
 must_skip ws w f g a b e m =
-    assigning_same (must ws) (must (ws ++ w ∷ [])) f g a b (λ x. must-push ws w x ∙ (ap (λ z. must ws x || (z && covers w.piece x)) e ∙ or_false (must ws x))) m
+    assigning_same (must ws) (must (ws ++ w ∷ [])) f g a b (λ x. must-push ws w x ∙ (ap (λ z. must ws x || (z && reaches w.reach x)) e ∙ or_false (must ws x))) m
 
 -- the bits of a list in turn
 pub listed_next : (bs : List Bit) (x : Bit) (f g h : Bit → Bool) (a b c : List Bit) → Assigning (listed bs) f g a b → ((y : Bit) → h y ≡ (g y || same_bit x y)) → Logged b c g h
@@ -151,37 +164,9 @@ kept_less xs kept i d f l e t b =
 
 -- a list that began empty has only the bits that were added
 
-pub only_grown : (old new : List Piece) (P : Bit → Type 0) → old ≡ [] → Grown old new P → (b : Bit) → covered new b ≡ true → P b
+pub only_grown : (old new : List Reach) (P : Bit → Type 0) → old ≡ [] → Grown old new P → (b : Bit) → covered new b ≡ true → P b
 unfolding covered
 only_grown old new P e g b h = elim (g.only b h) [
   | inl k ↦ let bad : covered [] b ≡ true = ap (λ z. covered z b) (sym e) ∙ k in cc
   | inr k ↦ k
 ]
-
--- the written bits lose their values
-
-and_both : (s t u : Bool) → ((s && not t) && not u) ≡ (s && not (t || u))
-and_both true true u = refl
-and_both true false u = refl
-and_both false t u = refl
-
-pub lost_more : (ws : List Write) (w : Write) (f g h : Bit → Bool) → ((b : Bit) → g b ≡ (f b && not (may ws b))) → ((b : Bit) → h b ≡ (g b && not (covers w.piece b))) → (b : Bit) → h b ≡ (f b && not (may (ws ++ w ∷ []) b))
-lost_more ws w f g h e k b =
-    k b ∙ (ap (λ z. z && not (covers w.piece b)) (e b) ∙ (and_both (f b) (may ws b) (covers w.piece b) ∙ sym (ap (λ z. f b && not z) (may-push ws w b))))
-
-pub lost_next : (p : Piece) (low high place : ℕ) (f g h : Bit → Bool) → Ranged p low high → low ≤ place → place < high → ((b : Bit) → g b ≡ (f b && not (below p place b)))
-    → ((b : Bit) → h b ≡ cond (same_bit (record { signal = p.signal; place = place }) b) false (g b)) → (b : Bit) → h b ≡ (f b && not (below p (place + 1) b))
-lost_next p low high place f g h r l m e k b =
-    let here : Bit = record { signal = p.signal; place = place } in
-    k b ∙ (ap (λ z. cond (same_bit here b) false z) (e b) ∙ (go (same_bit here b) (f b) (below p place b) ∙ sym (ap (λ z. f b && not z) (below_next p low high place r l m b))))
-  where
-    go : (s y o : Bool) → cond s false (y && not o) ≡ (y && not (s || o))
-    go true true o = refl
-    go true false o = refl
-    go false y o = refl
-
-pub lost_none : (p : Piece) (low high : ℕ) (f : Bit → Bool) → Ranged p low high → (b : Bit) → f b ≡ (f b && not (below p low b))
-lost_none p low high f r b = sym (ap (λ z. f b && not z) (below_none p low high r b) ∙ and_true (f b))
-
-pub lost_done : (p : Piece) (low high place : ℕ) (f g : Bit → Bool) → Ranged p low high → high ≤ place → ((b : Bit) → g b ≡ (f b && not (below p place b))) → (b : Bit) → g b ≡ (f b && not (covers p b))
-lost_done p low high place f g r l e b = e b ∙ ap (λ z. f b && not z) (below_all p low high place r l b)

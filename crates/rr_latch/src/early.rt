@@ -6,21 +6,22 @@ ghost use Rattle.rr_expr.specs.Reading.{NamesBit, NamesBits};
 ghost use Rattle.rr_flat.specs.Reads.{TargetReads};
 ghost use Rattle.rr_flat.specs.Targets.{same_bit};
 ghost use Rattle.rr_flat.specs.Shapes.{list_faults};
-ghost use Rattle.rr_named_bits.specs.Lists.{covered, may};
+ghost use Rattle.rr_named_bits.specs.Lists.{covered, reaches as is_reached};
 ghost use Rattle.rr_named_bits.specs.Pieces.{covers};
 ghost use Rattle.rr_latch.specs.Notes.{Noted, Unassigned};
 
 use rr_expr::Scope;
 use rr_flat::Bit;
-use rr_named_bits::{Piece, Write, add_named_bits, add_target_reads};
+use rr_named_bits::{Piece, Reach, add_named_bits, add_target_reads};
 use rr_syntax::Expr;
-use rr_writers::BitTable;
+use rr_writers::{BitTable, word_of};
 use std::alloc::{AllocError, Global};
 
-/// Noted bits: each has the number 1, and stands once in the list.
+/// The bits that a block writes and that are not noted, each with the number 1, and the list of the
+/// noted ones, each once.
 #[derive(Drop)]
 pub(crate) struct Early {
-    pub(crate) noted: BitTable,
+    pub(crate) unnoted: BitTable,
     pub(crate) bits: Vec<Bit>,
 }
 
@@ -28,8 +29,8 @@ pub(crate) struct Early {
 fn note(early: &mut Early, bit: Bit, table: &BitTable) -> Result<(), AllocError>
     ensures { OnOk result (Noted (Unassigned table.now (λ b. same_bit bit b ≡ true)) early.old early.new) }
 {
-    if table.get(bit) != 0 && early.noted.get(bit) == 0 {
-        early.noted.put(bit, 1)?;
+    if table.get(bit) != 0 && early.unnoted.get(bit) != 0 {
+        early.unnoted.put(bit, 0)?;
         early.bits.push(bit)?;
     }
     Ok(())
@@ -53,26 +54,40 @@ fn note_piece(early: &mut Early, piece: &Piece, table: &BitTable) -> Result<(), 
     Ok(())
 }
 
-/// The same of the bits of some pieces.
-fn note_pieces(early: &mut Early, pieces: &[Piece], table: &BitTable) -> Result<(), AllocError>
-    ensures { OnOk result (Noted (Unassigned table.now (λ b. covered pieces.now b ≡ true)) early.old early.new) }
+/// The same, where a signal without a bit to note is not looked through: each word of a memory is once.
+fn note_word(early: &mut Early, piece: &Piece, table: &BitTable) -> Result<(), AllocError>
+    ensures { OnOk result (Noted (Unassigned table.now (λ b. covers piece.now b ≡ true)) early.old early.new) }
 {
-    for piece in pieces.iter() {
-        note_piece(early, piece, table)?;
+    if table.is_blank(piece.signal) {
+        return Ok(());
+    }
+    if early.unnoted.is_blank(piece.signal) {
+        return Ok(());
+    }
+    note_piece(early, piece, table)
+}
+
+/// The same of the bits of a reach.
+fn note_reach(early: &mut Early, reach: &Reach, table: &BitTable) -> Result<(), AllocError>
+    ensures { OnOk result (Noted (Unassigned table.now (λ b. is_reached reach.now b ≡ true)) early.old early.new) }
+{
+    for word in 0..reach.words {
+        let piece = word_of(reach, word)?;
+        note_word(early, &piece, table)?;
     }
     Ok(())
 }
 
-/// The same of the bits that some assignments may write.
-pub(crate) fn note_writes(
+/// The same of the bits of some reaches.
+pub(crate) fn note_reaches(
     early: &mut Early,
-    writes: &[Write],
+    reaches: &[Reach],
     table: &BitTable,
 ) -> Result<(), AllocError>
-    ensures { OnOk result (Noted (Unassigned table.now (λ b. may writes.now b ≡ true)) early.old early.new) }
+    ensures { OnOk result (Noted (Unassigned table.now (λ b. covered reaches.now b ≡ true)) early.old early.new) }
 {
-    for write in writes.iter() {
-        note_piece(early, &write.piece, table)?;
+    for reach in reaches.iter() {
+        note_reach(early, reach, table)?;
     }
     Ok(())
 }
@@ -88,9 +103,9 @@ pub(crate) fn read(
     requires { fault names.now (plain expr.now) false ≡ None }
     ensures { OnOk result (Noted (Unassigned table.now (NamesBit names.now (plain expr.now))) early.old early.new) }
 {
-    let mut pieces = Vec::new(alloc);
-    add_named_bits(alloc, &mut pieces, expr, names)?;
-    note_pieces(early, pieces.as_slice(), table)
+    let mut reaches = Vec::new(alloc);
+    add_named_bits(alloc, &mut reaches, expr, names)?;
+    note_reaches(early, reaches.as_slice(), table)
 }
 
 /// The same of the bits that the labels of an arm name.
@@ -121,7 +136,7 @@ pub(crate) fn read_target(
     requires { fault names.now (plain target.now) false ≡ None }
     ensures { OnOk result (Noted (Unassigned table.now (TargetReads names.now (plain target.now))) early.old early.new) }
 {
-    let mut pieces = Vec::new(alloc);
-    add_target_reads(alloc, &mut pieces, target, names)?;
-    note_pieces(early, pieces.as_slice(), table)
+    let mut reaches = Vec::new(alloc);
+    add_target_reads(alloc, &mut reaches, target, names)?;
+    note_reaches(early, reaches.as_slice(), table)
 }

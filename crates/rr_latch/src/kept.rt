@@ -1,29 +1,30 @@
 //! The bits that a combinational block keeps.
-ghost use Rattle.std.specs.Prelude.{◌≡◌, [], true, false, IfOk, OnOk, ◌&&◌, ◌||◌, not};
+ghost use Rattle.std.specs.Prelude.{◌≡◌, [], true, cond, IfOk, OnOk, ◌||◌};
 ghost use Rattle.rr_syntax.specs.View.{plain_statement};
 ghost use Rattle.rr_expr.specs.declared.types.Bit.{Bit as BitOfSignal};
 ghost use Rattle.rr_flat.specs.Shapes.{statement_faults};
-ghost use Rattle.rr_named_bits.specs.Lists.{may};
+ghost use Rattle.rr_named_bits.specs.Lists.{covered, reaches as is_reached};
 ghost use Rattle.rr_named_bits.specs.Pieces.{covers};
 ghost use Rattle.rr_latch.specs.Immediate.{immediate};
-ghost use Rattle.rr_latch.specs.Notes.{is_noted};
+ghost use Rattle.rr_latch.specs.Notes.{is_shut};
 ghost use Rattle.rr_latch.specs.Paths.{assigned, counted, listed};
 ghost use Rattle.rr_latch.specs.Rooms.{IsBlank};
 ghost use Rattle.rr_latch.specs.Unassigned.{KeepsBit};
+ghost use Rattle.rr_writers.specs.Tables.{entry};
 
 use crate::branches::run;
-use crate::early::{Early, note_writes};
+use crate::early::{Early, note_reaches};
 use crate::paths::Path;
 use rr_expr::Scope;
 use rr_flat::Bit;
-use rr_named_bits::{Piece, Write};
+use rr_named_bits::{Piece, Reach};
 use rr_syntax::Stmt;
-use rr_writers::{BitTable, add_assigned_bits};
+use rr_writers::{BitTable, add_assigned_bits, distinct_writes, word_of};
 use std::alloc::{AllocError, Global};
 
-/// The bits of a piece are not assigned.
-fn unassign(table: &mut BitTable, piece: &Piece) -> Result<(), AllocError>
-    ensures { OnOk result ((b : BitOfSignal) → assigned table.new b ≡ (assigned table.old b && not (covers piece.now b))) }
+/// Puts a number at the bits of a piece.
+fn put_piece(table: &mut BitTable, piece: &Piece, number: usize) -> Result<(), AllocError>
+    ensures { OnOk result ((b : BitOfSignal) → entry table.new b ≡ cond (covers piece.now b) number (entry table.old b)) }
 {
     let (low, high) = piece.range();
     for place in low..high {
@@ -32,23 +33,34 @@ fn unassign(table: &mut BitTable, piece: &Piece) -> Result<(), AllocError>
                 signal: piece.signal,
                 place,
             },
-            1,
+            number,
         )?;
     }
     Ok(())
 }
 
-fn unassign_all(table: &mut BitTable, writes: &[Write]) -> Result<(), AllocError>
-    ensures { OnOk result ((b : BitOfSignal) → assigned table.new b ≡ (assigned table.old b && not (may writes.now b))) }
+fn put_reach(table: &mut BitTable, reach: &Reach, number: usize) -> Result<(), AllocError>
+    ensures { OnOk result ((b : BitOfSignal) → entry table.new b ≡ cond (is_reached reach.now b) number (entry table.old b)) }
 {
-    for write in writes.iter() {
-        unassign(table, &write.piece)?;
+    for word in 0..reach.words {
+        let piece = word_of(reach, word)?;
+        put_piece(table, &piece, number)?;
+    }
+    Ok(())
+}
+
+fn put_all(table: &mut BitTable, reaches: &[Reach], number: usize) -> Result<(), AllocError>
+    ensures { OnOk result ((b : BitOfSignal) → entry table.new b ≡ cond (covered reaches.now b) number (entry table.old b)) }
+{
+    for reach in reaches.iter() {
+        put_reach(table, reach, number)?;
     }
     Ok(())
 }
 
 /// Lists the bits that a block keeps; with `later` each `<=` that assigns counts as `=`. Before it and,
-/// where it keeps none, after it each bit is assigned and none is noted.
+/// where it keeps none, after it each bit is assigned; before and after it none may be noted. `seen` may
+/// hold anything.
 pub(crate) fn list_kept(
     alloc: Global,
     body: &Stmt,
@@ -56,31 +68,35 @@ pub(crate) fn list_kept(
     later: bool,
     path: &mut Path,
     early: &mut Early,
+    seen: &mut BitTable,
 ) -> Result<(), AllocError>
     requires shaped { statement_faults names.now (plain_statement body.now) ≡ [] }
     requires assigned { (b : BitOfSignal) → assigned path.old.unassigned b ≡ true }
-    requires unnoted { (b : BitOfSignal) → is_noted early.old b ≡ false }
+    requires shut { (b : BitOfSignal) → is_shut early.old b ≡ true }
     requires empty { early.old.bits.items ≡ [] }
     ensures kept { OnOk result ((b : BitOfSignal) → listed early.new.bits.items b ≡ true → KeepsBit names.now (counted later (plain_statement body.now)) b) }
     ensures all { OnOk result ((b : BitOfSignal) → KeepsBit names.now (counted later (plain_statement body.now)) b → listed early.new.bits.items b ≡ true) }
     ensures left { OnOk result (early.new.bits.items ≡ [] → (b : BitOfSignal) → assigned path.new.unassigned b ≡ true) }
-    ensures unnoted { OnOk result (early.new.bits.items ≡ [] → (b : BitOfSignal) → is_noted early.new b ≡ false) }
+    ensures shut { OnOk result ((b : BitOfSignal) → is_shut early.new b ≡ true) }
     ensures closed { OnOk result ((b : BitOfSignal) → (assigned path.new.unassigned b || listed early.new.bits.items b) ≡ true) }
-    ensures same { OnOk result ((b : BitOfSignal) → listed early.new.bits.items b ≡ is_noted early.new b) }
 {
     let mut writes = Vec::new(alloc);
     add_assigned_bits(alloc, &mut writes, body, names, later)?;
-    unassign_all(&mut path.unassigned, writes.as_slice())?;
+    let reaches = distinct_writes(alloc, writes.as_slice(), seen)?;
+    put_all(&mut path.unassigned, reaches.as_slice(), 1)?;
+    put_all(&mut early.unnoted, reaches.as_slice(), 1)?;
     run(alloc, body, names, later, path, early)?;
-    note_writes(early, writes.as_slice(), &path.unassigned)
+    note_reaches(early, reaches.as_slice(), &path.unassigned)?;
+    put_all(&mut early.unnoted, reaches.as_slice(), 0)
 }
 
 /// Room for the bits of blocks that are asked one after the other. Between two of them each bit is assigned
-/// and none is noted, so that no block makes tables of its own.
+/// and none may be noted, so that no block makes tables of its own.
 #[derive(Drop)]
 pub struct Room {
     path: Path,
     early: Early,
+    seen: BitTable,
 }
 
 impl Room {
@@ -94,14 +110,15 @@ impl Room {
                 log: Vec::new(alloc),
             },
             early: Early {
-                noted: BitTable::new(alloc),
+                unnoted: BitTable::new(alloc),
                 bits: Vec::new(alloc),
             },
+            seen: BitTable::new(alloc),
         }
     }
 }
 
-/// The noted bits of a list are noted no more.
+/// The bits of a list are assigned.
 fn forget(table: &mut BitTable, bits: &[Bit]) -> Result<(), AllocError>
     ensures { OnOk result ((b : BitOfSignal) → assigned table.new b ≡ (assigned table.old b || listed bits.now b)) }
 {
@@ -128,11 +145,18 @@ pub fn latched_bits(
     ensures all { IfOk result (λ bits. (b : BitOfSignal) → KeepsBit names.now (immediate (plain_statement body.now)) b → listed bits.items b ≡ true) }
     ensures blank { OnOk result (IsBlank room.new) }
 {
-    list_kept(alloc, body, names, true, &mut room.path, &mut room.early)?;
+    list_kept(
+        alloc,
+        body,
+        names,
+        true,
+        &mut room.path,
+        &mut room.early,
+        &mut room.seen,
+    )?;
     let bits = Vec::from_slice(alloc, room.early.bits.as_slice())?;
     forget(&mut room.path.unassigned, bits.as_slice())?;
     room.path.log.clear();
-    forget(&mut room.early.noted, bits.as_slice())?;
     room.early.bits.clear();
     Ok(bits)
 }

@@ -1,12 +1,12 @@
 //! Combinational blocks that keep a bit.
-ghost use Rattle.std.specs.Prelude.{◌≡◌, [], true, false, IfOk, IfNone, IfSome};
+ghost use Rattle.std.specs.Prelude.{◌≡◌, [], true, IfOk, IfNone, IfSome};
 ghost use Rattle.rr_syntax.specs.View.{plain_statement};
 ghost use Rattle.rr_expr.specs.declared.types.Bit.{Bit as BitOfSignal};
 ghost use Rattle.rr_flat.specs.Latches.{NoLatch};
 ghost use Rattle.rr_flat.specs.Lawful.{NoLatches};
 ghost use Rattle.rr_flat.specs.View.{plain_flat};
 ghost use Rattle.rr_flat.specs.Shapes.{statement_faults};
-ghost use Rattle.rr_latch.specs.Notes.{is_noted};
+ghost use Rattle.rr_latch.specs.Notes.{is_shut};
 ghost use Rattle.rr_latch.specs.Paths.{assigned};
 ghost use Rattle.rr_latch.specs.Unassigned.{IsLatch, KeepsBit};
 
@@ -27,26 +27,27 @@ pub struct Latch {
     pub block: u32,
 }
 
-/// A bit that a block keeps. Before it and, where there is none, after it each bit is assigned and none is
-/// noted.
+/// A bit that a block keeps. Before it and, where there is none, after it each bit is assigned and none may
+/// be noted.
 fn kept_bit(
     alloc: Global,
     body: &Stmt,
     names: &Scope,
     path: &mut Path,
     early: &mut Early,
+    seen: &mut BitTable,
 ) -> Result<Option<Bit>, AllocError>
     requires shaped { statement_faults names.now (plain_statement body.now) ≡ [] }
     requires assigned { (b : BitOfSignal) → assigned path.old.unassigned b ≡ true }
-    requires unnoted { (b : BitOfSignal) → is_noted early.old b ≡ false }
+    requires shut { (b : BitOfSignal) → is_shut early.old b ≡ true }
     requires empty { early.old.bits.items ≡ [] }
     ensures none { IfOk result (λ r. IfNone r (NoLatch names.now (plain_statement body.now))) }
     ensures left { IfOk result (λ r. IfNone r ((b : BitOfSignal) → assigned path.new.unassigned b ≡ true)) }
-    ensures unnoted { IfOk result (λ r. IfNone r ((b : BitOfSignal) → is_noted early.new b ≡ false)) }
+    ensures shut { IfOk result (λ r. IfNone r ((b : BitOfSignal) → is_shut early.new b ≡ true)) }
     ensures empty { IfOk result (λ r. IfNone r (early.new.bits.items ≡ [])) }
     ensures some { IfOk result (λ r. IfSome r (KeepsBit names.now (plain_statement body.now))) }
 {
-    list_kept(alloc, body, names, false, path, early)?;
+    list_kept(alloc, body, names, false, path, early, seen)?;
     Ok(early.bits.first().copied())
 }
 
@@ -63,12 +64,13 @@ pub fn first_latch(alloc: Global, flat: &Flat) -> Result<Option<Latch>, AllocErr
         log: Vec::new(alloc),
     };
     let mut early = Early {
-        noted: BitTable::new(alloc),
+        unnoted: BitTable::new(alloc),
         bits: Vec::new(alloc),
     };
+    let mut seen = BitTable::new(alloc);
     for block in flat.combinational_blocks().iter() {
         let names = flat.scope_at(block.scope);
-        if let Some(bit) = kept_bit(alloc, block.body, names, &mut path, &mut early)? {
+        if let Some(bit) = kept_bit(alloc, block.body, names, &mut path, &mut early, &mut seen)? {
             return Ok(Some(Latch {
                 bit,
                 block: block.token,

@@ -2,13 +2,13 @@
 ghost use Rattle.std.specs.Prelude.{◌≡◌, ◌≤◌, ◌&&◌, ◌||◌, not, length, take, drop, IfOk, OnOk};
 ghost use Rattle.rr_expr.specs.declared.types.Bit.{Bit as BitOfSignal};
 ghost use Rattle.rr_flat.specs.Targets.{same_bit};
-ghost use Rattle.rr_named_bits.specs.Lists.{must};
+ghost use Rattle.rr_named_bits.specs.Lists.{must, reaches as is_reached};
 ghost use Rattle.rr_named_bits.specs.Pieces.{covers};
 ghost use Rattle.rr_latch.specs.Paths.{Logged, assigned, listed};
 
 use rr_flat::Bit;
-use rr_named_bits::{Piece, Write};
-use rr_writers::BitTable;
+use rr_named_bits::{Piece, Reach, Write};
+use rr_writers::{BitTable, word_of};
 use std::alloc::{AllocError, Global};
 
 /// The bits that a block writes and has not assigned, each with the number 1, and the list of those
@@ -48,13 +48,24 @@ fn assign_piece(path: &mut Path, piece: &Piece) -> Result<(), AllocError>
     Ok(())
 }
 
+fn assign_reach(path: &mut Path, reach: &Reach) -> Result<(), AllocError>
+    ensures set { OnOk result ((b : BitOfSignal) → assigned path.new.unassigned b ≡ (assigned path.old.unassigned b || is_reached reach.now b)) }
+    ensures log { OnOk result (Logged path.old.log.items path.new.log.items (assigned path.old.unassigned) (assigned path.new.unassigned)) }
+{
+    for word in 0..reach.words {
+        let piece = word_of(reach, word)?;
+        assign_piece(path, &piece)?;
+    }
+    Ok(())
+}
+
 pub(crate) fn assign_writes(path: &mut Path, writes: &[Write]) -> Result<(), AllocError>
     ensures set { OnOk result ((b : BitOfSignal) → assigned path.new.unassigned b ≡ (assigned path.old.unassigned b || must writes.now b)) }
     ensures log { OnOk result (Logged path.old.log.items path.new.log.items (assigned path.old.unassigned) (assigned path.new.unassigned)) }
 {
     for write in writes.iter() {
         if write.certain {
-            assign_piece(path, &write.piece)?;
+            assign_reach(path, &write.reach)?;
         }
     }
     Ok(())

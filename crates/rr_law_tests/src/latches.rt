@@ -16,7 +16,7 @@ macro_rules! latch {
     };
 }
 
-const CASES: [Case; 13] = [
+const CASES: [Case; 16] = [
     (
         "module m(input a, b, output reg [1:0] y, output reg z); always @* if (a) z = b; endmodule",
         latch!(3, 0, 22),
@@ -69,6 +69,18 @@ const CASES: [Case; 13] = [
         "module m(input a, b, output reg [1:0] y, output reg z); always @(posedge a) if (b) z <= b; endmodule",
         None,
     ),
+    (
+        "module m(input i, output y); reg r [0:1]; assign y = r[0]; always @* r[i] = 1'b1; endmodule",
+        latch!(2, 0, 26),
+    ),
+    (
+        "module m(input i, input d, output reg y); reg [1:0] r [1:2]; always @* begin r[1] = d; y = r[i]; r[2] = d; end endmodule",
+        latch!(4, 0, 27),
+    ),
+    (
+        "module m(input i, input d, output reg y); reg [1:0] r [1:2]; always @* begin r[1] = d; r[2] = d; r[i] = d; y = r[i]; end endmodule",
+        None,
+    ),
 ];
 
 /// The latch of a text, if it has a flat design.
@@ -106,7 +118,29 @@ const Z: Bit = Bit {
     place: 0,
 };
 
-const KEPT: [KeptCase; 8] = [
+/// The bits of the first word of a memory.
+const R_0_0: Bit = Bit {
+    signal: 4,
+    place: 0,
+};
+
+const R_0_1: Bit = Bit {
+    signal: 4,
+    place: 1,
+};
+
+/// Those of the second.
+const R_1_0: Bit = Bit {
+    signal: 5,
+    place: 0,
+};
+
+const R_1_1: Bit = Bit {
+    signal: 5,
+    place: 1,
+};
+
+const KEPT: [KeptCase; 12] = [
     (
         "module m(input a, b, output reg [1:0] y, output reg z); always @* begin y[0] = a; if (a) y[1] = b; end endmodule",
         &[Y_1],
@@ -138,6 +172,22 @@ const KEPT: [KeptCase; 8] = [
     (
         "module m(input a, b, output reg [1:0] y, output reg z); always @* y[a] <= b; endmodule",
         &[Y_0, Y_1],
+    ),
+    (
+        "module m(input a, b, output reg [1:0] y, output reg z); reg [1:0] r [0:1]; always @* begin r[0] = a; r[b] <= a; end endmodule",
+        &[R_1_0, R_1_1],
+    ),
+    (
+        "module m(input a, b, output reg [1:0] y, output reg z); reg [1:0] r [0:1]; always @* begin r[0] = a; z = r[b]; y = r[b]; r[1] = a; end endmodule",
+        &[R_1_0, R_1_1],
+    ),
+    (
+        "module m(input a, b, output reg [1:0] y, output reg z); reg [1:0] r [0:1]; always @* begin r[0] = a; r[1] = b; r[a] = b; z = r[b]; end endmodule",
+        &[],
+    ),
+    (
+        "module m(input a, b, output reg [1:0] y, output reg z); reg [1:0] r [0:1]; always @* begin if (a) begin r[1] = b; r[0] = r[b]; end else begin r[0] = b; r[1] = r[0]; end end endmodule",
+        &[R_0_0, R_0_1],
     ),
 ];
 

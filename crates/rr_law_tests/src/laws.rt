@@ -9,14 +9,14 @@ use std::test::Fail;
 
 /// The first law that a text breaks, by its number, and the byte at which its token begins.
 #[derive(Clone, Copy, Debug, PartialEq, Eq)]
-enum Told {
+pub(crate) enum Told {
     NoDesign,
     Kept,
     Broken(u32, u32),
 }
 
 /// A text, the word that names its clock, and what is told.
-type Case = (&'static str, &'static Option<&'static str>, Told);
+pub(crate) type Case = (&'static str, &'static Option<&'static str>, Told);
 
 fn placed(tokens: &[Token<'_>], law: u32, at: u32) -> Told {
     match byte_of(tokens, at) {
@@ -41,7 +41,7 @@ fn told_of(tokens: &[Token<'_>], fault: LawFault) -> Result<Told, AllocError> {
     }
 }
 
-fn answer(alloc: Global, text: &str, clock: Option<&str>) -> Result<Told, AllocError> {
+pub(crate) fn answer(alloc: Global, text: &str, clock: Option<&str>) -> Result<Told, AllocError> {
     let arena = Bump::new(alloc);
     match design_of(alloc, text, &arena) {
         Err(_) => Ok(Told::NoDesign),
@@ -63,7 +63,7 @@ fn first_wrong(alloc: Global, cases: &[Case]) -> Result<Option<usize>, AllocErro
 }
 
 /// Fails at the first case of these tables that is told otherwise.
-fn all_right(alloc: Global, tables: &[&[Case]]) -> Result<(), Fail> {
+pub(crate) fn all_right(alloc: Global, tables: &[&[Case]]) -> Result<(), Fail> {
     for (table, cases) in tables.iter().enumerate() {
         if let Some(place) = first_wrong(alloc, cases)? {
             return Err(Fail::new(format_args!("case {place} of table {table}")));

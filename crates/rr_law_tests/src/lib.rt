@@ -12,6 +12,8 @@ mod latches;
 #[cfg(test)]
 mod laws;
 #[cfg(test)]
+mod memories;
+#[cfg(test)]
 mod orders;
 #[cfg(test)]
 mod texts;

@@ -33,8 +33,8 @@ macro_rules! wire {
     };
 }
 
-/// A ripple in one vector, and wires that shift.
-const ORDERED: [Ordered; 2] = [
+/// A ripple in one vector, wires that shift, and words of a memory.
+const ORDERED: [Ordered; 3] = [
     (
         "module m(input a, output [7:0] c); assign c[7] = c[6] & a; assign c[6] = c[5] & a; assign c[5] = c[4] & a; assign c[4] = c[3] & a; assign c[3] = c[2] & a; assign c[2] = c[1] & a; assign c[1] = c[0] & a; assign c[0] = a & a; endmodule",
         &[
@@ -52,11 +52,20 @@ const ORDERED: [Ordered; 2] = [
         "module m(input a, output [3:0] d); assign d[3:1] = d[2:0]; endmodule",
         &[wire!(0), wire!(1), wire!(2)],
     ),
+    (
+        "module m(input i, input d, output y); reg r [0:1]; wire w; assign w = r[1]; assign y = r[0]; always @* r[0] = w; always @* r[1] = d; endmodule",
+        &[
+            Step::Block(1),
+            wire!(0),
+            Step::Block(0),
+            Step::Wire { driver: 1, bit: 0 },
+        ],
+    ),
 ];
 
-/// Loops through assignments, through blocks, the lower of two, one through an index, and one through
-/// wires that turn.
-const LOOPED: [Looped; 5] = [
+/// Loops through assignments, through blocks, the lower of two, one through an index, one through wires
+/// that turn, and one through the words of a memory.
+const LOOPED: [Looped; 6] = [
     (
         "module m(input a, output x); wire y; assign y = x & a; assign x = y & a; endmodule",
         &[at!(1, 0), at!(2, 0)],
@@ -81,6 +90,11 @@ const LOOPED: [Looped; 5] = [
         "module m(input a, output [3:0] d); assign d[3:1] = d[2:0]; assign d[0] = d[3]; endmodule",
         &[at!(1, 0), at!(1, 3), at!(1, 2), at!(1, 1)],
         31,
+    ),
+    (
+        "module m(input i, input d, output y); reg r [0:1]; wire w; assign w = r[i]; assign y = r[0]; always @* r[0] = w; always @* r[1] = d; endmodule",
+        &[at!(3, 0), at!(5, 0)],
+        40,
     ),
 ];
 

@@ -19,7 +19,7 @@ macro_rules! clash {
 const BRANCHES: &str =
     "module m(input a, output reg y); always @* if (a) y = a; else y = a; endmodule";
 
-const CASES: [Case; 8] = [
+const CASES: [Case; 10] = [
     (
         "module m(input a, output [1:0] y); assign y[0] = a; assign y[1] = a; endmodule",
         None,
@@ -48,6 +48,14 @@ const CASES: [Case; 8] = [
     (
         "module n(output q); endmodule module m(output y); n u(.q(y)); n v(.q(y)); endmodule",
         clash!(0, 0, 21, 31),
+    ),
+    (
+        "module m(input clk, input d, output y); reg r [0:1]; assign y = r[0]; always @(posedge clk) r[0] <= d; always @(posedge clk) r[1] <= d; endmodule",
+        None,
+    ),
+    (
+        "module m(input clk, input i, input d, output y); reg r [0:1]; assign y = r[0]; always @(posedge clk) r[1] <= d; always @(posedge clk) r[i] <= d; endmodule",
+        clash!(5, 0, 32, 45),
     ),
 ];
 
@@ -87,7 +95,7 @@ fn assigned_bits(rt: HostRuntime) -> Result<(), Fail> {
         Ok(design) => {
             let writes = assigned(alloc, &design.flat)?;
             assert!(rt; writes.len() == 2);
-            assert!(rt; writes[1].piece.signal == 1);
+            assert!(rt; writes[1].reach.piece.signal == 1);
         }
     }
     Ok(())

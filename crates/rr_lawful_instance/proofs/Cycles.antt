@@ -86,7 +86,8 @@ module _ (source : SourceText) (top : Option Text) (flat : Flat) (word : Option 
   settles state row = settled_by_steps new word clock rising steps new_lawful new_ordered inputs_free state row
 
   goes_on : (env : Environment) → IsNext new env (next_after new env)
-  goes_on env = next_in_order new new_lawful.no_race new_lawful.one_writer env
+  unfolding instance_flat
+  goes_on env = next_in_order new new_lawful.no_race new_lawful.one_writer (sound source top flat r.elaborated).variables env
 
   runs : (rows : List (List ℕ)) (state : Environment) → (last : Environment) × Runs new clock state rows (outputs_by new clock steps state rows) last
   unfolding outputs_by

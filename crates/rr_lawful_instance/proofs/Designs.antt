@@ -5,13 +5,12 @@ use Rattle.std.proofs.Math.ListN as by_default
 use Rattle.std.proofs.lemmas.List.{get_or-map, length-map}
 use Rattle.std.proofs.lemmas.List.Elements.{recursion_from_All}
 use Rattle.rr_expr.specs.declared.types.Bit.{Bit}
-use Rattle.rr_expr.specs.declared.types.Entity.TheVariants.{Signal as SignalEntity}
 use Rattle.rr_expr.specs.Scopes.{meant}
 use Rattle.rr_flat.specs.Signals.{Text}
 use Rattle.rr_flat.specs.Lawful.{AssignedIn, AssignedSomewhere}
 use Rattle.rr_flat.specs.Plain.{Side, Written, Whole, Driver, Block, Flat}
 use Rattle.rr_flat.specs.Reads.{Assigned, writes, assigned_by}
-use Rattle.rr_flat.specs.Targets.{part_name}
+use Rattle.rr_flat.specs.Targets.{variable_of, part_name}
 use Rattle.rr_flat.specs.Writers.{scope_at, driver_at, block_at, no_driver, no_block, driven_by, driven, writes_at_all, Writer, Driven, Clocked, Combinational, Writes}
 use Rattle.rr_choice.specs.declared.pick.Pick.{Pick}
 use Rattle.rr_choice.specs.Sites.{Site}
@@ -79,12 +78,12 @@ module _ (ss : List Site) (ps : List Pick) where
 
     -- what the instance assigns, the block assigns
     pub assigned_before : (id : ℕ) (now : Bool) → AssignedIn (made ss ps flat) new id now → AssignedIn flat block id now
-    assigned_before id now (i, (a, (range, (signed, c)))) =
-        let each : AllByRecursion (λ (b : Assigned). b.now ≡ now → meant (scope_at flat block.scope) (part_name b.part) ≡ SignalEntity id range signed → AssignedIn flat block id now) (assigned_by block.body) =
-        by_element (λ (b : Assigned). b.now ≡ now → meant (scope_at flat block.scope) (part_name b.part) ≡ SignalEntity id range signed → AssignedIn flat block id now) (assigned_by block.body)
-        (λ b k e m. (k.0, (b, (range, (signed, (k.1, k.2, e, m)))))) in
-        holds_of (λ (b : Assigned). b.now ≡ now → meant (scope_at flat block.scope) (part_name b.part) ≡ SignalEntity id range signed → AssignedIn flat block id now) (assigned_by new.body) a
-        (block_assigned (λ name k. k ≡ now → meant (scope_at flat block.scope) name ≡ SignalEntity id range signed → AssignedIn flat block id now) each)
+    assigned_before id now (i, (a, c)) =
+        let each : AllByRecursion (λ (b : Assigned). b.now ≡ now → variable_of (meant (scope_at flat block.scope) (part_name b.part)) ≡ Some id → AssignedIn flat block id now) (assigned_by block.body) =
+        by_element (λ (b : Assigned). b.now ≡ now → variable_of (meant (scope_at flat block.scope) (part_name b.part)) ≡ Some id → AssignedIn flat block id now) (assigned_by block.body)
+        (λ b k e m. (k.0, (b, (k.1, k.2, e, m)))) in
+        holds_of (λ (b : Assigned). b.now ≡ now → variable_of (meant (scope_at flat block.scope) (part_name b.part)) ≡ Some id → AssignedIn flat block id now) (assigned_by new.body) a
+        (block_assigned (λ name k. k ≡ now → variable_of (meant (scope_at flat block.scope) name) ≡ Some id → AssignedIn flat block id now) each)
         (i, c.0, c.1) c.2 c.3
 
   -- The whole design

@@ -26,7 +26,7 @@ use Rattle.rr_flat.specs.declared.signal.Port.TheVariants.{Input, Output}
 use Rattle.rr_flat.specs.Signals.{Text, Signal}
 use Rattle.rr_declarations.specs.Declarations.{brackets, declarations}
 use Rattle.rr_flat.specs.Faults.{each}
-use Rattle.rr_declarations.specs.Heads.{declared, head, numbered, signals_in_order, with_signals}
+use Rattle.rr_declarations.specs.Heads.{declared, declared_in_order, head, joined, numbered, with_signals}
 use Rattle.rr_declarations.specs.Parameters.{parameters}
 use Rattle.rr_expr.specs.Reading.{NamesBit}
 use Rattle.rr_flat.specs.declared.design.Step.{Step}
@@ -78,7 +78,7 @@ abbrev one : Number
 one = record { width = 1; signed = false; value = 1; any = 0; unknown = 0 }
 
 abbrev port : Dir → ℕ → Text → PortDeclaration
-port d token name = record { dir = d; signed = false; range = None; names = record { token = token; text = name; value = None } ∷ [] }
+port d token name = record { dir = d; signed = false; range = None; names = record { token = token; text = name; words = None; value = None } ∷ [] }
 
 abbrev value : Tree
 value = Cond (Name 20 q) (Name 22 a) (Name 24 q)
@@ -103,7 +103,7 @@ abbrev source : SourceText
 source = record { modules = the_module ∷ [] }
 
 abbrev signal : Text → Bool → Port → ℕ → Signal
-signal name variable p token = record { instance = 0; name = name; variable = variable; port = p; range = None; signed = false; width = 1; token = token; start = 0 }
+signal name variable p token = record { instance = 0; name = name; variable = variable; port = p; range = None; signed = false; width = 1; token = token; start = 0; word = None }
 
 abbrev scope : Names
 scope = (c, entity.Signal 0 None false) ∷ (a, entity.Signal 1 None false) ∷ (q, entity.Signal 2 None false) ∷ (y, entity.Signal 3 None false) ∷ []
@@ -126,7 +126,7 @@ flat = record {
 }
 
 elaborated : flat_of source None ≡ Ok flat
-unfolding flat_by each add_module lookup last_free instantiated_by enter enter_by begin head parameters declared brackets declarations numbered signals_in_order with_signals top_ports reached_from T.instantiated_by_item P.add_item_parameters D.declare_ports V.range_in D.declare D.declare_new D.know_ports D.declare_item D.know_item D.known D.know_port_item H.with_inner H.with_ports H.with_port W.item W.assign Sh.shape F.fault meant W.always W.event_faults W.edges_faults Sh.statement_faults number tabulate word X.form X.value X.widths F.first R.loop_names R.loops_of_item R.loops_in R.integers_of_item R.strays R.target_strays R.loop_faults L.turned L.put_tree L.put_target U.counted U.unfold_statement
+unfolding flat_by each add_module lookup last_free instantiated_by enter enter_by begin head parameters declared brackets declarations numbered joined declared_in_order with_signals top_ports reached_from T.instantiated_by_item P.add_item_parameters D.declare_ports V.range_in D.declare D.declare_new D.know_ports D.declare_item D.know_item D.known D.know_port_item H.with_inner H.with_ports H.with_port W.item W.assign Sh.shape F.fault meant W.always W.event_faults W.edges_faults Sh.statement_faults number tabulate word X.form X.value X.widths F.first R.loop_names R.loops_of_item R.loops_in R.integers_of_item R.strays R.target_strays R.loop_faults L.turned L.put_tree L.put_target U.counted U.unfold_statement
 elaborated = refl
 
 -- The design is lawful
@@ -283,7 +283,7 @@ unfolding assigned_by target_parts assigned_parts
 assigns_later = (refl, tt)
 
 not_now : (id k : ℕ) → k < 1 → AssignedIn flat (block_at flat.clocked k) id true → ⊥
-not_now id zero l (i, (d, (range, (signed, (h, e, n, m))))) = both_ways d.now (holds_of (λ (d : Assigned). d.now ≡ false) (assigned_by body) d assigns_later (i, h, e)) n
+not_now id zero l (i, (d, (h, e, n, m))) = both_ways d.now (holds_of (λ (d : Assigned). d.now ≡ false) (assigned_by body) d assigns_later (i, h, e)) n
 not_now id (suc k) l s = absurd (omega (arith, l))
 
 kinds : RightKinds flat
@@ -328,7 +328,7 @@ lawful = record {
   unread = unread;
   one_writer = one_writer;
   kinds = kinds;
-  no_race = λ j k lj lk id s i n range signed l e m. absurd (not_now id j lj s);
+  no_race = λ j k lj lk id s i n l e m. absurd (not_now id j lj s);
   no_latches = λ k l. absurd (omega (arith, l));
   ranks = (λ b. b.signal, names_below);
 }
@@ -426,7 +426,10 @@ formed = (
   (
     tt,
     inl refl,
-    ((tt, omega arith, (tt, tt), (refl, tt)), ((tt, omega arith, (tt, tt), (refl, tt)), ((tt, omega arith, (tt, tt), (tt, tt)), ((tt, omega arith, (tt, tt), (refl, tt)), tt)))),
+    (
+      (tt, omega arith, ((tt, tt), tt), (refl, tt), (refl, tt)),
+      ((tt, omega arith, ((tt, tt), tt), (refl, tt), (refl, tt)), ((tt, omega arith, ((tt, tt), tt), (tt, tt), (refl, tt)), ((tt, omega arith, ((tt, tt), tt), (refl, tt), (refl, tt)), tt))),
+    ),
     ((omega arith, ((refl, tt, (tt, tt, tt, omega arith)), tt)), ((refl, (tt, (refl, tt, tt))), tt)),
   ),
   tt,
@@ -438,7 +441,7 @@ tokens = (
   (
     refl,
     tt,
-    (tt, ((tt, ((refl, tt), tt)), ((tt, ((refl, tt), tt)), ((tt, ((refl, tt), tt)), ((tt, ((refl, tt), tt)), tt))))),
+    (tt, ((tt, ((refl, tt, tt), tt)), ((tt, ((refl, tt, tt), tt)), ((tt, ((refl, tt, tt), tt)), ((tt, ((refl, tt, tt), tt)), tt))))),
     (((refl, (refl, refl, refl)), tt), ((refl, (refl, tt), (refl, (refl, refl))), tt)),
   ),
   tt,
@@ -486,7 +489,7 @@ right = record {
     }
 
     width : InEach flat 0 (λ names. HasWidth names q 1 × IsFree source.modules 0 q)
-    width = λ i l o. at_first (λ i. HasWidth (scope_at flat i) q 1 × IsFree source.modules 0 q) (record { shape = rw name_q refl; width = refl }, free_q) i l
+    width = λ i l o. at_first (λ i. HasWidth (scope_at flat i) q 1 × IsFree source.modules 0 q) (record { shape = rw name_q refl; width = refl; single = rw name_q refl }, free_q) i l
 
 pub met : LawsAreMet
 met = (source, (None, (flat, (None, (Some 0, (true, (step.Driver 0 ∷ [], (the_sites, (elaborated, lawful, ordered, right, (refl, refl, refl))))))))))

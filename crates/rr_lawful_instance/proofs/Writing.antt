@@ -1,11 +1,11 @@
 -- An instance of a lawful flat design has right targets and labels, one writer a bit, right kinds, no race and no latch.
-use Rattle.std.proofs.Common.{◌≡◌, ℕ, ◌<◌, Bool, true, false, not, List, length, Option, None, refl, sym, subst, ◌∙◌, arith}
+use Rattle.std.proofs.Common.{◌≡◌, ℕ, ◌<◌, Bool, true, false, not, List, length, Option, Some, None, refl, sym, subst, ap, ◌∙◌, arith}
 use Rattle.std.specs.List.{All, AllByRecursion}
 use Rattle.std.proofs.lemmas.List.Elements.{All-from_recursion, recursion_from_All}
 use Rattle.rr_syntax.specs.Tree.{Statement}
 use Rattle.rr_expr.specs.declared.types.Bit.{Bit}
 use Rattle.rr_expr.specs.declared.types.Entity.{Entity}
-use Rattle.rr_expr.specs.declared.types.Entity.TheVariants.{Constant, Signal as SignalEntity, Instance}
+use Rattle.rr_expr.specs.declared.types.Entity.TheVariants.{Constant, Signal as SignalEntity, Memory, Instance}
 use Rattle.rr_expr.specs.Reading.{IsBitOf}
 use Rattle.rr_expr.specs.Scopes.{meant}
 use Rattle.rr_flat.specs.Signals.{Text}
@@ -13,7 +13,7 @@ use Rattle.rr_flat.specs.Lawful.{MayDrive, MayAssign, DeclaredTarget, DriverTarg
 use Rattle.rr_flat.specs.Latches.{NoLatch}
 use Rattle.rr_flat.specs.Plain.{Side, Written, Whole, Block, Flat}
 use Rattle.rr_flat.specs.Reads.{names_read, assigned_by, writes}
-use Rattle.rr_flat.specs.Targets.{part_name}
+use Rattle.rr_flat.specs.Targets.{variable_of, part_name}
 use Rattle.rr_flat.specs.Writers.{scope_at, driver_at, block_at, writes_now, writes_later, Clocked, Combinational, Writes}
 use Rattle.rr_flat.proofs.Bits.{missed, or_left, or_right, bit_at, bit_eq}
 use Rattle.rr_choice.specs.declared.pick.Pick.{Pick}
@@ -45,6 +45,7 @@ module _ (ss : List Site) (ps : List Pick) (flat : Flat) (word : Option Text) (s
   may_drive : (e : Entity) (fixed : Bool) → MayDrive flat e fixed → MayDrive other e fixed
   may_drive (Constant bits signed) fixed h = h
   may_drive (SignalEntity id range signed) fixed h = h
+  may_drive (Memory first low words range signed) fixed h = h
   may_drive Instance fixed h = h
 
   declared : (id : ℕ) (side : Side) → DeclaredTarget flat id side → DeclaredTarget other id (instance_side ss ps side)
@@ -102,11 +103,11 @@ module _ (ss : List Site) (ps : List Pick) (flat : Flat) (word : Option Text) (s
 
   -- Races
 
-  same_signal : (id other : ℕ) (range : Option (ℕ × ℕ)) (signed sign : Bool) → SignalEntity other None sign ≡ SignalEntity id range signed → other ≡ id
-  same_signal id other range signed sign h = cc
+  same_signal : (id other : ℕ) → Some other ≡ Some id → other ≡ id
+  same_signal id other h = cc
 
   pub races_stay : NoRace flat → NoRace other
-  races_stay r j k lj lk id a i n range signed l is m = at (blocks_long ss ps flat.clocked j lj) (blocks_long ss ps flat.clocked k lk)
+  races_stay r j k lj lk id a i n l is m = at (blocks_long ss ps flat.clocked j lj) (blocks_long ss ps flat.clocked k lk)
     where
       body : Statement
       body = (block_at flat.clocked k).body
@@ -116,19 +117,19 @@ module _ (ss : List Site) (ps : List Pick) (flat : Flat) (word : Option Text) (s
 
       -- a name of another signal, or of the same block
       IsApart : Text → Type 0
-      IsApart name = meant (scope_at flat scope) name ≡ SignalEntity id range signed → j ≡ k
+      IsApart name = variable_of (meant (scope_at flat scope) name) ≡ Some id → j ≡ k
 
       at : j < length flat.clocked → k < length flat.clocked → j ≡ k
       at lj lk =
           let f = sites.clocked k lk in
           let wrote : AssignedIn flat (block_at flat.clocked j) id true = clocked_assigns ss ps flat word sites j id true lj a in
-          let old : AllByRecursion (OfText IsApart) (names_read body) = by_element (OfText IsApart) (names_read body) (λ x c e. r j k lj lk id wrote c.0 x range signed c.1 c.2 e) in
+          let old : AllByRecursion (OfText IsApart) (names_read body) = by_element (OfText IsApart) (names_read body) (λ x c e. r j k lj lk id wrote c.0 x c.1 c.2 e) in
           let new : AllByRecursion (OfText IsApart) (names_read (instance_block ss ps (block_at flat.clocked k)).body) =
           body_names_read IsApart ss ps (first_token (block_at flat.clocked k).body) body
-          (λ x g e. let w = f.names x g in absurd (w.not_now j lj (subst (λ z. AssignedIn flat (block_at flat.clocked j) z true) (sym (same_signal id w.signal range signed w.signed (sym w.scalar ∙ e))) wrote)))
+          (λ x g e. let w = f.names x g in absurd (w.not_now j lj (subst (λ z. AssignedIn flat (block_at flat.clocked j) z true) (sym (same_signal id w.signal (sym (ap variable_of w.scalar) ∙ e))) wrote)))
           (recursion_from_All _ ss f.targets) old in
           let there = subst (λ b. AllByRecursion (OfText IsApart) (names_read b.body)) (sym (block_is ss ps flat.clocked k lk)) new in
-          holds_of (OfText IsApart) (names_read (block_at other.clocked k).body) n there (i, l, is) (subst (λ (b : Block). meant (scope_at flat b.scope) n.text ≡ SignalEntity id range signed) (block_is ss ps flat.clocked k lk) m)
+          holds_of (OfText IsApart) (names_read (block_at other.clocked k).body) n there (i, l, is) (subst (λ (b : Block). variable_of (meant (scope_at flat b.scope) n.text) ≡ Some id) (block_is ss ps flat.clocked k lk) m)
 
   -- Latches
 

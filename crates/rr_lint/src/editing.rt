@@ -11,7 +11,7 @@ ghost use Rattle.rr_grammar.specs.Trees.{Spells};
 ghost use Rattle.rr_lex.specs.Tokens.{lexemes, words_of, AreTokens};
 ghost use Rattle.rr_flatten.specs.Walk.{flat_by};
 ghost use Rattle.rr_lint.specs.Edited.{AreLintEdits};
-ghost use Rattle.rr_lint_names.specs.Faults.{IsMemory};
+ghost use Rattle.rr_lint_names.specs.Faults.{IsLintFault};
 
 use crate::changes::declarations;
 use rr_edit::Edit;
@@ -26,7 +26,8 @@ use std::alloc::Global;
 /// block would keep a bit of a variable one before its body, with `begin` and `v = 0;` for each such
 /// variable in the order of its first targets, and one behind it, with `end` (IEEE 1364-2005 sections
 /// 9.2.1, 9.2.2 and 9.9.2). The tokens, the tree and the flat design are those of the bytes. Each edit
-/// replaces a whole token or stands behind one. The error is want of memory.
+/// replaces a whole token or stands behind one. The error is the first block that would keep a bit of a
+/// memory (section 4.9.3), or want of memory.
 pub fn edits(
     alloc: Global,
     bytes: &[u8],
@@ -39,7 +40,7 @@ pub fn edits(
     requires tree { Spells (words_of (lexemes tokens.now)) (plain_source source.now) }
     requires numbered { NumberedSource (plain_source source.now) }
     requires design { (top : Option Text) × (flat_by (Some 1048576) (plain_source source.now) top ≡ Ok (plain_flat flat.now)) }
-    ensures made { MatchResult result (λ es. AreLintEdits (lexemes tokens.now) (plain_source source.now) (plain_flat flat.now) (plain_edits es.items)) IsMemory }
+    ensures made { MatchResult result (λ es. AreLintEdits (lexemes tokens.now) (plain_source source.now) (plain_flat flat.now) (plain_edits es.items)) (IsLintFault (plain_flat flat.now)) }
     ensures order { IfOk result (λ es. InOrder 0 (length bytes.now) (plain_edits es.items)) }
     ensures placed { IfOk result (λ es. All (IsPlaced bytes.now) (plain_edits es.items)) }
 {

@@ -35,7 +35,7 @@ module _ (file : List ℕ) (top : Option Text) (out : List ℕ) (a : IsMendedFil
 
   lint : IsLint a.read.source a.has.flat mended
   unfolding mended
-  lint = record { marks = a.has.edits.marks; latched = a.has.edits.latched; is = refl }
+  lint = record { marks = a.has.edits.marks; latched = a.has.edits.latched; words = a.has.edits.words; is = refl }
 
   -- its design, whatever its loops unfold to
   its_design : flat_of a.read.source top ≡ Ok a.has.flat

@@ -7,16 +7,18 @@ use Rattle.rr_directive.specs.Places.{offset_at}
 use Rattle.rr_edit.specs.Edits.{Edit}
 use Rattle.rr_edit.specs.Lifted.{lifted, lifts}
 use Rattle.rr_lex.specs.Tokens.{Lexeme}
+use Rattle.rr_expr.specs.declared.types.Bit.{Bit}
 use Rattle.rr_flat.specs.Lawful.{RightLabels, RightTargets}
 use Rattle.rr_flat.specs.Plain.{Flat}
 use Rattle.rr_flat.specs.Signals.{Text}
-use Rattle.rr_elaborate.specs.Designs.{IsDesign, IsDesignOf}
+use Rattle.rr_elaborate.specs.Designs.{IsDesign, IsDesignOf, start_of}
 use Rattle.rr_kept.specs.Read.{SourceFile}
 use Rattle.rr_run.specs.declared.fault.Fault.{Fault}
 use Rattle.rr_run.specs.declared.fault.Fault.TheVariants as fault
 use Rattle.rr_run.specs.Files.{RefusesExpansion, placed}
 use Rattle.rr_run.specs.Refusals.{Refusal, At}
 use Rattle.rr_run.specs.Runs.{IsBroken, RefusesDesign}
+use Rattle.rr_lint_laws.specs.Mended.{IsFirstWordLatch}
 use Rattle.rr_lint.specs.Edited.{AreLintEdits}
 
 -- The file is read as this: its expansion is the text of a design whose targets and labels are right (IEEE 1364-2005 sections 6.1,
@@ -61,6 +63,20 @@ pub record HasWrongText (file : List ℕ) (top : Option Text) (refusal : Refusal
   pub broken : IsBroken text top None what at
   pub told : refusal ≡ placed origins (length file) (At what at)
 
+-- 20: a block of its design would keep a bit of a memory, which no assignment clears (section 4.9.3): the first such block, told at
+-- its `always`
+pub record HasWordLatch (file : List ℕ) (top : Option Text) (refusal : Refusal) : Type 0 where
+  pub read : SourceFile
+  pub expansion : IsTaken file read.text read.origins
+  pub flat : Flat
+  pub design : IsDesignOf read.text read.tokens read.source top flat
+  pub targets : RightTargets flat
+  pub labels : RightLabels flat
+  pub bit : Bit
+  pub block : ℕ
+  pub latch : IsFirstWordLatch flat bit block
+  pub told : refusal ≡ placed read.origins (length file) (At fault.Latch (start_of read.tokens block))
+
 -- the first edit that cannot be made in the file
 pub record IsFirstFixed (origins : List Origin) (made : List Edit) (e : Edit) : Type 0 where
   pub before : List Edit
@@ -84,7 +100,11 @@ pub record HasFixedEdit (file : List ℕ) (top : Option Text) (refusal : Refusal
   pub has : HasEdits file top read made
   pub fixed : IsFixedAt read.origins made refusal
 
+-- why a design whose targets and labels are right is not mended: of memories first, then of what directives hide
+abbrev pub RefusesEdits : List ℕ → Option Text → Refusal → Type 0
+RefusesEdits file top refusal = HasWordLatch file top refusal ⊎ HasFixedEdit file top refusal
+
 -- why a file is not mended: of its directives first (38 to 40, 16), then of its text and its elaboration, then of targets and labels,
--- then of what directives hide
+-- then of its edits
 abbrev pub RefusesMend : List ℕ → Option Text → Refusal → Type 0
-RefusesMend file top refusal = RefusesExpansion file refusal ⊎ (HasNoFlat file top refusal ⊎ (HasWrongText file top refusal ⊎ HasFixedEdit file top refusal))
+RefusesMend file top refusal = RefusesExpansion file refusal ⊎ (HasNoFlat file top refusal ⊎ (HasWrongText file top refusal ⊎ RefusesEdits file top refusal))

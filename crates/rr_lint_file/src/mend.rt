@@ -12,16 +12,19 @@ ghost use Rattle.rr_flat.specs.Lawful.{RightLabels, RightTargets};
 ghost use Rattle.rr_flat.specs.View.{plain_flat};
 ghost use Rattle.rr_elaborate.specs.Designs.{IsDesignOf};
 ghost use Rattle.rr_run.specs.Refusals.{StopsWhere};
-ghost use Rattle.rr_lint_file.specs.Files.{HasFixedEdit, IsFirstFixed, IsFixedAt, IsMadeIn, IsMendedFile, RefusesMend, anchor as anchor_of};
+ghost use Rattle.rr_lint_names.specs.Faults.{IsLintFault};
+ghost use Rattle.rr_lint_file.specs.Files.{HasWordLatch, IsFirstFixed, IsFixedAt, IsMadeIn, IsMendedFile, RefusesEdits, RefusesMend, anchor as anchor_of};
 ghost use Rattle.rr_lint_file.specs.Clean.{IsCleaned};
 
 use crate::read::{FileText, file_text};
 use bumpalo::Bump;
 use rr_directive::{Expanded, Origin};
 use rr_edit::{Edit, lifts};
+use rr_elaborate::start_of;
 use rr_lint::edits;
+use rr_lint_names::LintFault;
 use rr_map::lift;
-use rr_run::{Fault, Refusal, RunFault};
+use rr_run::{Fault, Refusal, RunFault, placed};
 use std::alloc::Global;
 
 /// The byte at which an edit is told: the first that it replaces, or the one before it.
@@ -80,21 +83,40 @@ fn made_in<'a>(
     }
 }
 
-/// The file, read as this, with its blocks mended, or the place of the first change that cannot be made.
+/// Why a design has no edits, told in the file of this size.
+fn without_edits<'a>(read: &FileText<'_>, size: u32, fault: LintFault) -> RunFault<'a>
+    ensures { (file : List ℕ) (top : Option (List ℕ)) → length file ≡ size → IsTaken file read.now.expanded.text.items read.now.expanded.origins.items
+        → IsDesignOf read.now.expanded.text.items (lexemes read.now.design.tokens.now) (plain_source read.now.design.source.now) top (plain_flat read.now.design.flat)
+        → RightTargets (plain_flat read.now.design.flat) → RightLabels (plain_flat read.now.design.flat) → IsLintFault (plain_flat read.now.design.flat) fault
+        → StopsWhere (HasWordLatch file top) result }
+{
+    match fault {
+        LintFault::Latch { block, .. } => {
+            let at = start_of(read.design.tokens, block);
+            let refusal = placed(&read.expanded, size, Refusal::At(Fault::Latch, at));
+            RunFault::Refused(refusal)
+        }
+        LintFault::Memory => RunFault::Memory,
+    }
+}
+
+/// The file, read as this, with its blocks mended; or the first block that would keep a memory, or the place
+/// of the first change that cannot be made.
 fn mend_text<'a>(alloc: Global, file: &[u8], read: &FileText<'_>) -> Result<Vec<u8>, RunFault<'a>>
+    requires small { length file.now ≤ 1048576 }
     requires few { length read.now.expanded.text.items ≤ 1048576 }
     requires expansion { IsTaken file.now read.now.expanded.text.items read.now.expanded.origins.items }
     requires design { (top : Option (List ℕ)) × IsDesignOf read.now.expanded.text.items (lexemes read.now.design.tokens.now) (plain_source read.now.design.source.now) top (plain_flat read.now.design.flat) }
     ensures { (top : Option (List ℕ))
         → IsDesignOf read.now.expanded.text.items (lexemes read.now.design.tokens.now) (plain_source read.now.design.source.now) top (plain_flat read.now.design.flat)
         → RightTargets (plain_flat read.now.design.flat) → RightLabels (plain_flat read.now.design.flat)
-        → MatchResult result (λ out. IsMendedFile file.now top out.items) (StopsWhere (HasFixedEdit file.now top)) }
+        → MatchResult result (λ out. IsMendedFile file.now top out.items) (StopsWhere (RefusesEdits file.now top)) }
 {
     let text = read.expanded.text.as_slice();
     let design = &read.design;
     match edits(alloc, text, design.tokens, design.source, &design.flat) {
         Ok(made) => made_in(alloc, file, &read.expanded, made.as_slice()),
-        Err(_) => Err(RunFault::Memory),
+        Err(fault) => Err(without_edits(read, file.len() as u32, fault)),
     }
 }
 
@@ -102,7 +124,8 @@ fn mend_text<'a>(alloc: Global, file: &[u8], read: &FileText<'_>) -> Result<Vec<
 /// mended, with a top, given or not: each `<=` that assigns becomes `=`, and a block that keeps a bit of a
 /// variable clears the variable first (IEEE 1364-2005 sections 9.2 and 9.9.2). Nothing else changes. Or the
 /// first refusal: of the directives (38 to 40, 16), of the text and its elaboration (1 to 16, 37), of targets
-/// and labels (24, 25), and that a change cannot be made in the file itself (43).
+/// and labels (24, 25), of a block that would keep a bit of a memory, which nothing clears (20, section
+/// 4.9.3), and that a change cannot be made in the file itself (43).
 pub fn mend_file<'a>(
     alloc: Global,
     bytes: &[u8],

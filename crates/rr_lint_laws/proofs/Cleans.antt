@@ -18,7 +18,7 @@ use Rattle.rr_flat.specs.Reads.{Assigned, assigned_parts, assigned_by, assigned_
 use Rattle.rr_flat.specs.Signals.{Text}
 use Rattle.rr_flat.specs.Targets.{is_bit_of, is_constant, may_write, part_name, target_bits, target_parts, targets_parts}
 use Rattle.rr_flat.specs.Writers.{block_at, no_block, scope_at}
-use Rattle.rr_flat.proofs.Bits.{bits_of_name, one_of_name}
+use Rattle.rr_flat.proofs.Bits.{bits_of_name, index_of_name}
 use Rattle.rr_unfold.specs.Unfold.{unfold_statement}
 use Rattle.rr_latch.specs.Immediate.{immediate, immediate_all, immediate_arm, immediate_arms}
 use Rattle.rr_latch.specs.Unassigned.{KeepsBit}
@@ -30,10 +30,11 @@ use Rattle.rr_body_laws.proofs.Tables.{module_changed}
 use Rattle.rr_body_laws.proofs.Whole.{bodies_elaborate}
 use Rattle.rr_lint_laws.specs.Clean.{AllImmediate, HasImmediate, IsClean, IsImmediate, IsImmediateAt}
 use Rattle.rr_lint_laws.specs.Ever.{ever_assigned, ever_assigned_all, ever_assigned_arm, ever_assigned_arms, ever_names}
-use Rattle.rr_lint_laws.specs.Mended.{IsLint, MarkLatched, Marks, all_cleared, cleared_by, each_once, mended_body, target_names, with_defaults}
-use Rattle.rr_lint_laws.proofs.Clearing.{is_of_any, no_latch_after}
-use Rattle.rr_lint_laws.proofs.Declaring.{marked_keeps}
+use Rattle.rr_lint_laws.specs.Mended.{IsLint, MarkLatched, Marks, NoWordLatches, all_cleared, cleared_by, each_once, mended_body, target_names, with_defaults}
+use Rattle.rr_lint_laws.proofs.Clearing.{IsWhole, is_of_any, no_latch_after}
+use Rattle.rr_lint_laws.proofs.Declaring.{latched_no_memory, marked_keeps}
 use Rattle.rr_lint_laws.proofs.EverNames.{unfolded_names}
+use Rattle.rr_lint_laws.proofs.Shapes.{filter_passes}
 use Rattle.rr_lint_laws.proofs.Unfolds.{unfold_mended}
 
 -- each assignment of a mended body is `=`
@@ -137,7 +138,7 @@ module _ (s : Names) (b : Bit) where
 
     target_named : (t : Tree) → may_write s (target_parts t) b ≡ true → list_any of_part (target_parts t) ≡ true
     target_named (Name token name) e = alone _ _ (bits_of_name (meant s name) _ _ b) e
-    target_named (BitSelect token name i) e = alone _ _ (by_cond (is_constant s i) _ _ (one_of_name (meant s name) _ b)) e
+    target_named (BitSelect token name i) e = alone _ _ (by_cond (is_constant s i) _ _ (index_of_name (meant s name) _ b)) e
     target_named (Part token name l r) e = alone _ _ (bits_of_name (meant s name) _ _ b) e
     target_named (Indexed token name f n up) e = alone _ _ (by_cond (is_constant s f) _ _ (bits_of_name (meant s name) _ _ b)) e
     target_named (Concat ts) e = targets_named ts e
@@ -251,8 +252,8 @@ covered s marks token names body flat_body b is h k =
     let written : list_any marked (ever_names body) ≡ true = unfolded_names marked names body (subst (λ (t : Statement). list_any marked (target_names t) ≡ true) is unfolded) in
     any_filter test (marks token) (each_once (ever_names body)) (any_once marked (ever_names body) written)
 
-blocks_clean : (source : SourceText) (flat new : Flat) (marks : Marks) → MarkLatched flat marks → IsFlatWith (mended_body marks) source flat new → NoLatches new
-blocks_clean source flat new marks m w k l =
+blocks_clean : (source : SourceText) (top : Option Text) (flat new : Flat) (marks : Marks) → NumberedSource source → flat_of source top ≡ Ok flat → MarkLatched flat marks → NoWordLatches flat → IsFlatWith (mended_body marks) source flat new → NoLatches new
+blocks_clean source top flat new marks numbered e m words w k l =
     let f = mended_body marks in
     let long = changed_length f source flat flat.combinational new.combinational w.blocks in
     let inside : k < length flat.combinational = omega (arith, l, long) in
@@ -263,7 +264,9 @@ blocks_clean source flat new marks m w k l =
     let body : unfold_statement c.names [] (f block.token c.body) ≡ with_defaults list (immediate block.body) =
     unfold_mended c.names marks block.token c.body ∙ ap (λ (t : Statement). with_defaults list (immediate t)) (sym c.was) in
     let same : scope_at new block.scope ≡ s = ap (λ (x : Flat). scope_at x block.scope) w.others in
-    let clean : NoLatch s (with_defaults list (immediate block.body)) = no_latch_after s (immediate block.body) list (λ b kept.
+    let whole : AllByRecursion (IsWhole s) list =
+    filter_passes (IsWhole s) (marks block.token) (λ name q. latched_no_memory source top flat e numbered words block.scope c.events c.body block.token c.there c.among name (m.right block.token name q)) (each_once (ever_names c.body)) in
+    let clean : NoLatch s (with_defaults list (immediate block.body)) = no_latch_after s (immediate block.body) list whole (λ b kept.
     covered s marks block.token c.names c.body block.body b c.was (λ name target named.
     m.all block.token name (record { block = k; inside = inside; is = refl; target = target; bit = b; named = named; keeps = kept })) kept) in
     subst (λ (x : plain.Block). NoLatch (scope_at new x.scope) x.body) (sym c.is)
@@ -272,7 +275,7 @@ blocks_clean source flat new marks m w k l =
 pub lint_cleans : (source mended : SourceText) (top : Option Text) (flat : Flat) → NumberedSource source → flat_of source top ≡ Ok flat → IsLint source flat mended → IsClean mended top
 lint_cleans source mended top flat numbered e l =
     let f = mended_body l.marks in
-    let r = bodies_elaborate None f source top flat e (marked_keeps source top flat e numbered l.marks l.latched) in
+    let r = bodies_elaborate None f source top flat e (marked_keeps source top flat e numbered l.marks l.latched l.words) in
     let new : Flat = r.0 in
     let w : IsFlatWith f source flat new = r.1.1 in
     let reached : new.reached ≡ flat.reached = ap (λ (x : Flat). x.reached) w.others in
@@ -281,5 +284,5 @@ lint_cleans source mended top flat numbered e l =
       flat = new;
       design = r.1.0;
       immediate = subst (λ (numbers : List ℕ). AllImmediate numbers (source_with flat.reached f source)) (sym reached) (source_now source flat.reached l.marks);
-      no_latches = blocks_clean source flat new l.marks l.latched w;
+      no_latches = blocks_clean source top flat new l.marks numbered e l.latched l.words w;
     })

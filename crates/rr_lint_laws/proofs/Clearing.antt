@@ -1,6 +1,6 @@
 -- A block that clears the variables of which it kept a bit keeps none.
 use Rattle.std.proofs.Common.{◌≡◌, ◌∙◌, sym, ap, subst, inl, inr, Bool, true, false, not, ◌&&◌, ◌||◌, ℕ, List, [], ◌∷◌, refl}
-use Rattle.std.specs.List.{list_any}
+use Rattle.std.specs.List.{AllByRecursion, list_any}
 use Rattle.std.proofs.lemmas.Bool.{both_ways, true_from_ne_false}
 use Rattle.std.proofs.Math.Bool.{or-false, or_assoc}
 use Rattle.rr_syntax.specs.Tree.{Name, Statement, Statements, Arm, Arms, Null, Block as Sequence, If, IfElse, Case, Assign, For, Done, Then, CaseItem, NoArms, MoreArms}
@@ -9,7 +9,7 @@ use Rattle.rr_expr.specs.Reading.{NamesBit, NamesBits}
 use Rattle.rr_expr.specs.Scopes.{Names, meant}
 use Rattle.rr_flat.specs.Latches.{has_default, known, known_all, known_arm, known_arms, kept, NoLatch, ReadsKnown, AllReadKnown, ArmReadsKnown, ArmsReadKnown}
 use Rattle.rr_flat.specs.Reads.{TargetReads, writes, write_any}
-use Rattle.rr_flat.specs.Targets.{assigns_target, is_bit_of, may_write, must_write, target_bits, target_parts, writes_target}
+use Rattle.rr_flat.specs.Targets.{assigns_target, is_bit_of, is_memory, may_write, must_write, target_bits, target_parts, writes_target}
 use Rattle.rr_instance.specs.Instances.{fresh}
 use Rattle.rr_latch.specs.Unassigned.{ReadEarly, AnyReadEarly, ArmReadEarly, ArmsReadEarly, KeepsBit}
 use Rattle.rr_latch.proofs.Knowing.{early_unknown, keeps_early, known_kept}
@@ -109,40 +109,44 @@ module _ (s : Names) where
   abbrev pub is_of_any : List (List ℕ) → Bit → Bool
   is_of_any names b = list_any (λ name. is_bit_of (meant s name) b) names
 
-  assigns_name : (name : List ℕ) (b : Bit) → assigns_target s (Name fresh name) b ≡ is_bit_of (meant s name) b
-  unfolding must_write target_parts target_bits
-  assigns_name name b = or-false _ ∙ whole_has (meant s name) b
+  -- the name of no memory, which stands for its bits where it has no index
+  abbrev pub IsWhole : List ℕ → Type 0
+  IsWhole name = is_memory (meant s name) ≡ false
 
-  writes_name : (name : List ℕ) (b : Bit) → writes_target s (Name fresh name) b ≡ is_bit_of (meant s name) b
+  assigns_name : (name : List ℕ) (b : Bit) → IsWhole name → assigns_target s (Name fresh name) b ≡ is_bit_of (meant s name) b
+  unfolding must_write target_parts target_bits
+  assigns_name name b w = or-false _ ∙ whole_has (meant s name) b w
+
+  writes_name : (name : List ℕ) (b : Bit) → IsWhole name → writes_target s (Name fresh name) b ≡ is_bit_of (meant s name) b
   unfolding may_write target_parts target_bits
-  writes_name name b = or-false _ ∙ whole_has (meant s name) b
+  writes_name name b w = or-false _ ∙ whole_has (meant s name) b w
 
   -- what is assigned after a list of them
   abbrev after : (Bit → Bool) → List (List ℕ) → Bit → Bool
   after f names b = f b || is_of_any names b
 
-  one_more : (f : Bit → Bool) (name : List ℕ) (names : List (List ℕ)) (b : Bit) → after (known s f (cleared name)) names b ≡ after f (name ∷ names) b
+  one_more : (f : Bit → Bool) (name : List ℕ) (names : List (List ℕ)) (b : Bit) → IsWhole name → after (known s f (cleared name)) names b ≡ after f (name ∷ names) b
   unfolding known
-  one_more f name names b =
-      ap (λ z. (f b || z) || is_of_any names b) (assigns_name name b) ∙ or_assoc (f b) (is_bit_of (meant s name) b) (is_of_any names b)
+  one_more f name names b w =
+      ap (λ z. (f b || z) || is_of_any names b) (assigns_name name b w) ∙ or_assoc (f b) (is_bit_of (meant s name) b) (is_of_any names b)
 
-  known_after : (f : Bit → Bool) (names : List (List ℕ)) (t : Statement) (b : Bit) → known_all s f (all_cleared names t) b ≡ known s (after f names) t b
+  known_after : (f : Bit → Bool) (names : List (List ℕ)) (t : Statement) (b : Bit) → AllByRecursion IsWhole names → known_all s f (all_cleared names t) b ≡ known s (after f names) t b
   unfolding known all_cleared
-  known_after f [] t b = known_alone s f (after f []) t b (sym (or-false (f b)))
-  known_after f (name ∷ names) t b =
-      known_after (known s f (cleared name)) names t b ∙ known_alone s (after (known s f (cleared name)) names) (after f (name ∷ names)) t b (one_more f name names b)
+  known_after f [] t b a = known_alone s f (after f []) t b (sym (or-false (f b)))
+  known_after f (name ∷ names) t b a =
+      known_after (known s f (cleared name)) names t b a.1 ∙ known_alone s (after (known s f (cleared name)) names) (after f (name ∷ names)) t b (one_more f name names b a.0)
 
-  reads_after : (f : Bit → Bool) (names : List (List ℕ)) (t : Statement) → ReadsKnown s (after f names) t → AllReadKnown s f (all_cleared names t)
+  reads_after : (f : Bit → Bool) (names : List (List ℕ)) (t : Statement) → AllByRecursion IsWhole names → ReadsKnown s (after f names) t → AllReadKnown s f (all_cleared names t)
   unfolding ReadsKnown all_cleared TargetReads NamesBit
-  reads_after f [] t r = (subst (λ (g : Bit → Bool). ReadsKnown s g t) (λ k b. or-false (f b) k) r, tt)
-  reads_after f (name ∷ names) t r =
-      (((λ b x. absurd x), (λ b x. absurd x)), reads_after (known s f (cleared name)) names t (subst (λ (g : Bit → Bool). ReadsKnown s g t) (λ k b. sym (one_more f name names b) k) r))
+  reads_after f [] t a r = (subst (λ (g : Bit → Bool). ReadsKnown s g t) (λ k b. or-false (f b) k) r, tt)
+  reads_after f (name ∷ names) t a r =
+      (((λ b x. absurd x), (λ b x. absurd x)), reads_after (known s f (cleared name)) names t a.1 (subst (λ (g : Bit → Bool). ReadsKnown s g t) (λ k b. sym (one_more f name names b a.0) k) r))
 
-  writes_after : (names : List (List ℕ)) (t : Statement) (b : Bit) → write_any true s (all_cleared names t) b ≡ (is_of_any names b || writes true s t b)
+  writes_after : (names : List (List ℕ)) (t : Statement) (b : Bit) → AllByRecursion IsWhole names → write_any true s (all_cleared names t) b ≡ (is_of_any names b || writes true s t b)
   unfolding writes all_cleared
-  writes_after [] t b = or-false (writes true s t b)
-  writes_after (name ∷ names) t b =
-      (λ k. writes_name name b k || writes_after names t b k) ∙ sym (or_assoc (is_bit_of (meant s name) b) (is_of_any names b) (writes true s t b))
+  writes_after [] t b a = or-false (writes true s t b)
+  writes_after (name ∷ names) t b a =
+      (λ k. writes_name name b a.0 k || writes_after names t b a.1 k) ∙ sym (or_assoc (is_bit_of (meant s name) b) (is_of_any names b) (writes true s t b))
 
 -- a bit that counts as not assigned behind the names is none of theirs, and counts so without them too
 record Left (named written : Bool) : Type 0 where
@@ -154,7 +158,7 @@ left true written e = absurd (cc)
 left false true e = record { other = refl; is = refl }
 left false false e = absurd (cc)
 
-module _ (s : Names) (t : Statement) (names : List (List ℕ)) (covered : (b : Bit) → KeepsBit s t b → is_of_any s names b ≡ true) where
+module _ (s : Names) (t : Statement) (names : List (List ℕ)) (whole : AllByRecursion (IsWhole s) names) (covered : (b : Bit) → KeepsBit s t b → is_of_any s names b ≡ true) where
   -- the bits that count as assigned before the names, and behind them
   abbrev before : Bit → Bool
   before b = not (write_any true s (all_cleared names t) b)
@@ -163,7 +167,7 @@ module _ (s : Names) (t : Statement) (names : List (List ℕ)) (covered : (b : B
   behind b = after s before names b
 
   left_bit : (b : Bit) → behind b ≡ false → Left (is_of_any s names b) (writes true s t b)
-  left_bit b e = left (is_of_any s names b) (writes true s t b) ((λ k. not (sym (writes_after s names t b) k) || is_of_any s names b) ∙ e)
+  left_bit b e = left (is_of_any s names b) (writes true s t b) ((λ k. not (sym (writes_after s names t b whole) k) || is_of_any s names b) ∙ e)
 
   same_start : (b : Bit) → behind b ≡ false → behind b ≡ kept s t b
   same_start b e = e ∙ sym (ap not (left_bit b e).is)
@@ -183,16 +187,16 @@ module _ (s : Names) (t : Statement) (names : List (List ℕ)) (covered : (b : B
           both_ways (is_of_any s names b) (left_bit b e).other (covered b k)
 
   cleared_ends : (b : Bit) → known_all s before (all_cleared names t) b ≡ true
-  cleared_ends b = known_after s before names t b ∙ true_from_ne_false (known s behind t b) (none_left b)
+  cleared_ends b = known_after s before names t b whole ∙ true_from_ne_false (known s behind t b) (none_left b)
 
--- a block that clears each name of which it keeps a bit keeps none
-pub no_latch_after : (s : Names) (t : Statement) (names : List (List ℕ)) → ((b : Bit) → KeepsBit s t b → is_of_any s names b ≡ true) → NoLatch s (with_defaults names t)
+-- a block that clears each name of which it keeps a bit keeps none, where none of the names is a memory
+pub no_latch_after : (s : Names) (t : Statement) (names : List (List ℕ)) → AllByRecursion (IsWhole s) names → ((b : Bit) → KeepsBit s t b → is_of_any s names b ≡ true) → NoLatch s (with_defaults names t)
 unfolding ReadsKnown known writes
-no_latch_after s t [] covered = record {
+no_latch_after s t [] whole covered = record {
   reads = reads_known s (kept s t) t (λ b r. both_ways false refl (covered b (keeps_early s t b r)));
   ends = λ b w. true_from_ne_false (known s (kept s t) t b) (λ q. both_ways false refl (covered b (record { written = w; kept = inr q })));
 }
-no_latch_after s t (name ∷ names) covered = record {
-  reads = reads_after s (before s t (name ∷ names) covered) (name ∷ names) t (reads_known s (behind s t (name ∷ names) covered) t (none_early s t (name ∷ names) covered));
-  ends = λ b w. cleared_ends s t (name ∷ names) covered b;
+no_latch_after s t (name ∷ names) whole covered = record {
+  reads = reads_after s (before s t (name ∷ names) whole covered) (name ∷ names) t whole (reads_known s (behind s t (name ∷ names) whole covered) t (none_early s t (name ∷ names) whole covered));
+  ends = λ b w. cleared_ends s t (name ∷ names) whole covered b;
 }

@@ -45,7 +45,7 @@ once_keeps P [] h = tt
 once_keeps P (x ∷ xs) h = (h.0, filter_keeps P (λ other. not (bytes_eq other x)) (each_once xs) (once_keeps P xs h.1))
 
 -- and has what each element has that passes
-filter_passes : {X : Type 0} (P : X → Type 0) (test : X → Bool) → ((x : X) → test x ≡ true → P x) → (xs : List X) → AllByRecursion P (filter test xs)
+pub filter_passes : {X : Type 0} (P : X → Type 0) (test : X → Bool) → ((x : X) → test x ≡ true → P x) → (xs : List X) → AllByRecursion P (filter test xs)
 filter_passes P test h [] = tt
 filter_passes {X} P test h (x ∷ xs) = by_test (test x) refl (filter_passes P test h xs)
   where

@@ -1,5 +1,6 @@
 -- A source in which two faults of combinational blocks are mended: each `<=` that assigns becomes `=`, and a block clears the
--- variables that it would keep (IEEE 1364-2005 sections 9.2.1, 9.2.2 and 9.9.2).
+-- variables that it would keep (IEEE 1364-2005 sections 9.2.1, 9.2.2 and 9.9.2). A source of which a block would keep a memory is not
+-- mended: no assignment clears one (section 4.9.3).
 use Rattle.std.specs.Prelude.{◌≡◌, ◌<◌, ℕ, Bool, true, not, List, [], ◌∷◌, length, map, None}
 use Rattle.std.specs.List.{filter, list_any}
 use Rattle.std.specs.Str.{bytes_eq}
@@ -9,7 +10,7 @@ use Rattle.rr_expr.specs.declared.types.Bit.{Bit}
 use Rattle.rr_expr.specs.Scopes.{meant}
 use Rattle.rr_flat.specs.Plain.{Flat}
 use Rattle.rr_flat.specs.Reads.{assigned_by}
-use Rattle.rr_flat.specs.Targets.{is_bit_of, part_name}
+use Rattle.rr_flat.specs.Targets.{is_bit_of, is_memory, part_name}
 use Rattle.rr_flat.specs.Writers.{block_at, scope_at}
 use Rattle.rr_instance.specs.Instances.{fresh}
 use Rattle.rr_latch.specs.Immediate.{immediate}
@@ -66,8 +67,33 @@ pub record MarkLatched (flat : Flat) (marks : Marks) : Type 0 where
   pub right : (token : ℕ) (name : List ℕ) → marks token name ≡ true → IsLatched flat token name
   pub all : (token : ℕ) (name : List ℕ) → IsLatched flat token name → marks token name ≡ true
 
+-- a memory that a combinational block assigns keeps this bit where the block assigns by `=` alone: no assignment to a whole variable
+-- clears it (section 4.9.3)
+pub record IsWordLatch (flat : Flat) (block : ℕ) (bit : Bit) : Type 0 where
+  pub name : List ℕ
+  pub target : list_any (bytes_eq name) (target_names (block_at flat.combinational block).body) ≡ true
+  pub memory : is_memory (meant (scope_at flat (block_at flat.combinational block).scope) name) ≡ true
+  pub named : is_bit_of (meant (scope_at flat (block_at flat.combinational block).scope) name) bit ≡ true
+  pub keeps : KeepsBit (scope_at flat (block_at flat.combinational block).scope) (immediate (block_at flat.combinational block).body) bit
+
+abbrev pub KeepsNoWord : Flat → ℕ → Type 0
+KeepsNoWord flat block = (bit : Bit) → IsWordLatch flat block bit → ⊥
+
+-- no block keeps a bit of a memory
+abbrev pub NoWordLatches : Flat → Type 0
+NoWordLatches flat = (k : ℕ) → k < length flat.combinational → KeepsNoWord flat k
+
+-- the first block that keeps a bit of a memory, given by the token of its `always`
+pub record IsFirstWordLatch (flat : Flat) (bit : Bit) (token : ℕ) : Type 0 where
+  pub block : ℕ
+  pub inside : block < length flat.combinational
+  pub is : token ≡ (block_at flat.combinational block).token
+  pub latch : IsWordLatch flat block bit
+  pub before : (k : ℕ) → k < block → KeepsNoWord flat k
+
 -- the source, of which this is the flat design, with both faults mended in the modules that have instances
 pub record IsLint (source : SourceText) (flat : Flat) (mended : SourceText) : Type 0 where
   pub marks : Marks
   pub latched : MarkLatched flat marks
+  pub words : NoWordLatches flat
   pub is : mended ≡ source_with flat.reached (mended_body marks) source

@@ -2,7 +2,7 @@
 use Rattle.std.proofs.Common.{◌≡◌, ◌∙◌, sym, ap, ap₂, subst, refl, ℕ, ◌+◌, ◌<◌, ◌≤◌, ◌⊎◌, inl, inr, Bool, true, false, ◌||◌, ◌&&◌, nat_eq, nat_lt, List, [], ◌∷◌, length, Option, arith}
 use Rattle.std.specs.List.{list_any}
 use Rattle.std.specs.Str.{bytes_eq}
-use Rattle.std.proofs.lemmas.Bool.{cases_lt, eqb-true, eq-eqb}
+use Rattle.std.proofs.lemmas.Bool.{cases_lt, eqb-true, eq-eqb, false_from_ne_true}
 use Rattle.std.proofs.lemmas.Slice.Eq.{bytes_eq-Decides}
 use Rattle.rr_syntax.specs.declared.tree.Named.{Named}
 use Rattle.rr_syntax.specs.Tree.{Identifier, Statement, Tree}
@@ -10,38 +10,41 @@ use Rattle.rr_syntax.specs.View.{plain_identifier}
 use Rattle.rr_text_names.specs.Names.{part_identifier}
 use Rattle.rr_expr.specs.declared.types.Bit.{Bit}
 use Rattle.rr_expr.specs.declared.types.Entity.{Entity}
-use Rattle.rr_expr.specs.declared.types.Entity.TheVariants.{Constant, Signal, Instance}
+use Rattle.rr_expr.specs.declared.types.Entity.TheVariants.{Constant, Signal, Memory, Instance}
 use Rattle.rr_expr.specs.Scopes.{Names, meant, range_width}
 use Rattle.rr_flat.specs.Plain.{Block, Flat}
 use Rattle.rr_flat.specs.Reads.{Assigned, assigned_by}
-use Rattle.rr_flat.specs.Targets.{is_bit_of, part_name, same_bit}
+use Rattle.rr_flat.specs.Targets.{is_bit_of, is_memory, part_name, same_bit}
 use Rattle.rr_flat.specs.Writers.{block_at, scope_at}
 use Rattle.rr_latch.specs.Immediate.{immediate}
 use Rattle.rr_latch.specs.Paths.{listed}
 use Rattle.rr_latch.specs.Unassigned.{KeepsBit}
-use Rattle.rr_lint_laws.specs.Mended.{IsLatched, MarkLatched, Marks}
-use Rattle.rr_lint_names.specs.Latched.{is_below, is_low, is_noted, IsKept, NotesKept}
+use Rattle.rr_lint_laws.specs.Mended.{IsLatched, IsWordLatch, KeepsNoWord, MarkLatched, Marks, NoWordLatches}
+use Rattle.rr_lint_names.specs.declared.fault.LintFault.{LintFault}
+use Rattle.rr_lint_names.specs.declared.fault.LintFault.TheVariants as fault
+use Rattle.rr_lint_names.specs.Faults.{IsBlockFault, IsLintFault}
+use Rattle.rr_lint_names.specs.Latched.{is_below, is_low, is_noted, HasNoKeptWord, IsKept, IsKeptWord, NotesKept}
 use Rattle.rr_lint_names.proofs.Lists.{any_map, find, Found}
 
-and_left : (a b : Bool) → (a && b) ≡ true → a ≡ true
+pub and_left : (a b : Bool) → (a && b) ≡ true → a ≡ true
 and_left true b h = refl
 and_left false b h = h
 
-and_right : (a b : Bool) → (a && b) ≡ true → b ≡ true
+pub and_right : (a b : Bool) → (a && b) ≡ true → b ≡ true
 and_right true b h = h
 and_right false b h = absurd (let bad : false ≡ true = h in cc)
 
-and_both : (a b : Bool) → a ≡ true → b ≡ true → (a && b) ≡ true
+pub and_both : (a b : Bool) → a ≡ true → b ≡ true → (a && b) ≡ true
 and_both a b h k = ap₂ (λ x y. x && y) h k
 
-or_cases : (a b : Bool) → (a || b) ≡ true → (a ≡ true) ⊎ (b ≡ true)
+pub or_cases : (a b : Bool) → (a || b) ≡ true → (a ≡ true) ⊎ (b ≡ true)
 or_cases true b h = inl refl
 or_cases false b h = inr h
 
-or_left : (a b : Bool) → a ≡ true → (a || b) ≡ true
+pub or_left : (a b : Bool) → a ≡ true → (a || b) ≡ true
 or_left a b h = ap (λ x. x || b) h
 
-or_right : (a b : Bool) → b ≡ true → (a || b) ≡ true
+pub or_right : (a b : Bool) → b ≡ true → (a || b) ≡ true
 or_right true b h = refl
 or_right false b h = h
 
@@ -74,10 +77,10 @@ noted_not names lows token a text b old t name e h k = by_low (nat_eq t token) (
 
 -- the bits of a list
 
-same_self : (b : Bit) → same_bit b b ≡ true
+pub same_self : (b : Bit) → same_bit b b ≡ true
 same_self b = and_both (nat_eq b.signal b.signal) (nat_eq b.place b.place) (eq-eqb b.signal b.signal refl) (eq-eqb b.place b.place refl)
 
-listed_any : (bits : List Bit) (b : Bit) → listed bits b ≡ list_any (λ c. same_bit c b) bits
+pub listed_any : (bits : List Bit) (b : Bit) → listed bits b ≡ list_any (λ c. same_bit c b) bits
 unfolding listed
 listed_any [] b = refl
 listed_any (c ∷ bits) b = ap (λ x. same_bit c b || x) (listed_any bits b)
@@ -86,13 +89,21 @@ none_of : (bits : List Bit) → list_any (λ b. false) bits ≡ false
 none_of [] = refl
 none_of (c ∷ bits) = none_of bits
 
-abbrev AreLows : (ℕ → Option ℕ) → List Bit → Type 0
+abbrev pub AreLows : (ℕ → Option ℕ) → List Bit → Type 0
 AreLows lows bits = (id width : ℕ) → is_below width (lows id) ≡ list_any (λ b. nat_eq id b.signal && nat_lt b.place width) bits
 
-low_is : (lows : ℕ → Option ℕ) (bits : List Bit) → AreLows lows bits → (e : Entity) → is_low lows e ≡ list_any (is_bit_of e) bits
-low_is lows bits h (Constant word signed) = sym (none_of bits)
-low_is lows bits h (Signal id range signed) = h id (range_width range)
-low_is lows bits h Instance = sym (none_of bits)
+low_is : (lows : ℕ → Option ℕ) (bits : List Bit) → AreLows lows bits → (e : Entity) → is_memory e ≡ false → is_low lows e ≡ list_any (is_bit_of e) bits
+low_is lows bits h (Constant word signed) m = sym (none_of bits)
+low_is lows bits h (Signal id range signed) m = h id (range_width range)
+low_is lows bits h (Memory first low words range signed) m = absurd (let bad : true ≡ false = m in cc)
+low_is lows bits h Instance m = sym (none_of bits)
+
+-- a memory is not noted
+low_whole : (lows : ℕ → Option ℕ) (e : Entity) → is_low lows e ≡ true → is_memory e ≡ false
+low_whole lows (Constant word signed) l = refl
+low_whole lows (Signal id range signed) l = refl
+low_whole lows (Memory first low words range signed) l = absurd (let bad : false ≡ true = l in cc)
+low_whole lows Instance l = refl
 
 -- one of them is a bit of a name
 record BitOf (bits : List Bit) (e : Entity) : Type 0 where
@@ -102,23 +113,23 @@ record BitOf (bits : List Bit) (e : Entity) : Type 0 where
 
 low_bit : (lows : ℕ → Option ℕ) (bits : List Bit) → AreLows lows bits → (e : Entity) → is_low lows e ≡ true → BitOf bits e
 low_bit lows bits h e l =
-    let f : Found (is_bit_of e) bits = find (is_bit_of e) bits (sym (low_is lows bits h e) ∙ l) in
+    let f : Found (is_bit_of e) bits = find (is_bit_of e) bits (sym (low_is lows bits h e (low_whole lows e l)) ∙ l) in
     record { bit = f.item; named = f.passes; there = listed_any bits f.item ∙ f.among (λ c. same_bit c f.item) (same_self f.item) }
 
-same_bits : (c b : Bit) → same_bit c b ≡ true → b ≡ c
+pub same_bits : (c b : Bit) → same_bit c b ≡ true → b ≡ c
 same_bits c b h =
     let s : c.signal ≡ b.signal = eqb-true c.signal b.signal (and_left (nat_eq c.signal b.signal) (nat_eq c.place b.place) h) in
     let p : c.place ≡ b.place = eqb-true c.place b.place (and_right (nat_eq c.signal b.signal) (nat_eq c.place b.place) h) in
     ap₂ (λ (x y : ℕ). let z : Bit = record { signal = x; place = y } in z) (sym s) (sym p)
 
-bit_low : (lows : ℕ → Option ℕ) (bits : List Bit) → AreLows lows bits → (e : Entity) (b : Bit) → is_bit_of e b ≡ true → listed bits b ≡ true → is_low lows e ≡ true
-bit_low lows bits h e b n l =
+bit_low : (lows : ℕ → Option ℕ) (bits : List Bit) → AreLows lows bits → (e : Entity) (b : Bit) → is_memory e ≡ false → is_bit_of e b ≡ true → listed bits b ≡ true → is_low lows e ≡ true
+bit_low lows bits h e b m n l =
     let f : Found (λ c. same_bit c b) bits = find (λ c. same_bit c b) bits (sym (listed_any bits b) ∙ l) in
-    low_is lows bits h e ∙ f.among (is_bit_of e) (subst (λ (c : Bit). is_bit_of e c ≡ true) (same_bits f.item b f.passes) n)
+    low_is lows bits h e m ∙ f.among (is_bit_of e) (subst (λ (c : Bit). is_bit_of e c ≡ true) (same_bits f.item b f.passes) n)
 
 -- the names that a block notes are those of which it keeps a bit
 module _ (names : Names) (body : Statement) (lows : ℕ → Option ℕ) (bits : List Bit) (are : AreLows lows bits)
-    (kept : (b : Bit) → listed bits b ≡ true → KeepsBit names (immediate body) b) (every : (b : Bit) → KeepsBit names (immediate body) b → listed bits b ≡ true) where
+    (kept : (b : Bit) → listed bits b ≡ true → KeepsBit names (immediate body) b) (every : (b : Bit) → KeepsBit names (immediate body) b → listed bits b ≡ true) (none : HasNoKeptWord names body) where
   abbrev tests : ℕ → ℕ → List ℕ → Assigned → Bool
   tests block token name a = is_noted names lows block token name a
 
@@ -144,7 +155,9 @@ module _ (names : Names) (body : Statement) (lows : ℕ → Option ℕ) (bits : 
       let f : Found (λ (a : Assigned). bytes_eq name (part_name a.part)) (assigned_by body) = find (λ (a : Assigned). bytes_eq name (part_name a.part)) (assigned_by body) among in
       let text : List ℕ = part_name f.item.part in
       let e : name ≡ text = (bytes_eq-Decides name text).0 f.passes in
-      let low : is_low lows (meant names name) ≡ true = bit_low lows bits are (meant names name) k.bit k.named (every k.bit k.keeps) in
+      let whole : is_memory (meant names name) ≡ false =
+      false_from_ne_true (is_memory (meant names name)) (λ q. none k.bit (record { name = name; target = k.target; memory = q; named = k.named; keeps = k.keeps })) in
+      let low : is_low lows (meant names name) ≡ true = bit_low lows bits are (meant names name) k.bit whole k.named (every k.bit k.keeps) in
       f.among (tests block token name)
       (and_both (nat_eq token block) (bytes_eq name text && is_low lows (meant names text)) (eq-eqb token block (sym k.is))
       (and_both (bytes_eq name text) (is_low lows (meant names text)) f.passes (subst (λ (x : List ℕ). is_low lows (meant names x) ≡ true) e low)))
@@ -170,21 +183,31 @@ block_of flat k = block_at flat.combinational k
 abbrev names_of : Flat → ℕ → Names
 names_of flat k = scope_at flat (block_of flat k).scope
 
--- the names of the first blocks are noted
+-- the names of the first blocks are noted, which keep no bit of a memory
 pub record NotedTo (flat : Flat) (n : ℕ) (marks : Marks) : Type 0 where
   pub right : (token : ℕ) (name : List ℕ) → marks token name ≡ true → IsLatched flat token name
   pub all : (token : ℕ) (name : List ℕ) (k : ℕ) → k < n → IsKept (names_of flat k) (block_of flat k).body (block_of flat k).token token name → marks token name ≡ true
+  pub words : (k : ℕ) → k < n → KeepsNoWord flat k
 
 pub noted_start : (flat : Flat) (marks : Marks) → ((token : ℕ) (name : List ℕ) → marks token name ≡ false) → NotedTo flat 0 marks
-noted_start flat marks h = record { right = λ token name e. absurd (let bad : true ≡ false = sym e ∙ h token name in cc); all = λ token name k l. absurd (omega (arith, l)) }
+noted_start flat marks h = record { right = λ token name e. absurd (let bad : true ≡ false = sym e ∙ h token name in cc); all = λ token name k l. absurd (omega (arith, l)); words = λ k l. absurd (omega (arith, l)) }
 
 kept_latched : (flat : Flat) (n : ℕ) → n < length flat.combinational → (token : ℕ) (name : List ℕ) → IsKept (names_of flat n) (block_of flat n).body (block_of flat n).token token name → IsLatched flat token name
 kept_latched flat n l token name k = record { block = n; inside = l; is = k.is; target = k.target; bit = k.bit; named = k.named; keeps = k.keeps }
 
-noted_more : (flat : Flat) (n : ℕ) (before after : Marks) → n < length flat.combinational → NotedTo flat n before → NotesKept (names_of flat n) (block_of flat n).body (block_of flat n).token before after → NotedTo flat (n + 1) after
-noted_more flat n before after l r w = record {
+-- what a block keeps of a memory, as a block of the design
+kept_of_block : (flat : Flat) (n : ℕ) (bit : Bit) → IsWordLatch flat n bit → IsKeptWord (names_of flat n) (block_of flat n).body bit
+kept_of_block flat n bit w = record { name = w.name; target = w.target; memory = w.memory; named = w.named; keeps = w.keeps }
+
+latch_of_block : (flat : Flat) (n : ℕ) (bit : Bit) → IsKeptWord (names_of flat n) (block_of flat n).body bit → IsWordLatch flat n bit
+latch_of_block flat n bit k = record { name = k.name; target = k.target; memory = k.memory; named = k.named; keeps = k.keeps }
+
+noted_more : (flat : Flat) (n : ℕ) (before after : Marks) → n < length flat.combinational → NotedTo flat n before → NotesKept (names_of flat n) (block_of flat n).body (block_of flat n).token before after → HasNoKeptWord (names_of flat n) (block_of flat n).body
+    → NotedTo flat (n + 1) after
+noted_more flat n before after l r w none = record {
   right = λ token name e. elim (w.right token name e) [ inl b ↦ r.right token name b | inr k ↦ kept_latched flat n l token name k ];
   all = λ token name k m kept. w.all token name (by_place token name k m kept);
+  words = λ k m. elim (cases_lt k n) [ inl u ↦ r.words k u | inr u ↦ (let e : n ≡ k = omega (arith, m, u) in subst (KeepsNoWord flat) e (λ bit h. none bit (kept_of_block flat n bit h))) ];
 }
   where
     by_place : (token : ℕ) (name : List ℕ) (k : ℕ) → k < n + 1 → IsKept (names_of flat k) (block_of flat k).body (block_of flat k).token token name →
@@ -194,14 +217,27 @@ noted_more flat n before after l r w = record {
       | inr u ↦ (let e : k ≡ n = omega (arith, m, u) in inr (subst (λ (j : ℕ). IsKept (names_of flat j) (block_of flat j).body (block_of flat j).token token name) e kept))
     ]
 
-pub noted_passed : (flat : Flat) (n : ℕ) (block : Block) (s : Names) (before after : Marks) → n < length flat.combinational → block ≡ block_at flat.combinational n → s ≡ scope_at flat block.scope → NotedTo flat n before → NotesKept s block.body block.token before after → NotedTo flat (n + 1) after
-noted_passed flat n block s before after l e q r h =
+pub noted_passed : (flat : Flat) (n : ℕ) (block : Block) (s : Names) (before after : Marks) → n < length flat.combinational → block ≡ block_at flat.combinational n → s ≡ scope_at flat block.scope → NotedTo flat n before → NotesKept s block.body block.token before after → HasNoKeptWord s block.body → NotedTo flat (n + 1) after
+noted_passed flat n block s before after l e q r h none =
     let P : Names → Type 0 = λ z. NotesKept z block.body block.token before after in
     let Q : Block → Type 0 = λ w. NotesKept (scope_at flat w.scope) w.body w.token before after in
-    noted_more flat n before after l r (subst Q e (subst P q h))
+    let R : Names → Type 0 = λ z. HasNoKeptWord z block.body in
+    let S : Block → Type 0 = λ w. HasNoKeptWord (scope_at flat w.scope) w.body in
+    noted_more flat n before after l r (subst Q e (subst P q h)) (subst S e (subst R q none))
 
-pub noted_done : (flat : Flat) (n : ℕ) (marks : Marks) → length flat.combinational ≤ n → NotedTo flat n marks → MarkLatched flat marks
-noted_done flat n marks l r = record {
-  right = r.right;
-  all = λ token name w. r.all token name w.block (let i = w.inside in omega (arith, l, i)) (record { is = w.is; target = w.target; bit = w.bit; named = w.named; keeps = w.keeps });
-}
+-- the first block that keeps a bit of a memory
+pub block_fault : (flat : Flat) (n : ℕ) (block : Block) (s : Names) (marks : Marks) (f : LintFault) → n < length flat.combinational → block ≡ block_at flat.combinational n → s ≡ scope_at flat block.scope → NotedTo flat n marks → IsBlockFault s block.body block.token f → IsLintFault flat f
+block_fault flat n block s marks (fault.Latch bit token) l e q r h =
+    let P : Names → Type 0 = λ z. IsKeptWord z block.body bit in
+    let Q : Block → Type 0 = λ w. IsKeptWord (scope_at flat w.scope) w.body bit in
+    record { block = n; inside = l; is = h.0 ∙ ap (λ (w : Block). w.token) e; latch = latch_of_block flat n bit (subst Q e (subst P q h.1)); before = r.words }
+block_fault flat n block s marks fault.Memory l e q r h = tt
+
+pub noted_done : (flat : Flat) (n : ℕ) (marks : Marks) → length flat.combinational ≤ n → NotedTo flat n marks → MarkLatched flat marks × NoWordLatches flat
+noted_done flat n marks l r = (
+  record {
+    right = r.right;
+    all = λ token name w. r.all token name w.block (let i = w.inside in omega (arith, l, i)) (record { is = w.is; target = w.target; bit = w.bit; named = w.named; keeps = w.keeps });
+  },
+  λ k m. r.words k (omega (arith, l, m)),
+)

@@ -6,8 +6,8 @@ use thiserror::Error;
 /// Why a source is not mended.
 #[derive(Clone, Copy, Debug, PartialEq, Eq, Error)]
 pub enum LintFault {
-    /// A block, given by the token of its `always`, keeps a bit that no assignment to a whole variable
-    /// clears. No design has such a bit.
+    /// A block, given by the token of its `always`, keeps a bit of a memory where it assigns by `=` alone,
+    /// and no assignment to a whole variable clears a memory (IEEE 1364-2005 section 4.9.3).
     #[error("latch")]
     Latch { bit: Bit, block: u32 },
     /// Memory ran out.

@@ -1,5 +1,5 @@
 //! The names of which combinational blocks keep a bit.
-ghost use Rattle.std.specs.Prelude.{◌≡◌, ◌||◌, ℕ, List, [], map, nat_eq, IfOk, OnOk};
+ghost use Rattle.std.specs.Prelude.{◌≡◌, ◌||◌, ℕ, List, [], map, nat_eq, IfErr, IfOk, MatchResult, OnOk};
 ghost use Rattle.std.specs.List.{list_any};
 ghost use Rattle.indexmap.specs.IndexMap.{get};
 ghost use Rattle.rr_syntax.specs.View.{plain_statement};
@@ -7,11 +7,14 @@ ghost use Rattle.rr_flat.specs.Shapes.{statement_faults};
 ghost use Rattle.rr_flat.specs.View.{plain_flat};
 ghost use Rattle.rr_text_names.specs.View.{plain_target};
 ghost use Rattle.rr_latch.specs.Rooms.{IsBlank};
-ghost use Rattle.rr_lint_laws.specs.Mended.{MarkLatched};
-ghost use Rattle.rr_lint_names.specs.Latched.{is_noted, marks, NotesKept};
+ghost use Rattle.rr_lint_laws.specs.Mended.{MarkLatched, NoWordLatches};
+ghost use Rattle.rr_lint_names.specs.Faults.{IsBlockFault, IsLintFault};
+ghost use Rattle.rr_lint_names.specs.Latched.{is_noted, marks, HasNoKeptWord, NotesKept};
 
+use crate::fault::LintFault;
 use crate::lows::{is_low, lowest};
 use crate::noted::Noted;
+use crate::words::kept_word;
 use indexmap::IndexMap;
 use rr_expr::Scope;
 use rr_flat::{Block, Flat};
@@ -52,32 +55,46 @@ fn note_targets<'a>(
     Ok(())
 }
 
-/// Notes the names that a block assigns and of which it keeps a bit, where it assigns by `=` alone.
+/// Notes the names that a block assigns and of which it keeps a bit, where it assigns by `=` alone; a bit of
+/// a memory is a fault.
 fn note_block<'a>(
     alloc: Global,
     noted: &mut Noted<'a>,
     block: &Block<'a>,
     names: &Scope,
     room: &mut Room,
-) -> Result<(), AllocError>
+) -> Result<(), LintFault>
     requires shaped { statement_faults names.now (plain_statement block.now.body.now) ≡ [] }
     requires blank { IsBlank room.old }
     ensures noted { OnOk result (NotesKept names.now (plain_statement block.now.body.now) block.now.token (marks noted.old) (marks noted.new)) }
+    ensures words { IfOk result (λ _. HasNoKeptWord names.now (plain_statement block.now.body.now)) }
+    ensures fault { IfErr result (IsBlockFault names.now (plain_statement block.now.body.now) block.now.token) }
     ensures blank { OnOk result (IsBlank room.new) }
 {
     let bits = latched_bits(alloc, block.body, names, room)?;
+    if bits.is_empty() {
+        return Ok(());
+    }
     let lows = lowest(alloc, bits.as_slice())?;
     let mut targets = Vec::new(alloc);
     add_assigned_targets(&mut targets, block.body)?;
-    note_targets(noted, block.token, targets.as_slice(), names, &lows)?;
+    let list = targets.as_slice();
+    if let Some(bit) = kept_word(list, names, &lows)? {
+        return Err(LintFault::Latch {
+            bit,
+            block: block.token,
+        });
+    }
+    note_targets(noted, block.token, list, names, &lows)?;
     Ok(())
 }
 
 /// The names of which the combinational blocks of a flat design keep a bit, where they assign by `=`
 /// alone, with the tokens of the blocks (IEEE 1364-2005 sections 9.2.1 and 9.9.2). A block is asked once
-/// in each instance, and looked up once for each of its targets. The error is want of memory.
-pub fn latched<'a>(alloc: Global, flat: &Flat<'a>) -> Result<Noted<'a>, AllocError>
-    ensures { IfOk result (λ noted. MarkLatched (plain_flat flat.now) (marks noted)) }
+/// in each instance, and looked up once for each of its targets. None of the names is that of a memory: the
+/// error is the first block that keeps a bit of one (section 4.9.3), or want of memory.
+pub fn latched<'a>(alloc: Global, flat: &Flat<'a>) -> Result<Noted<'a>, LintFault>
+    ensures { MatchResult result (λ noted. MarkLatched (plain_flat flat.now) (marks noted) × NoWordLatches (plain_flat flat.now)) (IsLintFault (plain_flat flat.now)) }
 {
     let mut noted = Noted::new(alloc);
     let mut room = Room::new(alloc);

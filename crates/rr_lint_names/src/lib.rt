@@ -1,5 +1,5 @@
 //! Which names the `always` items without edges of a source are to clear first: those that a block assigns
-//! and of which it keeps a bit in some instance. The mended tree and the edits of its text both ask for
+//! and of which it keeps a bit in some instance; a block that keeps a memory is a fault. The mended tree and the edits of its text both ask for
 //! them, for the modules that have instances, and for which items wait for edges. It stands on `rr_latch`
 //! for the bits.
 #![tactic(auto)]
@@ -12,6 +12,7 @@ mod latched_names;
 mod lows;
 mod noted;
 mod reached;
+mod words;
 
 pub use cleared::cleared_names;
 pub use edges::has_edges;

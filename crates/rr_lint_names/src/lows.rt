@@ -11,7 +11,7 @@ use rr_flat::Bit;
 use std::alloc::{AllocError, Global};
 
 /// The number of bits of a range, and of a scalar.
-fn range_width(range: &Option<(u32, u32)>) -> u64
+pub(crate) fn range_width(range: &Option<(u32, u32)>) -> u64
     ensures { result ≡ width_of_range range.now }
 {
     match range {
@@ -52,7 +52,7 @@ pub(crate) fn lowest(alloc: Global, bits: &[Bit]) -> Result<IndexMap<u32, u32>, 
     Ok(lows)
 }
 
-/// Whether one of the bits for which a name stands is among those.
+/// Whether one of the bits for which a name stands is among those; of a memory none is.
 pub(crate) fn is_low(lows: &IndexMap<u32, u32>, entity: &Entity) -> bool
     ensures { result ≡ is_low_of (get nat_eq lows.now) entity.now }
 {
@@ -61,6 +61,6 @@ pub(crate) fn is_low(lows: &IndexMap<u32, u32>, entity: &Entity) -> bool
             None => false,
             Some(place) => u64::from(*place) < range_width(range),
         },
-        Entity::Constant { .. } | Entity::Instance => false,
+        Entity::Constant { .. } | Entity::Memory { .. } | Entity::Instance => false,
     }
 }

@@ -7,7 +7,7 @@ use std::test::Fail;
 /// A design, and the same mended.
 type Case = (&'static str, &'static str);
 
-const MENDED: [Case; 21] = [
+const MENDED: [Case; 26] = [
     // A `case` that leaves two values out.
     (
         "module m(input [1:0] s, output reg y);\n  always @*\n    case (s)\n      2'd0: y = 1'b0;\n      2'd1: y = 1'b1;\n    endcase\nendmodule\n",
@@ -105,6 +105,31 @@ const MENDED: [Case; 21] = [
     (
         "module m(input clk, input [1:0] d, output reg [1:0] q);\n  integer i;\n  initial for (i = 0; i < 2; i = i + 1) q = 2'd1;\n  always @(posedge clk) for (i = 0; i < 2; i = i + 1) q[i] <= d[i];\nendmodule\n",
         "module m(input clk, input [1:0] d, output reg [1:0] q);\n  integer i;\n  initial for (i = 0; i < 2; i = i + 1) q = 2'd1;\n  always @(posedge clk) for (i = 0; i < 2; i = i + 1) q[i] <= d[i];\nendmodule\n",
+    ),
+    // A memory whose words are all written by constant indices is kept nowhere; the scalar is cleared.
+    (
+        "module m(input e, input [1:0] a, output reg q, output [1:0] y); reg [1:0] r [0:1]; always @* begin r[0] <= a; r[1] <= 2'd0; if (e) q <= a[0]; end assign y = r[a]; endmodule\n",
+        "module m(input e, input [1:0] a, output reg q, output [1:0] y); reg [1:0] r [0:1]; always @* begin q = 0 ;  begin r[0]  =  a; r[1]  =  2'd0; if (e) q  =  a[0]; end end  assign y = r[a]; endmodule\n",
+    ),
+    // A word that is not written is not kept, and one that is read behind its value neither.
+    (
+        "module m(input [1:0] a, output reg [1:0] y); reg [1:0] r [3:0]; always @* begin r[2] <= a; y <= r[2]; end endmodule\n",
+        "module m(input [1:0] a, output reg [1:0] y); reg [1:0] r [3:0]; always @* begin r[2]  =  a; y  =  r[2]; end endmodule\n",
+    ),
+    // An index outside the memory writes nothing.
+    (
+        "module m(input e, input a, output reg y); reg r [0:1]; always @* begin y = a; if (e) r[2] = a; end endmodule\n",
+        "module m(input e, input a, output reg y); reg r [0:1]; always @* begin y = a; if (e) r[2] = a; end endmodule\n",
+    ),
+    // Each word in a turn of a loop, in one instance of two; in the other there are no turns.
+    (
+        "module n #(parameter N = 0) (input a, input e, output y, output reg z); reg r [0:1]; integer i; always @* begin for (i = 0; i < N; i = i + 1) r[i] <= a; if (e) z <= a; end assign y = r[1]; endmodule\nmodule m(input a, input e, output y, output z, output s, output t); n u(.a(a), .e(e), .y(y), .z(z)); n #(.N(2)) v(.a(a), .e(e), .y(s), .z(t)); endmodule\n",
+        "module n #(parameter N = 0) (input a, input e, output y, output reg z); reg r [0:1]; integer i; always @* begin z = 0 ;  begin for (i = 0; i < N; i = i + 1) r[i]  =  a; if (e) z  =  a; end end  assign y = r[1]; endmodule\nmodule m(input a, input e, output y, output z, output s, output t); n u(.a(a), .e(e), .y(y), .z(z)); n #(.N(2)) v(.a(a), .e(e), .y(s), .z(t)); endmodule\n",
+    ),
+    // Clocked blocks keep memories, and `initial` items start them.
+    (
+        "module m(input clk, input w, input [1:0] i, input [7:0] d, output reg [7:0] q);\n  reg [7:0] r [0:3];\n  initial r[0] = 8'd1;\n  always @(posedge clk) begin if (w) r[i] <= d; q <= r[i]; end\nendmodule\n",
+        "module m(input clk, input w, input [1:0] i, input [7:0] d, output reg [7:0] q);\n  reg [7:0] r [0:3];\n  initial r[0] = 8'd1;\n  always @(posedge clk) begin if (w) r[i] <= d; q <= r[i]; end\nendmodule\n",
     ),
     // No `always` at all.
     (

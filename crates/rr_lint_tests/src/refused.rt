@@ -12,7 +12,7 @@ type Case = (
     &'static Refusal<'static>,
 );
 
-const REFUSED: [Case; 15] = [
+const REFUSED: [Case; 21] = [
     // An edit that a macro hides, at the backtick of its use; one before it lifts.
     (
         "`define N <=\nmodule m(input a, output reg y, output reg z); always @* z <= a; always @* y `N a; endmodule\n",
@@ -77,6 +77,41 @@ const REFUSED: [Case; 15] = [
         "module m(input a, output reg y); always @* y <= a; endmodule\n",
         &Some("n"),
         &Refusal::At(Fault::NoTop, 0),
+    ),
+    // A memory that a block keeps: by an index that is not constant, whatever else it writes for certain.
+    (
+        "module m(input [1:0] i, input [7:0] a, output [7:0] y); reg [7:0] r [0:3]; always @* r[i] = a; assign y = r[0]; endmodule\n",
+        &None,
+        &Refusal::At(Fault::Latch, 75),
+    ),
+    // .. on some path, in the second block; what the first keeps is cleared, and so is no fault.
+    (
+        "module m(input e, input a, output reg q, output y); reg r [0:1]; always @* if (e) q = a; always @* if (e) r[1] <= a; assign y = r[1]; endmodule\n",
+        &None,
+        &Refusal::At(Fault::Latch, 89),
+    ),
+    // .. as a word that is read before its value, in the first of two blocks that keep one.
+    (
+        "module m(input e, input a, output reg y, output z); reg r [0:1]; reg s [7:7]; always @* begin y = r[0]; r[0] = a; end always @* if (e) s[7] = a; assign z = s[7]; endmodule\n",
+        &None,
+        &Refusal::At(Fault::Latch, 78),
+    ),
+    // .. in one instance of two.
+    (
+        "module n #(parameter P = 0) (input e, input a, output y); reg r [0:1]; always @* begin if (e) r[P] = a; r[0] = a; end assign y = r[P]; endmodule\nmodule m(input e, input a, output y, output z); n u(.e(e), .a(a), .y(y)); n #(.P(1)) v(.e(e), .a(a), .y(z)); endmodule\n",
+        &None,
+        &Refusal::At(Fault::Latch, 71),
+    ),
+    // .. after targets and before what a macro hides, at a place of the file.
+    (
+        "`define N <=\nmodule m(input e, input a, output y); reg r [0:1]; always @* r[a] `N a; assign y = r[0]; endmodule\n",
+        &None,
+        &Refusal::At(Fault::Latch, 64),
+    ),
+    (
+        "module m(input e, input a, output y); reg r [0:1]; always @* r[a] = a; always @* y = a; endmodule\n",
+        &None,
+        &Refusal::At(Fault::BadTarget, 81),
     ),
     // Places of the file, behind a definition.
     (

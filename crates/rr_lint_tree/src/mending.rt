@@ -8,7 +8,7 @@ ghost use Rattle.rr_flat.specs.View.{plain_flat};
 ghost use Rattle.rr_flatten.specs.Walk.{flat_by};
 ghost use Rattle.rr_body_laws.specs.Bodies.{item_with, module_with, modules_with, source_with};
 ghost use Rattle.rr_lint_laws.specs.Mended.{cleared as cleared_of, mended_body, with_defaults as with_defaults_of, IsLint};
-ghost use Rattle.rr_lint_names.specs.Faults.{IsMemory};
+ghost use Rattle.rr_lint_names.specs.Faults.{IsLintFault};
 ghost use Rattle.rr_lint_names.specs.Latched.{marks};
 
 use crate::statement::{add_statement, block, immediate};
@@ -198,7 +198,7 @@ fn new_source<'a>(
 /// each `<=` that assigns is `=`, and where the block would then keep a bit of a variable, its body stands
 /// behind `v = 0;` for each such variable, in the order of its first targets (IEEE 1364-2005 sections
 /// 9.2.1, 9.2.2 and 9.9.2). The flat design is the source's. All else is shared with the source. The error
-/// is want of memory.
+/// is the first block that would keep a bit of a memory (section 4.9.3), or want of memory.
 pub fn lint<'a>(
     alloc: Global,
     source: &'a Source<'a>,
@@ -206,7 +206,7 @@ pub fn lint<'a>(
     arena: &'a Bump,
 ) -> Result<&'a Source<'a>, LintFault>
     requires design { (top : Option Text) × (flat_by (Some 1048576) (plain_source source.now) top ≡ Ok (plain_flat flat.now)) }
-    ensures mended { MatchResult result (λ s. IsLint (plain_source source.now) (plain_flat flat.now) (plain_source s.now)) IsMemory }
+    ensures mended { MatchResult result (λ s. IsLint (plain_source source.now) (plain_flat flat.now) (plain_source s.now)) (IsLintFault (plain_flat flat.now)) }
 {
     let noted = latched(alloc, flat)?;
     let reached = number_set(alloc, flat.reached.as_slice())?;

@@ -14,8 +14,9 @@ use Rattle.rr_expr.specs.declared.operators.Prefix.TheVariants.{Plus}
 use Rattle.rr_expr.specs.Operators.{infixes, prefixes, joined, prefix_shape, infix_shape, own_with, prefix_value, infix_value}
 use Rattle.rr_expr.specs.Scopes.{Names, lookup, or_instance, meant, entity_shape, entity_range, entity_value}
 use Rattle.rr_expr.specs.Selects.{place, span, count, is_against, lowest_place, integer_with, repeated}
+use Rattle.rr_expr.specs.Memories.{index_shape, index_value}
 use Rattle.rr_expr.specs.Values.{form, widths, value, values, nowhere, unsigned_of}
-use Rattle.rr_expr.specs.Faults.{fault, faults, fits, fit, first, first_part, is_width, or_else, fault_if, width_fault, name_fault, base_fault, count_fault, takes_constants, is_bad}
+use Rattle.rr_expr.specs.Faults.{fault, faults, fits, fit, first, first_part, is_width, or_else, fault_if, width_fault, name_fault, base_fault, index_fault, count_fault, takes_constants, is_bad}
 use Rattle.rr_loop_names.specs.Turns.{Turn, turned, literal_of, put_name, put_tree, put_parts, in_turn, HasNoBase, HaveNoBase}
 use Rattle.rr_loop_names.specs.Laws.{PutMeans}
 use Rattle.rr_loop_names.proofs.Keeping.{first_put, first_part_put}
@@ -80,7 +81,7 @@ module _ (turn : Turn) (s : Names) where
     same (BitSelect token x i) h =
         let m = outer turn s x h.0 in
         let p = same i h.1 in
-        (refl, λ k env w signed. extend w signed (select (entity_value env (m k)) (place (entity_range (m k)) (integer_with (p.0 k) (p.1 k env))) 1))
+        (λ k. index_shape (m k), λ k env w signed. extend w signed (index_value env (m k) (integer_with (p.0 k) (p.1 k env))))
     same (Part token x l r) h =
         let m = outer turn s x h.0 in
         let p = same l h.1 in
@@ -135,7 +136,7 @@ module _ (turn : Turn) (s : Names) where
     same_fault (BitSelect token x i) h =
         let m = outer turn s x h.0 in
         let p = same_fault i h.1 in
-        λ k constant. or_else (base_fault constant token (m k)) (p k constant)
+        λ k constant. or_else (index_fault constant token (m k)) (p k constant)
     same_fault (Part token x l r) h =
         let m = outer turn s x h.0 in
         let p = same l h.1 in

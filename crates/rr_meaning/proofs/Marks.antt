@@ -1,5 +1,5 @@
 -- the bits that clocked blocks write, and masks
-use Rattle.std.proofs.Common.{◌≡◌, ◌∙◌, sym, ap, ℕ, zero, suc, ◌+◌, ◌-◌, ◌^◌, ◌<◌, ◌≤◌, Bool, true, false, cond, not, ◌&&◌, ◌||◌, List, [], ◌∷◌, length, map, drop, get_or, set, nat_eq, nat_lt, refl, arith, ◌⊎◌, inl, inr}
+use Rattle.std.proofs.Common.{◌≡◌, ◌∙◌, sym, ap, ℕ, ◌+◌, ◌-◌, ◌^◌, ◌<◌, ◌≤◌, Bool, true, false, cond, not, ◌&&◌, ◌||◌, List, [], ◌∷◌, length, map, drop, get_or, set, nat_eq, nat_lt, refl, arith, ◌⊎◌, inl, inr}
 use Rattle.std.proofs.lemmas.Bool.{cases_eq, cases_lt, eq-eqb, ne_eqb, lt-ltb, le-ltb}
 use Rattle.std.proofs.lemmas.List.{drop_all, drop_more}
 use Rattle.rr_bits.specs.Words.{word}
@@ -16,10 +16,12 @@ use Rattle.rr_flat.specs.Writers.{scope_at}
 use Rattle.rr_cycle.specs.Performing.{any_writes}
 use Rattle.rr_named_bits.specs.declared.piece.Piece.{Piece}
 use Rattle.rr_named_bits.specs.declared.writes.Write.{Write}
-use Rattle.rr_named_bits.specs.Lists.{may}
+use Rattle.rr_named_bits.specs.declared.piece.Reach.{Reach}
+use Rattle.rr_named_bits.specs.Lists.{covered, may, reaches}
 use Rattle.rr_named_bits.specs.Pieces.{covers}
 use Rattle.rr_cycle.specs.Cycles.{zeros}
 use Rattle.rr_cycle.specs.Exec.{Environment}
+use Rattle.rr_writers.proofs.Reaching.{first_words, word_piece, no_words, next_word}
 use Rattle.rr_exec.proofs.Pieces.{env_set}
 
 or_assoc : (x y z : Bool) → ((x || y) || z) ≡ (x || (y || z))
@@ -72,36 +74,36 @@ marked values p low high k ones cover l size all merge in' b = env_set values p.
         let n : covers p b ≡ false = cover b ∙ rw (ne_eqb p.signal b.signal q) refl in
         ap (λ (t : Bool). cond t (get_or (word 128 k) b.place false) (env_of values b)) (ne_eqb p.signal b.signal q) ∙ sym (ap (λ (z : Bool). z || env_of values b) n)
 
--- a loop over pieces: what is left to mark, or marked
-pub marks_more : (ws : List Write) (i : ℕ) (w d : Write) (m n f : Bit → Bool) → i < length ws → w ≡ get_or ws i d → ((b : Bit) → (may (drop i ws) b || m b) ≡ f b) → ((b : Bit) → n b ≡ (covers w.piece b || m b)) →
-    (b : Bit) → (may (drop (i + 1) ws) b || n b) ≡ f b
-unfolding may
-marks_more ws i w d m n f l q h k b =
-    ap (λ (z : Bool). may (drop (i + 1) ws) b || z) (k b)
-    ∙ turn (may (drop (i + 1) ws) b) (covers w.piece b) (m b)
-    ∙ ap (λ (vs : List Write). may vs b || m b) (sym (drop_more ws i d l ∙ ap (λ (v : Write). v ∷ drop (i + 1) ws) (sym q)))
+-- a loop over the words of a reach
+pub words_none : (r : Reach) (old : Environment) (b : Bit) → old b ≡ (reaches (first_words r 0) b || old b)
+words_none r old b = sym (ap (λ (z : Bool). z || old b) (no_words r b))
+
+or_turn : (x y z : Bool) → (x || (y || z)) ≡ ((y || x) || z)
+or_turn true true z = refl
+or_turn true false z = refl
+or_turn false true z = refl
+or_turn false false z = refl
+
+pub words_more : (r : Reach) (k : ℕ) (p : Piece) (old now new : Environment) → p ≡ word_piece r k → ((b : Bit) → now b ≡ (reaches (first_words r k) b || old b)) → ((b : Bit) → new b ≡ (covers p b || now b)) →
+    (b : Bit) → new b ≡ (reaches (first_words r (k + 1)) b || old b)
+words_more r k p old now new q h i b =
+    i b ∙ ap (λ (z : Bool). covers p b || z) (h b)
+    ∙ or_turn (covers p b) (reaches (first_words r k) b) (old b)
+    ∙ ap (λ (z : Bool). z || old b) (ap (λ (t : Piece). reaches (first_words r k) b || covers t b) q ∙ sym (next_word r k b))
+
+-- a loop over reaches: what is left to mark, or marked
+pub marks_more : (rs : List Reach) (i : ℕ) (r d : Reach) (m n f : Bit → Bool) → i < length rs → r ≡ get_or rs i d → ((b : Bit) → (covered (drop i rs) b || m b) ≡ f b) → ((b : Bit) → n b ≡ (reaches r b || m b)) →
+    (b : Bit) → (covered (drop (i + 1) rs) b || n b) ≡ f b
+unfolding covered
+marks_more rs i r d m n f l q h k b =
+    ap (λ (z : Bool). covered (drop (i + 1) rs) b || z) (k b)
+    ∙ or_turn (covered (drop (i + 1) rs) b) (reaches r b) (m b)
+    ∙ ap (λ (vs : List Reach). covered vs b || m b) (sym (drop_more rs i d l ∙ ap (λ (v : Reach). v ∷ drop (i + 1) rs) (sym q)))
     ∙ h b
-  where
-    turn : (x y z : Bool) → (x || (y || z)) ≡ ((y || x) || z)
-    turn true true z = refl
-    turn true false z = refl
-    turn false true z = refl
-    turn false false z = refl
 
-pub marks_done : (ws : List Write) (i : ℕ) (m f : Bit → Bool) → length ws ≤ i → ((b : Bit) → (may (drop i ws) b || m b) ≡ f b) → (b : Bit) → m b ≡ f b
-unfolding may
-marks_done ws i m f l h b = ap (λ (vs : List Write). may vs b || m b) (sym (drop_all i ws l)) ∙ h b
-
--- a piece of a list is one that may be written
-pub may_at : (ws : List Write) (i : ℕ) (w d : Write) (b : Bit) → i < length ws → w ≡ get_or ws i d → covers w.piece b ≡ true → may ws b ≡ true
-unfolding may
-may_at [] i w d b l q h = absurd (omega arith)
-may_at (v ∷ vs) zero w d b l q h = ap (λ (x : Write). covers x.piece b || may vs b) (sym q) ∙ ap (λ (z : Bool). z || may vs b) h
-may_at (v ∷ vs) (suc i) w d b l q h = ap (λ (z : Bool). covers v.piece b || z) (may_at vs i w d b (omega arith) q h) ∙ or_true (covers v.piece b)
-  where
-    or_true : (x : Bool) → (x || true) ≡ true
-    or_true true = refl
-    or_true false = refl
+pub marks_done : (rs : List Reach) (i : ℕ) (m f : Bit → Bool) → length rs ≤ i → ((b : Bit) → (covered (drop i rs) b || m b) ≡ f b) → (b : Bit) → m b ≡ f b
+unfolding covered
+marks_done rs i m f l h b = ap (λ (vs : List Reach). covered vs b || m b) (sym (drop_all i rs l)) ∙ h b
 
 -- blocks
 pub blocks_more : (flat : Flat) (bs : List Block) (i : ℕ) (y : Block) (s : Names) (ms ns : List Write) (f : Bit → Bool) → i < length bs → s ≡ scope_at flat (get_or bs i y).scope →
@@ -126,5 +128,5 @@ no_writes_yet ms x b h = rw h refl
 pub all_ones : (w i : ℕ) → w ≤ 128 → i < w → get_or (word w (2 ^ 128 - 1)) i false ≡ true
 all_ones w i l m = get_word w (2 ^ 128 - 1) i false m ∙ has_ones 128 i ∙ lt-ltb i 128 (omega arith)
 
-pub no_marks : (ws : List Write) (e : Environment) (b : Bit) → e ≡ zeros → (may ws b || e b) ≡ may ws b
-no_marks ws e b h = ap (λ (f : Environment). may ws b || f b) h ∙ or_false (may ws b)
+pub no_marks : (rs : List Reach) (e : Environment) (b : Bit) → e ≡ zeros → (covered rs b || e b) ≡ covered rs b
+no_marks rs e b h = ap (λ (f : Environment). covered rs b || f b) h ∙ or_false (covered rs b)

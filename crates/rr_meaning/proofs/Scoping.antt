@@ -1,8 +1,7 @@
 -- what the names of a flat design stand for
-use Rattle.std.proofs.Common.{◌≡◌, ◌∙◌, sym, ap, subst, ℕ, zero, suc, ◌-◌, ◌<◌, ◌≤◌, Bool, true, false, cond, List, [], ◌∷◌, length, map, get_or, Option, None, Some, nat_eq, nat_lt, refl, arith}
+use Rattle.std.proofs.Common.{◌≡◌, ◌∙◌, sym, ap, subst, ℕ, zero, suc, ◌+◌, ◌-◌, ◌<◌, ◌≤◌, Bool, true, false, cond, List, [], ◌∷◌, length, map, get_or, Option, None, Some, refl, arith}
 use Rattle.std.specs.List.{All, AllByRecursion}
 use Rattle.std.specs.Str.{bytes_eq}
-use Rattle.std.proofs.lemmas.Bool.{and_parts, both_ways, eqb-true, ltb-true}
 use Rattle.std.proofs.lemmas.List.Elements.{recursion_from_All}
 use Rattle.std.proofs.lemmas.List.{get_or-map, get_or_read, length-map}
 use Rattle.rr_syntax.specs.Tree.{Tree}
@@ -10,6 +9,7 @@ use Rattle.rr_expr.specs.declared.types.Bit.{Bit}
 use Rattle.rr_expr.specs.declared.types.Entity.{Entity}
 use Rattle.rr_expr.specs.declared.types.Entity.TheVariants as entity
 use Rattle.rr_expr.specs.Faults.{fault}
+use Rattle.rr_expr.specs.Reading.{IsBitOf}
 use Rattle.rr_expr.specs.Scopes.{Names, lookup, meant, or_instance, range_width}
 use Rattle.rr_flat.specs.declared.signal.Signal.{Signal}
 use Rattle.rr_flat.specs.Signals.{no_signal, signal_at}
@@ -19,12 +19,12 @@ use Rattle.rr_flat.specs.View.{plain_signal}
 use Rattle.rr_flat.specs.declared.design.Block.{Block}
 use Rattle.rr_flat.specs.Plain.{Whole}
 use Rattle.rr_flat.specs.Sound.{IsBlock, IsFlat, IsScope, IsSignal}
-use Rattle.rr_flat.specs.Targets.{is_bit_of}
 use Rattle.rr_flat.specs.View.{Design, plain_flat}
 use Rattle.rr_flat.specs.Shapes.{shape, shape_faults}
 use Rattle.rr_flat.specs.Writers.{scope_at}
 use Rattle.rr_cycle.specs.Cycles.{side_shape}
 use Rattle.rr_exec.specs.Work.{Holds}
+use Rattle.rr_named_bits.proofs.Runs.{bit_of}
 use Rattle.rr_exec.proofs.Fitting.{Named}
 
 abbrev pub IsSound : Design → Type 0
@@ -68,30 +68,47 @@ number_of signals s name id range signed h q =
       range_is = ap (λ (n : ℕ). (signal_at (map plain_signal signals) n).range) (sym z) ∙ k.2;
     }
 
-pub scope_holds : (d : Design) (s : Names) → IsSound d → IsScope d.signals s → Holds s (length d.signals)
-scope_holds d s f h name id range signed q =
-    let n = number_of d.signals s name id range signed h q in
-    let w = wide d id f n.inside in
-    (n.inside, omega (arith, w.high, w.range, ap range_width n.range_is))
-
 -- a bit of a name is one of a signal
 abbrev pub IsThere : Design → Bit → Type 0
 IsThere d b = (b.signal < length d.signals) × (b.place < (signal_at (map plain_signal d.signals) b.signal).width)
 
-pub named_there : (d : Design) (s : Names) (b : Bit) → IsSound d → IsScope d.signals s → Named s b → IsThere d b
-named_there d s b f h r = go (meant s r.0) refl r.1
+-- a signal that is there, with this range, has a bit at each place of that
+place_there : (d : Design) (id : ℕ) (range : Option (ℕ × ℕ)) (b : Bit) → IsSound d → IsNumber d.signals id range → id ≡ b.signal → b.place < range_width range → IsThere d b
+place_there d id range b f n u v =
+    let w = wide d id f n.inside in
+    let l : b.place < (signal_at (map plain_signal d.signals) id).width = omega (arith, v, w.range, ap range_width n.range_is) in
+    (omega (arith, u, n.inside), subst (λ (k : ℕ). b.place < (signal_at (map plain_signal d.signals) k).width) u l)
+
+-- so has a word of a memory
+pub word_of : (signals : List Signal) (s : Names) (name : List ℕ) (first low words : ℕ) (range : Option (ℕ × ℕ)) (signed : Bool) (k : ℕ) → IsScope signals s → meant s name ≡ entity.Memory first low words range signed → k < words →
+    IsNumber signals (first + k) range
+word_of signals s name first low words range signed k h q l =
+    let m = subst (IsNamed 0 (map plain_signal signals)) q (entry_of (IsNamed 0 (map plain_signal signals)) s name (recursion_from_All (λ x. IsNamed 0 (map plain_signal signals) x.1) s h) tt) in
+    let z : first + k - 0 ≡ first + k = omega arith in
+    record {
+      inside = omega (arith, m.1, l, length-map signals plain_signal);
+      range_is = ap (λ (n : ℕ). (signal_at (map plain_signal signals) n).range) (sym z) ∙ (m.3 k l).range;
+    }
+
+bit_there : (d : Design) (s : Names) (name : List ℕ) (b : Bit) → IsSound d → IsScope d.signals s → IsBitOf (meant s name) b → IsThere d b
+bit_there d s name b f h i = go (meant s name) refl i
   where
-    go : (e : Entity) → meant s r.0 ≡ e → is_bit_of e b ≡ true → IsThere d b
-    go (entity.Constant bits signed) q i = absurd (both_ways false refl i)
-    go (entity.Signal id range signed) q i =
-        let p = and_parts (nat_eq id b.signal) (nat_lt b.place (range_width range)) i in
-        let n = number_of d.signals s r.0 id range signed h q in
-        let w = wide d id f n.inside in
-        let u : id ≡ b.signal = eqb-true id b.signal p.0 in
-        let v : b.place < range_width range = ltb-true b.place (range_width range) p.1 in
-        let l : b.place < (signal_at (map plain_signal d.signals) id).width = omega (arith, v, w.range, ap range_width n.range_is) in
-        (omega (arith, u, n.inside), subst (λ (k : ℕ). b.place < (signal_at (map plain_signal d.signals) k).width) u l)
-    go entity.Instance q i = absurd (both_ways false refl i)
+    go : (e : Entity) → meant s name ≡ e → IsBitOf e b → IsThere d b
+    go (entity.Constant bits signed) q i = absurd i
+    go (entity.Signal id range signed) q i = place_there d id range b f (number_of d.signals s name id range signed h q) (sym i.0) i.1
+    go (entity.Memory first low words range signed) q i =
+        let at : first + (b.signal - first) ≡ b.signal = omega (arith, i.0) in
+        place_there d (first + (b.signal - first)) range b f (word_of d.signals s name first low words range signed (b.signal - first) h q (omega (arith, i.0, i.1))) at i.2
+    go entity.Instance q i = absurd i
+
+pub scope_holds : (d : Design) (s : Names) → IsSound d → IsScope d.signals s → Holds s (length d.signals)
+scope_holds d s f h name b i =
+    let t = bit_there d s name b f h i in
+    let w = wide d b.signal f t.0 in
+    (t.0, omega (arith, t.1, w.high))
+
+pub named_there : (d : Design) (s : Names) (b : Bit) → IsSound d → IsScope d.signals s → Named s b → IsThere d b
+named_there d s b f h r = bit_there d s r.0 b f h (bit_of (meant s r.0) b r.1)
 
 -- an expression without a fault
 pub no_faults : (s : Names) (t : Tree) → fault s t false ≡ None → shape_faults s t ≡ []

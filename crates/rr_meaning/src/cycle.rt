@@ -119,6 +119,7 @@ fn run_all(flat: &Flat, machine: &mut Machine) -> Result<(), AllocError>
 
 /// The clock edge on settled values.
 fn edge(flat: &Flat, machine: &mut Machine) -> Result<(), AllocError>
+    requires sound { IsSound (plain_flat flat.now) }
     requires lawful { IsLawful (plain_flat flat.now) }
     requires count { length machine.old.env.values.items ≡ length flat.now.signals }
     ensures next { OnOk result (IsNext (plain_flat flat.now) (env_of machine.old.env.values.items) (env_of machine.new.env.values.items)) }
@@ -240,8 +241,10 @@ pub fn settle(
 
 /// The state after the clock edge of a settled environment: each clocked block begins from it, a bit
 /// that a block writes by `=` takes that block's final value, and then the updates of `<=` are applied
-/// in the order of the blocks. An error says that memory ran out.
+/// in the order of the blocks. The design is the flat design of a source and lawful. An error says that
+/// memory ran out.
 pub fn step(alloc: Global, flat: &Flat, env: &Env) -> Result<Env, AllocError>
+    requires sound { IsSound (plain_flat flat.now) }
     requires lawful { IsLawful (plain_flat flat.now) }
     requires env { length env.now.values.items ≡ length flat.now.signals }
     ensures next { IfOk result (λ r. IsNext (plain_flat flat.now) (env_of env.now.values.items) (env_of r.values.items)) }

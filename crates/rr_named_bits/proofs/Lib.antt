@@ -1,4 +1,5 @@
 pub mod Runs
+pub mod Reaching
 pub mod Places
 pub mod Nodes
 pub mod Growing

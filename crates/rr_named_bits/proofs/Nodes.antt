@@ -1,25 +1,26 @@
 -- Names and selects at nodes of the arena, and what a shape of a whole says of its parts.
-use Rattle.std.proofs.Common.{◌≡◌, ◌∙◌, sym, ap, ℕ, zero, suc, ◌-◌, ◌*◌, ◌<◌, ◌≤◌, ◌==◌, max, Bool, true, false, ◌&&◌, List, [], ◌∷◌, Option, None, Some, nat_lt, refl, arith, pos}
+use Rattle.std.proofs.Common.{◌≡◌, ◌∙◌, sym, ap, ℕ, zero, suc, ◌-◌, ◌*◌, ◌<◌, ◌≤◌, ◌==◌, max, Bool, true, false, ◌&&◌, List, [], ◌∷◌, Option, None, nat_lt, refl, arith, pos}
 use Rattle.std.proofs.lemmas.Bool.{and_parts, ltb-true}
 use Rattle.rr_syntax.specs.declared.token.Mark.{Mark}
 use Rattle.rr_syntax.specs.declared.token.Number.{Number}
 use Rattle.rr_syntax.specs.declared.tree.Expr.{Expr}
 use Rattle.rr_syntax.specs.declared.tree.Expr.TheVariants as expr
-use Rattle.rr_syntax.specs.Tree.{Tree, Trees, Name, Literal, Bit as BitSelect, Part, Indexed, Unary, Binary, Cond, Concat, Repeat, Cast, Paren, End, More}
+use Rattle.rr_syntax.specs.Tree.{Tree, Name, Literal, Bit as BitSelect, Part, Indexed, Unary, Binary, Cond, Concat, Repeat, Cast, Paren}
 use Rattle.rr_syntax.specs.View.{plain, plain_list}
 use Rattle.rr_syntax.proofs.Rows.{plain_concat, plain_repeat}
 use Rattle.rr_expr.specs.declared.types.Bit.{Bit}
 use Rattle.rr_expr.specs.declared.types.Entity.{Entity}
-use Rattle.rr_expr.specs.declared.types.Entity.TheVariants.{Constant, Signal, Instance}
+use Rattle.rr_expr.specs.declared.types.Entity.TheVariants.{Constant, Signal, Memory, Instance}
 use Rattle.rr_expr.specs.declared.types.ExprFault.{ExprFault}
 use Rattle.rr_expr.specs.declared.types.ExprFault.TheVariants.{BadRange}
+use Rattle.rr_expr.specs.Memories.{index_shape}
 use Rattle.rr_expr.specs.Scopes.{Names, meant, entity_shape, entity_range, is_scalar}
 use Rattle.rr_expr.specs.Selects.{place, lowest_place, integer_with, is_against}
 use Rattle.rr_expr.specs.Values.{form, widths, value, nowhere}
-use Rattle.rr_expr.specs.Faults.{fits, fit, fault, faults, or_else, fault_if, width_fault, name_fault, base_fault, count_fault, constant_count, constant_span, first, first_part, is_width}
+use Rattle.rr_expr.specs.Faults.{fits, fit, fault, faults, or_else, fault_if, width_fault, name_fault, base_fault, index_fault, count_fault, constant_count, constant_span, first, first_part, is_width}
 use Rattle.rr_expr.proofs.Sound.{fits_without_fault, width_positive}
-use Rattle.rr_flat.specs.Targets.{target_bits, bits_there}
-use Rattle.rr_flat.proofs.Relaxing.{none_parts, both_none, relax}
+use Rattle.rr_flat.specs.Targets.{is_memory, target_bits, bits_there, index_bits}
+use Rattle.rr_flat.proofs.Relaxing.{none_parts, relax}
 use Rattle.rr_named_bits.specs.Pieces.{part_bits}
 use denote.Ref.{Bor}
 
@@ -141,11 +142,18 @@ binary_small s l r h k (suc (suc (suc (suc (suc (suc (suc (suc (suc (suc (suc (s
 binary_small s l r h k (suc (suc (suc (suc (suc (suc (suc (suc (suc (suc (suc (suc (suc (suc (suc (suc (suc (suc (suc (suc (suc (suc (suc (suc (suc (suc (suc (suc (suc (suc (suc (suc (suc (suc (suc (suc (suc (suc (suc (suc (suc (suc (suc (suc zero)))))))))))))))))))))))))))))))))))))))))))) = omega arith
 binary_small s l r h k (suc (suc (suc (suc (suc (suc (suc (suc (suc (suc (suc (suc (suc (suc (suc (suc (suc (suc (suc (suc (suc (suc (suc (suc (suc (suc (suc (suc (suc (suc (suc (suc (suc (suc (suc (suc (suc (suc (suc (suc (suc (suc (suc (suc (suc op))))))))))))))))))))))))))))))))))))))))))))) = omega arith
 
+-- an index gives one bit, or a word
+index_small : (e : Entity) → (entity_shape e).width ≤ 128 → (index_shape e).width ≤ 128
+index_small (Constant bits signed) h = omega arith
+index_small (Signal id range signed) h = omega arith
+index_small (Memory first low words range signed) h = h
+index_small Instance h = omega arith
+
 width_small : (s : Names) (t : Tree) → fits s t ≡ true → (form s t).width ≤ 128
 unfolding fits form
 width_small s (Name token name) h = small (entity_shape (meant s name)).width h
 width_small s (Literal token n) h = small n.width h
-width_small s (BitSelect token name i) h = omega arith
+width_small s (BitSelect token name i) h = index_small (meant s name) (small (entity_shape (meant s name)).width (and_parts (is_width (entity_shape (meant s name)).width) (fits s i) h).0)
 width_small s (Part token name l r) h = small (constant_span s l r) (last_of (is_width (entity_shape (meant s name)).width) (fits s l) (fits s r) (is_width (constant_span s l r)) h)
 width_small s (Indexed token name f n up) h = small (constant_count s n) (last_of (is_width (entity_shape (meant s name)).width) (fits s f) (fits s n) (is_width (constant_count s n)) h)
 width_small s (Unary op t) h = unary_small s t (width_small s t h) op
@@ -176,12 +184,34 @@ pub shaped-Name : (s : Names) (token : ℕ) (name : Bor (List ℕ)) → fault s 
 unfolding plain fits
 shaped-Name s token name h = small (entity_shape (meant s name.now)).width (fits_without_fault s false (Name token name.now) h)
 
+-- a memory has no value of its own, and no part
+no_name : (token : ℕ) (e : Entity) → name_fault false token e ≡ None → is_memory e ≡ false
+no_name token (Constant bits signed) h = refl
+no_name token (Signal id range signed) h = refl
+no_name token (Memory first low words range signed) h = cc
+no_name token Instance h = refl
+
+no_base : (token : ℕ) (e : Entity) → base_fault false token e ≡ None → is_memory e ≡ false
+no_base token e h = no_name token e (none_parts (name_fault false token e) (fault_if (is_scalar e) (BadRange token)) h).0
+
+pub alone-Name : (s : Names) (token : ℕ) (name : Bor (List ℕ)) → fault s (plain (expr.Name token name)) false ≡ None → is_memory (meant s name.now) ≡ false
+unfolding plain fault
+alone-Name s token name h = no_name token (meant s name.now) h
+
+pub alone-Part : (s : Names) (token : ℕ) (name : Bor (List ℕ)) (l r : Bor Expr) → fault s (plain (expr.Part token name l r)) false ≡ None → is_memory (meant s name.now) ≡ false
+unfolding plain fault
+alone-Part s token name l r h = no_base token (meant s name.now) (none_parts (base_fault false token (meant s name.now)) _ h).0
+
+pub alone-Indexed : (s : Names) (token : ℕ) (name : Bor (List ℕ)) (f n : Bor Expr) (up : Bool) → fault s (plain (expr.Indexed token name f n up)) false ≡ None → is_memory (meant s name.now) ≡ false
+unfolding plain fault
+alone-Indexed s token name f n up h = no_base token (meant s name.now) (none_parts (base_fault false token (meant s name.now)) _ h).0
+
 pub shaped-Bit : (s : Names) (token : ℕ) (name : Bor (List ℕ)) (i : Bor Expr) → fault s (plain (expr.Bit token name i)) false ≡ None
     → ((entity_shape (meant s name.now)).width ≤ 128) × (fault s (plain i.now) false ≡ None)
 unfolding plain fault fits
 shaped-Bit s token name i h = (
   name_small s name.now (fits s (plain i.now)) (fits_without_fault s false (BitSelect token name.now (plain i.now)) h),
-  (none_parts (base_fault false token (meant s name.now)) (fault s (plain i.now) false) h).1,
+  (none_parts (index_fault false token (meant s name.now)) (fault s (plain i.now) false) h).1,
 )
 
 pub shaped-Part : (s : Names) (token : ℕ) (name : Bor (List ℕ)) (l r : Bor Expr) → fault s (plain (expr.Part token name l r)) false ≡ None
@@ -259,8 +289,8 @@ unfolding plain target_bits
 bits-Name s env token name = refl
 
 pub bits-Bit : (s : Names) (env : Bit → Bool) (token : ℕ) (name : Bor (List ℕ)) (i : Bor Expr) → part_bits s env (plain (expr.Bit token name i))
-    ≡ bits_there (meant s name.now) (place (entity_range (meant s name.now)) (integer_with (form s (plain i.now)) (value s (plain i.now) env))) 1
-unfolding plain target_bits bits_there
+    ≡ index_bits (meant s name.now) (integer_with (form s (plain i.now)) (value s (plain i.now) env))
+unfolding plain target_bits
 bits-Bit s env token name i = refl
 
 pub bits-Part : (s : Names) (env : Bit → Bool) (token : ℕ) (name : Bor (List ℕ)) (l r : Bor Expr) → part_bits s env (plain (expr.Part token name l r))

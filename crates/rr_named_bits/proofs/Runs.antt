@@ -1,16 +1,22 @@
 -- The bits of runs of places.
-use Rattle.std.proofs.Common.{◌≡◌, ◌∙◌, sym, ap, ℕ, zero, suc, ◌+◌, ◌-◌, ◌<◌, ◌≤◌, inl, inr, Bool, true, false, cond, not, ◌||◌, List, [], ◌∷◌, Option, None, Some, nat_eq, nat_lt, refl, arith, ℤ, pos, negsuc, ◌+ℤ◌, ◌-ℤ◌, int_lt, unsigned_abs}
-use Rattle.std.proofs.lemmas.Bool.{and_from, and_parts, or_cases, ltb-true, lt-ltb, le-ltb, eqb-true, eq-eqb}
+use Rattle.std.proofs.Common.{◌≡◌, ◌∙◌, sym, ap, ℕ, zero, suc, ◌+◌, ◌-◌, ◌<◌, ◌≤◌, inl, inr, Bool, true, false, cond, not, ◌&&◌, ◌||◌, List, [], ◌∷◌, Option, None, Some, nat_eq, nat_lt, refl, arith, ℤ, pos, negsuc, ◌+ℤ◌, ◌-ℤ◌, int_lt, unsigned_abs}
+use Rattle.std.specs.Prelude.{Result, IfOk}
+use Rattle.std.proofs.lemmas.Result.{IfOk-weaker}
+use Rattle.std.proofs.lemmas.Bool.{and_from, and_parts, or_cases, ltb-true, ltb-false, lt-ltb, le-ltb, eqb-true, eq-eqb}
 use Rattle.std.proofs.lemmas.Int.{ints}
 use lib.IntN.{nat_abs}
 use mir.Syntax.{w64}
 use mir.Val.{to_z, of_z}
 use Rattle.rr_expr.specs.declared.types.Bit.{Bit}
 use Rattle.rr_expr.specs.declared.types.Entity.{Entity}
-use Rattle.rr_expr.specs.declared.types.Entity.TheVariants.{Constant, Signal, Instance}
+use Rattle.rr_expr.specs.declared.types.Entity.TheVariants.{Constant, Signal, Memory, Instance}
 use Rattle.rr_expr.specs.Reading.{IsBitOf, IsWithin}
-use Rattle.rr_expr.specs.Scopes.{entity_shape, range_width}
-use Rattle.rr_flat.specs.Targets.{same_bit, is_bit_of, bit_there, bits_there, has_bit}
+use Rattle.rr_expr.specs.Memories.{word_bits}
+use Rattle.rr_expr.specs.Scopes.{entity_shape, entity_range, range_width}
+use Rattle.rr_expr.specs.Selects.{place}
+use Rattle.rr_expr.proofs.Indices.{unmoved}
+use Rattle.rr_flat.specs.Targets.{same_bit, is_memory, is_bit_of, bit_there, bits_there, index_bits, has_bit}
+use Rattle.rr_flat.proofs.Bits.{no_word_run}
 use Rattle.rr_named_bits.specs.declared.piece.Piece.{Piece}
 use Rattle.rr_named_bits.specs.Pieces.{bit_in, bits_in, bits_of, covers}
 
@@ -53,6 +59,29 @@ unfolding bits_in bits_there
 instance_run count zero from at other = refl
 instance_run count (suc n) from at other = cons_same _ _ _ _ (no_bit count from at) (instance_run count n from (at +ℤ pos 1) (other +ℤ pos 1))
 
+pub memory_run : (first low words : ℕ) (range : Option (ℕ × ℕ)) (signed : Bool) (count n : ℕ) (from at other : ℤ) → bits_in (run_of 0 0 from count) at n ≡ bits_there (Memory first low words range signed) other n
+unfolding bits_in bits_there
+memory_run first low words range signed count zero from at other = refl
+memory_run first low words range signed count (suc n) from at other = cons_same _ _ _ _ (no_bit count from at) (memory_run first low words range signed count n from (at +ℤ pos 1) (other +ℤ pos 1))
+
+-- a word that is not there
+pub no_word : (range : Option (ℕ × ℕ)) (width : ℕ) → width ≡ range_width range → bits_of (run_of 0 0 (pos 0) width) ≡ word_bits range None
+no_word range width h =
+    ap (λ n. bits_of (run_of 0 0 (pos 0) n)) h ∙ (instance_run (range_width range) (range_width range) (pos 0) (pos 0) (pos 0) ∙ sym (no_word_run range (pos 0)))
+
+-- the bits of a name in a run of places that it does not have: a memory has none but in its words
+pub word_absent : (range : Option (ℕ × ℕ)) (first low words : ℕ) (signed : Bool) → word_bits range None ≡ bits_there (Memory first low words range signed) (pos 0) (range_width range)
+word_absent range first low words signed =
+    no_word_run range (pos 0) ∙ (sym (instance_run 0 (range_width range) (pos 0) (pos 0) (pos 0)) ∙ memory_run first low words range signed 0 (range_width range) (pos 0) (pos 0) (pos 0))
+
+-- an index of what is no memory names one place
+pub index_run : (e : Entity) (i : ℤ) → is_memory e ≡ false → bits_there e (place (entity_range e) i -ℤ pos 0) 1 ≡ index_bits e i
+unfolding bits_there
+index_run (Constant bits signed) i h = ap (λ (p : ℤ). bit_there (Constant bits signed) p ∷ []) (unmoved (place (entity_range (Constant bits signed)) i))
+index_run (Signal id range signed) i h = ap (λ (p : ℤ). bit_there (Signal id range signed) p ∷ []) (unmoved (place (entity_range (Signal id range signed)) i))
+index_run (Memory first low words range signed) i h = cc
+index_run Instance i h = ap (λ (p : ℤ). bit_there Instance p ∷ []) (unmoved (place (entity_range Instance) i))
+
 nearer : (z : ℤ) (n : ℕ) → 128 + suc n ≤ nat_abs z → 128 + n ≤ nat_abs (z +ℤ pos 1)
 nearer z n h = grind (arith, ints)
 
@@ -62,6 +91,10 @@ far_run id range signed count zero from at other w h = refl
 far_run id range signed count (suc n) from at other w h =
     cons_same _ _ _ _ (no_bit count from at ∙ sym (past (int_lt other (pos 0)) (unsigned_abs other) (range_width range) (Some (record { signal = id; place = unsigned_abs other })) (omega arith)))
     (far_run id range signed count n from (at +ℤ pos 1) (other +ℤ pos 1) w (nearer other n h))
+
+-- an answer with the bits of a name
+pub same_bits : {E : Type 0} (r : Result Piece E) (xs ys : List (Option Bit)) → xs ≡ ys → IfOk r (λ p. bits_of p ≡ xs) → IfOk r (λ p. bits_of p ≡ ys)
+same_bits r xs ys e h = IfOk-weaker r (λ p. bits_of p ≡ xs) (λ p. bits_of p ≡ ys) (λ p k. k ∙ e) h
 
 -- the casts of a place that is near
 pub cast_away : (p : ℤ) (below : ℕ) → nat_abs p < 1103806595072 → below ≤ 128 → to_z w64 (of_z w64 (to_z w64 (of_z w64 p) -ℤ to_z w64 below)) ≡ p -ℤ pos below
@@ -211,20 +244,30 @@ unfolding bits_there has_bit
 nothing_has at zero b = refl
 nothing_has at (suc n) b = nothing_has (at +ℤ pos 1) n b
 
+nowhere_has : (first low words : ℕ) (range : Option (ℕ × ℕ)) (signed : Bool) (at : ℤ) (n : ℕ) (b : Bit) → has_bit (bits_there (Memory first low words range signed) at n) b ≡ false
+unfolding bits_there has_bit
+nowhere_has first low words range signed at zero b = refl
+nowhere_has first low words range signed at (suc n) b = nowhere_has first low words range signed (at +ℤ pos 1) n b
+
 pub has_there : (e : Entity) (at : ℤ) (n : ℕ) (b : Bit) → has_bit (bits_there e at n) b ≡ true → IsBitOf e b × IsWithin at n b.place
 has_there (Constant bits signed) at n b h = let bad : false ≡ true = sym (none_has bits signed at n b) ∙ h in cc
 has_there (Signal id range signed) at n b h =
     let i = has_in (run_of id (range_width range) at n) at n b (ap (λ z. has_bit z b) (signal_run id range signed at at n n) ∙ h) in
     ((sym i.signal, i.there), i.within)
+has_there (Memory first low words range signed) at n b h = let bad : false ≡ true = sym (nowhere_has first low words range signed at n b) ∙ h in cc
 has_there Instance at n b h = let bad : false ≡ true = sym (nothing_has at n b) ∙ h in cc
 
-pub there_has : (e : Entity) (at : ℤ) (n : ℕ) (b : Bit) → IsBitOf e b → IsWithin at n b.place → has_bit (bits_there e at n) b ≡ true
-there_has (Constant bits signed) at n b i w = absurd i
-there_has (Signal id range signed) at n b i (k, l, e) =
+pub there_has : (e : Entity) (at : ℤ) (n : ℕ) (b : Bit) → is_memory e ≡ false → IsBitOf e b → IsWithin at n b.place → has_bit (bits_there e at n) b ≡ true
+there_has (Constant bits signed) at n b m i w = absurd i
+there_has (Signal id range signed) at n b m i (k, l, e) =
     sym (ap (λ z. has_bit z b) (signal_run id range signed at at n n)) ∙ in_has (run_of id (range_width range) at n) at n b k (sym i.0) i.1 l e
-there_has Instance at n b i w = absurd i
+there_has (Memory first low words range signed) at n b m i w = cc
+there_has Instance at n b m i w = absurd i
 
 -- all bits of a name
+
+from_zero : (m : ℕ) → pos 0 +ℤ pos m ≡ pos m
+from_zero m = ap pos (omega arith)
 
 is_of : (e : Entity) (b : Bit) → is_bit_of e b ≡ true → IsBitOf e b × IsWithin (pos 0) (entity_shape e).width b.place
 is_of (Constant bits signed) b h = cc
@@ -232,21 +275,24 @@ is_of (Signal id range signed) b h =
     let p = and_parts (nat_eq id b.signal) (nat_lt b.place (range_width range)) h in
     let l : b.place < range_width range = ltb-true b.place (range_width range) p.1 in
     ((sym (eqb-true id b.signal p.0), l), (b.place, l, from_zero b.place))
-  where
-    from_zero : (m : ℕ) → pos 0 +ℤ pos m ≡ pos m
-    from_zero m = ap pos (omega arith)
+is_of (Memory first low words range signed) b h =
+    let p = and_parts (not (nat_lt b.signal first)) (nat_lt b.signal (first + words) && nat_lt b.place (range_width range)) h in
+    let q = and_parts (nat_lt b.signal (first + words)) (nat_lt b.place (range_width range)) p.1 in
+    let l : b.place < range_width range = ltb-true b.place (range_width range) q.1 in
+    ((ltb-false b.signal first (not_false (nat_lt b.signal first) p.0), ltb-true b.signal (first + words) q.0, l), (b.place, l, from_zero b.place))
 is_of Instance b h = cc
 
 pub of_is : (e : Entity) (b : Bit) → IsBitOf e b → is_bit_of e b ≡ true
 of_is (Constant bits signed) b i = absurd i
 of_is (Signal id range signed) b i = and_from (nat_eq id b.signal) (nat_lt b.place (range_width range)) (eq-eqb id b.signal (sym i.0)) (lt-ltb b.place (range_width range) i.1)
+of_is (Memory first low words range signed) b i = rw (le-ltb b.signal first i.0, lt-ltb b.signal (first + words) i.1, lt-ltb b.place (range_width range) i.2) refl
 of_is Instance b i = absurd i
 
 pub bit_of : (e : Entity) (b : Bit) → is_bit_of e b ≡ true → IsBitOf e b
 bit_of e b h = (is_of e b h).0
 
-pub whole_has : (e : Entity) (b : Bit) → has_bit (bits_there e (pos 0) (entity_shape e).width) b ≡ is_bit_of e b
-whole_has e b =
+pub whole_has : (e : Entity) (b : Bit) → is_memory e ≡ false → has_bit (bits_there e (pos 0) (entity_shape e).width) b ≡ is_bit_of e b
+whole_has e b m =
     same_truth (has_bit (bits_there e (pos 0) (entity_shape e).width) b) (is_bit_of e b)
     (λ h. of_is e b (has_there e (pos 0) (entity_shape e).width b h).0)
-    (λ h. let r = is_of e b h in there_has e (pos 0) (entity_shape e).width b r.0 r.1)
+    (λ h. let r = is_of e b h in there_has e (pos 0) (entity_shape e).width b m r.0 r.1)

@@ -1,4 +1,4 @@
--- Runs of places of a signal, which are what a name or select names (IEEE 1364-2005 section 5.2.1).
+-- Runs of places of a signal, which are what a name or select names (IEEE 1364-2005 sections 5.2.1 and 5.2.2).
 use Rattle.std.specs.Prelude.{ℕ, zero, suc, List, [], ◌∷◌, ◌++◌, Bool, cond, not, ◌&&◌, Option, Some, None, nat_eq, nat_lt, ℤ, pos, ◌+ℤ◌, int_lt, unsigned_abs}
 use Rattle.rr_syntax.specs.Tree.{Tree, Name, Literal, Bit as BitSelect, Part, Indexed, Unary, Binary, Cond, Concat, Repeat, Cast, Paren}
 use Rattle.rr_expr.specs.declared.types.Bit.{Bit}

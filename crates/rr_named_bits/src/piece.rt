@@ -5,6 +5,7 @@ ghost use Rattle.rr_expr.specs.declared.types.Bit.{Bit as BitOfSignal};
 ghost use Rattle.rr_flat.specs.Signals.{signal_at};
 ghost use Rattle.rr_flat.specs.View.{plain_flat};
 ghost use Rattle.rr_flat.specs.Writers.{signal_bits};
+ghost use Rattle.rr_named_bits.specs.Lists.{reaches};
 ghost use Rattle.rr_named_bits.specs.Pieces.{all_bits, bit_in, bits_of, covers};
 
 use rr_flat::{Bit, Flat};
@@ -19,6 +20,25 @@ pub struct Piece {
     pub width: u32,
     pub from: i64,
     pub count: u32,
+}
+
+/// The bits that a text may name whatever the values are: where `words` is 1 the places of the piece's
+/// signal, else the same places of each of `words` signals from the piece's on, which are the words of
+/// a memory (section 5.2.2).
+#[derive(Clone, Copy, Debug, PartialEq, Eq)]
+pub struct Reach {
+    pub piece: Piece,
+    pub words: u32,
+}
+
+impl Reach {
+    /// The bits of one piece.
+    pub fn one(piece: Piece) -> Reach
+        ensures value { result ≡ record { piece = piece; words = 1 } }
+        ensures bits { (b : BitOfSignal) → reaches result b ≡ covers piece b }
+    {
+        Reach { piece, words: 1 }
+    }
 }
 
 impl Piece {

@@ -32,7 +32,8 @@ pub fn add_pieces(
 {
     match target {
         Expr::Name { .. } | Expr::Bit { .. } | Expr::Part { .. } | Expr::Indexed { .. } => {
-            push_piece(list, piece_of(target, scope, env))
+            let piece = piece_of(target, scope, env)?;
+            push_piece(list, piece)
         }
         Expr::Concat { parts } => add_pieces_of_all(list, parts, scope, env),
         Expr::Literal { .. }

@@ -1,73 +1,116 @@
 //! The bits that assignments write whatever the values are.
-ghost use Rattle.std.specs.Prelude.{◌≡◌, ◌≤◌, ◌||◌, ◌&&◌, [], OnOk, None, true, false, cond};
+ghost use Rattle.std.specs.Prelude.{◌≡◌, ◌≤◌, ◌||◌, ◌&&◌, [], IfOk, OnOk, None, true, false, cond};
 ghost use Rattle.rr_syntax.specs.View.{plain, plain_list};
 ghost use Rattle.rr_expr.specs.Faults.{fault, faults};
 ghost use Rattle.rr_expr.specs.Scopes.{entity_shape, meant};
 ghost use Rattle.rr_expr.specs.Values.{nowhere};
 ghost use Rattle.rr_expr.specs.declared.types.Bit.{Bit};
 ghost use Rattle.rr_flat.specs.Targets.{has_bit, is_bit_of, is_constant as is_constant_in, may_write, must_write, target_parts, targets_parts, writes_target, assigns_target};
-ghost use Rattle.rr_named_bits.specs.Lists.{may, must};
-ghost use Rattle.rr_named_bits.specs.Pieces.{covers, part_bits};
+ghost use Rattle.rr_named_bits.specs.Lists.{may, must, reaches};
+ghost use Rattle.rr_named_bits.specs.Pieces.{part_bits};
 
-use crate::piece::Piece;
-use crate::select::{meaning, no_values, piece_of, whole};
+use crate::piece::Reach;
+use crate::select::{meaning, no_values, piece_of, reach_of};
 use rr_expr::{Entity, Env, Scope};
 use rr_flat::is_constant;
 use rr_syntax::Expr;
 use std::alloc::{AllocError, Global};
 
 /// The bits that the assignment of a name or select may write: by constant indices those at its
-/// places, and all of them for certain; by any other index all bits of the name, and none for certain.
+/// places, and all of them for certain; by any other index all bits of the name, of a memory those of
+/// all its words, and none for certain.
 #[derive(Clone, Copy, Debug, PartialEq, Eq)]
 pub struct Write {
-    pub piece: Piece,
+    pub reach: Reach,
     pub certain: bool,
 }
 
 /// The write of a select of a name; `none` has no values, since a constant index needs none.
-fn write_at(part: &Expr, name: &str, index: &Expr, scope: &Scope, none: &Env) -> Write
+fn write_at(
+    part: &Expr,
+    name: &str,
+    index: &Expr,
+    scope: &Scope,
+    none: &Env,
+) -> Result<Write, AllocError>
     requires shaped { fault scope.now (plain part.now) false ≡ None }
     requires width { (entity_shape (meant scope.now name.now)).width ≤ 128 }
     requires none { none.now.values.items ≡ [] }
-    ensures may { (b : Bit) → covers result.piece b ≡ cond (is_constant_in scope.now (plain index.now)) (has_bit (part_bits scope.now nowhere (plain part.now)) b) (is_bit_of (meant scope.now name.now) b) }
-    ensures must { (b : Bit) → (result.certain && covers result.piece b) ≡ (is_constant_in scope.now (plain index.now) && has_bit (part_bits scope.now nowhere (plain part.now)) b) }
+    ensures may { IfOk result (λ w. (b : Bit) → reaches w.reach b ≡ cond (is_constant_in scope.now (plain index.now)) (has_bit (part_bits scope.now nowhere (plain part.now)) b) (is_bit_of (meant scope.now name.now) b)) }
+    ensures must { IfOk result (λ w. (b : Bit) → (w.certain && reaches w.reach b) ≡ (is_constant_in scope.now (plain index.now) && has_bit (part_bits scope.now nowhere (plain part.now)) b)) }
 {
     if is_constant(index, scope) {
         certain(part, scope, none)
     } else {
-        uncertain(&meaning(scope, name))
+        Ok(uncertain(&meaning(scope, name)))
     }
 }
 
-fn certain(part: &Expr, scope: &Scope, none: &Env) -> Write
+fn certain(part: &Expr, scope: &Scope, none: &Env) -> Result<Write, AllocError>
     requires shaped { fault scope.now (plain part.now) false ≡ None }
     requires none { none.now.values.items ≡ [] }
-    ensures bits { (b : Bit) → covers result.piece b ≡ has_bit (part_bits scope.now nowhere (plain part.now)) b }
-    ensures certain { result.certain ≡ true }
+    ensures bits { IfOk result (λ w. (b : Bit) → reaches w.reach b ≡ has_bit (part_bits scope.now nowhere (plain part.now)) b) }
+    ensures must { IfOk result (λ w. (b : Bit) → (w.certain && reaches w.reach b) ≡ has_bit (part_bits scope.now nowhere (plain part.now)) b) }
 {
-    Write {
-        piece: piece_of(part, scope, none),
+    let piece = piece_of(part, scope, none)?;
+    Ok(Write {
+        reach: Reach::one(piece),
         certain: true,
-    }
+    })
 }
 
 fn uncertain(entity: &Entity) -> Write
     requires { (entity_shape entity.now).width ≤ 128 }
-    ensures bits { (b : Bit) → covers result.piece b ≡ is_bit_of entity.now b }
+    ensures bits { (b : Bit) → reaches result.reach b ≡ is_bit_of entity.now b }
     ensures uncertain { result.certain ≡ false }
 {
     Write {
-        piece: whole(entity),
+        reach: reach_of(entity),
         certain: false,
     }
 }
 
 fn push_write(list: &mut Vec<Write>, write: Write) -> Result<(), AllocError>
-    ensures may { OnOk result ((b : Bit) → may list.new.items b ≡ (may list.old.items b || covers write.piece b)) }
-    ensures must { OnOk result ((b : Bit) → must list.new.items b ≡ (must list.old.items b || (write.certain && covers write.piece b))) }
+    ensures may { OnOk result ((b : Bit) → may list.new.items b ≡ (may list.old.items b || reaches write.reach b)) }
+    ensures must { OnOk result ((b : Bit) → must list.new.items b ≡ (must list.old.items b || (write.certain && reaches write.reach b))) }
 {
     list.push(write)?;
     Ok(())
+}
+
+/// Adds the write of a name or of a part.
+fn push_certain(
+    list: &mut Vec<Write>,
+    part: &Expr,
+    scope: &Scope,
+    none: &Env,
+) -> Result<(), AllocError>
+    requires shaped { fault scope.now (plain part.now) false ≡ None }
+    requires none { none.now.values.items ≡ [] }
+    ensures may { OnOk result ((b : Bit) → may list.new.items b ≡ (may list.old.items b || has_bit (part_bits scope.now nowhere (plain part.now)) b)) }
+    ensures must { OnOk result ((b : Bit) → must list.new.items b ≡ (must list.old.items b || has_bit (part_bits scope.now nowhere (plain part.now)) b)) }
+{
+    let write = certain(part, scope, none)?;
+    push_write(list, write)
+}
+
+/// Adds that of a select of a name by an index.
+fn push_at(
+    list: &mut Vec<Write>,
+    part: &Expr,
+    name: &str,
+    index: &Expr,
+    scope: &Scope,
+    none: &Env,
+) -> Result<(), AllocError>
+    requires shaped { fault scope.now (plain part.now) false ≡ None }
+    requires width { (entity_shape (meant scope.now name.now)).width ≤ 128 }
+    requires none { none.now.values.items ≡ [] }
+    ensures may { OnOk result ((b : Bit) → may list.new.items b ≡ (may list.old.items b || cond (is_constant_in scope.now (plain index.now)) (has_bit (part_bits scope.now nowhere (plain part.now)) b) (is_bit_of (meant scope.now name.now) b))) }
+    ensures must { OnOk result ((b : Bit) → must list.new.items b ≡ (must list.old.items b || (is_constant_in scope.now (plain index.now) && has_bit (part_bits scope.now nowhere (plain part.now)) b))) }
+{
+    let write = write_at(part, name, index, scope, none)?;
+    push_write(list, write)
 }
 
 /// Adds what an assignment to a target writes whatever the values are, name by name in the order of
@@ -99,14 +142,10 @@ fn add_writes_in(
     ensures must { OnOk result ((b : Bit) → must list.new.items b ≡ (must list.old.items b || must_write scope.now (target_parts (plain target.now)) b)) }
 {
     match target {
-        Expr::Name { .. } => push_write(list, certain(target, scope, none)),
-        Expr::Part { .. } => push_write(list, certain(target, scope, none)),
-        Expr::Bit { name, index, .. } => {
-            push_write(list, write_at(target, name, index, scope, none))
-        }
-        Expr::Indexed { name, from, .. } => {
-            push_write(list, write_at(target, name, from, scope, none))
-        }
+        Expr::Name { .. } => push_certain(list, target, scope, none),
+        Expr::Part { .. } => push_certain(list, target, scope, none),
+        Expr::Bit { name, index, .. } => push_at(list, target, name, index, scope, none),
+        Expr::Indexed { name, from, .. } => push_at(list, target, name, from, scope, none),
         Expr::Concat { parts } => add_writes_of_all(list, parts, scope, none),
         Expr::Literal { .. } => Ok(()),
         Expr::Unary { .. } => Ok(()),

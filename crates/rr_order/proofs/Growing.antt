@@ -1,5 +1,5 @@
 -- Steps that are added to the graph.
-use Rattle.std.proofs.Common.{◌≡◌, ℕ, zero, suc, ◌+◌, ◌≤◌, ◌<◌, ◌⊎◌, inl, inr, List, [], ◌∷◌, ◌++◌, length, get_or, map, Bool, true, false, ◌||◌, Option, Some, None, refl, ap, sym, ◌∙◌, subst, arith, length-append}
+use Rattle.std.proofs.Common.{◌≡◌, ℕ, zero, suc, ◌+◌, ◌≤◌, ◌<◌, ◌⊎◌, inl, inr, List, [], ◌∷◌, ◌++◌, length, get_or, map, Bool, true, false, ◌||◌, Option, Some, None, refl, ap, sym, ◌∙◌, subst, arith}
 use Rattle.std.proofs.lemmas.Bool.{cases_eq, cases_lt, both_ways}
 use Rattle.std.proofs.lemmas.List.{get_or-map, length-map}
 use Rattle.std.proofs.lemmas.List.Elements.{All-get_or}
@@ -23,7 +23,7 @@ use Rattle.rr_flat.specs.Reads.{StatementReads}
 use Rattle.rr_flat.specs.Sound.{IsFlat, IsSignal, IsScope, IsDriver, IsSide}
 use Rattle.rr_flat.specs.View.{Design, plain_flat, plain_side, plain_driver, plain_block}
 use Rattle.rr_flat.specs.Writers.{scope_at, driver_at, block_at, no_driver, driven, SideReads, side_taken, side_signed, taken_at, NamesIf, wires, side_is_wiring, Writes, writes_at_all}
-use Rattle.rr_named_bits.specs.declared.piece.Piece.{Piece}
+use Rattle.rr_named_bits.specs.declared.piece.Reach.{Reach}
 use Rattle.rr_named_bits.specs.declared.writes.Write.{Write}
 use Rattle.rr_named_bits.specs.Lists.{covered, may, Grown}
 use Rattle.rr_sort.specs.Graphs.{names_of}
@@ -82,10 +82,10 @@ graph_same flat a b c x y z steps rows e f g h = rw (sym e, sym f, sym g) h
 
 -- a driver that does not only wire
 
-pub whole_row : (flat : Flat) (k : ℕ) (own : List ℕ) (pieces : List Piece) (row : List ℕ) → IsStep flat (step.Driver k) → Grown [] pieces (SideReads flat (driver_at flat k).value) → ((v : ℕ) → get_or own v 0 ≡ 0)
-    → IsRow (widths flat) (λ b. (covered pieces b ≡ true) × Foreign (widths flat) own 1 b) row → IsRow (widths flat) (IsNamedBy flat (step.Driver k)) row
+pub whole_row : (flat : Flat) (k : ℕ) (own : List ℕ) (named : List Reach) (row : List ℕ) → IsStep flat (step.Driver k) → Grown [] named (SideReads flat (driver_at flat k).value) → ((v : ℕ) → get_or own v 0 ≡ 0)
+    → IsRow (widths flat) (λ b. (covered named b ≡ true) × Foreign (widths flat) own 1 b) row → IsRow (widths flat) (IsNamedBy flat (step.Driver k)) row
 unfolding IsStep StepNames covered
-whole_row flat k own pieces row i g z r = row_same (widths flat) row (λ b. (covered pieces b ≡ true) × Foreign (widths flat) own 1 b) (IsNamedBy flat (step.Driver k)) r
+whole_row flat k own named row i g z r = row_same (widths flat) row (λ b. (covered named b ≡ true) × Foreign (widths flat) own 1 b) (IsNamedBy flat (step.Driver k)) r
     (λ b p. (i, put (wires flat k) i.1 b (elim (g.only b p.0) [ inl x ↦ absurd (both_ways false refl x) | inr x ↦ x ])))
     (λ b n. (g.added b (take (wires flat k) i.1 b n.1), λ q. let m = z (bit_node (widths flat) b) in omega (arith, m, q)))
   where
@@ -185,11 +185,11 @@ wires_added flat k n steps rows e l h = record {
 
 -- a combinational block
 
-pub block_row : (flat : Flat) (k stamp : ℕ) (old own nodes : List ℕ) (pieces : List Piece) (row : List ℕ) → k < length flat.combinational → Grown [] pieces (StatementReads (scope_at flat (block_at flat.combinational k).scope) (block_at flat.combinational k).body)
-    → IsWritten (widths flat) (λ b. writes_at_all flat (block_at flat.combinational k) b ≡ true) nodes → Stamped old own nodes stamp → ((v : ℕ) → get_or old v 0 < stamp) → IsRow (widths flat) (λ b. (covered pieces b ≡ true) × Foreign (widths flat) own stamp b) row
+pub block_row : (flat : Flat) (k stamp : ℕ) (old own nodes : List ℕ) (named : List Reach) (row : List ℕ) → k < length flat.combinational → Grown [] named (StatementReads (scope_at flat (block_at flat.combinational k).scope) (block_at flat.combinational k).body)
+    → IsWritten (widths flat) (λ b. writes_at_all flat (block_at flat.combinational k) b ≡ true) nodes → Stamped old own nodes stamp → ((v : ℕ) → get_or old v 0 < stamp) → IsRow (widths flat) (λ b. (covered named b ≡ true) × Foreign (widths flat) own stamp b) row
     → IsRow (widths flat) (IsNamedBy flat (step.Block k)) row
 unfolding IsStep StepNames covered
-block_row flat k stamp old own nodes pieces row l g w s f r = row_valid (widths flat) row (λ b. (covered pieces b ≡ true) × Foreign (widths flat) own stamp b) (IsNamedBy flat (step.Block k)) r
+block_row flat k stamp old own nodes named row l g w s f r = row_valid (widths flat) row (λ b. (covered named b ≡ true) × Foreign (widths flat) own stamp b) (IsNamedBy flat (step.Block k)) r
     (λ b v p. (l, (elim (g.only b p.0) [ inl x ↦ absurd (both_ways false refl x) | inr x ↦ x ], missed (writes_at_all flat (block_at flat.combinational k) b) (λ t. p.1 (s.on (bit_node (widths flat) b) (w.complete b v t))))))
     (λ b v p. (
       g.added b p.1.0,
@@ -202,9 +202,11 @@ block_row flat k stamp old own nodes pieces row l g w s f r = row_valid (widths 
       ],
     ))
 
-pub block_written : (flat : Flat) (k : ℕ) (writes : List Write) (nodes : List ℕ) → k < length flat.combinational → ((b : Bit) → may writes b ≡ writes_at_all flat (block_at flat.combinational k) b) → IsWritten (widths flat) (λ b. may writes b ≡ true) nodes
-    → IsWritten (widths flat) (λ b. writes_at_all flat (block_at flat.combinational k) b ≡ true) nodes
-block_written flat k writes nodes l e w = written_same (widths flat) nodes (λ b. may writes b ≡ true) (λ b. writes_at_all flat (block_at flat.combinational k) b ≡ true) w (λ b p. sym (e b) ∙ p) (λ b p. e b ∙ p)
+pub block_written : (flat : Flat) (k : ℕ) (writes : List Write) (all rs : List Reach) (nodes : List ℕ) → k < length flat.combinational → ((b : Bit) → may writes b ≡ writes_at_all flat (block_at flat.combinational k) b) → ((b : Bit) → covered all b ≡ may writes b) → rs ≡ all
+    → IsWritten (widths flat) (λ b. covered rs b ≡ true) nodes → IsWritten (widths flat) (λ b. writes_at_all flat (block_at flat.combinational k) b ≡ true) nodes
+block_written flat k writes all rs nodes l e d q w =
+    let f : (b : Bit) → covered rs b ≡ writes_at_all flat (block_at flat.combinational k) b = λ b. ap (λ (z : List Reach). covered z b) q ∙ (d b ∙ e b) in
+    written_same (widths flat) nodes (λ b. covered rs b ≡ true) (λ b. writes_at_all flat (block_at flat.combinational k) b ≡ true) w (λ b p. sym (f b) ∙ p) (λ b p. f b ∙ p)
 
 written_block : (flat : Flat) (k : ℕ) (nodes : List ℕ) → k < length flat.combinational → IsWritten (widths flat) (λ b. writes_at_all flat (block_at flat.combinational k) b ≡ true) nodes → IsWritten (widths flat) (IsWrittenBy flat (step.Block k)) nodes
 unfolding IsStep StepWrites Writes
@@ -303,20 +305,26 @@ block_there d k l = omega (arith, l, length-map d.combinational plain_block)
 pub wires_is : (flat : Flat) (k : ℕ) (x : Side) → x ≡ (driver_at flat k).value → side_is_wiring flat x ≡ wires flat k
 wires_is flat k x e = ap (side_is_wiring flat) e
 
-pub grown_side : (flat : Flat) (x y : Side) (a b c : List Piece) → a ≡ [] → c ≡ b → x ≡ y → Grown a b (SideReads flat x) → Grown [] c (SideReads flat y)
+pub grown_side : (flat : Flat) (x y : Side) (a b c : List Reach) → a ≡ [] → c ≡ b → x ≡ y → Grown a b (SideReads flat x) → Grown [] c (SideReads flat y)
 grown_side flat x y a b c e f g h =
-    let A : List Piece → Type 0 = λ z. Grown z b (SideReads flat x) in
-    let B : List Piece → Type 0 = λ z. Grown [] z (SideReads flat x) in
+    let A : List Reach → Type 0 = λ z. Grown z b (SideReads flat x) in
+    let B : List Reach → Type 0 = λ z. Grown [] z (SideReads flat x) in
     let C : Side → Type 0 = λ z. Grown [] c (SideReads flat z) in
     subst C g (subst B (sym f) (subst A e h))
 
-pub grown_block : (flat : Flat) (x y : plain_design.Block) (names : Names) (a b c : List Piece) → a ≡ [] → c ≡ b → names ≡ scope_at flat x.scope → x ≡ y → Grown a b (StatementReads names x.body) → Grown [] c (StatementReads (scope_at flat y.scope) y.body)
+pub grown_block : (flat : Flat) (x y : plain_design.Block) (names : Names) (a b c : List Reach) → a ≡ [] → c ≡ b → names ≡ scope_at flat x.scope → x ≡ y → Grown a b (StatementReads names x.body) → Grown [] c (StatementReads (scope_at flat y.scope) y.body)
 grown_block flat x y names a b c e f n g h =
-    let A : List Piece → Type 0 = λ z. Grown z b (StatementReads names x.body) in
-    let B : List Piece → Type 0 = λ z. Grown [] z (StatementReads names x.body) in
+    let A : List Reach → Type 0 = λ z. Grown z b (StatementReads names x.body) in
+    let B : List Reach → Type 0 = λ z. Grown [] z (StatementReads names x.body) in
     let D : Names → Type 0 = λ z. Grown [] c (StatementReads z x.body) in
     let C : plain_design.Block → Type 0 = λ z. Grown [] c (StatementReads (scope_at flat z.scope) z.body) in
     subst C g (subst D n (subst B (sym f) (subst A e h)))
+
+-- the same bits, where each memory stands once
+pub grown_distinct : (a b c : List Reach) (P : Bit → Type 0) → ((x : Bit) → covered b x ≡ covered a x) → c ≡ b → Grown [] a P → Grown [] c P
+grown_distinct a b c P e f g =
+    let h : (x : Bit) → covered c x ≡ covered a x = λ x. ap (λ (z : List Reach). covered z x) f ∙ e x in
+    record { kept = λ x k. h x ∙ g.kept x k; added = λ x p. h x ∙ g.added x p; only = λ x k. g.only x (sym (h x) ∙ k) }
 
 pub block_writes : (flat : Flat) (x y : plain_design.Block) (names : Names) (a b c : List Write) → a ≡ [] → c ≡ b → names ≡ scope_at flat x.scope → x ≡ y → ((z : Bit) → may b z ≡ (may a z || assigns true names x.body z)) → (z : Bit) → may c z ≡ writes_at_all flat y z
 unfolding may

@@ -1,15 +1,15 @@
 -- The bits that a design writes and names are there.
-use Rattle.std.proofs.Common.{◌≡◌, ℕ, zero, suc, ◌-◌, ◌<◌, List, [], ◌∷◌, length, get_or, map, Bool, true, false, cond, nat_eq, nat_lt, Option, None, is_none, refl, ap, ◌∙◌, sym, subst, arith, inl, inr, ℤ, pos}
-use Rattle.std.proofs.lemmas.Bool.{cases_Bool, and_parts, and_from, eqb-true, eq-eqb, both_ways, or_cases, ltb-true}
+use Rattle.std.proofs.Common.{◌≡◌, ℕ, zero, suc, ◌+◌, ◌-◌, ◌<◌, ◌≤◌, List, [], ◌∷◌, length, get_or, map, Bool, true, false, cond, not, ◌&&◌, nat_eq, nat_lt, Option, None, is_none, refl, ap, ◌∙◌, sym, subst, arith, inl, inr, ℤ, pos}
+use Rattle.std.proofs.lemmas.Bool.{cases_Bool, cases_lt, and_parts, eqb-true, both_ways, or_cases, lt-ltb, ltb-true}
 use Rattle.std.proofs.lemmas.List.{get_or-map, length-map}
 use Rattle.std.proofs.lemmas.List.Elements.{All-get_or}
 use Rattle.std.specs.Prelude.{bytes_eq}
 use Rattle.rr_syntax.specs.Tree.{Tree, Trees, Name, Literal, Bit as BitSelect, Part, Indexed, Unary, Binary, Cond, Concat, Repeat, Cast, Paren, End, More, Statement, Statements, Arm, Arms, Null, Block as Sequence, If, IfElse, Case, Assign, For, Done, Then, CaseItem, NoArms, MoreArms}
 use Rattle.rr_expr.specs.declared.types.Bit.{Bit}
 use Rattle.rr_expr.specs.declared.types.Entity.{Entity}
-use Rattle.rr_expr.specs.declared.types.Entity.TheVariants.{Constant, Signal, Instance}
+use Rattle.rr_expr.specs.declared.types.Entity.TheVariants.{Constant, Signal, Memory, Instance}
 use Rattle.rr_expr.specs.Faults.{fault, constant_count, constant_span}
-use Rattle.rr_expr.specs.Reading.{IsBitOf, NamesAt, NamesBit, NamesBits}
+use Rattle.rr_expr.specs.Reading.{NamesAt, NamesBit, NamesBits}
 use Rattle.rr_expr.specs.Scopes.{Names, meant, lookup, or_instance, range_width, entity_shape, entity_range}
 use Rattle.rr_expr.specs.Selects.{place, lowest_place, integer_with}
 use Rattle.rr_expr.specs.Values.{form, value, nowhere}
@@ -20,7 +20,8 @@ use Rattle.rr_flat.specs.Reads.{TargetReads, TargetsRead, StatementReads, Statem
 use Rattle.rr_flat.specs.Targets.{has_bit, is_bit_of, bits_there, target_bits, targets_bits, is_fixed, part_name, target_parts, may_write}
 use Rattle.rr_flat.specs.Writers.{scope_at, signal_bits, entity_of_signal, taken, all_taken, nothing}
 use Rattle.rr_order.specs.Nodes.{IsBit, IsClosed, widths}
-use Rattle.rr_flat.proofs.Bits.{has_append, one_of_name, bits_of_name}
+use Rattle.rr_expr.proofs.MemoryWords.{index_among}
+use Rattle.rr_flat.proofs.Bits.{has_append, bits_of_name, index_of_name}
 use Rattle.rr_named_bits.proofs.Runs.{of_is}
 
 -- a bit of what some name stands for
@@ -39,7 +40,7 @@ mutual
   named_of s (Name token name) b h = (name, of_is (meant s name) b h)
   named_of s (Literal token n) b h = absurd h
   named_of s (BitSelect token name i) b h =
-      at_of (is_none (fault s i true)) s name (place (entity_range (meant s name)) (integer_with (form s i) (value s i nowhere))) 1 (NamesBit s i b) b (λ n. named_of s i b n) h
+      elim (index_among (is_none (fault s i true)) (meant s name) (integer_with (form s i) (value s i nowhere)) (NamesBit s i b) b h) [ inl x ↦ (name, of_is (meant s name) b x) | inr x ↦ named_of s i b x ]
   named_of s (Part token name l r) b h = (name, of_is (meant s name) b h.0)
   named_of s (Indexed token name f n up) b h =
       at_of (is_none (fault s f true)) s name (lowest_place (entity_range (meant s name)) up (integer_with (form s f) (value s f nowhere)) (constant_count s n)) (constant_count s n) (NamesBit s f b) b (λ m. named_of s f b m) h
@@ -65,7 +66,7 @@ mutual
   pub target_of : (s : Names) (env : Bit → Bool) (t : Tree) (b : Bit) → has_bit (target_bits s env t) b ≡ true → Of s b
   target_of s env (Name token name) b h = (name, bits_of_name (meant s name) (pos 0) (entity_shape (meant s name)).width b h)
   target_of s env (Literal token n) b h = absurd (has_none b h)
-  target_of s env (BitSelect token name i) b h = (name, one_of_name (meant s name) (place (entity_range (meant s name)) (integer_with (form s i) (value s i env))) b h)
+  target_of s env (BitSelect token name i) b h = (name, index_of_name (meant s name) (integer_with (form s i) (value s i env)) b h)
   target_of s env (Part token name l r) b h = (name, bits_of_name (meant s name) (place (entity_range (meant s name)) (integer_with (form s r) (value s r nowhere))) (constant_span s l r) b h)
   target_of s env (Indexed token name f n up) b h =
       (name, bits_of_name (meant s name) (lowest_place (entity_range (meant s name)) up (integer_with (form s f) (value s f env)) (constant_count s n)) (constant_count s n) b h)
@@ -229,6 +230,22 @@ entity_there flat (Signal id range signed) b i (low, high, r, q) h =
     let z0 : id - 0 ≡ id = omega arith in
     let q2 : (signal_at flat.signals id).range ≡ range = rw z0 at r in
     signal_there flat id b i (omega arith) e (omega (arith, w, ap range_width q2, l))
+entity_there flat (Memory first low words range signed) b i (start, end, some, each) h =
+    let p = and_parts (not (nat_lt b.signal first)) (nat_lt b.signal (first + words) && nat_lt b.place (range_width range)) h in
+    let q = and_parts (nat_lt b.signal (first + words)) (nat_lt b.place (range_width range)) p.1 in
+    let l : first ≤ b.signal = not_below b.signal first p.0 in
+    let m : b.signal < first + words = ltb-true b.signal (first + words) q.0 in
+    let w = each (b.signal - first) (omega arith) in
+    let z : first + (b.signal - first) - 0 ≡ b.signal = omega arith in
+    let r : (signal_at flat.signals b.signal).range ≡ range = rw z at w.range in
+    let t : b.signal < length flat.signals = omega (arith, end) in
+    signal_there flat b.signal b i t refl (omega (arith, i.signals b.signal t, ap range_width r, ltb-true b.place (range_width range) q.1))
+  where
+    not_below : (x y : ℕ) → not (nat_lt x y) ≡ true → y ≤ x
+    not_below x y k = elim (cases_lt x y) [
+      | inl g ↦ absurd (both_ways (not (nat_lt x y)) (ap not (lt-ltb x y g)) k)
+      | inr g ↦ g
+    ]
 entity_there flat Instance b i n h = absurd (both_ways false refl h)
 
 pub of_there : (flat : Flat) (k : ℕ) (b : Bit) → IsClosed flat → Of (scope_at flat k) b → IsBit (widths flat) b

@@ -90,6 +90,22 @@ covered_added ws a b P R h f g = record {
   complete = λ x v r. inl (h.complete x v (g x r));
 }
 
+pub covered_none : (ws old : List ℕ) (P : Bit → Type 0) → ((b : Bit) → P b → ⊥) → Covered ws old old P
+covered_none ws old P f = record { kept = λ w i. i; sound = λ w i. inl i; complete = λ b v p. absurd (f b p) }
+
+pub covered_both : (ws a b c : List ℕ) (P Q R : Bit → Type 0) → Covered ws a b P → Covered ws b c Q → ((x : Bit) → P x → R x) → ((x : Bit) → Q x → R x) → ((x : Bit) → R x → P x ⊎ Q x) → Covered ws a c R
+covered_both ws a b c P Q R h k f g s = record {
+  kept = λ w i. k.kept w (h.kept w i);
+  sound = λ w i. elim (k.sound w i) [
+    | inl j ↦ elim (h.sound w j) [ inl m ↦ inl m | inr m ↦ inr (fits_same ws P R w f m) ]
+    | inr m ↦ inr (fits_same ws Q R w g m)
+  ];
+  complete = λ x v r. elim (s x r) [
+    | inl p ↦ elim (h.complete x v p) [ inl m ↦ inl (k.kept (bit_node ws x) m) | inr m ↦ inr (k.kept (signal_node ws x.signal) m) ]
+    | inr q ↦ k.complete x v q
+  ];
+}
+
 pub covered_whole : (ws old : List ℕ) (s node : ℕ) (R : Bit → Type 0) → s < length ws → node ≡ signal_node ws s → ((b : Bit) → IsBit ws b → b.signal ≡ s → R b) → ((b : Bit) → R b → b.signal ≡ s) → Covered ws old (old ++ node ∷ []) R
 covered_whole ws old s node R l e f g = record {
   kept = λ w i. in_old old node w i;

@@ -14,9 +14,11 @@ use Rattle.rr_flat.specs.declared.design.Side.TheVariants as side
 use Rattle.rr_flat.specs.View.{Design, plain_flat, plain_side}
 use Rattle.rr_flat.specs.Writers.{scope_at, signal_bits, side_taken, taken, SideReads, side_is_wiring, is_wiring, side_signed}
 use Rattle.rr_named_bits.specs.declared.piece.Piece.{Piece}
+use Rattle.rr_named_bits.specs.declared.piece.Reach.{Reach}
 use Rattle.rr_named_bits.specs.Lists.{Grown}
 use Rattle.rr_named_bits.specs.Pieces.{bits_of, all_bits, covers}
 use Rattle.rr_named_bits.proofs.Growing.{grown_push}
+use Rattle.rr_named_bits.proofs.Reaching.{reach_one}
 use Rattle.std.proofs.lemmas.Int.{ints}
 use Rattle.rr_expr.specs.declared.types.Shape.{Shape}
 use Rattle.rr_expr.specs.Values.{form}
@@ -61,15 +63,17 @@ none_more k = grind (arith, ints)
 place_covers : (id w : ℕ) (b : Bit) → b.signal ≡ id → b.place < w → covers (run_of id w (pos 0) w) b ≡ true
 place_covers id w b e l = covers_in (run_of id w (pos 0) w) b ∙ in_has (run_of id w (pos 0) w) (pos 0) w b b.place (sym e) l l (none_more b.place)
 
-pub whole_named : (d : Design) (id : ℕ) (ps : List Piece) (p : Piece) → p ≡ run_of id (plain_head.signal_at (map plain_signal d.signals) id).width (pos 0) (plain_head.signal_at (map plain_signal d.signals) id).width
-    → Grown ps (ps ++ p ∷ []) (SideReads (plain_flat d) (Whole id))
+pub whole_named : (d : Design) (id : ℕ) (ps : List Reach) (p : Piece) → p ≡ run_of id (plain_head.signal_at (map plain_signal d.signals) id).width (pos 0) (plain_head.signal_at (map plain_signal d.signals) id).width
+    → Grown ps (ps ++ record { piece = p; words = 1 } ∷ []) (SideReads (plain_flat d) (Whole id))
 unfolding SideReads
 whole_named d id ps p e =
     let w : ℕ = (plain_head.signal_at (map plain_signal d.signals) id).width in
-    let Q : Piece → Type 0 = λ q. Grown ps (ps ++ q ∷ []) (SideReads (plain_flat d) (Whole id)) in
-    subst Q (sym e) (grown_push ps (run_of id w (pos 0) w) (SideReads (plain_flat d) (Whole id)) (λ b c. covers_place id w b c) (λ b r. place_covers id w b r.0 r.1))
+    let r : Piece = run_of id w (pos 0) w in
+    let Q : Piece → Type 0 = λ q. Grown ps (ps ++ record { piece = q; words = 1 } ∷ []) (SideReads (plain_flat d) (Whole id)) in
+    subst Q (sym e)
+    (grown_push ps (record { piece = r; words = 1 }) (SideReads (plain_flat d) (Whole id)) (λ b c. covers_place id w b (sym (reach_one r b) ∙ c)) (λ b s. reach_one r b ∙ place_covers id w b s.0 s.1))
 
-pub text_named : (d : Design) (t : Bor Expr) (scope : ℕ) (names : Names) (x : declared_side.Side) (ps qs : List Piece) → x ≡ side.Text t scope → names ≡ scope_at (plain_flat d) scope → Grown ps qs (NamesBit names (plain t.now))
+pub text_named : (d : Design) (t : Bor Expr) (scope : ℕ) (names : Names) (x : declared_side.Side) (ps qs : List Reach) → x ≡ side.Text t scope → names ≡ scope_at (plain_flat d) scope → Grown ps qs (NamesBit names (plain t.now))
     → Grown ps qs (SideReads (plain_flat d) (plain_side x))
 unfolding SideReads
 text_named d t scope names x ps qs e f g =
@@ -77,7 +81,7 @@ text_named d t scope names x ps qs e f g =
     let Q : declared_side.Side → Type 0 = λ z. Grown ps qs (SideReads (plain_flat d) (plain_side z)) in
     subst Q (sym e) (subst P f g)
 
-pub side_named : (d : Design) (id : ℕ) (x : declared_side.Side) (ps qs : List Piece) → x ≡ side.Whole id → Grown ps qs (SideReads (plain_flat d) (Whole id)) → Grown ps qs (SideReads (plain_flat d) (plain_side x))
+pub side_named : (d : Design) (id : ℕ) (x : declared_side.Side) (ps qs : List Reach) → x ≡ side.Whole id → Grown ps qs (SideReads (plain_flat d) (Whole id)) → Grown ps qs (SideReads (plain_flat d) (plain_side x))
 side_named d id x ps qs e g =
     let Q : declared_side.Side → Type 0 = λ z. Grown ps qs (SideReads (plain_flat d) (plain_side z)) in
     subst Q (sym e) g

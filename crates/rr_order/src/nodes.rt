@@ -1,13 +1,14 @@
 //! Lists of nodes.
 ghost use Rattle.std.specs.Prelude.{◌≡◌, ◌≤◌, ◌<◌, ◌++◌, ◌∷◌, [], ℕ, length, get_or, IfOk, OnOk, true, Some};
 ghost use Rattle.rr_flat.specs.View.{plain_flat};
-ghost use Rattle.rr_named_bits.specs.Lists.{may};
+ghost use Rattle.rr_named_bits.specs.Lists.{covered, reaches as is_reached};
 ghost use Rattle.rr_order.specs.Nodes.{Added, Foreign, In, IsLayout, IsWritten, Stamped, total, widths};
 
 use crate::layout::{Layout, node_of};
 use rr_expr::Bit;
 use rr_flat::Flat;
-use rr_named_bits::Write;
+use rr_named_bits::Reach;
+use rr_writers::word_of;
 use std::alloc::{AllocError, Global};
 
 pub(crate) fn push_node(nodes: &mut Vec<usize>, node: usize) -> Result<(), AllocError>
@@ -113,34 +114,45 @@ fn add_bit(
     }
 }
 
-/// The nodes of the bits that assignments write, where none has this stamp.
+/// The nodes of the bits of some reaches, where none has this stamp.
 pub(crate) fn written_of(
     alloc: Global,
     flat: &Flat,
     layout: &Layout,
-    writes: &[Write],
+    reaches: &[Reach],
     own: &Vec<usize>,
     stamp: usize,
 ) -> Result<Vec<usize>, AllocError>
     requires layout { IsLayout (widths (plain_flat flat.now)) layout.now.starts.items layout.now.table.items }
     requires own { length own.now.items ≡ total (widths (plain_flat flat.now)) }
     requires fresh { (v : ℕ) → get_or own.now.items v 0 < stamp }
-    ensures { IfOk result (λ r. IsWritten (widths (plain_flat flat.now)) (λ b. may writes.now b ≡ true) r.items) }
+    ensures { IfOk result (λ r. IsWritten (widths (plain_flat flat.now)) (λ b. covered reaches.now b ≡ true) r.items) }
 {
     let mut nodes = Vec::new(alloc);
-    for write in writes.iter() {
-        let piece = write.piece;
-        add_places(
-            flat,
-            layout,
-            &mut nodes,
-            piece.signal,
-            piece.range(),
-            own,
-            stamp,
-        )?;
+    for reach in reaches.iter() {
+        add_words(flat, layout, &mut nodes, reach, own, stamp)?;
     }
     Ok(nodes)
+}
+
+/// Adds the nodes of the bits of a reach, word by word, without those that have this stamp.
+fn add_words(
+    flat: &Flat,
+    layout: &Layout,
+    nodes: &mut Vec<usize>,
+    reach: &Reach,
+    own: &Vec<usize>,
+    stamp: usize,
+) -> Result<(), AllocError>
+    requires layout { IsLayout (widths (plain_flat flat.now)) layout.now.starts.items layout.now.table.items }
+    requires own { length own.now.items ≡ total (widths (plain_flat flat.now)) }
+    ensures { OnOk result (Added (widths (plain_flat flat.now)) nodes.old.items nodes.new.items (λ b. (is_reached reach.now b ≡ true) × Foreign (widths (plain_flat flat.now)) own.now.items stamp b)) }
+{
+    for word in 0..reach.words {
+        let piece = word_of(reach, word)?;
+        add_places(flat, layout, nodes, piece.signal, piece.range(), own, stamp)?;
+    }
+    Ok(())
 }
 
 /// Gives nodes a stamp.

@@ -7,7 +7,7 @@ ghost use Rattle.rr_flat.specs.Shapes.{arms_faults, list_faults, statement_fault
 ghost use Rattle.rr_named_bits.specs.Lists.{Grown};
 
 use rr_expr::Scope;
-use rr_named_bits::{Piece, add_named_bits, add_target_reads};
+use rr_named_bits::{Reach, add_named_bits, add_target_reads};
 use rr_syntax::{Arm, Expr, Stmt};
 use std::alloc::{AllocError, Global};
 
@@ -16,7 +16,7 @@ use std::alloc::{AllocError, Global};
 #[cycle(reading)]
 pub(crate) fn add_read_bits(
     alloc: Global,
-    list: &mut Vec<Piece>,
+    list: &mut Vec<Reach>,
     stmt: &Stmt,
     names: &Scope,
 ) -> Result<(), AllocError>
@@ -49,7 +49,7 @@ pub(crate) fn add_read_bits(
 #[cycle(reading)]
 fn add_read_by_all(
     alloc: Global,
-    list: &mut Vec<Piece>,
+    list: &mut Vec<Reach>,
     body: &[Stmt],
     names: &Scope,
 ) -> Result<(), AllocError>
@@ -65,7 +65,7 @@ fn add_read_by_all(
 #[cycle(reading)]
 fn add_read_by_arms(
     alloc: Global,
-    list: &mut Vec<Piece>,
+    list: &mut Vec<Reach>,
     arms: &[Arm],
     names: &Scope,
 ) -> Result<(), AllocError>
@@ -81,7 +81,7 @@ fn add_read_by_arms(
 
 fn add_labels(
     alloc: Global,
-    list: &mut Vec<Piece>,
+    list: &mut Vec<Reach>,
     labels: &[Expr],
     names: &Scope,
 ) -> Result<(), AllocError>

@@ -2,35 +2,56 @@
 ghost use Rattle.std.specs.Prelude.{◌≡◌, ◌≤◌, ◌<◌, ◌+◌, ℕ, length, get_or, IfOk, OnOk, true};
 ghost use Rattle.rr_expr.specs.declared.types.Bit.{Bit};
 ghost use Rattle.rr_flat.specs.View.{plain_flat};
-ghost use Rattle.rr_named_bits.specs.Lists.{covered};
+ghost use Rattle.rr_named_bits.specs.Lists.{covered, reaches as is_reached};
 ghost use Rattle.rr_named_bits.specs.Pieces.{covers};
 ghost use Rattle.rr_order.specs.Nodes.{Covered, Foreign, IsBit, IsLayout, IsRow, total, widths};
 
 use crate::layout::{Layout, signal_count, width_of};
 use crate::nodes::{add_places, push_node};
 use rr_flat::Flat;
-use rr_named_bits::Piece;
+use rr_named_bits::{Piece, Reach};
+use rr_writers::word_of;
 use std::alloc::{AllocError, Global};
 
-/// The nodes of the bits of these pieces without those that have this stamp, with one node for a signal
+/// The nodes of the bits of these reaches without those that have this stamp, with one node for a signal
 /// of which all bits are among them.
 pub(crate) fn row_of(
     alloc: Global,
     flat: &Flat,
     layout: &Layout,
-    pieces: &[Piece],
+    reaches: &[Reach],
     own: &Vec<usize>,
     stamp: usize,
 ) -> Result<Vec<usize>, AllocError>
     requires layout { IsLayout (widths (plain_flat flat.now)) layout.now.starts.items layout.now.table.items }
     requires own { length own.now.items ≡ total (widths (plain_flat flat.now)) }
-    ensures { IfOk result (λ r. IsRow (widths (plain_flat flat.now)) (λ b. (covered pieces.now b ≡ true) × Foreign (widths (plain_flat flat.now)) own.now.items stamp b) r.items) }
+    ensures { IfOk result (λ r. IsRow (widths (plain_flat flat.now)) (λ b. (covered reaches.now b ≡ true) × Foreign (widths (plain_flat flat.now)) own.now.items stamp b) r.items) }
 {
     let mut row = Vec::new(alloc);
-    for piece in pieces.iter() {
-        add_piece(flat, layout, &mut row, piece, own, stamp)?;
+    for reach in reaches.iter() {
+        add_reach(flat, layout, &mut row, reach, own, stamp)?;
     }
     Ok(row)
+}
+
+/// Adds those of one reach, word by word.
+fn add_reach(
+    flat: &Flat,
+    layout: &Layout,
+    row: &mut Vec<usize>,
+    reach: &Reach,
+    own: &Vec<usize>,
+    stamp: usize,
+) -> Result<(), AllocError>
+    requires layout { IsLayout (widths (plain_flat flat.now)) layout.now.starts.items layout.now.table.items }
+    requires own { length own.now.items ≡ total (widths (plain_flat flat.now)) }
+    ensures { OnOk result (Covered (widths (plain_flat flat.now)) row.old.items row.new.items (λ b. (is_reached reach.now b ≡ true) × Foreign (widths (plain_flat flat.now)) own.now.items stamp b)) }
+{
+    for word in 0..reach.words {
+        let piece = word_of(reach, word)?;
+        add_piece(flat, layout, row, &piece, own, stamp)?;
+    }
+    Ok(())
 }
 
 /// Adds those of one piece.

@@ -10,7 +10,7 @@ ghost use Rattle.rr_named_bits.specs.Pieces.{all_bits};
 use crate::wiring::{add_taken, bits_of_all, is_wiring};
 use rr_expr::{Bit, shape};
 use rr_flat::{Flat, Side};
-use rr_named_bits::{Piece, add_driven, add_named_bits, no_values, push_piece};
+use rr_named_bits::{Piece, Reach, add_driven, add_named_bits, no_values, push_piece};
 use std::alloc::{AllocError, Global};
 
 /// The bits of a side as a target, lowest first; its indices are constant.
@@ -58,25 +58,28 @@ fn add_side(
 /// Adds the bits that a side reads.
 pub(crate) fn add_named_by(
     alloc: Global,
-    pieces: &mut Vec<Piece>,
+    reaches: &mut Vec<Reach>,
     flat: &Flat,
     side: &Side,
 ) -> Result<(), AllocError>
     requires { IsSide flat.now.signals flat.now.scopes side.now }
-    ensures { OnOk result (Grown pieces.old.items pieces.new.items (SideReads (plain_flat flat.now) (plain_side side.now))) }
+    ensures { OnOk result (Grown reaches.old.items reaches.new.items (SideReads (plain_flat flat.now) (plain_side side.now))) }
 {
     match side {
-        Side::Whole(id) => add_signal(pieces, flat, *id),
-        Side::Text { expr, scope } => add_named_bits(alloc, pieces, expr, flat.scope_at(*scope)),
+        Side::Whole(id) => add_signal(reaches, flat, *id),
+        Side::Text { expr, scope } => add_named_bits(alloc, reaches, expr, flat.scope_at(*scope)),
     }
 }
 
 /// Adds all bits of a signal.
-fn add_signal(pieces: &mut Vec<Piece>, flat: &Flat, id: u32) -> Result<(), AllocError>
+fn add_signal(reaches: &mut Vec<Reach>, flat: &Flat, id: u32) -> Result<(), AllocError>
     requires { id < length flat.now.signals }
-    ensures { OnOk result (Grown pieces.old.items pieces.new.items (SideReads (plain_flat flat.now) (Whole id))) }
+    ensures { OnOk result (Grown reaches.old.items reaches.new.items (SideReads (plain_flat flat.now) (Whole id))) }
 {
-    pieces.push(Piece::whole(flat, id))?;
+    reaches.push(Reach {
+        piece: Piece::whole(flat, id),
+        words: 1,
+    })?;
     Ok(())
 }
 

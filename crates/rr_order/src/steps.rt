@@ -13,7 +13,7 @@ use crate::rows::row_of;
 use crate::sides::{add_named_by, driven, is_signed, taken, wires};
 use crate::wiring::taken_at;
 use rr_flat::{Driver, Flat, Step, number_of};
-use rr_writers::add_assigned_bits;
+use rr_writers::{BitTable, add_assigned_bits, distinct, distinct_writes};
 use std::alloc::{AllocError, Global};
 
 /// The graph of a design, with all its steps.
@@ -24,11 +24,28 @@ pub(crate) fn graph_of(alloc: Global, flat: &Flat, layout: &Layout) -> Result<No
 {
     let mut nodes = without_steps(alloc, flat, layout)?;
     let mut own = vec![in alloc; 0; layout.table.len()]?;
+    let mut seen = BitTable::new(alloc);
     for driver in 0..flat.drivers.len() {
-        add_driver(alloc, flat, layout, &mut nodes, number_of(driver)?, &own)?;
+        add_driver(
+            alloc,
+            flat,
+            layout,
+            &mut nodes,
+            number_of(driver)?,
+            &own,
+            &mut seen,
+        )?;
     }
     for block in 0..flat.combinational.len() {
-        add_block(alloc, flat, layout, &mut nodes, number_of(block)?, &mut own)?;
+        add_block(
+            alloc,
+            flat,
+            layout,
+            &mut nodes,
+            number_of(block)?,
+            &mut own,
+            &mut seen,
+        )?;
     }
     Ok(nodes)
 }
@@ -41,6 +58,7 @@ fn add_driver(
     nodes: &mut Nodes,
     number: u32,
     own: &Vec<usize>,
+    seen: &mut BitTable,
 ) -> Result<(), AllocError>
     requires layout { IsLayout (widths (plain_flat flat.now)) layout.now.starts.items layout.now.table.items }
     requires number { number < length flat.now.drivers }
@@ -52,7 +70,7 @@ fn add_driver(
     if wires(flat, &driver.value) {
         add_wires(alloc, flat, layout, nodes, number, &driver)
     } else {
-        add_whole(alloc, flat, layout, nodes, number, &driver, own)
+        add_whole(alloc, flat, layout, nodes, number, &driver, own, seen)
     }
 }
 
@@ -64,6 +82,7 @@ fn add_whole(
     number: u32,
     driver: &Driver,
     own: &Vec<usize>,
+    seen: &mut BitTable,
 ) -> Result<(), AllocError>
     requires layout { IsLayout (widths (plain_flat flat.now)) layout.now.starts.items layout.now.table.items }
     requires number { number < length flat.now.drivers }
@@ -76,9 +95,10 @@ fn add_whole(
 {
     let target = driven(alloc, flat, &driver.target)?;
     let written = nodes_of(alloc, flat, layout, target.as_slice())?;
-    let mut pieces = Vec::new(alloc);
-    add_named_by(alloc, &mut pieces, flat, &driver.value)?;
-    let row = row_of(alloc, flat, layout, pieces.as_slice(), own, 1)?;
+    let mut reaches = Vec::new(alloc);
+    add_named_by(alloc, &mut reaches, flat, &driver.value)?;
+    let named = distinct(alloc, reaches.as_slice(), seen)?;
+    let row = row_of(alloc, flat, layout, named.as_slice(), own, 1)?;
     add_step(nodes, Step::Driver(number), row, written.as_slice())?;
     Ok(())
 }
@@ -115,7 +135,8 @@ fn add_wires(
     Ok(())
 }
 
-/// The step of a combinational block, which names what it reads and does not write.
+/// The step of a combinational block, which names what it reads and does not write. It names each word of
+/// a memory once, however often its text does.
 fn add_block(
     alloc: Global,
     flat: &Flat,
@@ -123,6 +144,7 @@ fn add_block(
     nodes: &mut Nodes,
     number: u32,
     own: &mut Vec<usize>,
+    seen: &mut BitTable,
 ) -> Result<(), AllocError>
     requires layout { IsLayout (widths (plain_flat flat.now)) layout.now.starts.items layout.now.table.items }
     requires number { number < length flat.now.combinational }
@@ -136,11 +158,13 @@ fn add_block(
     let stamp = number as usize + 1;
     let mut writes = Vec::new(alloc);
     add_assigned_bits(alloc, &mut writes, block.body, names, true)?;
-    let written = written_of(alloc, flat, layout, writes.as_slice(), own, stamp)?;
+    let assigned = distinct_writes(alloc, writes.as_slice(), seen)?;
+    let written = written_of(alloc, flat, layout, assigned.as_slice(), own, stamp)?;
     stamp_all(own, written.as_slice(), stamp);
-    let mut pieces = Vec::new(alloc);
-    add_read_bits(alloc, &mut pieces, block.body, names)?;
-    let row = row_of(alloc, flat, layout, pieces.as_slice(), own, stamp)?;
+    let mut reads = Vec::new(alloc);
+    add_read_bits(alloc, &mut reads, block.body, names)?;
+    let named = distinct(alloc, reads.as_slice(), seen)?;
+    let row = row_of(alloc, flat, layout, named.as_slice(), own, stamp)?;
     add_step(nodes, Step::Block(number), row, written.as_slice())?;
     Ok(())
 }

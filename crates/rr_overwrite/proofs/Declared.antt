@@ -1,6 +1,8 @@
 -- The variables of nodes of the arena, one equation for each form.
-use Rattle.std.proofs.Common.{◌≡◌, ◌∙◌, ap, ℕ, ◌+◌, ◌<◌, length, get_or, drop, Bool, true, false, ◌&&◌, ◌||◌, List, map, Option, refl}
+use Rattle.std.proofs.Common.{◌≡◌, ◌∙◌, sym, ap, ℕ, ◌+◌, ◌<◌, length, get_or, drop, Bool, true, false, ◌&&◌, ◌||◌, List, [], ◌∷◌, map, flat_map, Option, Some, None, refl}
 use Rattle.std.specs.List.{list_any}
+use Rattle.std.specs.Str.{bytes_eq}
+use Rattle.std.proofs.lemmas.List.Folds.{list_any-append}
 use Rattle.rr_syntax.specs.declared.tree.Bounds.{Bounds}
 use Rattle.rr_syntax.specs.declared.tree.Conns.{Conns}
 use Rattle.rr_syntax.specs.declared.tree.Dir.TheVariants as dir
@@ -17,7 +19,7 @@ use Rattle.rr_syntax.specs.declared.tree.Stmt.{Stmt}
 use Rattle.rr_syntax.specs.View.{plain_identifier, plain_item, plain_module, plain_declarator, plain_port, plain_range}
 use Rattle.rr_flat.specs.Signals.{Text}
 use Rattle.rr_guard.proofs.Lists.{any_more}
-use Rattle.rr_guard.specs.Names.{net_name}
+use Rattle.rr_guard.specs.Names.{net_name, unless_words, wordless_name}
 use Rattle.rr_overwrite.specs.Overwrites.{is_reg, is_in, is_open, port_sets, item_sets, port_opens, item_opens, is_variable}
 use denote.Ref.{Bor}
 
@@ -34,6 +36,29 @@ identifier_text n = refl
 pub net_text : (n : Declarator) → (net_name (plain_declarator n)).text ≡ n.name.now
 unfolding plain_declarator
 net_text n = refl
+
+-- a variable that is no memory
+
+pub one_in : (was : Bool) (name : Text) (n : Declarator) → (was || is_in name (net_name (plain_declarator n) ∷ [])) ≡ (was || bytes_eq name n.name.now)
+unfolding plain_declarator
+one_in was name n = ap (λ b. was || b) (or_none (bytes_eq name n.name.now))
+
+pub wordless-None : (was : Bool) (name : Text) (n : Declarator) → n.words ≡ None → (was || is_in name (wordless_name (plain_declarator n))) ≡ (was || bytes_eq name n.name.now)
+unfolding plain_declarator plain_range
+wordless-None was name n e = ap (λ r. was || is_in name (unless_words (plain_range r) (net_name (plain_declarator n)))) e ∙ one_in was name n
+
+pub wordless-Some : (was : Bool) (name : Text) (n : Declarator) (b : Bounds) → n.words ≡ Some b → (was || is_in name (wordless_name (plain_declarator n))) ≡ was
+unfolding plain_declarator plain_range
+wordless-Some was name n b e = ap (λ r. was || is_in name (unless_words (plain_range r) (net_name (plain_declarator n)))) e ∙ or_none was
+
+pub ruleset wordless_nodes = (wordless-None, wordless-Some)
+
+-- those of a list
+
+-- whether a name is one that each of them gives
+pub any_flat : {X Y : Type 0} (p : Y → Bool) (f : X → List Y) (xs : List X) → list_any p (flat_map f xs) ≡ list_any (λ x. list_any p (f x)) xs
+any_flat p f [] = refl
+any_flat p f (x ∷ xs) = list_any-append p (f x) (flat_map f xs) ∙ ap (λ b. list_any p (f x) || b) (any_flat p f xs)
 
 -- declarations by `reg`
 
@@ -65,7 +90,7 @@ pub sets-Nets : (was : Bool) (name : Text) (signed : Bool) (range : Option Bound
 unfolding plain_item item_sets
 sets-Nets was name signed range names = or_none was
 
-pub sets-Variables : (was : Bool) (name : Text) (signed : Bool) (range : Option Bounds) (names : Bor (List Declarator)) → (was || item_sets name (plain_item (item.Variables signed range names))) ≡ (was || is_in name (map net_name (map plain_declarator names.now)))
+pub sets-Variables : (was : Bool) (name : Text) (signed : Bool) (range : Option Bounds) (names : Bor (List Declarator)) → (was || item_sets name (plain_item (item.Variables signed range names))) ≡ (was || is_in name (flat_map wordless_name (map plain_declarator names.now)))
 unfolding plain_item item_sets
 sets-Variables was name signed range names = refl
 
@@ -120,7 +145,7 @@ pub opens-Nets : (was : Bool) (name : Text) (signed : Bool) (range : Option Boun
 unfolding plain_item item_opens
 opens-Nets was name signed range names = refl
 
-pub opens-Variables : (was : Bool) (name : Text) (signed : Bool) (range : Option Bounds) (names : Bor (List Declarator)) → (was || item_opens name (plain_item (item.Variables signed range names))) ≡ (was || (is_open (plain_range range) && is_in name (map net_name (map plain_declarator names.now))))
+pub opens-Variables : (was : Bool) (name : Text) (signed : Bool) (range : Option Bounds) (names : Bor (List Declarator)) → (was || item_opens name (plain_item (item.Variables signed range names))) ≡ (was || (is_open (plain_range range) && is_in name (flat_map wordless_name (map plain_declarator names.now))))
 unfolding plain_item item_opens
 opens-Variables was name signed range names = refl
 

@@ -12,7 +12,7 @@ use Rattle.rr_instance.specs.Firsts.{first_token}
 use Rattle.rr_choice.specs.Sites as sites
 use Rattle.rr_choice.specs.Sites.{Site}
 use Rattle.rr_change_places.specs.Spots.{Spot, Body, Test, Value, is_clocked, spots_of_item}
-use Rattle.rr_guard.specs.Names.{net_name, names_at, whole_name}
+use Rattle.rr_guard.specs.Names.{net_name, wordless_name, names_at, whole_name}
 
 -- Targets
 
@@ -51,11 +51,11 @@ is_in name list = list_any (λ (x : Identifier). bytes_eq name x.text) list
 abbrev pub port_opens : Text → PortDeclaration → Bool
 port_opens name p = is_open p.range && is_in name (map net_name p.names)
 
--- a declaration of a name as `integer`, or with such a range
+-- a declaration of a name as `integer`, or with such a range and no words
 unfoldable pub item_opens : Text → ModuleItem → Bool
 item_opens name (Ports p) = port_opens name p
 item_opens name (Nets signed range list) = is_open range && is_in name (map net_name list)
-item_opens name (Variables signed range list) = is_open range && is_in name (map net_name list)
+item_opens name (Variables signed range list) = is_open range && is_in name (flat_map wordless_name list)
 item_opens name (Integers list) = is_in name list
 item_opens name (Parameters p) = false
 item_opens name (Assigns pairs) = false
@@ -70,14 +70,14 @@ is_reg dir.Output = false
 is_reg dir.OutputWire = false
 is_reg dir.OutputReg = true
 
--- a declaration of a name by `reg`
+-- a declaration of a name by `reg`; a memory, which has words, is never assigned as a whole (section 4.9.3)
 abbrev pub port_sets : Text → PortDeclaration → Bool
 port_sets name p = is_reg p.dir && is_in name (map net_name p.names)
 
 unfoldable pub item_sets : Text → ModuleItem → Bool
 item_sets name (Ports p) = port_sets name p
 item_sets name (Nets signed range list) = false
-item_sets name (Variables signed range list) = is_in name (map net_name list)
+item_sets name (Variables signed range list) = is_in name (flat_map wordless_name list)
 item_sets name (Integers list) = false
 item_sets name (Parameters p) = false
 item_sets name (Assigns pairs) = false

@@ -1,11 +1,11 @@
 //! The variables of a module.
 
-ghost use Rattle.std.specs.Prelude.{◌≡◌, ◌||◌, ◌&&◌, IfOk, OnOk, map};
+ghost use Rattle.std.specs.Prelude.{◌≡◌, ◌||◌, ◌&&◌, IfOk, OnOk, flat_map, map};
 ghost use Rattle.std.specs.List.{list_any};
 ghost use Rattle.rr_syntax.specs.View.{plain_identifier, plain_item, plain_module, plain_declarator, plain_port, plain_range};
 ghost use Rattle.rr_flat.specs.Signals.{Text};
 ghost use Rattle.rr_guard.specs.Candidates.{is_among};
-ghost use Rattle.rr_guard.specs.Names.{net_name};
+ghost use Rattle.rr_guard.specs.Names.{net_name, wordless_name};
 ghost use Rattle.rr_overwrite.specs.Overwrites.{is_in, is_open as is_open_range, item_opens, item_sets, port_opens, port_sets};
 ghost use Rattle.rr_overwrite.specs.Variables.{AreVariables};
 
@@ -40,6 +40,29 @@ fn add_declared<'a>(set: &mut TextSet<'a>, names: &[Declarator<'a>]) -> Result<(
     Ok(())
 }
 
+/// A variable with words is a memory, which is never assigned as a whole (IEEE 1364-2005 section 4.9.3).
+#[tactic(auto, using(crate::proofs::Declared::wordless_nodes))]
+fn add_wordless<'a>(set: &mut TextSet<'a>, declared: &Declarator<'a>) -> Result<(), AllocError>
+    ensures { OnOk result ((name : Text) → is_among name set.new ≡ (is_among name set.old || is_in name (wordless_name (plain_declarator declared.now)))) }
+{
+    match declared.words {
+        None => {
+            set.add(declared.name)?;
+            Ok(())
+        }
+        Some(_) => Ok(()),
+    }
+}
+
+fn add_variables<'a>(set: &mut TextSet<'a>, names: &[Declarator<'a>]) -> Result<(), AllocError>
+    ensures { OnOk result ((name : Text) → is_among name set.new ≡ (is_among name set.old || is_in name (flat_map wordless_name (map plain_declarator names.now)))) }
+{
+    for declared in names.iter() {
+        add_wordless(set, declared)?;
+    }
+    Ok(())
+}
+
 /// The names of a port declaration with `reg`.
 #[tactic(auto, using(crate::proofs::Declared::sets_nodes))]
 fn add_set_by_port<'a>(set: &mut TextSet<'a>, group: &Group<'a>) -> Result<(), AllocError>
@@ -57,7 +80,7 @@ fn add_set_by_item<'a>(set: &mut TextSet<'a>, item: &Item<'a>) -> Result<(), All
 {
     match item {
         Item::Ports(group) => add_set_by_port(set, group),
-        Item::Variables { names, .. } => add_declared(set, names),
+        Item::Variables { names, .. } => add_variables(set, names),
         Item::Nets { .. }
         | Item::Integers { .. }
         | Item::Parameters(_)
@@ -97,6 +120,20 @@ fn add_open_names<'a>(
     Ok(())
 }
 
+fn add_open_variables<'a>(
+    alloc: Global,
+    set: &mut TextSet<'a>,
+    range: &Option<Bounds<'a>>,
+    names: &[Declarator<'a>],
+) -> Result<(), AllocError>
+    ensures { OnOk result ((name : Text) → is_among name set.new ≡ (is_among name set.old || (is_open_range (plain_range range.now) && is_in name (flat_map wordless_name (map plain_declarator names.now))))) }
+{
+    if is_open(alloc, range)? {
+        return add_variables(set, names);
+    }
+    Ok(())
+}
+
 /// The names that an item declares as `integer` or with such a range.
 #[tactic(auto, using(crate::proofs::Declared::opens_nodes))]
 fn add_open_by_item<'a>(
@@ -108,9 +145,8 @@ fn add_open_by_item<'a>(
 {
     match item {
         Item::Ports(group) => add_open_by_port(alloc, set, group),
-        Item::Nets { range, names, .. } | Item::Variables { range, names, .. } => {
-            add_open_names(alloc, set, range, names)
-        }
+        Item::Nets { range, names, .. } => add_open_names(alloc, set, range, names),
+        Item::Variables { range, names, .. } => add_open_variables(alloc, set, range, names),
         Item::Integers { names } => add_names(set, names),
         Item::Parameters(_)
         | Item::Assigns { .. }

@@ -3,15 +3,15 @@ use Rattle.std.proofs.Common.{◌≡◌, ℕ, suc, ◌≤◌, List, [], ◌∷�
 use Rattle.std.specs.List.{AllByRecursion}
 use Rattle.rr_syntax.specs.Tree.{Tree, Trees, End, More, Identifier, Range, PortDeclaration, ParamAssignment, ParameterDeclaration, DeclaredName, NetAssignment, EventControl, Star, Edges, Levels, NamedConnection, Connections, Positions, Names, ModuleInstance, ModuleItem, Ports, Nets, Variables, Integers, Parameters, Assigns, Always, Initial, Instances, ModuleDeclaration}
 use Rattle.rr_syntax.specs.Expressions.{WellFormed, WellFormedMore, depth, height}
-use Rattle.rr_syntax.specs.Items.{greatest, IsHeader, WellFormedRange, WellFormedPort, WellFormedAssignment, WellFormedParameter, WellFormedValue, WellFormedDeclarator, WellFormedPair, WellFormedEvents, WellFormedConnection, WellFormedConnections, WellFormedOverrides, WellFormedInstance, WellFormedItem, WellFormedHead, WellFormedModule, depth_range, depth_port, depth_assignment, depth_parameter, depth_value, depth_declarator, depth_pair, depth_events, depth_connection, depth_connections, depth_overrides, depth_instance, depth_item, height_item, depth_module, height_module}
+use Rattle.rr_syntax.specs.Items.{greatest, IsHeader, WellFormedRange, HasNoWords, IsVariableName, WellFormedPort, WellFormedAssignment, WellFormedParameter, WellFormedValue, WellFormedDeclarator, WellFormedPair, WellFormedEvents, WellFormedConnection, WellFormedConnections, WellFormedOverrides, WellFormedInstance, WellFormedItem, WellFormedHead, WellFormedModule, depth_range, depth_port, depth_assignment, depth_parameter, depth_value, depth_declarator, depth_pair, depth_events, depth_connection, depth_connections, depth_overrides, depth_instance, depth_item, height_item, depth_module, height_module}
 use Rattle.rr_grammar.specs.Formats.{list}
 use Rattle.rr_grammar.specs.Leaves.{expression, range, AllOption}
-use Rattle.rr_grammar.specs.Declarations.{port, setting, declarator, pair, parameter, head_parameter}
+use Rattle.rr_grammar.specs.Declarations.{port, setting, declarator, single, variable, pair, parameter, head_parameter}
 use Rattle.rr_grammar.specs.Parts.{AllTrees, events}
 use Rattle.rr_grammar.specs.Connections.{optional_closed, connection, connections, overrides, one_instance}
 use Rattle.rr_grammar.specs.ItemForms.{item}
 use Rattle.rr_grammar.specs.ModuleForms.{heads, port_list, one_module}
-use Rattle.rr_grammar.proofs.Goods.{starts_back}
+use Rattle.rr_grammar.proofs.Goods.{WellFormedSingle, WellFormedVariable, words_back, variable_back, starts_back}
 
 -- each of a list is good, so each is right, and the greatest is within the bound
 all_back : {A : Type 0} (W G : A → Type 0) (f : A → ℕ) (n : ℕ) → ((a : A) → G a → W a × (f a ≤ n)) → (xs : List A) → AllByRecursion G xs → AllByRecursion W xs × (greatest f xs ≤ n)
@@ -31,14 +31,37 @@ value_back k (Some t) w = (w.0, omega (arith, w.1))
 
 declarator_back : (k : ℕ) (n : DeclaredName) → (declarator k).Good n → WellFormedDeclarator n × (depth_declarator n ≤ suc k)
 unfolding WellFormedDeclarator depth_declarator
-declarator_back k n w = value_back k n.value w.1
+declarator_back k n w = let r = range_back k n.words w.1.0 in let v = value_back k n.value w.1.1 in ((r.0, v.0), omega (arith, r.1, v.1))
+
+single_back : (k : ℕ) (n : DeclaredName) → (single k).Good n → WellFormedSingle n × (depth_declarator n ≤ suc k)
+single_back k n w = let d = declarator_back k n w.0 in ((d.0, words_back n w.1), d.1)
+
+variable_name_back : (k : ℕ) (n : DeclaredName) → (variable k).Good n → WellFormedVariable n × (depth_declarator n ≤ suc k)
+variable_name_back k n w = let d = declarator_back k n w.0 in ((d.0, variable_back n w.1), d.1)
+
+-- of a list of which each has two properties, each has the first, and each has the second
+apart : {A : Type 0} (P Q : A → Type 0) (xs : List A) → AllByRecursion (λ x. P x × Q x) xs → AllByRecursion P xs × AllByRecursion Q xs
+apart P Q [] w = (tt, tt)
+apart P Q (x ∷ xs) w = let r = apart P Q xs w.1 in ((w.0.0, r.0), (w.0.1, r.1))
+
+singles_back : (k : ℕ) (ns : List DeclaredName) → AllByRecursion (single k).Good ns → AllByRecursion WellFormedDeclarator ns × AllByRecursion HasNoWords ns × (greatest depth_declarator ns ≤ suc k)
+singles_back k ns w =
+    let q = all_back WellFormedSingle (single k).Good depth_declarator (suc k) (single_back k) ns w in
+    let a = apart WellFormedDeclarator HasNoWords ns q.0 in
+    (a.0, a.1, q.1)
+
+variables_back : (k : ℕ) (ns : List DeclaredName) → AllByRecursion (variable k).Good ns → AllByRecursion WellFormedDeclarator ns × AllByRecursion IsVariableName ns × (greatest depth_declarator ns ≤ suc k)
+variables_back k ns w =
+    let q = all_back WellFormedVariable (variable k).Good depth_declarator (suc k) (variable_name_back k) ns w in
+    let a = apart WellFormedDeclarator IsVariableName ns q.0 in
+    (a.0, a.1, q.1)
 
 port_back : (k : ℕ) (p : PortDeclaration) → (port k).Good p → WellFormedPort p × (depth_port p ≤ suc k)
 unfolding WellFormedPort depth_port
 port_back k p w =
     let r = range_back k p.range w.0.1.0.1 in
-    let q = all_back WellFormedDeclarator (declarator k).Good depth_declarator (suc k) (declarator_back k) p.names w.0.1.1.1 in
-    ((r.0, w.0.1.1.0, q.0, starts_back p.dir p.names w.1), omega (arith, r.1, q.1))
+    let q = singles_back k p.names w.0.1.1.1 in
+    ((r.0, w.0.1.1.0, q.0, starts_back p.dir p.names w.1, q.1), omega (arith, r.1, q.2))
 
 setting_back : (k : ℕ) (a : ParamAssignment) → (setting k).Good a → WellFormedAssignment a × (depth_assignment a ≤ suc k)
 unfolding WellFormedAssignment depth_assignment
@@ -121,7 +144,7 @@ item_back k (Ports p) (inr (inr (inr (inr (inr (inr (inl w))))))) = absurd w
 item_back k (Ports p) (inr (inr (inr (inr (inr (inr (inr (inl w)))))))) = absurd w
 item_back k (Ports p) (inr (inr (inr (inr (inr (inr (inr (inr w)))))))) = absurd w
 item_back k (Nets s r ns) (inl w) = absurd w
-item_back k (Nets s r ns) (inr (inl w)) = let r0 = range_back k r w.0.1 in let q = all_back WellFormedDeclarator (declarator k).Good depth_declarator (suc k) (declarator_back k) ns w.1.1 in ((r0.0, w.1.0, q.0), omega (arith, r0.1, q.1))
+item_back k (Nets s r ns) (inr (inl w)) = let r0 = range_back k r w.0.1 in let q = singles_back k ns w.1.1 in ((r0.0, w.1.0, q.0, q.1), omega (arith, r0.1, q.2))
 item_back k (Nets s r ns) (inr (inr (inl w))) = absurd w
 item_back k (Nets s r ns) (inr (inr (inr (inl w)))) = absurd w
 item_back k (Nets s r ns) (inr (inr (inr (inr (inl w))))) = absurd w
@@ -131,7 +154,7 @@ item_back k (Nets s r ns) (inr (inr (inr (inr (inr (inr (inr (inl w)))))))) = ab
 item_back k (Nets s r ns) (inr (inr (inr (inr (inr (inr (inr (inr w)))))))) = absurd w
 item_back k (Variables s r ns) (inl w) = absurd w
 item_back k (Variables s r ns) (inr (inl w)) = absurd w
-item_back k (Variables s r ns) (inr (inr (inl w))) = let r0 = range_back k r w.0.1 in let q = all_back WellFormedDeclarator (declarator k).Good depth_declarator (suc k) (declarator_back k) ns w.1.1 in ((r0.0, w.1.0, q.0), omega (arith, r0.1, q.1))
+item_back k (Variables s r ns) (inr (inr (inl w))) = let r0 = range_back k r w.0.1 in let q = variables_back k ns w.1.1 in ((r0.0, w.1.0, q.0, q.1), omega (arith, r0.1, q.2))
 item_back k (Variables s r ns) (inr (inr (inr (inl w)))) = absurd w
 item_back k (Variables s r ns) (inr (inr (inr (inr (inl w))))) = absurd w
 item_back k (Variables s r ns) (inr (inr (inr (inr (inr (inl w)))))) = absurd w

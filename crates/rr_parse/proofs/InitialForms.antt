@@ -11,60 +11,60 @@ use Rattle.rr_syntax.specs.declared.tree.Head.{Head}
 use Rattle.rr_syntax.specs.declared.tree.Named.{Named}
 use Rattle.rr_syntax.specs.declared.tree.Stmt.{Stmt, the_lemmas as stmt_lemmas}
 use Rattle.rr_syntax.specs.declared.tree.Stmt.TheVariants as stmt
-use Rattle.rr_syntax.specs.Statements.{is_name, is_initial, are_initial}
+use Rattle.rr_syntax.specs.Statements.{is_cell, is_initial, are_initial}
 use Rattle.rr_syntax.specs.View.{plain, plain_statement, plain_statements}
 use Rattle.rr_syntax.proofs.Rows.{plain_block, plain_case}
 use denote.Ref.{Bor}
 
-pub name-Name : (n : ℕ) (s : Bor (List ℕ)) → is_name (plain (expr.Name n s)) ≡ true
+pub cell-Name : (n : ℕ) (s : Bor (List ℕ)) → is_cell (plain (expr.Name n s)) ≡ true
 unfolding plain
-name-Name n s = refl
+cell-Name n s = refl
 
-pub name-Literal : (n : ℕ) (d : Number) → is_name (plain (expr.Literal n d)) ≡ false
+pub cell-Literal : (n : ℕ) (d : Number) → is_cell (plain (expr.Literal n d)) ≡ false
 unfolding plain
-name-Literal n d = refl
+cell-Literal n d = refl
 
-pub name-Bit : (n : ℕ) (s : Bor (List ℕ)) (i : Bor Expr) → is_name (plain (expr.Bit n s i)) ≡ false
+pub cell-Bit : (n : ℕ) (s : Bor (List ℕ)) (i : Bor Expr) → is_cell (plain (expr.Bit n s i)) ≡ true
 unfolding plain
-name-Bit n s i = refl
+cell-Bit n s i = refl
 
-pub name-Part : (n : ℕ) (s : Bor (List ℕ)) (l r : Bor Expr) → is_name (plain (expr.Part n s l r)) ≡ false
+pub cell-Part : (n : ℕ) (s : Bor (List ℕ)) (l r : Bor Expr) → is_cell (plain (expr.Part n s l r)) ≡ false
 unfolding plain
-name-Part n s l r = refl
+cell-Part n s l r = refl
 
-pub name-Indexed : (n : ℕ) (s : Bor (List ℕ)) (f w : Bor Expr) (up : Bool) → is_name (plain (expr.Indexed n s f w up)) ≡ false
+pub cell-Indexed : (n : ℕ) (s : Bor (List ℕ)) (f w : Bor Expr) (up : Bool) → is_cell (plain (expr.Indexed n s f w up)) ≡ false
 unfolding plain
-name-Indexed n s f w up = refl
+cell-Indexed n s f w up = refl
 
-pub name-Unary : (op : Mark) (e : Bor Expr) → is_name (plain (expr.Unary op e)) ≡ false
+pub cell-Unary : (op : Mark) (e : Bor Expr) → is_cell (plain (expr.Unary op e)) ≡ false
 unfolding plain
-name-Unary op e = refl
+cell-Unary op e = refl
 
-pub name-Binary : (op : Mark) (l r : Bor Expr) → is_name (plain (expr.Binary op l r)) ≡ false
+pub cell-Binary : (op : Mark) (l r : Bor Expr) → is_cell (plain (expr.Binary op l r)) ≡ false
 unfolding plain
-name-Binary op l r = refl
+cell-Binary op l r = refl
 
-pub name-Cond : (a b c : Bor Expr) → is_name (plain (expr.Cond a b c)) ≡ false
+pub cell-Cond : (a b c : Bor Expr) → is_cell (plain (expr.Cond a b c)) ≡ false
 unfolding plain
-name-Cond a b c = refl
+cell-Cond a b c = refl
 
-pub name-Concat : (parts : Bor (List Expr)) → is_name (plain (expr.Concat parts)) ≡ false
+pub cell-Concat : (parts : Bor (List Expr)) → is_cell (plain (expr.Concat parts)) ≡ false
 unfolding plain
-name-Concat parts = refl
+cell-Concat parts = refl
 
-pub name-Repeat : (count : Bor Expr) (parts : Bor (List Expr)) → is_name (plain (expr.Repeat count parts)) ≡ false
+pub cell-Repeat : (count : Bor Expr) (parts : Bor (List Expr)) → is_cell (plain (expr.Repeat count parts)) ≡ false
 unfolding plain
-name-Repeat count parts = refl
+cell-Repeat count parts = refl
 
-pub name-Cast : (signed : Bool) (e : Bor Expr) → is_name (plain (expr.Cast signed e)) ≡ false
+pub cell-Cast : (signed : Bool) (e : Bor Expr) → is_cell (plain (expr.Cast signed e)) ≡ false
 unfolding plain
-name-Cast signed e = refl
+cell-Cast signed e = refl
 
-pub name-Paren : (e : Bor Expr) → is_name (plain (expr.Paren e)) ≡ false
+pub cell-Paren : (e : Bor Expr) → is_cell (plain (expr.Paren e)) ≡ false
 unfolding plain
-name-Paren e = refl
+cell-Paren e = refl
 
-pub ruleset names = (the_lemmas, name-Name, name-Literal, name-Bit, name-Part, name-Indexed, name-Unary, name-Binary, name-Cond, name-Concat, name-Repeat, name-Cast, name-Paren)
+pub ruleset cells = (the_lemmas, cell-Name, cell-Literal, cell-Bit, cell-Part, cell-Indexed, cell-Unary, cell-Binary, cell-Cond, cell-Concat, cell-Repeat, cell-Cast, cell-Paren)
 
 pub form-Null : is_initial (plain_statement stmt.Null) ≡ true
 unfolding is_initial plain_statement
@@ -83,7 +83,7 @@ pub form-Case : (kind : Keyword) (t : Bor Expr) (arms : Bor (List Arm)) → is_i
 unfolding is_initial
 form-Case kind t arms = ap is_initial (plain_case kind t arms)
 
-pub form-Assign : (t : Bor Expr) (now : Bool) (v : Bor Expr) → is_initial (plain_statement (stmt.Assign t now v)) ≡ (now && is_name (plain t.now))
+pub form-Assign : (t : Bor Expr) (now : Bool) (v : Bor Expr) → is_initial (plain_statement (stmt.Assign t now v)) ≡ (now && is_cell (plain t.now))
 unfolding is_initial plain_statement
 form-Assign t now v = refl
 

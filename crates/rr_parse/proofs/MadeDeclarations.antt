@@ -22,10 +22,10 @@ use Rattle.rr_parse_expr.proofs.Answered.{not_equal, rest_drop}
 use Rattle.rr_parse_stmt.specs.Reading.{keyword}
 use Rattle.rr_grammar.specs.Formats.{both, shaped, respelled, list, Finds, FindsNone}
 use Rattle.rr_grammar.specs.Leaves.{identifier, expression, target_of, flag, choice, where_mark, range, typed, direction, of_input, of_output}
-use Rattle.rr_grammar.specs.Declarations.{declarator, to_declarator, of_declarator, is_output_reg, has_no_value, starts_right, port, to_port, of_port, setting, to_setting, of_setting, pair, to_pair, of_pair, kind, parameter, to_parameter, of_parameter, head_parameter, is_global}
+use Rattle.rr_grammar.specs.Declarations.{declarator, to_declarator, of_declarator, has_no_words, single, is_variable_name, variable, is_output_reg, has_no_value, starts_right, port, to_port, of_port, setting, to_setting, of_setting, pair, to_pair, of_pair, kind, parameter, to_parameter, of_parameter, head_parameter, is_global}
 use Rattle.rr_grammar.proofs.Exacts.{mapped_some}
 use Rattle.rr_grammar.proofs.LeavesExact.{range_words, range_bare}
-use Rattle.rr_grammar.proofs.DeclarationsExact.{declarator_words, declarator_bare, starts_bare}
+use Rattle.rr_grammar.proofs.DeclarationsExact.{declarator_words, declarator_bare, words_bare, variable_bare, starts_bare}
 use Rattle.rr_parse_expr.specs.declared.lists.Piece.{Piece}
 use Rattle.rr_parse.specs.declared.declarations.Type as typing
 use Rattle.rr_parse.specs.declared.declarations.ParameterType.{ParameterType}
@@ -130,8 +130,8 @@ output_alone T from i h j =
 
 -- before its starting values are tested
 declared_port : {k : ℕ} {T : List Token} {from : ℕ} (d : Dir) (t : typing.Type) (ns : Bor (List Declarator)) {first second next : ℕ} →
-    Finds direction T from d first → Finds (typed k) T first (plain_type t) second → Finds (list (declarator k)) T second (map plain_declarator ns.now) next →
-    Finds (respelled (shaped (both direction (both (typed k) (list (declarator k)))) to_port of_port) spell_port bare_port NumberedPort) T from (plain_port (record { dir = d; signed = t.signed; range = t.range; names = ns })) next
+    Finds direction T from d first → Finds (typed k) T first (plain_type t) second → Finds (list (single k)) T second (map plain_declarator ns.now) next →
+    Finds (respelled (shaped (both direction (both (typed k) (list (single k)))) to_port of_port) spell_port bare_port NumberedPort) T from (plain_port (record { dir = d; signed = t.signed; range = t.range; names = ns })) next
 unfolding plain_port spell_port spell_type bare_port NumberedPort NumberedType NumberedRange
 declared_port {k = k} {from = from} d t ns f g h =
     let p = plain_port (record { dir = d; signed = t.signed; range = t.range; names = ns }) in
@@ -141,7 +141,7 @@ declared_port {k = k} {from = from} d t ns f g h =
     (finds_shaped to_port of_port p w)
 
 pub made_port : {k : ℕ} {T : List Token} {from : ℕ} (d : Dir) (t : typing.Type) (ns : Bor (List Declarator)) {first second next : ℕ} → starts_right (plain_port (record { dir = d; signed = t.signed; range = t.range; names = ns })) ≡ true →
-    Finds direction T from d first → Finds (typed k) T first (plain_type t) second → Finds (list (declarator k)) T second (map plain_declarator ns.now) next →
+    Finds direction T from d first → Finds (typed k) T first (plain_type t) second → Finds (list (single k)) T second (map plain_declarator ns.now) next →
     Finds (port k) T from (plain_port (record { dir = d; signed = t.signed; range = t.range; names = ns })) next
 made_port d t ns s f g h =
     let p = plain_port (record { dir = d; signed = t.signed; range = t.range; names = ns }) in
@@ -149,7 +149,7 @@ made_port d t ns s f g h =
 
 -- a port with a starting value that it may not have
 pub no_start : {k : ℕ} {T : List Token} {from : ℕ} (d : Dir) (t : typing.Type) (ns : Bor (List Declarator)) {first second next : ℕ} → starts_right (plain_port (record { dir = d; signed = t.signed; range = t.range; names = ns })) ≡ false →
-    Finds direction T from d first → Finds (typed k) T first (plain_type t) second → Finds (list (declarator k)) T second (map plain_declarator ns.now) next → FindsNone (port k) T from
+    Finds direction T from d first → Finds (typed k) T first (plain_type t) second → Finds (list (single k)) T second (map plain_declarator ns.now) next → FindsNone (port k) T from
 no_start d t ns s f g h =
     let p = plain_port (record { dir = d; signed = t.signed; range = t.range; names = ns }) in
     record { none_is = chain_then _ (declared_port d t ns f g h).found_is (cond_second _ (starts_bare p ∙ s) refl) }
@@ -158,6 +158,11 @@ is_some_plain : (v : Option (Bor Expr)) → is_some (plain_value v) ≡ is_some 
 unfolding plain_value
 is_some_plain None = refl
 is_some_plain (Some e) = refl
+
+words_plain : (r : Option Bounds) → is_some (plain_range r) ≡ is_some r
+unfolding plain_range
+words_plain None = refl
+words_plain (Some b) = refl
 
 list_all_plain : (ns : List Declarator) → list_all has_no_value (map plain_declarator ns) ≡ list_all (λ n. not (is_some n.value)) ns
 unfolding plain_declarator
@@ -211,13 +216,49 @@ unfolding NumberedValue
 value_numbered k None at n = tt
 value_numbered k (Some t) at n = n
 
-pub made_declarator : {k : ℕ} {T : List Token} {from : ℕ} (n : Name) (v : Option (Bor Expr)) {middle next : ℕ} → Finds identifier T from (plain_identifier n) middle → Finds (where_mark mark_equals (expression k)) T middle (plain_value v) next →
-    Finds (declarator k) T from (plain_declarator (record { token = n.token; name = n.name; value = v })) next
+pub made_declarator : {k : ℕ} {T : List Token} {from : ℕ} (n : Name) (r : Option Bounds) (v : Option (Bor Expr)) {first second next : ℕ} →
+    Finds identifier T from (plain_identifier n) first → Finds (range k) T first (plain_range r) second → Finds (where_mark mark_equals (expression k)) T second (plain_value v) next →
+    Finds (declarator k) T from (plain_declarator (record { token = n.token; name = n.name; words = r; value = v })) next
 unfolding plain_declarator plain_identifier spell_identifier bare_identifier NumberedDeclarator NumberedIdentifier
-made_declarator {k = k} n v {middle = middle} f g =
-    let a = plain_declarator (record { token = n.token; name = n.name; value = v }) in
-    finds_respelled spell_declarator bare_declarator NumberedDeclarator (declarator_words a) (declarator_bare a) (f.numbered, subst (NumberedValue (plain_value v)) (omega (arith, f.taken)) (value_numbered k (plain_value v) middle g.numbered))
-    (finds_shaped to_declarator of_declarator a (finds_both f g))
+made_declarator {k = k} n r v {second = second} f g h =
+    let a = plain_declarator (record { token = n.token; name = n.name; words = r; value = v }) in
+    finds_respelled spell_declarator bare_declarator NumberedDeclarator (declarator_words a) (declarator_bare a) (
+      f.numbered,
+      subst (NumberedRange (plain_range r)) (omega (arith, f.taken)) g.numbered,
+      subst (NumberedValue (plain_value v)) (omega (arith, f.taken, g.taken)) (value_numbered k (plain_value v) second h.numbered),
+    )
+    (finds_shaped to_declarator of_declarator a (finds_both f (finds_both g h)))
+
+-- a name that is no memory, and one that is
+pub made_single : {k : ℕ} {T : List Token} {from : ℕ} (n : Declarator) {next : ℕ} → has_no_words (plain_declarator n) ≡ true → Finds (declarator k) T from (plain_declarator n) next → Finds (single k) T from (plain_declarator n) next
+made_single n e f = finds_guarded has_no_words (words_bare (plain_declarator n) ∙ e) f
+
+pub no_single : {k : ℕ} {T : List Token} {from : ℕ} (n : Declarator) {next : ℕ} → has_no_words (plain_declarator n) ≡ false → Finds (declarator k) T from (plain_declarator n) next → FindsNone (single k) T from
+no_single n e f = record { none_is = chain_then _ f.found_is (cond_second _ (words_bare (plain_declarator n) ∙ e) refl) }
+
+-- a variable or a memory, and a memory with a starting value
+pub made_variable : {k : ℕ} {T : List Token} {from : ℕ} (n : Declarator) {next : ℕ} → is_variable_name (plain_declarator n) ≡ true → Finds (declarator k) T from (plain_declarator n) next → Finds (variable k) T from (plain_declarator n) next
+made_variable n e f = finds_guarded is_variable_name (variable_bare (plain_declarator n) ∙ e) f
+
+pub no_variable : {k : ℕ} {T : List Token} {from : ℕ} (n : Declarator) {next : ℕ} → is_variable_name (plain_declarator n) ≡ false → Finds (declarator k) T from (plain_declarator n) next → FindsNone (variable k) T from
+no_variable n e f = record { none_is = chain_then _ f.found_is (cond_second _ (variable_bare (plain_declarator n) ∙ e) refl) }
+
+-- the tests of the code
+pub single-words : (n : Declarator) → has_no_words (plain_declarator n) ≡ not (is_some n.words)
+unfolding plain_declarator
+single-words n = ap (λ (b : Bool). not b) (words_plain n.words)
+
+pub variable-None : (n : Declarator) → n.words ≡ None → is_variable_name (plain_declarator n) ≡ true
+unfolding plain_declarator plain_range
+variable-None n e = rw e refl
+
+pub variable-Some : (n : Declarator) (b : Bounds) → n.words ≡ Some b → is_variable_name (plain_declarator n) ≡ not (is_some n.value)
+unfolding plain_declarator plain_range
+variable-Some n b e = let f = is_some_plain n.value in rw (e, f) refl
+
+pub ruleset single_forms = single-words
+
+pub ruleset variable_forms = (variable-None, variable-Some)
 
 pub made_pair : {k : ℕ} {T : List Token} {from : ℕ} (t v : Bor Expr) {first second next : ℕ} → Finds (target_of k) T from (plain t.now) first → MarkAt T first mark_equals second → Finds (expression k) T second (plain v.now) next →
     Finds (pair k) T from (plain_pair (record { target = t; value = v })) next

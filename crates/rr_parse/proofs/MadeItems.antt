@@ -23,7 +23,7 @@ use Rattle.rr_parse_expr.proofs.Answered.{not_equal}
 use Rattle.rr_parse_stmt.specs.Reading.{keyword}
 use Rattle.rr_grammar.specs.Formats.{guarded, list, Finds, FindsNone}
 use Rattle.rr_grammar.specs.Leaves.{identifier, typed}
-use Rattle.rr_grammar.specs.Declarations.{port, declarator, pair, parameter}
+use Rattle.rr_grammar.specs.Declarations.{port, single, variable, pair, parameter}
 use Rattle.rr_grammar.specs.Parts.{events}
 use Rattle.rr_grammar.specs.Connections.{overrides, one_instance}
 use Rattle.rr_grammar.specs.ItemForms.{statement_of, words_of_ports, to_ports, Good_ports, ports_item, words_of_nets, to_nets, Good_nets, nets_item, words_of_variables, to_variables, Good_variables, variables_item, words_of_integers, to_integers, Good_integers, integers_item, words_of_parameters, to_parameters, Good_parameters, parameters_item, words_of_assigns, to_assigns, Good_assigns, assigns_item, words_of_always, to_always, Good_always, always_item, words_of_initial, to_initial, Good_initial, initial_item, words_of_instances, to_instances, Good_instances, instances_item, begins_ports, begins_parameters, front_ports, front_nets, front_variables, front_integers, front_parameters, front_assigns, front_always, front_initial, from_nets, from_variables, from_integers, from_parameters, from_assigns, from_always, from_initial, item}
@@ -39,7 +39,7 @@ unfolding plain_item spell_item bare_item NumberedItem
 made_ports {k = k} g f e = finds_imaged to_ports spell_item bare_item (Good_ports (words_of_ports k).Good) NumberedItem (plain_item (variant.Ports g)) refl refl refl f.numbered (finds_before_mark f e)
 
 pub made_nets : {k : ℕ} {T : List Token} {from : ℕ} (t : typing.Type) (ns : Bor (List Declarator)) {first second third next : ℕ} →
-    WordAt T from keyword_wire first → Finds (typed k) T first (plain_type t) second → Finds (list (declarator k)) T second (map plain_declarator ns.now) third → MarkAt T third mark_semicolon next →
+    WordAt T from keyword_wire first → Finds (typed k) T first (plain_type t) second → Finds (list (single k)) T second (map plain_declarator ns.now) third → MarkAt T third mark_semicolon next →
     Finds (nets_item k) T from (plain_item (variant.Nets t.signed t.range ns)) next
 unfolding plain_item spell_item spell_type bare_item NumberedItem NumberedType
 made_nets {k = k} t ns w f g e =
@@ -48,7 +48,7 @@ made_nets {k = k} t ns w f g e =
     (finds_after_word w (finds_both f (finds_before_mark g e)))
 
 pub made_variables : {k : ℕ} {T : List Token} {from : ℕ} (t : typing.Type) (ns : Bor (List Declarator)) {first second third next : ℕ} →
-    WordAt T from keyword_reg first → Finds (typed k) T first (plain_type t) second → Finds (list (declarator k)) T second (map plain_declarator ns.now) third → MarkAt T third mark_semicolon next →
+    WordAt T from keyword_reg first → Finds (typed k) T first (plain_type t) second → Finds (list (variable k)) T second (map plain_declarator ns.now) third → MarkAt T third mark_semicolon next →
     Finds (variables_item k) T from (plain_item (variant.Variables t.signed t.range ns)) next
 unfolding plain_item spell_item spell_type bare_item NumberedItem NumberedType
 made_variables {k = k} t ns w f g e =

@@ -229,7 +229,7 @@ value (Some t) w = mark _ refl (expression t w)
 
 declarator : (n : DeclaredName) → WellFormedDeclarator n → Ruled (spell_declarator n)
 unfolding spell_declarator WellFormedDeclarator
-declarator n w = name n.text (value n.value w)
+declarator n w = name n.text (joined (range n.words w.0) (value n.value w.1))
 
 port : (p : PortDeclaration) → WellFormedPort p → Ruled (spell_port p)
 unfolding spell_port WellFormedPort

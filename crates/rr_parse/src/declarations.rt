@@ -1,10 +1,10 @@
-//! Declarations and continuous assignments (IEEE 1364-2005 sections 6.1, 6.2.1 and 12.2, annexes A.2.1
-//! and A.2.4).
+//! Declarations and continuous assignments (IEEE 1364-2005 sections 4.9.3, 6.1, 6.2.1 and 12.2, annexes
+//! A.2.1 and A.2.4).
 
 ghost use Rattle.std.specs.Prelude.{◌≡◌, ◌≤◌, ◌<◌, ◌+◌, ◌^◌, drop, length};
 ghost use Rattle.rr_syntax.specs.View.{plain_assignment, plain_identifier, plain_declarator, plain_pair, plain_parameter, plain_value};
 ghost use Rattle.rr_syntax.specs.Words.{mark_equals, words};
-ghost use Rattle.rr_grammar.specs.Declarations.{declarator as declarator_of, head_parameter as head_of, kind as kind_of, pair as pair_of, parameter as parameter_of, setting as setting_of};
+ghost use Rattle.rr_grammar.specs.Declarations.{declarator as declarator_of, has_no_words as has_no_words_of, head_parameter as head_of, is_variable_name as is_variable_name_of, kind as kind_of, pair as pair_of, parameter as parameter_of, setting as setting_of, single as single_of, variable as variable_of};
 ghost use Rattle.rr_grammar.specs.Formats.{list as list_of};
 ghost use Rattle.rr_grammar.specs.ItemForms.{front_parameters};
 ghost use Rattle.rr_grammar.specs.Leaves.{expression as expression_of, identifier, typed as typed_of, where_mark};
@@ -120,7 +120,7 @@ fn declared_value<'a>(
     })
 }
 
-/// A net and its driver, or a variable and its starting value, where it has one (sections 6.1.1 and
+/// A name, the range of a memory's words and a value, where they stand (sections 4.9.3, 6.1.1 and
 /// 6.2.1).
 fn declarator<'a>(
     input: Input<'a>,
@@ -132,32 +132,103 @@ fn declarator<'a>(
     ensures { Answers (declarator_of depth) plain_declarator input.entry.tokens.now from result }
 {
     let name = name(input.tokens, from)?;
-    let value = declared_value(input, name.next, depth)?;
+    let words = range(input, name.next, depth)?;
+    let value = declared_value(input, words.next, depth)?;
     Ok(Piece {
         value: Declarator {
             token: name.value.token,
             name: name.value.name,
+            words: words.value,
             value: value.value,
         },
         next: value.next,
     })
 }
 
+/// Whether a declared name is no memory.
+#[tactic(auto, using(crate::proofs::MadeDeclarations::single_forms))]
+fn has_no_words(name: &Declarator) -> bool
+    ensures { result ≡ has_no_words_of (plain_declarator name.now) }
+{
+    name.words.is_none()
+}
+
+/// Whether a declared name is no memory, or has no starting value.
+#[tactic(auto, using(crate::proofs::MadeDeclarations::variable_forms))]
+fn is_variable_name(name: &Declarator) -> bool
+    ensures { result ≡ is_variable_name_of (plain_declarator name.now) }
+{
+    match name.words {
+        None => true,
+        Some(_) => name.value.is_none(),
+    }
+}
+
+/// A net and its driver, or a port, which are no memories.
+fn single<'a>(input: Input<'a>, from: u32, depth: u32) -> Result<Piece<Declarator<'a>>, ParseFault>
+    requires short { length input.tokens.now < 2 ^ 32 }
+    requires shallow { depth ≤ 500 }
+    ensures { Answers (single_of depth) plain_declarator input.entry.tokens.now from result }
+{
+    let found = declarator(input, from, depth)?;
+    if has_no_words(&found.value) {
+        Ok(found)
+    } else {
+        Err(ParseFault::Syntax(from))
+    }
+}
+
 /// Such names, with commas between.
-pub(crate) fn declarators<'a>(
+pub(crate) fn singles<'a>(
     input: Input<'a>,
     from: u32,
     depth: u32,
 ) -> Result<Piece<&'a [Declarator<'a>]>, ParseFault>
     requires short { length input.tokens.now < 2 ^ 32 }
     requires shallow { depth ≤ 500 }
-    ensures { Answers (list_of (declarator_of depth)) (plain_list_by plain_declarator) input.entry.tokens.now from result }
+    ensures { Answers (list_of (single_of depth)) (plain_list_by plain_declarator) input.entry.tokens.now from result }
 {
     list(
         input.tokens,
         from,
         input.arena,
-        |at| declarator(input, at, depth),
+        |at| single(input, at, depth),
+    )
+}
+
+/// A variable and its starting value, where it has one, or a memory.
+fn variable<'a>(
+    input: Input<'a>,
+    from: u32,
+    depth: u32,
+) -> Result<Piece<Declarator<'a>>, ParseFault>
+    requires short { length input.tokens.now < 2 ^ 32 }
+    requires shallow { depth ≤ 500 }
+    ensures { Answers (variable_of depth) plain_declarator input.entry.tokens.now from result }
+{
+    let found = declarator(input, from, depth)?;
+    if is_variable_name(&found.value) {
+        Ok(found)
+    } else {
+        Err(ParseFault::Syntax(from))
+    }
+}
+
+/// Such names, with commas between.
+pub(crate) fn variables<'a>(
+    input: Input<'a>,
+    from: u32,
+    depth: u32,
+) -> Result<Piece<&'a [Declarator<'a>]>, ParseFault>
+    requires short { length input.tokens.now < 2 ^ 32 }
+    requires shallow { depth ≤ 500 }
+    ensures { Answers (list_of (variable_of depth)) (plain_list_by plain_declarator) input.entry.tokens.now from result }
+{
+    list(
+        input.tokens,
+        from,
+        input.arena,
+        |at| variable(input, at, depth),
     )
 }
 

@@ -1,7 +1,7 @@
 //! What `initial` items hold (IEEE 1364-2005 section 9.9.1, annex A.6.2).
 
 ghost use Rattle.std.specs.Prelude.{◌≡◌, ◌≤◌, ◌<◌, ◌^◌, length};
-ghost use Rattle.rr_syntax.specs.Statements.{are_initial as are_initial_of, is_initial as is_initial_of, is_name as is_name_of};
+ghost use Rattle.rr_syntax.specs.Statements.{are_initial as are_initial_of, is_initial as is_initial_of, is_cell as is_cell_of};
 ghost use Rattle.rr_syntax.specs.View.{plain, plain_statement, plain_statements};
 ghost use Rattle.rr_grammar.specs.Formats.{guarded};
 ghost use Rattle.rr_grammar.specs.ItemForms.{statement_of};
@@ -11,14 +11,14 @@ use crate::expressions::statement;
 use rr_parse_expr::{Input, ParseFault, Piece};
 use rr_syntax::{Expr, Stmt};
 
-#[tactic(auto, using(crate::proofs::InitialForms::names))]
-fn is_name(expr: &Expr) -> bool
-    ensures { result ≡ is_name_of (plain expr.now) }
+/// Whether an expression is a bare name, or a bare name with one index.
+#[tactic(auto, using(crate::proofs::InitialForms::cells))]
+fn is_cell(expr: &Expr) -> bool
+    ensures { result ≡ is_cell_of (plain expr.now) }
 {
     match expr {
-        Expr::Name { .. } => true,
+        Expr::Name { .. } | Expr::Bit { .. } => true,
         Expr::Literal { .. }
-        | Expr::Bit { .. }
         | Expr::Part { .. }
         | Expr::Indexed { .. }
         | Expr::Unary { .. }
@@ -31,7 +31,8 @@ fn is_name(expr: &Expr) -> bool
     }
 }
 
-/// Whether a statement is `;`, a block or a loop of such statements, or sets a whole variable by `=`.
+/// Whether a statement is `;`, a block or a loop of such statements, or sets a variable or a word of a
+/// memory by `=`.
 #[tactic(auto, using(crate::proofs::InitialForms::forms))]
 #[cycle(initials)]
 fn is_initial(stmt: &Stmt) -> bool
@@ -41,7 +42,7 @@ fn is_initial(stmt: &Stmt) -> bool
         Stmt::Null => true,
         Stmt::Block { body, .. } => are_initial(body),
         Stmt::If { .. } | Stmt::Case { .. } => false,
-        Stmt::Assign { target, now, .. } => *now && is_name(target),
+        Stmt::Assign { target, now, .. } => *now && is_cell(target),
         Stmt::For { body, .. } => is_initial(body),
     }
 }

@@ -5,17 +5,18 @@ ghost use Rattle.rr_syntax.specs.View.{plain_item};
 ghost use Rattle.rr_grammar.specs.Formats.{repeated};
 ghost use Rattle.rr_grammar.specs.ItemForms.{always_item as always_of, assigns_item as assigns_of, initial_item as initial_of, instances_item as instances_of, integers_item as integers_of, item as item_of, nets_item as nets_of, parameters_item as parameters_of, ports_item as ports_of, variables_item as variables_of};
 ghost use Rattle.rr_parse.specs.Answer.{Answers};
+ghost use Rattle.rr_parse.specs.Chains.{AnswersAll};
 ghost use Rattle.rr_parse.specs.Trees.{plain_list_by};
 
 use crate::connections::{instances, overrides};
-use crate::declarations::{begins_parameter, declarators, names, pairs, parameters, typed};
+use crate::declarations::{begins_parameter, names, pairs, parameters, singles, typed, variables};
 use crate::events::events;
 use crate::expressions::statement;
 use crate::initial::initial_statement;
-use crate::lists::all;
 use crate::ports::{begins_port, port};
 use crate::tokens::{mark, name, word};
-use rr_parse_expr::{Input, ParseFault, Piece, is_keyword};
+use bumpalo::collections::into_bump_slice;
+use rr_parse_expr::{Input, ParseFault, Piece, add, is_keyword};
 use rr_syntax::{Item, Keyword, Mark};
 
 /// Ports that are declared among the items (section 12.3.3).
@@ -40,7 +41,7 @@ fn net_item<'a>(input: Input<'a>, from: u32, depth: u32) -> Result<Piece<Item<'a
 {
     let wire = word(input.tokens, from, Keyword::WIRE)?;
     let typed = typed(input, wire, depth)?;
-    let names = declarators(input, typed.next, depth)?;
+    let names = singles(input, typed.next, depth)?;
     let next = mark(input.tokens, names.next, Mark::SEMICOLON)?;
     Ok(Piece {
         value: Item::Nets {
@@ -52,7 +53,7 @@ fn net_item<'a>(input: Input<'a>, from: u32, depth: u32) -> Result<Piece<Item<'a
     })
 }
 
-/// Variables (sections 3.2 and 6.2.1, annex A.2.1.3).
+/// Variables and memories (sections 3.2, 4.9.3 and 6.2.1, annex A.2.1.3).
 fn variable_item<'a>(input: Input<'a>, from: u32, depth: u32) -> Result<Piece<Item<'a>>, ParseFault>
     requires short { length input.tokens.now < 2 ^ 32 }
     requires shallow { depth ≤ 500 }
@@ -60,7 +61,7 @@ fn variable_item<'a>(input: Input<'a>, from: u32, depth: u32) -> Result<Piece<It
 {
     let reg = word(input.tokens, from, Keyword::REG)?;
     let typed = typed(input, reg, depth)?;
-    let names = declarators(input, typed.next, depth)?;
+    let names = variables(input, typed.next, depth)?;
     let next = mark(input.tokens, names.next, Mark::SEMICOLON)?;
     Ok(Piece {
         value: Item::Variables {
@@ -206,6 +207,36 @@ fn item<'a>(input: Input<'a>, from: u32, depth: u32) -> Result<Piece<Item<'a>>, 
     }
 }
 
+/// Items, as long as one follows. A loop of its own, since a function that is handed in as elsewhere would make the check of so
+/// large a part too long.
+fn each_item<'a>(
+    input: Input<'a>,
+    from: u32,
+    depth: u32,
+) -> Result<Piece<&'a [Item<'a>]>, ParseFault>
+    requires short { length input.tokens.now < 2 ^ 32 }
+    requires inside { from ≤ length input.tokens.now }
+    requires shallow { depth ≤ 500 }
+    ensures { AnswersAll (λ at o. Answers (item_of depth) plain_item input.entry.tokens.now at o) input.entry.tokens.now from result }
+{
+    let mut list = Vec::new(input.arena);
+    let mut next = from;
+    loop {
+        match item(input, next, depth) {
+            Ok(more) => {
+                add(&mut list, more.value)?;
+                next = more.next;
+            }
+            Err(ParseFault::Memory) => return Err(ParseFault::Memory),
+            Err(_) => break,
+        }
+    }
+    Ok(Piece {
+        value: into_bump_slice(list),
+        next,
+    })
+}
+
 /// Items, with nothing between.
 pub(crate) fn items<'a>(
     input: Input<'a>,
@@ -217,5 +248,5 @@ pub(crate) fn items<'a>(
     requires shallow { depth ≤ 500 }
     ensures { Answers (repeated (item_of depth)) (plain_list_by plain_item) input.entry.tokens.now from result }
 {
-    all(input.tokens, from, input.arena, |at| item(input, at, depth))
+    each_item(input, from, depth)
 }

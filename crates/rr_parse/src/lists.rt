@@ -1,10 +1,10 @@
-//! Lists without commas, or with more than commas, whose parts are read by a function that is handed in.
+//! Lists with more than commas between, whose parts are read by a function that is handed in.
 
 ghost use Rattle.std.specs.Prelude.{◌≤◌, ◌<◌, ◌+◌, ◌^◌, ℕ, length, MatchOption, Ok};
 ghost use Rattle.rr_parse_expr.specs.declared.lists.Piece.{Piece};
 ghost use Rattle.rr_grammar.specs.Formats.{Finds, FindsNone};
 ghost use Rattle.rr_grammar.specs.Parts.{separator_of};
-ghost use Rattle.rr_parse.specs.Chains.{AnswersAll, AnswersSeparated};
+ghost use Rattle.rr_parse.specs.Chains.{AnswersSeparated};
 
 use bumpalo::Bump;
 use bumpalo::collections::into_bump_slice;
@@ -16,37 +16,6 @@ use rr_syntax::{Keyword, Mark, Token};
 pub(crate) struct Separated<'a, T> {
     pub(crate) list: &'a [T],
     pub(crate) commas: &'a [bool],
-}
-
-/// Any number of parts, with nothing between.
-pub(crate) fn all<'a, T: Copy, F: Fn(u32) -> Result<Piece<T>, ParseFault>>(
-    tokens: &[Token],
-    from: u32,
-    arena: &'a Bump,
-    read: F,
-) -> Result<Piece<&'a [T]>, ParseFault>
-    requires short { length tokens.now < 2 ^ 32 }
-    requires inside { from ≤ length tokens.now }
-    requires callable { F.IsAlwaysCallable read }
-    requires moves { (at : ℕ) (p : Piece T) → at < 2 ^ 32 → F.post read at (Ok p) → (at < p.next) × (p.next ≤ length tokens.now) }
-    ensures { AnswersAll (F.post read) tokens.now from result }
-{
-    let mut items = Vec::new(arena);
-    let mut next = from;
-    loop {
-        match read(next) {
-            Ok(more) => {
-                add(&mut items, more.value)?;
-                next = more.next;
-            }
-            Err(ParseFault::Memory) => return Err(ParseFault::Memory),
-            Err(_) => break,
-        }
-    }
-    Ok(Piece {
-        value: into_bump_slice(items),
-        next,
-    })
 }
 
 /// The separator that stands at a place, if one does (IEEE 1364-2005 section 9.7.3).

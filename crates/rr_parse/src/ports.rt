@@ -12,7 +12,7 @@ ghost use Rattle.rr_grammar.specs.Leaves.{direction as direction_of, of_input, o
 ghost use Rattle.rr_parse.specs.Answer.{Answers, FindsDirection, the_same};
 ghost use Rattle.rr_parse.specs.Trees.{plain_list_by};
 
-use crate::declarations::{declarators, typed};
+use crate::declarations::{singles, typed};
 use rr_parse_expr::{Input, ParseFault, Piece, is_keyword, list};
 use rr_syntax::{Declarator, Dir, Group, Keyword, Token};
 
@@ -110,7 +110,7 @@ pub(crate) fn port<'a>(
 {
     let dir = direction(input.tokens, from)?;
     let typed = typed(input, dir.next, depth)?;
-    let names = declarators(input, typed.next, depth)?;
+    let names = singles(input, typed.next, depth)?;
     let value = Group {
         dir: dir.value,
         signed: typed.value.signed,

@@ -1,5 +1,5 @@
 -- The changes of items and modules, node by node.
-use Rattle.std.proofs.Common.{◌≡◌, ℕ, ◌+◌, Bool, List, [], ◌∷◌, ◌++◌, length, map, Option, None, Some, refl, sym, ◌∙◌, ap, subst, arith, append-nil}
+use Rattle.std.proofs.Common.{◌≡◌, ℕ, ◌+◌, Bool, List, [], ◌∷◌, ◌++◌, length, map, Option, None, Some, IsNone, refl, sym, ◌∙◌, ap, subst, arith, append-nil}
 use denote.Ref.{Bor}
 use Rattle.rr_syntax.specs.declared.tree.Bounds.{Bounds}
 use Rattle.rr_syntax.specs.declared.tree.Connection.{Connection}
@@ -19,9 +19,10 @@ use Rattle.rr_syntax.specs.declared.tree.Params.{Params}
 use Rattle.rr_syntax.specs.declared.tree.Stmt.{Stmt}
 use Rattle.rr_syntax.specs.Words.{Word, Marked, Reserved, keyword_endmodule, mark_close_parenthesis, mark_equals, mark_semicolon}
 use Rattle.rr_syntax.specs.Expressions.{spell}
-use Rattle.rr_syntax.specs.Items.{spell_type, spell_events, spell_overrides, spell_item, spell_parameters, spell_ports, spell_declarator, spell_pair, spell_connection, spell_instance, WellFormedPair, WellFormedItem, WellFormedModule, NumberedEach, NumberedSeparated, NumberedAll, NumberedDeclarator, NumberedPair, NumberedConnection, NumberedConnections, NumberedInstance, NumberedItem, NumberedModule}
+use Rattle.rr_syntax.specs.Tree.{Range}
+use Rattle.rr_syntax.specs.Items.{spell_range, spell_type, spell_events, spell_overrides, spell_item, spell_parameters, spell_ports, spell_value, spell_declarator, spell_pair, spell_connection, spell_instance, HasNoWords, WellFormedPair, WellFormedItem, WellFormedModule, NumberedEach, NumberedSeparated, NumberedAll, NumberedDeclarator, NumberedPair, NumberedConnection, NumberedConnections, NumberedInstance, NumberedItem, NumberedModule}
 use Rattle.rr_syntax.specs.View.{plain, plain_list, plain_statement, plain_range, plain_header, plain_parameter, plain_port, plain_value, plain_declarator, plain_pair, plain_events, plain_connection, plain_connections, plain_overrides, plain_instance, plain_item, plain_module}
-use Rattle.rr_syntax.proofs.ItemLengths.{separated_len, size-declarator-none, size-declarator-some, size-pair, size-connection-none, size-connection-some, size-positions, size-named, size-instance, size-Nets, size-Assigns, size-Always, size-Instances, size-module}
+use Rattle.rr_syntax.proofs.ItemLengths.{separated_len, size-value-some, size-declarator, size-pair, size-connection-none, size-connection-some, size-positions, size-named, size-instance, size-Nets, size-Assigns, size-Always, size-Instances, size-module}
 use Rattle.rr_syntax.proofs.Lengths.{parts_len}
 use Rattle.rr_expr.specs.Faults.{first}
 use Rattle.rr_instance_laws.proofs.FirstLaws.{first_is}
@@ -31,11 +32,16 @@ use Rattle.rr_instance.specs.Firsts.{first_token}
 use Rattle.rr_respell.specs.Pieces.{Piece, Kept, kept}
 use Rattle.rr_respell.specs.Printing.{tree_pieces, more_pieces, part_pieces, body_pieces, each_pieces, separated_pieces, all_pieces, value_pieces, net_pieces, pair_pieces, optional_pieces, connection_pieces, connections_pieces, child_pieces, item_pieces, module_pieces}
 use Rattle.rr_patch.specs.Changes.{Change, changes}
-use Rattle.rr_patch.specs.Walks.{Adds, PairAt, ItemAt, ModuleAt}
+use Rattle.rr_patch.specs.Walks.{Adds, NetAt, PairAt, ItemAt, ModuleAt}
 use Rattle.rr_patch.proofs.ListWalks.{separated_are, separated_each, each_both, all_both}
 use Rattle.rr_patch.proofs.StatementWalks.{kept_first}
 use Rattle.rr_patch.proofs.TreeWalks.{kept_last, parts_are}
 use Rattle.rr_patch.proofs.Walks.{kept_none}
+
+no_words : (r : Option Range) → IsNone r → length (spell_range r) ≡ 0
+unfolding spell_range
+no_words None h = refl
+no_words (Some b) h = absurd (cc h)
 
 module _ (ss : List Site) (ps : List Pick) where
   abbrev T : Bor Expr → List Piece
@@ -43,11 +49,19 @@ module _ (ss : List Site) (ps : List Pick) where
 
   pub made_net_none : (o : List Change) (k : ℕ) (n : Declarator) → n.value ≡ None → o ≡ o ++ changes k (net_pieces ss ps (plain_declarator n))
   unfolding net_pieces value_pieces plain_declarator plain_value changes
-  made_net_none o k n q = sym (append-nil o) ∙ ap (λ v. o ++ changes (k + 1) (value_pieces ss ps (plain_value v))) (sym q)
+  made_net_none o k n q =
+      let W : List Word = spell_range (plain_range n.words) in
+      sym (append-nil o) ∙ ap (λ v. o ++ changes (k + 1 + length W) (value_pieces ss ps (plain_value v))) (sym q)
+      ∙ ap (λ (l : List Change). o ++ l) (sym (kept_first (k + 1) W (value_pieces ss ps (plain_value n.value))))
 
-  pub made_net_some : (o o' : List Change) (k : ℕ) (n : Declarator) (e : Bor Expr) → n.value ≡ Some e → o' ≡ o ++ changes (k + 2) (T e) → o' ≡ o ++ changes k (net_pieces ss ps (plain_declarator n))
+  pub made_net_some : (o o' : List Change) (k : ℕ) (n : Declarator) (e : Bor Expr) → HasNoWords (plain_declarator n) → n.value ≡ Some e → o' ≡ o ++ changes (k + 2) (T e) → o' ≡ o ++ changes k (net_pieces ss ps (plain_declarator n))
   unfolding net_pieces value_pieces plain_declarator plain_value changes
-  made_net_some o o' k n e q h = h ∙ ap (λ (i : ℕ). o ++ changes i (T e)) (omega arith) ∙ ap (λ v. o ++ changes (k + 1) (value_pieces ss ps (plain_value v))) (sym q)
+  made_net_some o o' k n e w q h =
+      let W : List Word = spell_range (plain_range n.words) in
+      let l : length W ≡ 0 = no_words (plain_range n.words) w in
+      let a : k + 2 ≡ k + 1 + length W + 1 = omega (arith, l) in
+      h ∙ ap (λ (i : ℕ). o ++ changes i (T e)) a ∙ ap (λ v. o ++ changes (k + 1 + length W) (value_pieces ss ps (plain_value v))) (sym q)
+      ∙ ap (λ (l : List Change). o ++ l) (sym (kept_first (k + 1) W (value_pieces ss ps (plain_value n.value))))
 
   pub made_pair : (o o' : List Change) (k m : ℕ) (p : Pair) → m ≡ k + length (spell (plain p.target.now)) → o' ≡ o ++ changes (m + 1) (T p.value) → o' ≡ o ++ changes k (pair_pieces ss ps (plain_pair p))
   unfolding pair_pieces plain_pair changes
@@ -164,12 +178,12 @@ module _ (ss : List Site) (ps : List Pick) where
       h ∙ ap (λ (l : List Change). o ++ l) (sym a)
 
   -- the same where the numbers of their tokens tell where the parts stand
-  pub net_none : (o : List Change) (n : Declarator) → n.value ≡ None → Adds o o (NumberedDeclarator (plain_declarator n)) (net_pieces ss ps (plain_declarator n))
+  pub net_none : (o : List Change) (n : Declarator) → n.value ≡ None → Adds o o (NetAt (plain_declarator n)) (net_pieces ss ps (plain_declarator n))
   net_none o n q at w = made_net_none o at n q
 
-  pub net_some : (o o' : List Change) (k : ℕ) (n : Declarator) (e : Bor Expr) → n.value ≡ Some e → k ≡ n.token + 2 → o' ≡ o ++ changes k (T e) → Adds o o' (NumberedDeclarator (plain_declarator n)) (net_pieces ss ps (plain_declarator n))
+  pub net_some : (o o' : List Change) (k : ℕ) (n : Declarator) (e : Bor Expr) → n.value ≡ Some e → k ≡ n.token + 2 → o' ≡ o ++ changes k (T e) → Adds o o' (NetAt (plain_declarator n)) (net_pieces ss ps (plain_declarator n))
   unfolding NumberedDeclarator plain_declarator
-  net_some o o' k n e q m h at w = let a = w.0 in made_net_some o o' at n e q (h ∙ ap (λ (i : ℕ). o ++ changes i (T e)) (omega (arith, m, a)))
+  net_some o o' k n e q m h at w = let a = w.1.0 in made_net_some o o' at n e w.0 q (h ∙ ap (λ (i : ℕ). o ++ changes i (T e)) (omega (arith, m, a)))
 
   pub pair_adds : (o o' : List Change) (k : ℕ) (p : Pair) → k ≡ first (plain p.target.now) + length (spell (plain p.target.now)) → o' ≡ o ++ changes (k + 1) (T p.value) → Adds o o' (PairAt (plain_pair p)) (pair_pieces ss ps (plain_pair p))
   unfolding NumberedPair WellFormedPair plain_pair
@@ -219,14 +233,15 @@ module _ (ss : List Site) (ps : List Pick) where
   Initial_adds o i s token q at w = made_Initial o at i s token q
 
   pub Nets_adds : (o o' : List Change) (i : Item) (signed : Bool) (range : Option Bounds) (names : Bor (List Declarator)) → i ≡ item.Nets signed range names →
-      Adds o o' (NumberedEach spell_declarator NumberedDeclarator (map plain_declarator names.now)) (each_pieces (net_pieces ss ps) (map plain_declarator names.now)) → AddsItem o o' i
-  unfolding NumberedItem plain_item
+      Adds o o' (NumberedEach spell_declarator NetAt (map plain_declarator names.now)) (each_pieces (net_pieces ss ps) (map plain_declarator names.now)) → AddsItem o o' i
+  unfolding NumberedItem WellFormedItem plain_item
   Nets_adds o o' i signed range names q h =
       with_item o o' i (item.Nets signed range names) q
       (λ at w.
       let L : ℕ = length (spell_type signed (plain_range range)) in
       let n = subst (NumberedSeparated spell_declarator NumberedDeclarator (map plain_declarator names.now)) (omega arith) w.1.1 in
-      made_Nets o o' at (at + L) (item.Nets signed range names) signed range names refl refl (h (at + L) (separated_each spell_declarator NumberedDeclarator (map plain_declarator names.now) (at + L) n)))
+      made_Nets o o' at (at + L) (item.Nets signed range names) signed range names refl refl
+      (h (at + L) (each_both spell_declarator HasNoWords NumberedDeclarator (map plain_declarator names.now) (at + L) w.0.3 (separated_each spell_declarator NumberedDeclarator (map plain_declarator names.now) (at + L) n))))
 
   pub Assigns_adds : (o o' : List Change) (i : Item) (pairs : Bor (List Pair)) → i ≡ item.Assigns pairs →
       Adds o o' (NumberedEach spell_pair PairAt (map plain_pair pairs.now)) (each_pieces (pair_pieces ss ps) (map plain_pair pairs.now)) → AddsItem o o' i
@@ -261,7 +276,13 @@ module _ (ss : List Site) (ps : List Pick) where
       let n = subst (NumberedAll spell_item NumberedItem (map plain_item m.items.now)) (omega arith) w.1.3 in
       made_module o o' at first m refl (h first (all_both spell_item WellFormedItem NumberedItem (map plain_item m.items.now) first w.0.3 n))
 
-pub ruleset net_walks = (net_none, net_some, size-declarator-none, size-declarator-some)
+pub net_spelled : (n : Declarator) (e : Bor Expr) → n.value ≡ Some e → length (spell_declarator (plain_declarator n)) ≡ 2 + length (spell_range (plain_range n.words)) + length (spell (plain e.now))
+net_spelled n e q =
+    let s = size-declarator n in
+    let v = ap (λ (x : Option (Bor Expr)). length (spell_value (plain_value x))) q ∙ size-value-some e in
+    omega (arith, s, v)
+
+pub ruleset net_walks = (net_none, net_some, net_spelled)
 
 pub ruleset pair_walks = (pair_adds, size-pair)
 

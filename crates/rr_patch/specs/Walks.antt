@@ -2,8 +2,8 @@
 use Rattle.std.specs.Prelude.{◌≡◌, ℕ, ◌==◌, ◌%◌, ◌^◌, ◌&&◌, false, if◌then◌else◌, List, [], ◌∷◌, ◌++◌, Option, None, Some}
 use Rattle.rr_syntax.specs.Words.{keyword_begin, mark_open_parenthesis, mark_close_parenthesis, mark_not, mark_logical_and, mark_logical_or}
 use Rattle.rr_lex.specs.Patch.{New, new_keyword, new_literal, new_mark, new_name}
-use Rattle.rr_syntax.specs.Tree.{NetAssignment, ModuleItem, ModuleDeclaration}
-use Rattle.rr_syntax.specs.Items.{WellFormedPair, WellFormedItem, WellFormedModule, NumberedPair, NumberedItem, NumberedModule}
+use Rattle.rr_syntax.specs.Tree.{DeclaredName, NetAssignment, ModuleItem, ModuleDeclaration}
+use Rattle.rr_syntax.specs.Items.{HasNoWords, WellFormedPair, WellFormedItem, WellFormedModule, NumberedDeclarator, NumberedPair, NumberedItem, NumberedModule}
 use Rattle.rr_choice.specs.declared.pick.Pick.{Pick}
 use Rattle.rr_choice.specs.Sites.{SiteKind, Site, Literal, Guard, Overwrite, guard_names}
 use Rattle.rr_choice.specs.Choices.{picked_form, picked_name}
@@ -53,6 +53,10 @@ rounds side token (s ∷ ss) (p ∷ ps) = round_at side token s p ++ rounds side
 -- the changes of pieces have come to others, whatever number the first token of their part has by the numbers in the part
 abbrev pub Adds : List Change → List Change → (ℕ → Type 0) → List Piece → Type 0
 Adds old new IsAt xs = (at : ℕ) → IsAt at → new ≡ old ++ changes at xs
+
+-- a net whose first token has that number, and each leaf and name the number of its token; it is no memory
+abbrev pub NetAt : DeclaredName → ℕ → Type 0
+NetAt n at = HasNoWords n × NumberedDeclarator n at
 
 -- a well-formed part whose first token has that number, and each leaf and name the number of its token
 abbrev pub PairAt : NetAssignment → ℕ → Type 0

@@ -2,11 +2,11 @@
 //! of its tokens, so what stays needs no step.
 
 ghost use Rattle.std.specs.Prelude.{◌<◌, ◌^◌, length, map, IfOk};
-ghost use Rattle.rr_syntax.specs.Items.{spell_each, spell_item, spell_declarator, spell_pair, NumberedEach, NumberedDeclarator};
+ghost use Rattle.rr_syntax.specs.Items.{spell_each, spell_item, spell_declarator, spell_pair, NumberedEach};
 ghost use Rattle.rr_syntax.specs.View.{plain_item, plain_declarator, plain_pair};
 ghost use Rattle.rr_respell.specs.Printing.{each_pieces, item_pieces, net_pieces, pair_pieces};
 ghost use Rattle.rr_patch.specs.Changes.{plain_changes};
-ghost use Rattle.rr_patch.specs.Walks.{Adds, ItemAt, PairAt};
+ghost use Rattle.rr_patch.specs.Walks.{Adds, ItemAt, NetAt, PairAt};
 
 use crate::body::body;
 use crate::change::Change;
@@ -26,7 +26,7 @@ fn net<'a>(
     out: &mut Vec<Change<'a>>,
 ) -> Result<(), AllocError>
     requires fits { length (spell_declarator (plain_declarator net.now)) < 2 ^ 62 }
-    ensures { IfOk result (λ _. Adds (plain_changes out.old.items) (plain_changes out.new.items) (NumberedDeclarator (plain_declarator net.now)) (net_pieces list.now choice.now.picks.items (plain_declarator net.now))) }
+    ensures { IfOk result (λ _. Adds (plain_changes out.old.items) (plain_changes out.new.items) (NetAt (plain_declarator net.now)) (net_pieces list.now choice.now.picks.items (plain_declarator net.now))) }
 {
     match net.value {
         None => Ok(()),
@@ -46,7 +46,7 @@ fn nets<'a>(
     out: &mut Vec<Change<'a>>,
 ) -> Result<(), AllocError>
     requires fits { length (spell_each spell_declarator (map plain_declarator entries.now)) < 2 ^ 62 }
-    ensures { IfOk result (λ _. Adds (plain_changes out.old.items) (plain_changes out.new.items) (NumberedEach spell_declarator NumberedDeclarator (map plain_declarator entries.now)) (each_pieces (net_pieces list.now choice.now.picks.items) (map plain_declarator entries.now))) }
+    ensures { IfOk result (λ _. Adds (plain_changes out.old.items) (plain_changes out.new.items) (NumberedEach spell_declarator NetAt (map plain_declarator entries.now)) (each_pieces (net_pieces list.now choice.now.picks.items) (map plain_declarator entries.now))) }
 {
     for one in entries.iter() {
         net(one, list, choice, out)?;

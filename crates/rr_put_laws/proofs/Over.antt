@@ -5,7 +5,7 @@ use Rattle.rr_syntax.specs.Words.{Word, Named, System, Digits, Reserved, Marked,
 use Rattle.rr_syntax.specs.Tree.{Tree, Trees, Name, Literal, Bit, Part, Indexed, Unary, Binary, Cond, Concat, Repeat, Cast, Paren, End, More, Statement, Statements, Arm, Arms, Null, Block, If, IfElse, Case, Assign, For, Done, Then, CaseItem, NoArms, MoreArms, DeclaredName, NetAssignment, NamedConnection, Connections, Positions, Names, ModuleInstance, ModuleItem, Ports, Nets, Variables, Integers, Parameters, Assigns, Always, Initial, Instances, ModuleDeclaration, SourceText}
 use Rattle.rr_syntax.specs.Expressions.{spell}
 use Rattle.rr_syntax.specs.Statements.{spell_label, spell_labels, spell_loop}
-use Rattle.rr_syntax.specs.Items.{spell_type, spell_events, spell_overrides, spell_item, spell_parameters, spell_ports}
+use Rattle.rr_syntax.specs.Items.{spell_range, spell_type, spell_events, spell_overrides, spell_item, spell_parameters, spell_ports}
 use Rattle.rr_expr.specs.declared.operators.Infix.TheVariants.{Either}
 use Rattle.rr_expr.specs.Faults.{takes_constants}
 use Rattle.rr_expr.specs.Operators.{infixes}
@@ -233,7 +233,7 @@ module _ (P : New → Type 0) (literals : (w : ℕ) (signed : Bool) (v : ℕ) �
 
     net_over : (n : DeclaredName) → Over P (net_pieces ss ps n)
     unfolding net_pieces
-    net_over n = keep P (Named n.text) (value_pieces ss ps n.value) (value_over n.value)
+    net_over n = keep P (Named n.text) _ (join P (kept (spell_range n.words)) _ (words P (spell_range n.words)) (value_over n.value))
 
     pair_over : (p : NetAssignment) → Over P (pair_pieces ss ps p)
     unfolding pair_pieces

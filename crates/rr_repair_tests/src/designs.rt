@@ -89,3 +89,15 @@ pub(crate) const ONES: &str =
     "module m(input [3:0] a, output reg [2:0] y);\n  integer i;\n  always @* begin\n    y = 3'd0;\n    for (i = 0; i < 4; i = i + 1)\n      if (!a[i]) y = y + 3'd1;\n  end\nendmodule\n";
 
 pub(crate) const ONES_TABLE: &str = "a,y\n5,2\n0,0\n15,4\n1,1\n";
+
+pub(crate) const BANK: &str =
+    "module m(input clk, input we, input lock, input [1:0] a, input [3:0] d, output [3:0] y);\n  reg [3:0] r [0:3];\n  assign y = r[a];\n  always @(posedge clk) if (we) r[a] <= d;\nendmodule\n";
+
+pub(crate) const BANK_TABLE: &str =
+    "we,lock,a,d,y\n1,0,0,5,0\n1,1,0,6,5\n1,0,2,7,0\n0,0,0,8,5\n0,1,2,9,7\n";
+
+pub(crate) const SUMS: &str =
+    "module m(input clk, input we, input [1:0] a, input [3:0] d, output [3:0] y);\n  reg [3:0] r [0:3];\n  integer i;\n  initial for (i = 0; i < 4; i = i + 1) r[i] = 4'd8 - i;\n  assign y = r[a];\n  always @(posedge clk) if (we) r[a] <= r[a] + d + 4'd2;\nendmodule\n";
+
+pub(crate) const SUMS_TABLE: &str =
+    "we,a,d,y\n1,1,0,7\n1,1,3,8\n0,1,4,12\n1,3,9,5\n0,3,0,15\n0,0,0,8\n";

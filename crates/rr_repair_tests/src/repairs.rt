@@ -3,10 +3,11 @@
 ghost use Rattle.std.specs.Prelude.{◌≡◌};
 
 use crate::designs::{
-    CELLS, COPY, COPY_TABLE, COUNTER, COUNTER_TABLE, GATE, GATE_TABLE, INSTANCES, INSTANCES_TABLE,
-    INVERTED, INVERTED_TABLE, JOINED_TABLE, LOAD, LOAD_TABLE, LOCK, LOCK_TABLE, MISSING,
-    MISSING_TABLE, NAMES, NAMES_TABLE, ONES, ONES_TABLE, RESETS, RESETS_TABLE, SET, SET_TABLE,
-    STEPS, STEPS_TABLE, TWO, TWO_TABLE, VALUE, VALUE_TABLE, WIRE, WIRE_TABLE,
+    BANK, BANK_TABLE, CELLS, COPY, COPY_TABLE, COUNTER, COUNTER_TABLE, GATE, GATE_TABLE, INSTANCES,
+    INSTANCES_TABLE, INVERTED, INVERTED_TABLE, JOINED_TABLE, LOAD, LOAD_TABLE, LOCK, LOCK_TABLE,
+    MISSING, MISSING_TABLE, NAMES, NAMES_TABLE, ONES, ONES_TABLE, RESETS, RESETS_TABLE, SET,
+    SET_TABLE, STEPS, STEPS_TABLE, SUMS, SUMS_TABLE, TWO, TWO_TABLE, VALUE, VALUE_TABLE, WIRE,
+    WIRE_TABLE,
 };
 use bumpalo::Bump;
 use rr_endings::{Found, Refusal, Stop};
@@ -199,6 +200,26 @@ fn a_condition_in_a_loop_is_negated(rt: HostRuntime) -> Result<(), Fail> {
             "repaired 1\nsite 2 guard 134 !(E)\n"
         )
     );
+    Ok(())
+}
+
+/// A word is not to be written where it is locked.
+#[test]
+fn a_write_of_a_word_is_guarded(rt: HostRuntime) -> Result<(), Fail> {
+    let out =
+        "module m(input clk, input we, input lock, input [1:0] a, input [3:0] d, output [3:0] y);\n  reg [3:0] r [0:3];\n  assign y = r[a];\n  always @(posedge clk) if ( ( we ) && ! lock ) r[a] <= d;\nendmodule\n";
+    let notes = "repaired 1\nsite 0 guard 157 (E) && !lock\n";
+    assert!(rt; mends(&rt, rt.alloc(), BANK, BANK_TABLE, out, notes));
+    Ok(())
+}
+
+/// The words begin with numbers of their own, and what is written to one is wrong.
+#[test]
+fn a_literal_of_a_word_is_replaced(rt: HostRuntime) -> Result<(), Fail> {
+    let out =
+        "module m(input clk, input we, input [1:0] a, input [3:0] d, output [3:0] y);\n  reg [3:0] r [0:3];\n  integer i;\n  initial for (i = 0; i < 4; i = i + 1) r[i] = 4'd8 - i;\n  assign y = r[a];\n  always @(posedge clk) if (we) r[a] <= r[a] + d +  4'h1 ;\nendmodule\n";
+    let notes = "repaired 1\nsite 1 literal 238 4'h1\n";
+    assert!(rt; mends(&rt, rt.alloc(), SUMS, SUMS_TABLE, out, notes));
     Ok(())
 }
 

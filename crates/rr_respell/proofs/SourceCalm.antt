@@ -282,6 +282,12 @@ all_overwritten_quiet token [] ps xs x = x
 all_overwritten_quiet token (s ∷ ss) [] xs x = x
 all_overwritten_quiet token (s ∷ ss) (p ∷ ps) xs x = all_overwritten_quiet token ss ps (new_body_pieces token s p xs) (new_body_quiet token s p xs x)
 
+range_quiet : (range : Option Range) → Quiet (kept (spell_range range))
+unfolding spell_range
+range_quiet None = none
+range_quiet (Some r) =
+    words _ (ended_more (Marked mark_open_bracket) _ (ended_join (spell r.left) _ (ended_more (Marked mark_colon) _ (ended_join (spell r.right) _ (ended (Marked mark_close_bracket) refl)))))
+
 type_quiet : (signed : Bool) (range : Option Range) → Quiet (kept (spell_type signed range))
 unfolding spell_type spell_where spell_range
 type_quiet true None = keep (Reserved keyword_signed) [] refl none
@@ -332,7 +338,7 @@ module _ (ss : List Site) (ps : List Pick) where
 
   net_quiet : (n : DeclaredName) → WellFormedDeclarator n → Quiet (net_pieces ss ps n)
   unfolding net_pieces WellFormedDeclarator
-  net_quiet n h = keep (Named n.text) _ refl (value_quiet n.value h)
+  net_quiet n h = keep (Named n.text) _ refl (join (kept (spell_range n.words)) _ (range_quiet n.words) (value_quiet n.value h.1))
 
   pair_quiet : (p : NetAssignment) → WellFormedPair p → Quiet (pair_pieces ss ps p)
   unfolding pair_pieces WellFormedPair

@@ -5,7 +5,7 @@ use Rattle.rr_syntax.specs.Words.{Word, Named, Reserved, Marked, keyword_always,
 use Rattle.rr_syntax.specs.Tree.{Tree, Trees, Literal, End, More, Statement, Statements, Arm, Arms, Null, Block, If, IfElse, Case, Assign, For, Done, Then, CaseItem, NoArms, MoreArms, DeclaredName, NetAssignment, NamedConnection, Connections, Positions, Names, ModuleInstance, ModuleItem, Ports, Nets, Variables, Integers, Parameters, Assigns, Always, Initial, Instances, ModuleDeclaration, SourceText}
 use Rattle.rr_syntax.specs.Expressions.{spell}
 use Rattle.rr_syntax.specs.Statements.{spell_label, spell_labels, spell_loop, spell_statement, spell_statements, spell_arm, spell_arms}
-use Rattle.rr_syntax.specs.Items.{spell_each, spell_separated, spell_all, spell_type, spell_events, spell_overrides, spell_value, spell_declarator, spell_pair, spell_optional, spell_connection, spell_connections, spell_instance, spell_item, spell_parameters, spell_ports, spell_module, spell_source}
+use Rattle.rr_syntax.specs.Items.{spell_each, spell_separated, spell_all, spell_range, spell_type, spell_events, spell_overrides, spell_value, spell_declarator, spell_pair, spell_optional, spell_connection, spell_connections, spell_instance, spell_item, spell_parameters, spell_ports, spell_module, spell_source}
 use Rattle.rr_lex.specs.Patch as lex
 use Rattle.rr_lex.specs.Patch.{New, new_keyword, new_mark, new_name, new_words}
 use Rattle.rr_choice.specs.declared.pick.Pick.{Pick}
@@ -160,7 +160,7 @@ module _ (P : New → Type 0) (ss : List Site) (k : Allows P ss) where
 
     pub net_makes : (n : DeclaredName) → Makes P (net_pieces ss ps n) (spell_declarator n) (spell_declarator (instance_net ss ps n))
     unfolding net_pieces spell_declarator instance_net
-    net_makes n = keep (Named n.text) (value_makes n.value)
+    net_makes n = keep (Named n.text) (join (words P (spell_range n.words)) (value_makes n.value))
 
     pub pair_makes : (p : NetAssignment) → Makes P (pair_pieces ss ps p) (spell_pair p) (spell_pair (instance_pair ss ps p))
     unfolding pair_pieces spell_pair instance_pair

@@ -6,7 +6,7 @@ use Rattle.rr_syntax.specs.Words.{Named, System, Digits, Reserved, Marked, keywo
 use Rattle.rr_syntax.specs.Tree.{Tree, Trees, Name, Literal, Bit, Part, Indexed, Unary, Binary, Cond, Concat, Repeat, Cast, Paren, End, More, Statement, Statements, Arm, Arms, Null, Block, If, IfElse, Case, Assign, For, Done, Then, CaseItem, NoArms, MoreArms, DeclaredName, NetAssignment, NamedConnection, Connections, Positions, Names, ModuleInstance, ModuleItem, Ports, Nets, Variables, Integers, Parameters, Assigns, Always, Initial, Instances, ModuleDeclaration, SourceText}
 use Rattle.rr_syntax.specs.Expressions.{spell}
 use Rattle.rr_syntax.specs.Statements.{spell_label, spell_labels, spell_loop}
-use Rattle.rr_syntax.specs.Items.{spell_type, spell_events, spell_overrides, spell_item, spell_parameters, spell_ports}
+use Rattle.rr_syntax.specs.Items.{spell_range, spell_type, spell_events, spell_overrides, spell_item, spell_parameters, spell_ports}
 use Rattle.rr_expr.specs.declared.operators.Infix.TheVariants.{Either}
 use Rattle.rr_expr.specs.Faults.{takes_constants}
 use Rattle.rr_expr.specs.Operators.{infixes}
@@ -180,7 +180,7 @@ value_pieces ss ps None = []
 value_pieces ss ps (Some t) = Kept (Marked mark_equals) ∷ tree_pieces ss ps t
 
 unfoldable pub net_pieces : List Site → List Pick → DeclaredName → List Piece
-net_pieces ss ps n = Kept (Named n.text) ∷ value_pieces ss ps n.value
+net_pieces ss ps n = Kept (Named n.text) ∷ (kept (spell_range n.words) ++ value_pieces ss ps n.value)
 
 unfoldable pub pair_pieces : List Site → List Pick → NetAssignment → List Piece
 pair_pieces ss ps p = kept (spell p.target) ++ (Kept (Marked mark_equals) ∷ tree_pieces ss ps p.value)

@@ -48,6 +48,7 @@ limit_text limit.FlatBits = codes "flatbits"
 limit_text limit.Work = codes "work"
 limit_text limit.Turns = codes "turns"
 limit_text limit.Unfolded = codes "unfolded"
+limit_text limit.Words = codes "words"
 
 abbrev pub place_text : ℕ → ℕ → List ℕ
 place_text row column = codes " row " ++ (decimal row ++ (codes " column " ++ decimal column))

@@ -161,6 +161,7 @@ impl fmt::Display for Counted {
             Limit::Work => write!(f, "work"),
             Limit::Turns => write!(f, "turns"),
             Limit::Unfolded => write!(f, "unfolded"),
+            Limit::Words => write!(f, "words"),
         }
     }
 }

@@ -9,7 +9,7 @@ use Rattle.std.proofs.lemmas.List.{drop_all}
 use Rattle.std.proofs.lemmas.List.Elements.{All-head, All-tail}
 use Rattle.rr_circuit.specs.Values.{Netlist, Extends, wire_value}
 use Rattle.rr_expr.specs.declared.types.Bit.{Bit}
-use Rattle.rr_expr.specs.declared.types.Entity.TheVariants.{Constant, Signal, Instance}
+use Rattle.rr_expr.specs.declared.types.Entity.TheVariants.{Constant, Signal, Memory, Instance}
 use Rattle.rr_expr.specs.Reading.{IsWithin}
 use Rattle.rr_expr.specs.Scopes.{range_width}
 use Rattle.rr_flat.specs.Targets.{bits_there, has_bit}
@@ -135,6 +135,11 @@ pub none_of_constant : (bits : List Bool) (signed : Bool) (at : ℤ) (n : ℕ) (
 unfolding bits_there write
 none_of_constant bits signed at zero vs e = refl
 none_of_constant bits signed at (suc n) vs e = none_of_constant bits signed (at +ℤ pos 1) n (rest vs) e
+
+pub none_of_memory : (first low words : ℕ) (range : Option (ℕ × ℕ)) (signed : Bool) (at : ℤ) (n : ℕ) (vs : List Bool) (e : Environment) → write (bits_there (Memory first low words range signed) at n) vs e ≡ e
+unfolding bits_there write
+none_of_memory first low words range signed at zero vs e = refl
+none_of_memory first low words range signed at (suc n) vs e = none_of_memory first low words range signed (at +ℤ pos 1) n (rest vs) e
 
 pub none_of_instance : (at : ℤ) (n : ℕ) (vs : List Bool) (e : Environment) → write (bits_there Instance at n) vs e ≡ e
 unfolding bits_there write

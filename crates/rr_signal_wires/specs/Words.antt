@@ -1,10 +1,10 @@
 -- What lists of wires carry, one for each signal, lowest bit first: an environment for each input of the circuit.
-use Rattle.std.specs.Prelude.{◌≡◌, ℕ, ◌<◌, Bool, true, List, length, map, get_or, All, Option, Vec}
+use Rattle.std.specs.Prelude.{◌≡◌, ℕ, ◌+◌, ◌<◌, ◌≤◌, Bool, true, List, length, map, get_or, All, Option, Vec}
 use Rattle.std.specs.Global.{Global}
 use Rattle.rr_circuit.specs.declared.Wire.{Wire}
 use Rattle.rr_circuit.specs.Values.{Netlist, AreWires, wire_values}
 use Rattle.rr_expr.specs.declared.types.Bit.{Bit}
-use Rattle.rr_expr.specs.declared.types.Entity.TheVariants.{Signal}
+use Rattle.rr_expr.specs.declared.types.Entity.TheVariants.{Signal, Memory}
 use Rattle.rr_expr.specs.Scopes.{Names, meant, range_width, env_of_lists}
 use Rattle.rr_cycle.specs.Exec.{Environment}
 use Rattle.rr_named_bits.specs.declared.piece.Piece.{Piece}
@@ -32,7 +32,12 @@ IsThere widths b = (b.signal < length widths) × (b.place < get_or widths b.sign
 abbrev pub Fits : List ℕ → Piece → Type 0
 Fits widths p = (b : Bit) → covers p b ≡ true → IsThere widths b
 
--- each name of a signal stands for one that has as many wires as it has bits
-abbrev pub Holds : Names → List ℕ → Type 0
-Holds s widths = (name : List ℕ) (id : ℕ) (range : Option (ℕ × ℕ)) (signed : Bool) → meant s name ≡ Signal id range signed →
-    (id < length widths) × (get_or widths id 0 ≡ range_width range)
+-- a signal that has as many wires as a range has bits
+abbrev pub HasWord : List ℕ → Option (ℕ × ℕ) → ℕ → Type 0
+HasWord widths range id = (id < length widths) × (get_or widths id 0 ≡ range_width range)
+
+-- each name of a signal stands for one that has as many wires as it has bits, so has each word of a memory, and all are few
+pub record Holds (s : Names) (widths : List ℕ) : Type 0 where
+  pub signals : (name : List ℕ) (id : ℕ) (range : Option (ℕ × ℕ)) (signed : Bool) → meant s name ≡ Signal id range signed → HasWord widths range id
+  pub memories : (name : List ℕ) (first low words : ℕ) (range : Option (ℕ × ℕ)) (signed : Bool) → meant s name ≡ Memory first low words range signed → (k : ℕ) → k < words → HasWord widths range (first + k)
+  pub few : length widths ≤ 65536

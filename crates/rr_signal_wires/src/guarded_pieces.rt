@@ -5,6 +5,7 @@ ghost use Rattle.rr_bits.specs.Words.{reading};
 ghost use Rattle.rr_syntax.specs.View.{plain};
 ghost use Rattle.rr_expr.specs.declared.types.Entity.TheVariants as entity;
 ghost use Rattle.rr_expr.specs.Faults.{fault};
+ghost use Rattle.rr_expr.specs.Memories.{word_at, word_bits, word_signal};
 ghost use Rattle.rr_expr.specs.Scopes.{entity_range, range_width};
 ghost use Rattle.rr_expr.specs.Selects.{lowest_place};
 ghost use Rattle.rr_expr.specs.Values.{nowhere};
@@ -12,7 +13,7 @@ ghost use Rattle.rr_flat.specs.Targets.{bits_there, target_bits};
 ghost use Rattle.rr_named_bits.specs.Pieces.{bits_of};
 ghost use Rattle.rr_cycle.specs.Exec.{Environment, write};
 ghost use Rattle.rr_signal_wires.specs.GuardedPieces.{AreGuardedPieces, put_guarded_pieces};
-ghost use Rattle.rr_signal_wires.specs.Words.{AreWords, Fits, Holds, carried, widths_of};
+ghost use Rattle.rr_signal_wires.specs.Words.{AreWords, Fits, HasWord, Holds, carried, widths_of};
 
 use crate::words::{bit_at, set_wire, wire_at};
 use rr_circuit::{Builder, Wire};
@@ -230,6 +231,59 @@ pub fn add_moving(
         push_guarded_piece(list, guarded_piece)?;
     }
     Ok(())
+}
+
+/// The word of a memory at an index on wires. The words are the signals from `first` on, each of that
+/// range, in the order of their indices, of which `low` is the lowest (IEEE 1364-2005 section 5.2.2).
+#[derive(Clone, Copy)]
+pub struct MovingWord<'a> {
+    pub first: u32,
+    pub low: u32,
+    pub words: u32,
+    pub range: Option<(u32, u32)>,
+    pub index: &'a [Wire],
+    pub signed: bool,
+    pub from: u32,
+}
+
+/// The bits that an index of a memory names, a piece for each word, whose bits share one wire. The
+/// answer is the place of a word after them.
+pub fn add_word(
+    b: &mut Builder,
+    list: &mut Vec<GuardedPiece>,
+    run: &MovingWord,
+) -> Result<u32, AllocError>
+    requires width { range_width run.now.range ≤ 128 }
+    requires few { (k : ℕ) → k < run.now.words → run.now.first + k < 65536 }
+    requires from { run.now.from ≤ 128 }
+    requires index { AreWires b.old run.now.index.now }
+    requires low { 1 ≤ length run.now.index.now }
+    requires high { length run.now.index.now ≤ 128 }
+    ensures extends { Extends b.old b.new }
+    ensures next { IfOk result (λ r. r ≡ run.now.from + range_width run.now.range) }
+    ensures guarded_pieces { OnOk result ((widths : List ℕ) → ((k : ℕ) → k < run.now.words → HasWord widths run.now.range (run.now.first + k)) → AreGuardedPieces b.old widths list.old.items → AreGuardedPieces b.new widths list.new.items) }
+    ensures value { OnOk result ((widths : List ℕ) → ((k : ℕ) → k < run.now.words → HasWord widths run.now.range (run.now.first + k)) → AreGuardedPieces b.old widths list.old.items → (env : ℕ → Bool) (vs : List Bool) (e : Environment) →
+        put_guarded_pieces b.new env list.new.items vs e
+        ≡ write (word_bits run.now.range (word_signal run.now.first (word_at run.now.low run.now.words (reading run.now.signed (wire_values b.old env run.now.index.now))))) (drop run.now.from vs) (put_guarded_pieces b.old env list.old.items vs e)) }
+{
+    let width = width_of(run.range);
+    let bounds = (run.low, run.low);
+    for k in 0..run.words {
+        let when = names_place(b, run.index, run.signed, bounds, k as i64)?;
+        let piece = Piece {
+            signal: run.first + k,
+            width,
+            from: 0,
+            count: width,
+        };
+        let guarded_piece = GuardedPiece {
+            piece,
+            when,
+            from: run.from,
+        };
+        push_guarded_piece(list, guarded_piece)?;
+    }
+    Ok(run.from + width)
 }
 
 /// All bits of a signal of at most 128.

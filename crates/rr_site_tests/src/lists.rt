@@ -7,7 +7,7 @@ use std::test::Fail;
 /// A design with the name of its top, and the lines of its sites.
 type Case = (&'static str, &'static Option<&'static str>, &'static str);
 
-const CASES: [Case; 17] = [
+const CASES: [Case; 20] = [
     // A counter.
     (
         "module counter(input clk, input rst, output reg [3:0] q);\n  always @(posedge clk)\n    if (rst) q <= 4'd0;\n    else q <= q + 4'd2;\nendmodule\n",
@@ -67,6 +67,24 @@ const CASES: [Case; 17] = [
         "module m(input clk, input e, output reg q); reg t; integer i; always @(posedge clk) begin for (i = 0; i < 2; i = i + 1) t = e; if (t) q <= 1'b1; end endmodule",
         &None,
         "0 overwrite 84 q guards 2\n1 guard 131 guards 2\n2 literal 139 1'h1\n",
+    ),
+    // A memory is no name of a guard, and its words are no overwrites.
+    (
+        "module m(input clk, input e, input [1:0] a, input d, output reg q); reg t [0:3]; always @(posedge clk) begin if (e) t[a] <= d; q <= t[a]; end endmodule",
+        &None,
+        "0 overwrite 103 q guards 3\n1 guard 113 guards 3\n",
+    ),
+    // A memory is no overwrite and no name of a guard, and its words and its `initial` item hold no site.
+    (
+        "module m(input clk, input e, input [1:0] a, output reg q); reg r [0:3]; integer i; initial for (i = 0; i < 4; i = i + 1) r[i] = 1'b1; always @(posedge clk) begin r[a + 2'd1] <= e; if (r[a]) q <= 1'b1; end endmodule",
+        &None,
+        "0 overwrite 156 q guards 2\n1 guard 184 guards 2\n2 literal 195 1'h1\n",
+    ),
+    // In what a memory's word takes, and none in an index.
+    (
+        "module m(input clk, input e, input [1:0] a, output [3:0] y); reg [3:0] r [0:3], c; assign y = e ? r[c[1:0]] + 4'd1 : r[4'd2]; always @(posedge clk) begin c <= c + 4'd1; if (e) r[a] <= c ^ 4'd8; end endmodule",
+        &None,
+        "0 guard 94 guards 0\n1 literal 110 4'h1\n2 overwrite 148 c guards 1\n3 literal 163 4'h1\n4 guard 173 guards 1\n5 literal 188 4'h8\n",
     ),
     // A range that names a parameter.
     (

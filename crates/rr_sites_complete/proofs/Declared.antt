@@ -10,7 +10,7 @@ use Rattle.rr_syntax.specs.declared.tree.Dir.TheVariants as dir
 use Rattle.rr_syntax.specs.Tree.{Identifier, Range, PortDeclaration, ModuleItem, Ports, Nets, Variables, Integers, Parameters, Assigns, Always, Initial, Instances, ModuleDeclaration}
 use Rattle.rr_flat.specs.Reads.{names_in}
 use Rattle.rr_flat.specs.Signals.{Text}
-use Rattle.rr_guard.specs.Names.{scalars_if, net_name, port_scalars, item_scalars, scalars}
+use Rattle.rr_guard.specs.Names.{scalars_if, net_name, wordless_name, port_scalars, item_scalars, scalars}
 use Rattle.rr_overwrite.specs.Overwrites.{Target, is_open, is_in, port_opens, item_opens, is_reg, port_sets, item_sets, is_variable, may_overwrite}
 use Rattle.rr_sites_complete.specs.Declarations.{Sort, AsPort, AsNet, AsVariable, AsInteger, PortDeclares, ItemDeclares, Declares, IsScalar, IsVariable, HasNoNames, IsPlain}
 use Rattle.rr_sites_complete.proofs.Lists.{head_in, tail_in, none_in, cases_in, flat_in, flat_from}
@@ -53,7 +53,7 @@ item_from : (i : ModuleItem) (x : Identifier) → Contains (item_scalars i) x �
 unfolding item_scalars
 item_from (Ports p) x c = let r = if_from p.range (map net_name p.names) x c in (AsPort p.dir, (r.1, r.0, refl), no_port p.dir)
 item_from (Nets signed range list) x c = let r = if_from range (map net_name list) x c in (AsNet, (r.1, r.0, refl), λ h. cc)
-item_from (Variables signed range list) x c = let r = if_from range (map net_name list) x c in (AsVariable, (r.1, r.0, refl), λ h. cc)
+item_from (Variables signed range list) x c = let r = if_from range (flat_map wordless_name list) x c in (AsVariable, (r.1, r.0, refl), λ h. cc)
 item_from (Integers list) x c = absurd (none_in x c)
 item_from (Parameters p) x c = absurd (none_in x c)
 item_from (Assigns pairs) x c = absurd (none_in x c)
@@ -65,7 +65,7 @@ item_in : (i : ModuleItem) (x : Identifier) (sort : Sort) → ItemDeclares i x N
 unfolding item_scalars
 item_in (Ports p) x sort h n = if_in p.range (map net_name p.names) x h.1 h.0
 item_in (Nets signed range list) x sort h n = if_in range (map net_name list) x h.1 h.0
-item_in (Variables signed range list) x sort h n = if_in range (map net_name list) x h.1 h.0
+item_in (Variables signed range list) x sort h n = if_in range (flat_map wordless_name list) x h.1 h.0
 item_in (Integers list) x sort h n = absurd (n h.2)
 item_in (Parameters p) x sort h n = absurd h
 item_in (Assigns pairs) x sort h n = absurd h
@@ -117,7 +117,7 @@ item_sets_from : (name : Text) (i : ModuleItem) → item_sets name i ≡ true �
 unfolding item_sets
 item_sets_from name (Ports p) h = let r = port_sets_from name p h in (r.0, p.range, AsPort p.dir, r.1, r.2, r.3)
 item_sets_from name (Nets signed range list) h = absurd (both_ways false refl h)
-item_sets_from name (Variables signed range list) h = let q = named_from name (map net_name list) h in (q.0, range, AsVariable, (q.1, refl, refl), q.2, inr refl)
+item_sets_from name (Variables signed range list) h = let q = named_from name (flat_map wordless_name list) h in (q.0, range, AsVariable, (q.1, refl, refl), q.2, inr refl)
 item_sets_from name (Integers list) h = absurd (both_ways false refl h)
 item_sets_from name (Parameters p) h = absurd (both_ways false refl h)
 item_sets_from name (Assigns pairs) h = absurd (both_ways false refl h)
@@ -139,7 +139,7 @@ unfolding item_sets
 item_sets_in name (Ports p) x range sort h e r = port_sets_in name p x range sort h e r
 item_sets_in name (Nets signed o list) x range sort h e (inl r) = let no : AsNet ≡ AsPort dir.OutputReg = sym h.2 ∙ r in absurd cc
 item_sets_in name (Nets signed o list) x range sort h e (inr r) = let no : AsNet ≡ AsVariable = sym h.2 ∙ r in absurd cc
-item_sets_in name (Variables signed o list) x range sort h e r = named_in name (map net_name list) x h.0 e
+item_sets_in name (Variables signed o list) x range sort h e r = named_in name (flat_map wordless_name list) x h.0 e
 item_sets_in name (Integers list) x range sort h e (inl r) = let no : AsInteger ≡ AsPort dir.OutputReg = sym h.2 ∙ r in absurd cc
 item_sets_in name (Integers list) x range sort h e (inr r) = let no : AsInteger ≡ AsVariable = sym h.2 ∙ r in absurd cc
 item_sets_in name (Parameters p) x range sort h e r = absurd h
@@ -194,7 +194,7 @@ item_plain name (Nets signed o list) x range sort n h e = (
 )
 item_plain name (Variables signed o list) x range sort n h e = (
   λ s. let no : AsVariable ≡ AsInteger = sym h.2 ∙ s in cc,
-  subst HasNoNames (sym h.1) (open_none o (λ q. n (and_from (is_open o) (is_in name (map net_name list)) q (named_in name (map net_name list) x h.0 e)))),
+  subst HasNoNames (sym h.1) (open_none o (λ q. n (and_from (is_open o) (is_in name (flat_map wordless_name list)) q (named_in name (flat_map wordless_name list) x h.0 e)))),
 )
 item_plain name (Integers list) x range sort n h e = absurd (n (named_in name list x h.0 e))
 item_plain name (Parameters p) x range sort n h e = absurd h
@@ -221,8 +221,8 @@ item_opens_not m name h (Nets signed range list) c e =
     let q = named_from name (map net_name list) r.1 in
     none_open range (h q.0 range AsNet (inr (Nets signed range list, c, (q.1, refl, refl))) q.2).1 r.0
 item_opens_not m name h (Variables signed range list) c e =
-    let r = and_parts (is_open range) (is_in name (map net_name list)) e in
-    let q = named_from name (map net_name list) r.1 in
+    let r = and_parts (is_open range) (is_in name (flat_map wordless_name list)) e in
+    let q = named_from name (flat_map wordless_name list) r.1 in
     none_open range (h q.0 range AsVariable (inr (Variables signed range list, c, (q.1, refl, refl))) q.2).1 r.0
 item_opens_not m name h (Integers list) c e = let q = named_from name list e in (h q.0 None AsInteger (inr (Integers list, c, (q.1, refl, refl))) q.2).0 refl
 item_opens_not m name h (Parameters p) c e = both_ways false refl e

@@ -4,7 +4,7 @@ use Rattle.rr_syntax.specs.Tree.{Identifier, Range, PortDeclaration, DeclaredNam
 use Rattle.rr_syntax.specs.Items.{spell_each, spell_separated, spell_all, spell_identifier, spell_type, spell_dir, spell_port, spell_declarator, spell_item, spell_parameters, spell_ports, IsHeader, WellFormedModule, NumberedEach, NumberedSeparated, NumberedAll, NumberedPort, NumberedDeclarator, NumberedItem, NumberedPorts, NumberedModule}
 use Rattle.rr_syntax.specs.Words.{Word}
 use Rattle.rr_flat_instance.proofs.Spans as span
-use Rattle.rr_guard.specs.Names.{scalars_if, net_name, port_scalars, item_scalars, scalars}
+use Rattle.rr_guard.specs.Names.{scalars_if, net_name, unless_words, wordless_name, port_scalars, item_scalars, scalars}
 use Rattle.rr_sites_complete.specs.GuardNames.{Rising}
 use Rattle.rr_sites_complete.proofs.Rises.{Spread, spread_wider, spread_none, spread_one, spread_join}
 use Rattle.rr_sites_complete.proofs.FirstNames.{token_of}
@@ -54,6 +54,13 @@ net_in x at n = let e = n.0 in spread_one token_of at (at + length (spell_declar
 nets_in_order : (xs : List DeclaredName) (at : ℕ) → NumberedSeparated spell_declarator NumberedDeclarator xs at → In at (at + length (spell_separated spell_declarator xs)) (map net_name xs)
 nets_in_order xs at n = subst (In at (at + length (spell_separated spell_declarator xs))) (singles net_name xs) (separated_in spell_declarator NumberedDeclarator (λ a. net_name a ∷ []) net_in xs at n)
 
+wordless_in : (x : DeclaredName) (at : ℕ) → NumberedDeclarator x at → In at (at + length (spell_declarator x)) (wordless_name x)
+wordless_in x at n = by x.words
+  where
+    by : (o : Option Range) → In at (at + length (spell_declarator x)) (unless_words o (net_name x))
+    by None = net_in x at n
+    by (Some r) = spread_none token_of at (at + length (spell_declarator x))
+
 if_in_order : (r : Option Range) (low high : ℕ) (xs : List Identifier) → In low high xs → In low high (scalars_if r xs)
 if_in_order None low high xs h = h
 if_in_order (Some r) low high xs h = spread_none token_of low high
@@ -93,8 +100,8 @@ item_in_order (Nets signed range list) at n =
 item_in_order (Variables signed range list) at n =
     let e = long-Variables signed range list in
     let mid = at + 1 + length (spell_type signed range) in
-    if_in_order range at (at + length (spell_item (Variables signed range list))) (map net_name list)
-    (spread_wider token_of mid (mid + length (spell_separated spell_declarator list)) at (at + length (spell_item (Variables signed range list))) (map net_name list) (omega arith) (omega (arith, e)) (nets_in_order list mid n.1))
+    if_in_order range at (at + length (spell_item (Variables signed range list))) (flat_map wordless_name list)
+    (spread_wider token_of mid (mid + length (spell_separated spell_declarator list)) at (at + length (spell_item (Variables signed range list))) (flat_map wordless_name list) (omega arith) (omega (arith, e)) (separated_in spell_declarator NumberedDeclarator wordless_name wordless_in list mid n.1))
 item_in_order (Integers list) at n = spread_none token_of at (at + length (spell_item (Integers list)))
 item_in_order (Parameters p) at n = spread_none token_of at (at + length (spell_item (Parameters p)))
 item_in_order (Assigns pairs) at n = spread_none token_of at (at + length (spell_item (Assigns pairs)))

@@ -2,7 +2,7 @@
 use Rattle.std.proofs.Common.{◌≡◌, inl, inr, ℕ, zero, suc, ◌+◌, ◌<◌, List, [], ◌∷◌, ◌++◌, length, Option, Some, Contains, refl, sym, subst, ◌∙◌, arith, append-nil}
 use Rattle.std.specs.List.{AllByRecursion}
 use Rattle.rr_syntax.specs.Expressions.{spell, spell_parts, WellFormed, Numbered}
-use Rattle.rr_syntax.specs.Items.{spell_each, spell_separated, spell_all, spell_type, spell_value, spell_declarator, spell_pair, spell_events, spell_optional, spell_connection, spell_connections, spell_overrides, spell_instance, spell_item, spell_parameters, spell_ports, spell_module, spell_source, WellFormedValue, WellFormedDeclarator, WellFormedPair, WellFormedConnection, WellFormedConnections, WellFormedInstance, WellFormedItem, WellFormedModule, WellFormedSource, NumberedEach, NumberedSeparated, NumberedAll, NumberedValue, NumberedDeclarator, NumberedPair, NumberedConnection, NumberedConnections, NumberedInstance, NumberedItem, NumberedModule, NumberedSource}
+use Rattle.rr_syntax.specs.Items.{spell_each, spell_separated, spell_all, spell_range, spell_type, spell_value, spell_declarator, spell_pair, spell_events, spell_optional, spell_connection, spell_connections, spell_overrides, spell_instance, spell_item, spell_parameters, spell_ports, spell_module, spell_source, WellFormedValue, WellFormedDeclarator, WellFormedPair, WellFormedConnection, WellFormedConnections, WellFormedInstance, WellFormedItem, WellFormedModule, WellFormedSource, NumberedEach, NumberedSeparated, NumberedAll, NumberedValue, NumberedDeclarator, NumberedPair, NumberedConnection, NumberedConnections, NumberedInstance, NumberedItem, NumberedModule, NumberedSource}
 use Rattle.rr_syntax.specs.Statements.{spell_statement}
 use Rattle.rr_syntax.specs.Tree.{Tree, Name, Statement, EventControl, Connections, ModuleItem, Always, ModuleDeclaration}
 use Rattle.rr_syntax.specs.Words.{Word, Digits}
@@ -95,7 +95,8 @@ module _ (ws : List Word) where
   place_at {e} (of_net {signed} {range} {list} x c v) at w n h =
       let mid = at + 1 + length (spell_type signed range) in
       let r = separated_told spell_declarator NumberedDeclarator list x c mid n.1 (front ws (spell_separated spell_declarator list) _ mid (back ws (spell_type signed range) _ (at + 1) (next ws _ _ at h))) in
-      value_told x.value e v (r.at + 1) (all_in WellFormedDeclarator list x w.2 c) r.numbered.1 (next ws _ (spell_value x.value) r.at r.spelled)
+      let q = back ws (spell_range x.words) (spell_value x.value) (r.at + 1) (next ws _ (spell_range x.words ++ spell_value x.value) r.at r.spelled) in
+      value_told x.value e v (r.at + 1 + length (spell_range x.words)) (all_in WellFormedDeclarator list x w.2 c).1 r.numbered.2 q
   place_at {e} (of_assign {pairs} p c v) at w n h =
       let r = separated_told spell_pair NumberedPair pairs p c (at + 1) n (front ws (spell_separated spell_pair pairs) _ (at + 1) (next ws _ _ at h)) in
       let mid = r.at + length (spell p.target) + 1 in

@@ -7,9 +7,9 @@ ghost use Rattle.rr_sites_complete.specs.Laws.{ListedAreSites, NamesAreThese, Si
 /// literal without x and z digits, or the test of a `?:`, that stands in a right side, a condition, a
 /// selector, a label or a port connection, outside the constant places; the condition of an `if` in an
 /// `always`, in a loop or outside, but in no loop's head; or the body of an `always` with a variable that
-/// stands in it outside loops as a whole as a target, which is no `integer` and has no range that names a
-/// parameter. From its token on the source has the words of the literal, of the condition, which are as
-/// many as its extent, or of the body.
+/// stands in it outside loops as a whole as a target, which is no memory, no `integer` and has no range
+/// that names a parameter. From its token on the source has the words of the literal, of the condition,
+/// which are as many as its extent, or of the body.
 pub fn sites_are_exact()
     ensures listed { ListedAreSites }
     ensures every { SitesAreListed }
@@ -19,8 +19,8 @@ pub fn sites_are_exact()
 {}
 
 /// The names that a guard may be at a token are one list, the first 64 of those declared before it, in the
-/// order of their declarations: an input, an output, a net or a variable without a range and not as
-/// `integer`, the clock in no instance, written by `=` in no clocked block, in a loop or outside, and
+/// order of their declarations: an input, an output, a net or a variable without a range or words and not
+/// as `integer`, the clock in no instance, written by `=` in no clocked block, in a loop or outside, and
 /// outside clocked blocks written by `<=` in one outside its loops.
 pub fn names_are_exact()
     ensures { NamesAreThese }

@@ -1,5 +1,5 @@
 -- Each variable of a module has 1 to 128 bits in each instance, and the places of a design are those of its modules.
-use Rattle.std.proofs.Common.{None, ◌≡◌, ◌∙◌, inl, inr, ℕ, suc, ◌+◌, ◌<◌, ◌≤◌, Bool, true, false, ◌||◌, if◌then◌else◌, List, [], ◌∷◌, length, map, Option, Ok, refl, sym, subst, ap, arith, nat_eq}
+use Rattle.std.proofs.Common.{None, ◌≡◌, ◌∙◌, inl, inr, ℕ, suc, ◌+◌, ◌<◌, ◌≤◌, Bool, true, false, ◌||◌, if◌then◌else◌, List, [], ◌∷◌, length, map, flat_map, Option, Ok, refl, sym, subst, ap, arith, nat_eq}
 use Rattle.std.specs.Prelude.{slice_index_or}
 use Rattle.std.specs.List.{AllByRecursion, list_any}
 use Rattle.std.specs.Str.{bytes_eq}
@@ -15,17 +15,18 @@ use Rattle.rr_flatten.specs.Tables.{add_module}
 use Rattle.rr_flatten.specs.Walk.{enter_top, finished, flat_by, flat_of, module_at, reached_from, top_place}
 use Rattle.rr_flatten.proofs.HeadOf.{first_ok, ok_is}
 use Rattle.rr_clock.specs.Places.{Place}
-use Rattle.rr_guard.specs.Names.{net_name}
+use Rattle.rr_guard.specs.Names.{net_name, wordless_name}
 use Rattle.rr_overwrite.specs.Overwrites.{is_reg, is_in, port_sets, item_sets, is_variable, width_in}
 use Rattle.rr_overwrite.specs.Variables.{AreFit}
 use Rattle.rr_sites_listed.specs.Listing.{AreRising, scope_of}
-use Rattle.rr_declared_ranges.specs.Ranges.{IsSet, IsBy, AreBy, ItemBy, AllBy}
+use Rattle.rr_declared_ranges.specs.Ranges.{IsSet, IsMade, IsBy, AreBy, ItemBy, AllBy}
 use Rattle.rr_declared_ranges.proofs.Scalars.{scope_by}
 use Rattle.rr_declared_ranges.proofs.Tops.{Headed, heads}
 use Rattle.rr_sites_ordered.proofs.Members.{all_weaken}
 use Rattle.rr_sites_fit.specs.Laws.{ScopesAreFit, PlacesRise}
 use Rattle.rr_sites_fit.proofs.Tests.{some_in}
 use Rattle.rr_sites_fit.proofs.Widths.{positive, width_fits, first_scope}
+use Rattle.rr_sites_fit.proofs.Wordless.{wordless_by}
 
 -- Widths
 
@@ -36,18 +37,18 @@ module _ (scope seen : Names) (name : Text) where
   abbrev Goal : Type 0
   Goal = is_width (width_in scope name) ≡ true
 
-  by_list : (o : Option Range) (list : List Identifier) → AreBy (IsSet scope) seen o list → is_in name list ≡ true → Goal
+  by_list : (o : Option Range) (list : List Identifier) → AreBy (IsMade scope) seen o list → is_in name list ≡ true → Goal
   by_list o list s h = some_in Goal (λ (x : Identifier). bytes_eq name x.text) list h
-      (all_weaken (λ (y : Identifier). IsBy (IsSet scope) seen o y.text) list (λ y k e. subst (λ n. is_width (width_in scope n) ≡ true) (sym ((bytes_eq-Decides name y.text).0 e)) (set_fits scope y.text k.0 k.1.1)) s)
+      (all_weaken (λ (y : Identifier). IsBy (IsMade scope) seen o y.text) list (λ y k e. subst (λ n. is_width (width_in scope n) ≡ true) (sym ((bytes_eq-Decides name y.text).0 e)) (set_fits scope y.text k.0 k.1.1)) s)
 
-  by_ports : (p : PortDeclaration) → AreBy (IsSet scope) seen p.range (map net_name p.names) → port_sets name p ≡ true → Goal
+  by_ports : (p : PortDeclaration) → AreBy (IsMade scope) seen p.range (map net_name p.names) → port_sets name p ≡ true → Goal
   by_ports p s h = by_list p.range (map net_name p.names) s (and_parts (is_reg p.dir) (is_in name (map net_name p.names)) h).1
 
-  by_item : (x : ModuleItem) → ItemBy (IsSet scope) seen x → item_sets name x ≡ true → Goal
+  by_item : (x : ModuleItem) → ItemBy (IsMade scope) seen x → item_sets name x ≡ true → Goal
   unfolding item_sets
   by_item (Ports p) s h = by_ports p s h
   by_item (Nets signed range list) s h = absurd (both_ways false refl h)
-  by_item (Variables signed range list) s h = by_list range (map net_name list) s h
+  by_item (Variables signed range list) s h = by_list range (flat_map wordless_name list) (wordless_by (IsMade scope) seen range list s) h
   by_item (Integers list) s h = absurd (both_ways false refl h)
   by_item (Parameters p) s h = absurd (both_ways false refl h)
   by_item (Assigns pairs) s h = absurd (both_ways false refl h)
@@ -55,10 +56,10 @@ module _ (scope seen : Names) (name : Text) where
   by_item (Initial body token) s h = absurd (both_ways false refl h)
   by_item (Instances m token overrides list) s h = absurd (both_ways false refl h)
 
-  by_module : (m : ModuleDeclaration) → AllBy (IsSet scope) seen m → is_variable m name ≡ true → Goal
+  by_module : (m : ModuleDeclaration) → AllBy (IsMade scope) seen m → is_variable m name ≡ true → Goal
   by_module m s v = elim (or_cases (list_any (port_sets name) m.groups) (list_any (item_sets name) m.items) v) [
-    | inl h ↦ some_in Goal (port_sets name) m.groups h (all_weaken (λ p. AreBy (IsSet scope) seen p.range (map net_name p.names)) m.groups (λ p k q. by_ports p k q) s.groups)
-    | inr h ↦ some_in Goal (item_sets name) m.items h (all_weaken (ItemBy (IsSet scope) seen) m.items (λ x k q. by_item x k q) s.items)
+    | inl h ↦ some_in Goal (port_sets name) m.groups h (all_weaken (λ p. AreBy (IsMade scope) seen p.range (map net_name p.names)) m.groups (λ p k q. by_ports p k q) s.groups)
+    | inr h ↦ some_in Goal (item_sets name) m.items h (all_weaken (ItemBy (IsMade scope) seen) m.items (λ x k q. by_item x k q) s.items)
   ]
 
 -- in the first instance of a module that has one
@@ -67,7 +68,7 @@ fit_scope : (ms : List ModuleDeclaration) (flat : Flat) → Headed ms flat.scope
 fit_scope ms flat h k i l o name v =
     let j = first_scope flat.scopes flat.owners k i h.even l o in
     let b = scope_by ms flat h j.0 j.1.0 in
-    let m : AllBy (IsSet (slice_index_or flat.scopes j.0 [])) b.0 (module_at ms k) = subst (λ n. AllBy (IsSet (slice_index_or flat.scopes j.0 [])) b.0 (module_at ms n)) j.1.1.0 b.1 in
+    let m : AllBy (IsMade (slice_index_or flat.scopes j.0 [])) b.0 (module_at ms k) = subst (λ n. AllBy (IsMade (slice_index_or flat.scopes j.0 [])) b.0 (module_at ms n)) j.1.1.0 b.1 in
     subst (λ n. is_width (width_in n name) ≡ true) (sym j.1.1.1) (by_module (slice_index_or flat.scopes j.0 []) b.0 name (module_at ms k) m v)
 
 -- Modules that have instances

@@ -13,7 +13,7 @@ use Rattle.rr_flat.specs.Lawful.{AssignedIn}
 use Rattle.rr_flat.specs.Plain.{Flat}
 use Rattle.rr_flat.specs.Reads.{Assigned, assigned_by, writes}
 use Rattle.rr_flat_laws.specs.Blocks.{unfolded_at}
-use Rattle.rr_flat.specs.Targets.{target_bits, bits_there, has_bit, may_write, part_name}
+use Rattle.rr_flat.specs.Targets.{variable_of, target_bits, bits_there, has_bit, may_write, part_name}
 use Rattle.rr_unfold.specs.Unfold.{unfold_statement}
 use Rattle.rr_flatten.specs.Walk.{module_at}
 use Rattle.rr_flat.specs.Writers.{scope_at, block_at, no_block}
@@ -81,11 +81,11 @@ module _ (ms : List ModuleDeclaration) (flat : Flat) (known : Known ms flat) (fr
         subst (λ b. AllByRecursion (λ a. is_now name a ≡ false) (if b then assigned_anywhere body else [])) h f
 
     not_now : writes_now m name ≡ false → (k : ℕ) → k < length flat.clocked → AssignedIn flat (block_at flat.clocked k) id true → ⊥
-    not_now w k l (n, (a, (range, (sg, (inside, at, now, means))))) =
+    not_now w k l (n, (a, (inside, at, now, means))) =
         let b = all_index (BlockFrom ms [] true flat.owners) flat.clocked k no_block from.clocked l in
         let even = from.even in
         let scope : (block_at flat.clocked k).scope < length flat.scopes = omega (arith, b.0, even) in
-        let q = known.once i (block_at flat.clocked k).scope there scope name (part_name a.part) id None range signed sg is means in
+        let q = known.once i (block_at flat.clocked k).scope there scope name (part_name a.part) id (ap variable_of is) means in
         let events = b.1.0 in
         let token = b.1.1.0 in
         let source = b.1.1.1.0 in

@@ -1,8 +1,8 @@
 -- The spots of an item stand among its tokens.
-use Rattle.std.proofs.Common.{◌≡◌, ℕ, ◌+◌, ◌<◌, ◌≤◌, List, [], ◌∷◌, length, flat_map, Option, Some, None, refl, arith}
+use Rattle.std.proofs.Common.{◌≡◌, ℕ, ◌+◌, ◌<◌, ◌≤◌, List, [], ◌∷◌, length, flat_map, Option, Some, None, refl, arith, length-append}
 use Rattle.std.specs.List.{AllByRecursion}
 use Rattle.rr_syntax.specs.Expressions.{WellFormed, Numbered}
-use Rattle.rr_syntax.specs.Items.{spell_each, spell_separated, spell_type, spell_value, spell_declarator, spell_pair, spell_events, spell_optional, spell_connection, spell_connections, spell_overrides, spell_instance, spell_item, WellFormedValue, WellFormedDeclarator, WellFormedPair, WellFormedConnection, WellFormedConnections, WellFormedInstance, WellFormedItem, NumberedEach, NumberedSeparated, NumberedValue, NumberedDeclarator, NumberedPair, NumberedConnection, NumberedConnections, NumberedInstance, NumberedItem}
+use Rattle.rr_syntax.specs.Items.{spell_each, spell_separated, spell_range, spell_type, spell_value, spell_declarator, spell_pair, spell_events, spell_optional, spell_connection, spell_connections, spell_overrides, spell_instance, spell_item, WellFormedValue, WellFormedDeclarator, WellFormedPair, WellFormedConnection, WellFormedConnections, WellFormedInstance, WellFormedItem, NumberedEach, NumberedSeparated, NumberedValue, NumberedDeclarator, NumberedPair, NumberedConnection, NumberedConnections, NumberedInstance, NumberedItem}
 use Rattle.rr_syntax.specs.Tree.{Tree, End, More, Statement, DeclaredName, NetAssignment, EventControl, NamedConnection, Connections, Positions, Names, ModuleInstance, ModuleItem, Ports, Nets, Variables, Integers, Parameters, Assigns, Always, Initial, Instances}
 use Rattle.rr_syntax.specs.Words.{Word}
 use Rattle.rr_syntax.proofs.Nonempty.{spell_statement-some}
@@ -24,7 +24,8 @@ module _ (low high : ℕ) where
 
   net_stands : (x : DeclaredName) (at : ℕ) → WellFormedDeclarator x → NumberedDeclarator x at → low ≤ at → at + length (spell_declarator x) ≤ high → All low high (spots_of_net x)
   unfolding WellFormedDeclarator NumberedDeclarator spell_declarator
-  net_stands x at w n l h = value_stands x.value (at + 1) w n.1 (omega arith) (omega (arith, h))
+  net_stands x at w n l h =
+      let e = length-append (spell_range x.words) (spell_value x.value) in value_stands x.value (at + 1 + length (spell_range x.words)) w.1 n.2 (omega arith) (omega (arith, e, h))
 
   pair_stands : (p : NetAssignment) (at : ℕ) → WellFormedPair p → NumberedPair p at → low ≤ at → at + length (spell_pair p) ≤ high → All low high (spots_of_pair p)
   unfolding WellFormedPair NumberedPair

@@ -1,12 +1,12 @@
--- What a flat design has of its source: scalars, one name for each signal, and a clocked block, without loops, for each `always`
+-- What a flat design has of its source: scalars, one name for each variable, and a clocked block, without loops, for each `always`
 -- with edges.
-use Rattle.std.proofs.Common.{◌≡◌, ℕ, ◌<◌, Bool, true, List, length, Option}
+use Rattle.std.proofs.Common.{◌≡◌, ℕ, ◌<◌, true, List, length, Some}
 use Rattle.std.specs.List.{AllByRecursion, Contains}
 use Rattle.rr_syntax.specs.Tree.{Statement, EventControl, Always, ModuleDeclaration}
 use Rattle.rr_expr.specs.Scopes.{meant}
-use Rattle.rr_expr.specs.declared.types.Entity.TheVariants.{Signal as SignalEntity}
 use Rattle.rr_flat.specs.Signals.{Text}
 use Rattle.rr_flat.specs.Plain.{Flat}
+use Rattle.rr_flat.specs.Targets.{variable_of}
 use Rattle.rr_flatten.specs.Walk.{module_at}
 use Rattle.rr_flat.specs.Writers.{scope_at, block_at}
 use Rattle.rr_flat_laws.specs.Blocks.{unfolded_at}
@@ -26,11 +26,11 @@ HasBlock flat i body = (k : ℕ) × ((k < length flat.clocked) × (((block_at fl
 abbrev pub HasScalars : List ModuleDeclaration → Flat → Type 0
 HasScalars ms flat = (i : ℕ) → i < length flat.scopes → AllByRecursion (λ y. IsScalar (scope_at flat i) y.text) (scalars (module_at ms (owner_at flat i)))
 
--- a signal has one name in one instance
+-- a variable or net, of a memory the whole, has one name in one instance
 abbrev pub NamesOnce : Flat → Type 0
 NamesOnce flat =
-    (i j : ℕ) → i < length flat.scopes → j < length flat.scopes → (x y : Text) (id : ℕ) (r s : Option (ℕ × ℕ)) (a b : Bool) →
-    meant (scope_at flat i) x ≡ SignalEntity id r a → meant (scope_at flat j) y ≡ SignalEntity id s b → (i ≡ j) × (x ≡ y)
+    (i j : ℕ) → i < length flat.scopes → j < length flat.scopes → (x y : Text) (id : ℕ) → variable_of (meant (scope_at flat i) x) ≡ Some id → variable_of (meant (scope_at flat j) y) ≡ Some id →
+    (i ≡ j) × (x ≡ y)
 
 -- each `always` with edges has a block, without its loops, in each instance of its module
 abbrev pub HasBlocks : List ModuleDeclaration → Flat → Type 0

@@ -3,6 +3,8 @@ pub mod Known
 pub mod Blocks
 pub mod Free
 pub mod Unfolded
+pub mod Wordless
+pub mod Variables
 pub mod ScalarsIn
 pub mod Widths
 pub mod Fit

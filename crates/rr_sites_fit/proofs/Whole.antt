@@ -15,10 +15,10 @@ use Rattle.rr_sites_fit.specs.Laws.{SitesAreRight, SitesAreListed}
 use Rattle.rr_sites_listed.specs.Listing.{sites_of}
 use Rattle.rr_sites_fit.proofs.Blocks.{blocks_there}
 use Rattle.rr_sites_fit.proofs.Known.{Known, NamesOnce}
-use Rattle.rr_declared_ranges.proofs.Once.{located}
 use Rattle.rr_sites_fit.proofs.Fit.{places_rise}
 use Rattle.rr_sites_fit.proofs.Right.{IsGoodKind, all_good}
 use Rattle.rr_sites_fit.proofs.ScalarsIn.{has_scalars}
+use Rattle.rr_sites_fit.proofs.Variables.{variable_located}
 use Rattle.rr_sites_fit.proofs.Clocks.{has_clocks}
 use Rattle.rr_declared_ranges.proofs.Tops.{Headed, heads}
 use Rattle.rr_sites_fit.proofs.Widths.{has_widths}
@@ -27,9 +27,9 @@ use Rattle.rr_sites_ordered.proofs.Members.{all_weaken}
 use Rattle.rr_sites_ordered.proofs.Spelled.{literals_spelled}
 
 names_once : (ms : List ModuleDeclaration) (flat : Flat) → Headed ms flat.scopes flat.owners flat.signals → NamesOnce flat
-names_once ms flat h i j l m x y id r s a b e q =
-    let u = located ms flat h i l x id r a e in
-    let v = located ms flat h j m y id s b q in
+names_once ms flat h i j l m x y id e q =
+    let u = variable_located ms flat h i l x id e in
+    let v = variable_located ms flat h j m y id q in
     (sym u.instance ∙ v.instance, sym u.named ∙ v.named)
 
 known : (source : SourceText) (top : Option Text) (flat : Flat) → flat_of source top ≡ Ok flat → Known source.modules flat

@@ -1,5 +1,5 @@
 -- A variable that may be overwritten has one width in all instances of its module.
-use Rattle.std.proofs.Common.{◌≡◌, inl, inr, ℕ, zero, suc, ◌-◌, ◌<◌, Bool, true, false, not, ◌&&◌, if◌then◌else◌, List, [], ◌∷◌, ◌++◌, length, map, Option, Some, None, refl, sym, subst, ap, ap₂, ◌∙◌, arith, length-append, nat_lt, nat_eq}
+use Rattle.std.proofs.Common.{◌≡◌, inl, inr, ℕ, zero, suc, ◌-◌, ◌<◌, Bool, true, false, not, ◌&&◌, if◌then◌else◌, List, [], ◌∷◌, ◌++◌, length, map, flat_map, Option, Some, None, refl, sym, subst, ap, ap₂, ◌∙◌, arith, length-append, nat_lt, nat_eq}
 use Rattle.std.specs.Prelude.{slice_index_or}
 use Rattle.std.specs.List.{AllByRecursion, list_any}
 use Rattle.std.specs.Str.{bytes_eq}
@@ -11,24 +11,26 @@ use Rattle.rr_expr.specs.Reading.{Occurs}
 use Rattle.rr_expr.specs.Scopes.{Names, meant, entity_shape, range_width}
 use Rattle.rr_expr.specs.Values.{form, value, own, nowhere}
 use Rattle.rr_expr.proofs.NamesAlone.{shape_by_names, value_by_names, fault_by_names}
-use Rattle.rr_guard.specs.Names.{net_name}
+use Rattle.rr_guard.specs.Names.{net_name, wordless_name}
 use Rattle.rr_overwrite.specs.Overwrites.{is_reg, Target, targets_of, is_open, is_in, port_opens, item_opens, port_sets, item_sets, is_variable, may_overwrite, width_in}
 use Rattle.rr_flat.specs.Faults.{answer_of}
 use Rattle.rr_flat.specs.Signals.{Text}
 use Rattle.rr_declarations.specs.Values.{constant, between, range_in}
 use Rattle.rr_flat.specs.Plain.{Flat}
 use Rattle.rr_flat.specs.Reads.{names_in}
+use Rattle.rr_flat.specs.Targets.{is_memory}
 use Rattle.rr_flatten.specs.Walk.{module_at}
 use Rattle.rr_flat.specs.Writers.{scope_at}
 use Rattle.rr_flatten.proofs.HeadOf.{ok_is}
 use Rattle.rr_flat_instance.specs.Places.{owner_at, HasWidth}
 use Rattle.rr_lawful_instance.proofs.Trees.{OfText, at_occurrence}
 use Rattle.rr_sites_listed.specs.Listing.{scope_of}
-use Rattle.rr_declared_ranges.specs.Ranges.{IsSet, IsBy, AreBy, ItemBy, AllBy}
+use Rattle.rr_declared_ranges.specs.Ranges.{IsSet, IsMade, IsBy, AreBy, ItemBy, AllBy}
 use Rattle.rr_sites_fit.proofs.Known.{HasWidths}
 use Rattle.rr_sites_ordered.proofs.Members.{all_every}
 use Rattle.rr_declared_ranges.proofs.Scalars.{scope_by}
 use Rattle.rr_sites_fit.proofs.Tests.{none_in, some_in}
+use Rattle.rr_sites_fit.proofs.Wordless.{wordless_by}
 use Rattle.rr_declared_ranges.proofs.Tops.{Headed}
 
 -- Ranges without names
@@ -77,24 +79,24 @@ width_fits w p n =
 set_width : (a b : Names) (name : Text) (r : Option (ℕ × ℕ)) → IsSet a name r → IsSet b name r → HasWidth a name (width_in b name)
 set_width a b name r s u =
     let w : width_in b name ≡ range_width r = ap (λ e. (entity_shape e).width) u.means in
-    record { shape = ap (λ e. (entity_shape e).width) s.means ∙ sym w; width = ap is_width w ∙ width_fits (range_width r) (positive r) u.narrow }
+    record { shape = ap (λ e. (entity_shape e).width) s.means ∙ sym w; width = ap is_width w ∙ width_fits (range_width r) (positive r) u.narrow; single = ap is_memory s.means }
 
 module _ (a b seen other : Names) (name : Text) where
   abbrev Goal : Type 0
   Goal = HasWidth a name (width_in b name)
 
-  by_set : (o : Option Range) → is_open o ≡ false → IsBy (IsSet a) seen o name → IsBy (IsSet b) other o name → Goal
+  by_set : (o : Option Range) → is_open o ≡ false → IsBy (IsMade a) seen o name → IsBy (IsMade b) other o name → Goal
   by_set o c (r, (e, s)) (q, (f, u)) =
       let same : r ≡ q = ok_is r q (sym e ∙ (range_same seen other o c ∙ f)) in
       set_width a b name q (subst (IsSet a name) same s) u
 
-  by_list : (o : Option Range) (list : List Identifier) → is_open o ≡ false → AreBy (IsSet a) seen o list → AreBy (IsSet b) other o list → is_in name list ≡ true → Goal
+  by_list : (o : Option Range) (list : List Identifier) → is_open o ≡ false → AreBy (IsMade a) seen o list → AreBy (IsMade b) other o list → is_in name list ≡ true → Goal
   by_list o list c s u h = some_in Goal (λ (x : Identifier). bytes_eq name x.text) list h (each list s u)
     where
-      each : (list : List Identifier) → AreBy (IsSet a) seen o list → AreBy (IsSet b) other o list → AllByRecursion (λ (x : Identifier). bytes_eq name x.text ≡ true → Goal) list
+      each : (list : List Identifier) → AreBy (IsMade a) seen o list → AreBy (IsMade b) other o list → AllByRecursion (λ (x : Identifier). bytes_eq name x.text ≡ true → Goal) list
       each [] s u = tt
       each (x ∷ xs) s u = (
-        λ e. let is : x.text ≡ name = sym ((bytes_eq-Decides name x.text).0 e) in by_set o c (subst (IsBy (IsSet a) seen o) is s.0) (subst (IsBy (IsSet b) other o) is u.0),
+        λ e. let is : x.text ≡ name = sym ((bytes_eq-Decides name x.text).0 e) in by_set o c (subst (IsBy (IsMade a) seen o) is s.0) (subst (IsBy (IsMade b) other o) is u.0),
         each xs s.1 u.1,
       )
 
@@ -106,14 +108,15 @@ module _ (a b seen other : Names) (name : Text) where
       by true e h = absurd (both_ways (is_in name list) h i)
       by false e h = e
 
-  by_ports : (p : PortDeclaration) → AreBy (IsSet a) seen p.range (map net_name p.names) → AreBy (IsSet b) other p.range (map net_name p.names) → port_opens name p ≡ false → port_sets name p ≡ true → Goal
+  by_ports : (p : PortDeclaration) → AreBy (IsMade a) seen p.range (map net_name p.names) → AreBy (IsMade b) other p.range (map net_name p.names) → port_opens name p ≡ false → port_sets name p ≡ true → Goal
   by_ports p s u o h = let i = (and_parts (is_reg p.dir) (is_in name (map net_name p.names)) h).1 in by_list p.range (map net_name p.names) (closed p.range (map net_name p.names) o i) s u i
 
-  by_item : (x : ModuleItem) → ItemBy (IsSet a) seen x → ItemBy (IsSet b) other x → item_opens name x ≡ false → item_sets name x ≡ true → Goal
+  by_item : (x : ModuleItem) → ItemBy (IsMade a) seen x → ItemBy (IsMade b) other x → item_opens name x ≡ false → item_sets name x ≡ true → Goal
   unfolding item_opens item_sets
   by_item (Ports p) s u o h = by_ports p s u o h
   by_item (Nets signed range list) s u o h = absurd (both_ways false refl h)
-  by_item (Variables signed range list) s u o h = by_list range (map net_name list) (closed range (map net_name list) o h) s u h
+  by_item (Variables signed range list) s u o h =
+      let names = flat_map wordless_name list in by_list range names (closed range names o h) (wordless_by (IsMade a) seen range list s) (wordless_by (IsMade b) other range list u) h
   by_item (Integers list) s u o h = absurd (both_ways false refl h)
   by_item (Parameters p) s u o h = absurd (both_ways false refl h)
   by_item (Assigns pairs) s u o h = absurd (both_ways false refl h)
@@ -121,16 +124,16 @@ module _ (a b seen other : Names) (name : Text) where
   by_item (Initial body token) s u o h = absurd (both_ways false refl h)
   by_item (Instances m token overrides list) s u o h = absurd (both_ways false refl h)
 
-  all_ports : (ps : List PortDeclaration) → AllByRecursion (λ p. AreBy (IsSet a) seen p.range (map net_name p.names)) ps → AllByRecursion (λ p. AreBy (IsSet b) other p.range (map net_name p.names)) ps → AllByRecursion (λ p. port_opens name p ≡ false) ps →
+  all_ports : (ps : List PortDeclaration) → AllByRecursion (λ p. AreBy (IsMade a) seen p.range (map net_name p.names)) ps → AllByRecursion (λ p. AreBy (IsMade b) other p.range (map net_name p.names)) ps → AllByRecursion (λ p. port_opens name p ≡ false) ps →
       AllByRecursion (λ p. port_sets name p ≡ true → Goal) ps
   all_ports [] s u o = tt
   all_ports (p ∷ ps) s u o = (by_ports p s.0 u.0 o.0, all_ports ps s.1 u.1 o.1)
 
-  all_items : (xs : List ModuleItem) → AllByRecursion (ItemBy (IsSet a) seen) xs → AllByRecursion (ItemBy (IsSet b) other) xs → AllByRecursion (λ x. item_opens name x ≡ false) xs → AllByRecursion (λ x. item_sets name x ≡ true → Goal) xs
+  all_items : (xs : List ModuleItem) → AllByRecursion (ItemBy (IsMade a) seen) xs → AllByRecursion (ItemBy (IsMade b) other) xs → AllByRecursion (λ x. item_opens name x ≡ false) xs → AllByRecursion (λ x. item_sets name x ≡ true → Goal) xs
   all_items [] s u o = tt
   all_items (x ∷ xs) s u o = (by_item x s.0 u.0 o.0, all_items xs s.1 u.1 o.1)
 
-  by_module : (m : ModuleDeclaration) → AllBy (IsSet a) seen m → AllBy (IsSet b) other m → is_variable m name ≡ true → list_any (port_opens name) m.groups ≡ false → list_any (item_opens name) m.items ≡ false → Goal
+  by_module : (m : ModuleDeclaration) → AllBy (IsMade a) seen m → AllBy (IsMade b) other m → is_variable m name ≡ true → list_any (port_opens name) m.groups ≡ false → list_any (item_opens name) m.items ≡ false → Goal
   by_module m s u v g i = elim (or_cases (list_any (port_sets name) m.groups) (list_any (item_sets name) m.items) v) [
     | inl h ↦ some_in Goal (port_sets name) m.groups h (all_ports m.groups s.groups u.groups (none_in (port_opens name) m.groups g))
     | inr h ↦ some_in Goal (item_sets name) m.items h (all_items m.items s.items u.items (none_in (item_opens name) m.items i))
@@ -163,7 +166,7 @@ module _ (ms : List ModuleDeclaration) (flat : Flat) (h : Headed ms flat.scopes 
       let j = first_scope flat.scopes flat.owners k i h.even l refl in
       let s = scope_by ms flat h i l in
       let u = scope_by ms flat h j.0 j.1.0 in
-      let other : AllBy (IsSet (scope_at flat j.0)) u.0 m = subst (λ k. AllBy (IsSet (scope_at flat j.0)) u.0 (module_at ms k)) j.1.1.0 u.1 in
+      let other : AllBy (IsMade (scope_at flat j.0)) u.0 m = subst (λ k. AllBy (IsMade (scope_at flat j.0)) u.0 (module_at ms k)) j.1.1.0 u.1 in
       let p = and_parts (is_variable m t.text) (not (list_any (port_opens t.text) m.groups) && not (list_any (item_opens t.text) m.items)) f in
       let q = and_parts (not (list_any (port_opens t.text) m.groups)) (not (list_any (item_opens t.text) m.items)) p.1 in
       let w = by_module (scope_at flat i) (scope_at flat j.0) s.0 u.0 t.text m s.1 other p.0 (not-true (list_any (port_opens t.text) m.groups) q.0) (not-true (list_any (item_opens t.text) m.items) q.1) in

@@ -1,11 +1,11 @@
 -- The sites of a module are in order.
-use Rattle.std.proofs.Common.{◌≡◌, inl, inr, ℕ, suc, ◌+◌, ◌<◌, ◌≤◌, Bool, true, false, if◌then◌else◌, List, [], ◌∷◌, ◌++◌, length, get_or, filter, flat_map, Option, Some, None, refl, sym, subst, arith, append-nil}
+use Rattle.std.proofs.Common.{◌≡◌, inl, inr, ℕ, suc, ◌+◌, ◌<◌, ◌≤◌, Bool, true, false, if◌then◌else◌, List, [], ◌∷◌, ◌++◌, length, get_or, filter, flat_map, Option, Some, None, refl, sym, subst, arith, append-nil, length-append}
 use Rattle.std.specs.List.{AllByRecursion}
 use Rattle.std.proofs.lemmas.Bool.{cases_lt}
 use Rattle.std.proofs.lemmas.Grind.{flat_map-append}
 use Rattle.rr_syntax.specs.declared.token.Number.{Number}
 use Rattle.rr_syntax.specs.Expressions.{spell, spell_more, WellFormed, WellFormedMore, Numbered, NumberedMore}
-use Rattle.rr_syntax.specs.Items.{spell_each, spell_separated, spell_all, spell_type, spell_value, spell_declarator, spell_pair, spell_events, spell_optional, spell_connection, spell_connections, spell_overrides, spell_instance, spell_item, WellFormedValue, WellFormedDeclarator, WellFormedPair, WellFormedConnection, WellFormedConnections, WellFormedInstance, WellFormedItem, NumberedAll, NumberedEach, NumberedSeparated, NumberedValue, NumberedDeclarator, NumberedPair, NumberedConnection, NumberedConnections, NumberedInstance, NumberedItem}
+use Rattle.rr_syntax.specs.Items.{spell_each, spell_separated, spell_all, spell_range, spell_type, spell_value, spell_declarator, spell_pair, spell_events, spell_optional, spell_connection, spell_connections, spell_overrides, spell_instance, spell_item, WellFormedValue, WellFormedDeclarator, WellFormedPair, WellFormedConnection, WellFormedConnections, WellFormedInstance, WellFormedItem, NumberedAll, NumberedEach, NumberedSeparated, NumberedValue, NumberedDeclarator, NumberedPair, NumberedConnection, NumberedConnections, NumberedInstance, NumberedItem}
 use Rattle.rr_syntax.specs.Statements.{spell_label, spell_labels, spell_loop, spell_statement, spell_statements, spell_arm, spell_arms, WellFormedStatement, WellFormedStatements, WellFormedArm, WellFormedArms, NumberedLabels, NumberedStatement, NumberedStatements, NumberedArm, NumberedArms}
 use Rattle.rr_syntax.specs.Tree.{Tree, Trees, Name, Literal, Bit, Part, Indexed, Unary, Binary, Cond, Concat, Repeat, Cast, Paren, End, More, Statement, Statements, Arm, Arms, Null, Block, If, IfElse, Case, Assign, For, Done, Then, CaseItem, NoArms, MoreArms, DeclaredName, NetAssignment, NamedConnection, Connections, Positions, Names, ModuleInstance, ModuleItem, Ports, Nets, Variables, Integers, Parameters, Assigns, Always, Initial, Instances, ModuleDeclaration}
 use Rattle.rr_syntax.specs.Words.{Word}
@@ -286,8 +286,10 @@ module _ (f : Spot → List Site) (owner : ℕ) (names : ℕ → List Text)
   net_in : (x : DeclaredName) (at : ℕ) → WellFormedDeclarator x → NumberedDeclarator x at → In at (at + length (spell_declarator x)) (length (spell_declarator x)) (spots_of_net x)
   unfolding WellFormedDeclarator NumberedDeclarator spell_declarator
   net_in x at w n =
+      let e = length-append (spell_range x.words) (spell_value x.value) in
       let long = length (spell_value x.value) in
-      fit (at + 1) (at + 1 + long) long at (at + suc long) (suc long) (spots_of_value x.value) (omega arith) (omega arith) (omega arith) (value_in x.value (at + 1) w n.1)
+      let mid = at + 1 + length (spell_range x.words) in
+      fit mid (mid + long) long at (at + length (spell_declarator x)) (length (spell_declarator x)) (spots_of_value x.value) (omega arith) (omega (arith, e)) (omega (arith, e)) (value_in x.value mid w.1 n.2)
 
   pair_in : (p : NetAssignment) (at : ℕ) → WellFormedPair p → NumberedPair p at → In at (at + length (spell_pair p)) (length (spell_pair p)) (spots_of_pair p)
   unfolding WellFormedPair NumberedPair

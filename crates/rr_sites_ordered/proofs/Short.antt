@@ -1,8 +1,8 @@
 -- The spots of a source: each condition has at most as many tokens as what it stands in, and each literal is fit.
-use Rattle.std.proofs.Common.{ℕ, ◌+◌, ◌<◌, ◌≤◌, ◌^◌, Bool, true, false, if◌then◌else◌, List, [], ◌∷◌, ◌++◌, length, get_or, flat_map, Option, Some, None, arith}
+use Rattle.std.proofs.Common.{ℕ, ◌+◌, ◌<◌, ◌≤◌, ◌^◌, Bool, true, false, if◌then◌else◌, List, [], ◌∷◌, ◌++◌, length, get_or, flat_map, Option, Some, None, arith, length-append}
 use Rattle.std.specs.List.{AllByRecursion}
 use Rattle.rr_syntax.specs.Expressions.{spell, spell_more, IsFit, FitLiterals, FitLiteralsParts}
-use Rattle.rr_syntax.specs.Items.{spell_each, spell_separated, spell_all, spell_value, spell_declarator, spell_pair, spell_optional, spell_connection, spell_connections, spell_instance, spell_item, spell_module, spell_source, FitLiteralsValue, FitLiteralsDeclarator, FitLiteralsPair, FitLiteralsConnection, FitLiteralsConnections, FitLiteralsInstance, FitLiteralsItem, FitLiteralsModule, FitLiteralsSource}
+use Rattle.rr_syntax.specs.Items.{spell_each, spell_separated, spell_all, spell_range, spell_value, spell_declarator, spell_pair, spell_optional, spell_connection, spell_connections, spell_instance, spell_item, spell_module, spell_source, FitLiteralsValue, FitLiteralsDeclarator, FitLiteralsPair, FitLiteralsConnection, FitLiteralsConnections, FitLiteralsInstance, FitLiteralsItem, FitLiteralsModule, FitLiteralsSource}
 use Rattle.rr_syntax.specs.Statements.{spell_labels, spell_loop, spell_statement, spell_statements, spell_arm, spell_arms, FitLiteralsStatement, FitLiteralsStatements, FitLiteralsArm, FitLiteralsArms}
 use Rattle.rr_syntax.specs.Tree.{Tree, Trees, Name, Literal, Bit, Part, Indexed, Unary, Binary, Cond, Concat, Repeat, Cast, Paren, End, More, Statement, Statements, Arm, Arms, Null, Block, If, IfElse, Case, Assign, For, Done, Then, CaseItem, NoArms, MoreArms, DeclaredName, NetAssignment, NamedConnection, Connections, Positions, Names, ModuleInstance, ModuleItem, Ports, Nets, Variables, Integers, Parameters, Assigns, Always, Initial, Instances, ModuleDeclaration, SourceText}
 use Rattle.rr_syntax.specs.Words.{Word}
@@ -116,7 +116,7 @@ module _ (n : ℕ) where
 
   net_short : (x : DeclaredName) → FitLiteralsDeclarator x → length (spell_declarator x) ≤ n → All (spots_of_net x)
   unfolding FitLiteralsDeclarator spell_declarator
-  net_short x f h = given_short x.value f (omega (arith, h))
+  net_short x f h = let e = length-append (spell_range x.words) (spell_value x.value) in given_short x.value f.1 (omega (arith, e, h))
 
   pair_short : (p : NetAssignment) → FitLiteralsPair p → length (spell_pair p) ≤ n → All (spots_of_pair p)
   unfolding FitLiteralsPair

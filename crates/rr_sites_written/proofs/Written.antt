@@ -4,7 +4,7 @@ use Rattle.std.specs.List.{AllByRecursion, All, list_any}
 use Rattle.std.specs.Str.{bytes_eq}
 use Rattle.std.proofs.lemmas.Slice.Eq.{bytes_eq-Decides}
 use Rattle.std.proofs.lemmas.Bool.{and_parts, false≢true}
-use Rattle.rr_syntax.specs.Tree.{Identifier, Range, PortDeclaration, ModuleItem, Ports, Nets, Variables, Integers, Parameters, Assigns, Always, Initial, Instances, ModuleDeclaration}
+use Rattle.rr_syntax.specs.Tree.{Identifier, Range, PortDeclaration, DeclaredName, ModuleItem, Ports, Nets, Variables, Integers, Parameters, Assigns, Always, Initial, Instances, ModuleDeclaration}
 use Rattle.rr_lex.specs.Patch.{IsNameText}
 use Rattle.rr_expr.specs.Scopes.{Names}
 use Rattle.rr_flat.proofs.Lists.{all_index}
@@ -16,7 +16,7 @@ use Rattle.rr_choice.specs.Sites.{Site}
 use Rattle.rr_change_places.specs.Spots.{Spot, Body, Test, Value, is_clocked, spots_of_item}
 use Rattle.rr_literal.specs.Literals.{is_known, literal_at}
 use Rattle.rr_guard.specs.Guards.{guard_of}
-use Rattle.rr_guard.specs.Names.{net_name, scalars_if, port_scalars, item_scalars, scalars, firsts, guard_names, may_guard, is_before, first_names, texts_of, names_at}
+use Rattle.rr_guard.specs.Names.{net_name, unless_words, wordless_name, scalars_if, port_scalars, item_scalars, scalars, firsts, guard_names, may_guard, is_before, first_names, texts_of, names_at}
 use Rattle.rr_overwrite.specs.Overwrites.{is_in, is_reg, port_sets, item_sets, is_variable, may_overwrite, targets_of, overwrite_of, overwrites_of}
 use Rattle.rr_sites_listed.specs.Listing.{module_at, scope_of, sites_at, item_sites, module_sites, place_sites, sites_of, no_module}
 use Rattle.rr_respell.specs.Laws.{IsNamed}
@@ -30,11 +30,19 @@ if_scalars : (range : Option Range) (names : List Identifier) → AllByRecursion
 if_scalars None names h = h
 if_scalars (Some r) names h = tt
 
+one_wordless : (o : Option Range) (x : Identifier) (rest : List Identifier) → IsWritten x → AllByRecursion IsWritten rest → AllByRecursion IsWritten (unless_words o x ++ rest)
+one_wordless None x rest w h = (w, h)
+one_wordless (Some r) x rest w h = h
+
+wordless_written : (list : List DeclaredName) → AllByRecursion IsWritten (map net_name list) → AllByRecursion IsWritten (flat_map wordless_name list)
+wordless_written [] h = tt
+wordless_written (x ∷ list) h = one_wordless x.words (net_name x) (flat_map wordless_name list) h.0 (wordless_written list h.1)
+
 item_scalars_written : (x : ModuleItem) → ItemWritten x → AllByRecursion IsWritten (item_scalars x)
 unfolding item_scalars
 item_scalars_written (Ports p) h = if_scalars p.range _ h
 item_scalars_written (Nets signed range list) h = if_scalars range _ h
-item_scalars_written (Variables signed range list) h = if_scalars range _ h
+item_scalars_written (Variables signed range list) h = if_scalars range _ (wordless_written list h)
 item_scalars_written (Integers list) h = tt
 item_scalars_written (Parameters p) h = tt
 item_scalars_written (Assigns pairs) h = tt
@@ -83,7 +91,7 @@ module _ (m : ModuleDeclaration) (h : ModuleWritten m) where
   unfolding item_sets
   item_set_written name (Ports p) w e = port_set_written name p w e
   item_set_written name (Nets signed range list) w e = absurd (false≢true e)
-  item_set_written name (Variables signed range list) w e = in_written name (map net_name list) w e
+  item_set_written name (Variables signed range list) w e = in_written name (flat_map wordless_name list) (wordless_written list w) e
   item_set_written name (Integers list) w e = absurd (false≢true e)
   item_set_written name (Parameters p) w e = absurd (false≢true e)
   item_set_written name (Assigns pairs) w e = absurd (false≢true e)

@@ -49,6 +49,7 @@ fn new_net<'a>(
     Ok(Declarator {
         token: net.token,
         name: net.name,
+        words: net.words,
         value,
     })
 }

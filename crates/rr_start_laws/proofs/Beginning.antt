@@ -58,6 +58,7 @@ all_below signals scopes initials starts b =
 between_more : (base n m : ℕ) (e : Entity) → n ≤ m → Between base n e → Between 0 m e
 between_more base n m (entity.Constant bits signed) l h = tt
 between_more base n m (entity.Signal id range signed) l h = let a = h.0 in let b = h.1 in (omega (arith, a), omega (arith, b, l))
+between_more base n m (entity.Memory first low words range signed) l h = let a = h.0 in let b = h.1 in (omega (arith, a), omega (arith, b, l))
 between_more base n m entity.Instance l h = tt
 
 entries_more : (base n m : ℕ) (names : Names) → n ≤ m → Entries (Between base n) names → Entries (Between 0 m) names

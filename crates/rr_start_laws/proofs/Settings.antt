@@ -1,26 +1,29 @@
 -- The assignments of `initial` items, and what they make of starting values.
 use Rattle.std.proofs.Common.{◌≡◌, ◌∙◌, sym, ap, ◌⊎◌, inl, inr, ℕ, ◌<◌, max, Bool, true, false, cond, List, [], ◌∷◌, ◌++◌, length, get_or, fold, Option, Some, None, refl, arith, length-set}
-use Rattle.std.specs.Prelude.{slice_set, pos}
+use Rattle.std.specs.Prelude.{slice_set, ℤ, pos}
 use Rattle.std.specs.List.{All, AllByRecursion, flat_map}
 use Rattle.std.specs.Str.{bytes_eq}
 use Rattle.std.proofs.lemmas.Bool.{cases_eq}
 use Rattle.std.proofs.lemmas.List.{get_or-set_same, get_or-set_other, set-append_left}
 use Rattle.std.proofs.lemmas.List.Elements.{All-nil, All-cons}
 use Rattle.std.proofs.lemmas.List.Sums.{fold-append}
-use Rattle.rr_bits.specs.Words.{number, select}
+use Rattle.rr_bits.specs.Words.{number, reading, select}
 use Rattle.rr_syntax.specs.Tree.{Tree, Name, Literal, Bit as BitSelect, Part, Indexed, Unary, Binary, Cond, Concat, Repeat, Cast, Paren, Statement, Statements, Null, Block, If, IfElse, Case, Assign, For, Done, Then}
 use Rattle.rr_expr.specs.declared.types.Entity.{Entity}
 use Rattle.rr_expr.specs.declared.types.Entity.TheVariants as entity
 use Rattle.rr_expr.specs.declared.types.Shape.{Shape}
+use Rattle.rr_expr.specs.Memories.{word_at, word_signal}
 use Rattle.rr_expr.specs.Scopes.{Names, lookup, meant, or_instance}
+use Rattle.rr_expr.specs.Selects.{integer_with}
 use Rattle.rr_expr.specs.Values.{form, value, nowhere}
+use Rattle.rr_expr.proofs.MemoryWords.{word_below}
 use Rattle.rr_expr.proofs.NamesAlone.{shape_by_names, value_by_names}
 use Rattle.rr_flat.specs.Plain.{Initial}
 use Rattle.rr_flat.specs.Signals.{Text}
 use Rattle.rr_flat.proofs.Alike.{Alike}
-use Rattle.rr_starts.specs.Starts.{start_of, variable_of, set_at, set_target, started, all_started}
+use Rattle.rr_starts.specs.Starts.{start_of, whole_signal, started_word, set_at, set_target, started, all_started}
 use Rattle.rr_flatten.proofs.HeadOf.{all_append, all_weaker, Entries, Between}
-use Rattle.rr_start_laws.specs.Starting.{Setting, whole_variable, setting_of, settings_of, all_settings_of, IsLast}
+use Rattle.rr_start_laws.specs.Starting.{Setting, set_variable, setting_of, settings_of, all_settings_of, IsLast}
 
 abbrev pub set_one : List ℕ → Setting → List ℕ
 set_one starts t = slice_set starts t.variable t.number
@@ -31,11 +34,11 @@ set_is : (o : Option ℕ) (n : ℕ) (xs : List ℕ) → set_at o n xs ≡ fold s
 set_is None n xs = refl
 set_is (Some id) n xs = refl
 
-target_is : (s : Names) (target t : Tree) (xs : List ℕ) → set_target s target t xs ≡ fold set_one xs (setting_of (whole_variable s target) (start_of s (form s target).width t))
+target_is : (s : Names) (target t : Tree) (xs : List ℕ) → set_target s target t xs ≡ fold set_one xs (setting_of (set_variable s target) (start_of s (form s target).width t))
 unfolding set_target form
-target_is s (Name token name) t xs = set_is (variable_of (meant s name)) (start_of s (form s (Name token name)).width t) xs
+target_is s (Name token name) t xs = set_is (whole_signal (meant s name)) (start_of s (form s (Name token name)).width t) xs
 target_is s (Literal token n) t xs = refl
-target_is s (BitSelect token name i) t xs = refl
+target_is s (BitSelect token name i) t xs = set_is (started_word (meant s name) (integer_with (form s i) (value s i nowhere))) (start_of s (form s (BitSelect token name i)).width t) xs
 target_is s (Part token name l r) t xs = refl
 target_is s (Indexed token name f n up) t xs = refl
 target_is s (Unary op a) t xs = refl
@@ -70,19 +73,22 @@ start_alike a b w t h =
     ap (λ (z : Shape). number (select (value a t nowhere (max w z.width) z.signed) (pos 0) w)) (shape_by_names a b t (λ n o. h n))
     ∙ ap (λ (bits : List Bool). number (select bits (pos 0) w)) (value_by_names a b t (λ n o. h n) nowhere (max w (form b t).width) (form b t).signed)
 
-whole_alike : (a b : Names) (t : Tree) → Alike a b → whole_variable a t ≡ whole_variable b t
-whole_alike a b (Name token name) h = ap variable_of (h name)
-whole_alike a b (Literal token n) h = refl
-whole_alike a b (BitSelect token name i) h = refl
-whole_alike a b (Part token name l r) h = refl
-whole_alike a b (Indexed token name f n up) h = refl
-whole_alike a b (Unary op x) h = refl
-whole_alike a b (Binary op x y) h = refl
-whole_alike a b (Cond x y z) h = refl
-whole_alike a b (Concat ts) h = refl
-whole_alike a b (Repeat n ts) h = refl
-whole_alike a b (Cast signed x) h = refl
-whole_alike a b (Paren x) h = refl
+variable_alike : (a b : Names) (t : Tree) → Alike a b → set_variable a t ≡ set_variable b t
+variable_alike a b (Name token name) h = ap whole_signal (h name)
+variable_alike a b (Literal token n) h = refl
+variable_alike a b (BitSelect token name i) h =
+    ap (λ (e : Entity). started_word e (integer_with (form a i) (value a i nowhere))) (h name)
+    ∙ (ap (λ (z : Shape). started_word (meant b name) (reading z.signed (value a i nowhere z.width z.signed))) (shape_by_names a b i (λ n o. h n))
+    ∙ ap (λ (bits : List Bool). started_word (meant b name) (reading (form b i).signed bits)) (value_by_names a b i (λ n o. h n) nowhere (form b i).width (form b i).signed))
+variable_alike a b (Part token name l r) h = refl
+variable_alike a b (Indexed token name f n up) h = refl
+variable_alike a b (Unary op x) h = refl
+variable_alike a b (Binary op x y) h = refl
+variable_alike a b (Cond x y z) h = refl
+variable_alike a b (Concat ts) h = refl
+variable_alike a b (Repeat n ts) h = refl
+variable_alike a b (Cast signed x) h = refl
+variable_alike a b (Paren x) h = refl
 
 mutual
   unfolding settings_of
@@ -94,9 +100,9 @@ mutual
   settings_alike a b (IfElse t x y) h = refl
   settings_alike a b (Case kind t arms) h = refl
   settings_alike a b (Assign target now t) h =
-      ap (λ (o : Option ℕ). setting_of o (start_of a (form a target).width t)) (whole_alike a b target h)
-      ∙ (ap (λ (z : Shape). setting_of (whole_variable b target) (start_of a z.width t)) (shape_by_names a b target (λ n o. h n))
-      ∙ ap (λ (n : ℕ). setting_of (whole_variable b target) n) (start_alike a b (form b target).width t h))
+      ap (λ (o : Option ℕ). setting_of o (start_of a (form a target).width t)) (variable_alike a b target h)
+      ∙ (ap (λ (z : Shape). setting_of (set_variable b target) (start_of a z.width t)) (shape_by_names a b target (λ n o. h n))
+      ∙ ap (λ (n : ℕ). setting_of (set_variable b target) n) (start_alike a b (form b target).width t h))
   settings_alike a b (For k x) h = refl
 
   all_settings_alike : (a b : Names) (ss : Statements) → Alike a b → all_settings_of a ss ≡ all_settings_of b ss
@@ -125,15 +131,26 @@ meant_in P (x ∷ xs) name a i = go (bytes_eq name x.0) (meant_in P xs name a.1 
     go true r = a.0
     go false r = r
 
-entity_below : (n v : ℕ) (e : Entity) → Between 0 n e → AllByRecursion (Below n) (setting_of (variable_of e) v)
+entity_below : (n v : ℕ) (e : Entity) → Between 0 n e → AllByRecursion (Below n) (setting_of (whole_signal e) v)
 entity_below n v (entity.Constant bits signed) h = tt
 entity_below n v (entity.Signal id range signed) h = (h.1, tt)
+entity_below n v (entity.Memory first low words range signed) h = tt
 entity_below n v entity.Instance h = tt
 
-target_below : (n v : ℕ) (s : Names) (target : Tree) → Entries (Between 0 n) s → AllByRecursion (Below n) (setting_of (whole_variable s target) v)
+word_entity_below : (n v : ℕ) (e : Entity) (i : ℤ) → Between 0 n e → AllByRecursion (Below n) (setting_of (started_word e i) v)
+word_entity_below n v (entity.Constant bits signed) i h = tt
+word_entity_below n v (entity.Signal id range signed) i h = tt
+word_entity_below n v (entity.Memory first low words range signed) i h = by (word_at low words i) refl
+  where
+    by : (o : Option ℕ) → word_at low words i ≡ o → AllByRecursion (Below n) (setting_of (word_signal first o) v)
+    by None q = tt
+    by (Some k) q = let l = word_below low words i k q in let b = h.1 in (omega (arith, l, b), tt)
+word_entity_below n v entity.Instance i h = tt
+
+target_below : (n v : ℕ) (s : Names) (target : Tree) → Entries (Between 0 n) s → AllByRecursion (Below n) (setting_of (set_variable s target) v)
 target_below n v s (Name token name) h = entity_below n v (meant s name) (meant_in (Between 0 n) s name h tt)
 target_below n v s (Literal token x) h = tt
-target_below n v s (BitSelect token name i) h = tt
+target_below n v s (BitSelect token name i) h = word_entity_below n v (meant s name) (integer_with (form s i) (value s i nowhere)) (meant_in (Between 0 n) s name h tt)
 target_below n v s (Part token name l r) h = tt
 target_below n v s (Indexed token name f x up) h = tt
 target_below n v s (Unary op a) h = tt

@@ -10,6 +10,6 @@ use Rattle.rr_start_laws.specs.Starting.{AreInitials, BeginsWith}
 abbrev pub InitialsAreItems : Type 0
 InitialsAreItems = (source : SourceText) (top : Option Text) (flat : Flat) → flat_of source top ≡ Ok flat → AreInitials source flat
 
--- each variable begins with what the last assignment to it gives it, or else its declaration
+-- each variable and each word of a memory begins with what the last assignment to it gives it, or else its declaration
 abbrev pub LastSettingCounts : Type 0
 LastSettingCounts = (source : SourceText) (top : Option Text) (flat : Flat) → flat_of source top ≡ Ok flat → (id : ℕ) → id < length flat.signals → BeginsWith flat id (get_or flat.starts id 0)

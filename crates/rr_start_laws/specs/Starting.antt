@@ -3,12 +3,13 @@ use Rattle.std.specs.Prelude.{◌≡◌, ◌⊎◌, ℕ, ◌<◌, Bool, List, []
 use Rattle.std.specs.List.{filter, flat_map}
 use Rattle.rr_syntax.specs.Tree.{Tree, Name, Literal, Bit as BitSelect, Part, Indexed, Unary, Binary, Cond, Concat, Repeat, Cast, Paren, Statement, Statements, Null, Block, If, IfElse, Case, Assign, For, Done, Then, ModuleItem, Ports, Nets, Variables, Integers, Parameters, Assigns, Always, Initial, Instances, SourceText}
 use Rattle.rr_expr.specs.Scopes.{Names, meant}
-use Rattle.rr_expr.specs.Values.{form}
+use Rattle.rr_expr.specs.Selects.{integer_with}
+use Rattle.rr_expr.specs.Values.{form, value, nowhere}
 use Rattle.rr_flat.specs.Plain as plain
 use Rattle.rr_flat.specs.Plain.{Flat}
 use Rattle.rr_flat.specs.Signals.{signal_at}
 use Rattle.rr_flat.specs.Writers.{scope_at}
-use Rattle.rr_starts.specs.Starts.{start_of, variable_of}
+use Rattle.rr_starts.specs.Starts.{start_of, whole_signal, started_word}
 use Rattle.rr_flat_laws.specs.Blocks.{unfolded_at}
 use Rattle.rr_flat_laws.specs.Names.{module_of}
 
@@ -36,25 +37,26 @@ pub record AreInitials (source : SourceText) (flat : Flat) : Type 0 where
 
 -- Assignments
 
--- an assignment of an `initial` item: the variable that it sets, and the number that this then has
+-- an assignment of an `initial` item: the variable that it sets, which may be a word of a memory, and the number that this then has
 pub record Setting : Type 0 where
   pub variable : ℕ
   pub number : ℕ
 
--- the variable that is a target as a whole; other targets stand in no `initial` item
-abbrev pub whole_variable : Names → Tree → Option ℕ
-whole_variable s (Name token name) = variable_of (meant s name)
-whole_variable s (Literal token n) = None
-whole_variable s (BitSelect token name i) = None
-whole_variable s (Part token name l r) = None
-whole_variable s (Indexed token name f n up) = None
-whole_variable s (Unary op a) = None
-whole_variable s (Binary op a b) = None
-whole_variable s (Cond a b c) = None
-whole_variable s (Concat ts) = None
-whole_variable s (Repeat n ts) = None
-whole_variable s (Cast signed a) = None
-whole_variable s (Paren a) = None
+-- the variable that is a target as a whole, or the word of a memory at a constant index, where there is one (section 5.2.2); other
+-- targets stand in no `initial` item
+abbrev pub set_variable : Names → Tree → Option ℕ
+set_variable s (Name token name) = whole_signal (meant s name)
+set_variable s (Literal token n) = None
+set_variable s (BitSelect token name i) = started_word (meant s name) (integer_with (form s i) (value s i nowhere))
+set_variable s (Part token name l r) = None
+set_variable s (Indexed token name f n up) = None
+set_variable s (Unary op a) = None
+set_variable s (Binary op a b) = None
+set_variable s (Cond a b c) = None
+set_variable s (Concat ts) = None
+set_variable s (Repeat n ts) = None
+set_variable s (Cast signed a) = None
+set_variable s (Paren a) = None
 
 abbrev pub setting_of : Option ℕ → ℕ → List Setting
 setting_of None n = []
@@ -69,7 +71,7 @@ unfoldable mutual
   settings_of s (If t a) = []
   settings_of s (IfElse t a b) = []
   settings_of s (Case kind t arms) = []
-  settings_of s (Assign target now t) = setting_of (whole_variable s target) (start_of s (form s target).width t)
+  settings_of s (Assign target now t) = setting_of (set_variable s target) (start_of s (form s target).width t)
   settings_of s (For h a) = []
 
   pub all_settings_of : Names → Statements → List Setting
@@ -88,6 +90,6 @@ pub record IsLast (id : ℕ) (s : Setting) (all : List Setting) : Type 0 where
   pub sets : s.variable ≡ id
   pub none : All (λ t. t.variable ≡ id → ⊥) after
 
--- a variable begins with the number of the last assignment to it, and where there is none with that of its declaration
+-- a variable, and a word of a memory, begins with the number of the last assignment to it, and where there is none with that of its declaration
 abbrev pub BeginsWith : Flat → ℕ → ℕ → Type 0
 BeginsWith flat id n = ((s : Setting) × (IsLast id s (settings flat) × (n ≡ s.number))) ⊎ (All (λ t. t.variable ≡ id → ⊥) (settings flat) × (n ≡ (signal_at flat.signals id).start))

@@ -8,9 +8,10 @@ pub fn initials_are_items()
     ensures { InitialsAreItems }
 {}
 
-/// A variable begins with the number that the last assignment to it in an `initial` item gives it
-/// (section 9.9.1), in the order of the items and of the statements in each; where none assigns it,
-/// with that of its declaration (section 6.2.1).
+/// A variable, and a word of a memory, begins with the number that the last assignment to it in an
+/// `initial` item gives it (section 9.9.1), in the order of the items and of the statements in each;
+/// where none assigns it, with that of its declaration (section 6.2.1). An index outside a memory
+/// sets nothing (section 5.2.2).
 #[tactic(auto, using(crate::proofs::Beginning::last_of_design))]
 pub fn last_setting_counts()
     ensures { LastSettingCounts }

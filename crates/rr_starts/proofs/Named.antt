@@ -1,5 +1,5 @@
 -- The signals that names stand for.
-use Rattle.std.proofs.Common.{◌≡◌, ◌∙◌, sym, ap, subst, ℕ, zero, suc, ◌-◌, ◌<◌, ◌≤◌, Bool, true, false, cond, List, ◌∷◌, [], length, map, get_or, Option, Some, refl, arith, IsTrue}
+use Rattle.std.proofs.Common.{◌≡◌, ◌∙◌, sym, ap, subst, ℕ, zero, suc, ◌-◌, ◌<◌, ◌≤◌, ◌+◌, Bool, true, false, cond, List, ◌∷◌, [], length, map, get_or, Option, Some, refl, arith, IsTrue}
 use Rattle.std.specs.List.{All, AllByRecursion}
 use Rattle.std.specs.Str.{bytes_eq}
 use Rattle.std.proofs.lemmas.List.{get_or_read, length-map}
@@ -53,6 +53,18 @@ number_of n signals s name id range signed f h q =
     let e : range_width range ≡ (signal_at (map plain_signal signals) id).width = sym (w.range ∙ ap range_width r) in
     record { inside = lt; width = e; low = omega (arith, e, w.low); high = omega (arith, e, w.high) }
 
+-- a word of a memory has the number of a signal, and its width
+pub word_number_of : (n : ℕ) (signals : List Signal) (s : Names) (name : List ℕ) (first low words k : ℕ) (range : Option (ℕ × ℕ)) (signed : Bool) → All (IsSignal n) signals → IsScope signals s
+    → meant s name ≡ entity.Memory first low words range signed → k < words → IsNumber signals (first + k) (range_width range)
+word_number_of n signals s name first low words k range signed f h q l =
+    let m = subst (IsNamed 0 (map plain_signal signals)) q (entry_of (IsNamed 0 (map plain_signal signals)) s name (recursion_from_All (λ x. IsNamed 0 (map plain_signal signals) x.1) s h) tt) in
+    let z : (first + k) - 0 ≡ first + k = omega arith in
+    let lt : first + k < length signals = omega (arith, m.1, l, length-map signals plain_signal) in
+    let r : (signal_at (map plain_signal signals) (first + k)).range ≡ range = ap (λ (j : ℕ). (signal_at (map plain_signal signals) j).range) (sym z) ∙ (m.3 k l).range in
+    let w = wide_at n signals (first + k) lt (recursion_from_All (IsSignal n) signals f) in
+    let e : range_width range ≡ (signal_at (map plain_signal signals) (first + k)).width = sym (w.range ∙ ap range_width r) in
+    record { inside = lt; width = e; low = omega (arith, e, w.low); high = omega (arith, e, w.high) }
+
 pub width_fits : (w : ℕ) → 1 ≤ w → w ≤ 128 → IsTrue (is_width w)
 width_fits w l h = grind (arith, nat_tests)
 
@@ -62,3 +74,9 @@ pub number_in : (n : ℕ) (signals : List Signal) (scopes : List Names) (i : ℕ
 number_in n signals scopes i s name id range signed f h lt is q =
     let at : s ≡ get_or scopes i [] = get_or_read scopes i s lt is [] in
     number_of n signals s name id range signed f (subst (IsScope signals) (sym at) (All-get_or (IsScope signals) scopes i [] lt h)) q
+
+pub word_number_in : (n : ℕ) (signals : List Signal) (scopes : List Names) (i : ℕ) (s : Names) (name : List ℕ) (first low words k : ℕ) (range : Option (ℕ × ℕ)) (signed : Bool) → All (IsSignal n) signals → All (IsScope signals) scopes → i < length scopes
+    → s ≡ get_or scopes i s → meant s name ≡ entity.Memory first low words range signed → k < words → IsNumber signals (first + k) (range_width range)
+word_number_in n signals scopes i s name first low words k range signed f h lt is q l =
+    let at : s ≡ get_or scopes i [] = get_or_read scopes i s lt is [] in
+    word_number_of n signals s name first low words k range signed f (subst (IsScope signals) (sym at) (All-get_or (IsScope signals) scopes i [] lt h)) q l

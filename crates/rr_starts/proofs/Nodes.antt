@@ -1,5 +1,5 @@
 -- `initial` items at nodes of the arena, one equation for each form.
-use Rattle.std.proofs.Common.{◌≡◌, ◌∙◌, sym, ap, ℕ, ◌+◌, ◌<◌, ◌≤◌, Bool, List, ◌++◌, length, fold, drop, get_or, Option, None, Some, refl}
+use Rattle.std.proofs.Common.{◌≡◌, ◌∙◌, sym, ap, ℕ, ◌+◌, ◌<◌, ◌≤◌, Bool, true, false, List, ◌++◌, length, fold, drop, get_or, Option, None, Some, refl}
 use Rattle.std.proofs.lemmas.List.{drop_all}
 use Rattle.std.proofs.lemmas.List.Sums.{fold-append}
 use Rattle.rr_syntax.specs.declared.token.Keyword.{Keyword}
@@ -16,12 +16,17 @@ use Rattle.rr_syntax.specs.declared.tree.Stmt.TheVariants as stmt
 use Rattle.rr_syntax.specs.View.{plain, plain_statement, plain_statements}
 use Rattle.rr_syntax.proofs.Rows.{plain_block, plain_case, plain_concat, plain_repeat}
 use Rattle.rr_expr.specs.Scopes.{Names, meant, entity_shape}
-use Rattle.rr_flat.specs.Faults.{earlier}
+use Rattle.rr_expr.specs.declared.types.ExprFault.{ExprFault}
+use Rattle.rr_expr.specs.Faults.{fault, or_else, index_fault}
+use Rattle.rr_expr.specs.Selects.{integer_with}
+use Rattle.rr_expr.specs.Memories.{index_shape}
+use Rattle.rr_expr.specs.Values.{form, value, nowhere}
+use Rattle.rr_flat.specs.Faults.{earlier, answer_of, faults_in}
 use Rattle.rr_flat.specs.declared.fault.FlatFault.{FlatFault}
 use Rattle.rr_flat.specs.Shapes.{shape_faults}
 use Rattle.rr_flat.specs.View.{Design}
 use Rattle.rr_flat.proofs.Lists.{rest}
-use Rattle.rr_starts.specs.Starts.{constant_faults, initial_faults, all_initial_faults, started, all_started, set_target, set_at, start_of, variable_of}
+use Rattle.rr_starts.specs.Starts.{constant_faults, initial_target_faults, initial_faults, all_initial_faults, started, all_started, set_target, set_at, start_of, whole_signal, started_word}
 use denote.Ref.{Bor}
 
 pub noted-Null : (f : Option FlatFault) (s : Names) → fold earlier f (initial_faults s (plain_statement stmt.Null)) ≡ f
@@ -44,9 +49,9 @@ pub noted-Case : (f : Option FlatFault) (s : Names) (kind : Keyword) (t : Bor Ex
 unfolding initial_faults
 noted-Case f s kind t arms = ap (λ p. fold earlier f (initial_faults s p)) (plain_case kind t arms)
 
-pub noted-Assign : (f : Option FlatFault) (s : Names) (t : Bor Expr) (now : Bool) (v : Bor Expr) → fold earlier f (initial_faults s (plain_statement (stmt.Assign t now v))) ≡ fold earlier (fold earlier f (shape_faults s (plain t.now))) (constant_faults s (plain v.now))
+pub noted-Assign : (f : Option FlatFault) (s : Names) (t : Bor Expr) (now : Bool) (v : Bor Expr) → fold earlier f (initial_faults s (plain_statement (stmt.Assign t now v))) ≡ fold earlier (fold earlier f (initial_target_faults s (plain t.now))) (constant_faults s (plain v.now))
 unfolding plain_statement initial_faults
-noted-Assign f s t now v = fold-append earlier f (shape_faults s (plain t.now)) (constant_faults s (plain v.now))
+noted-Assign f s t now v = fold-append earlier f (initial_target_faults s (plain t.now)) (constant_faults s (plain v.now))
 
 pub noted-For : (f : Option FlatFault) (s : Names) (h : Head) (b : Bor Stmt) → fold earlier f (initial_faults s (plain_statement (stmt.For h b))) ≡ f
 unfolding plain_statement initial_faults
@@ -65,9 +70,76 @@ pub all_done : (f : Option FlatFault) (s : Names) (xs : List Stmt) (i : ℕ) →
 unfolding all_initial_faults plain_statements
 all_done f s xs i le = rw (drop_all i xs le) refl
 
+-- an index without a fault: what is left is the name's own
+
+or_none : (f : Option ExprFault) → or_else f None ≡ f
+or_none None = refl
+or_none (Some x) = refl
+
+pub zero_select : (s : Names) (token at value any unknown : ℕ) (signed : Bool) (name : Bor (List ℕ)) (i : Bor Expr) → i.now ≡ expr.Literal at (record { width = 1; signed = signed; value = value; any = any; unknown = unknown })
+    → fault s (plain (expr.Bit token name i)) false ≡ index_fault false token (meant s name.now)
+unfolding plain fault
+zero_select s token at value any unknown signed name i e = rw e (or_none (index_fault false token (meant s name.now)))
+
+-- the faults of targets
+
+same_faults : (f : Option ExprFault) (a b : Tree) → faults_in (answer_of f a) ≡ faults_in (answer_of f b)
+same_faults None a b = refl
+same_faults (Some x) a b = refl
+
+pub target-Name : (s : Names) (token : ℕ) (name : Bor (List ℕ)) → initial_target_faults s (plain (expr.Name token name)) ≡ shape_faults s (plain (expr.Name token name))
+unfolding plain initial_target_faults
+target-Name s token name = refl
+
+pub target-Literal : (s : Names) (token : ℕ) (n : Number) → initial_target_faults s (plain (expr.Literal token n)) ≡ shape_faults s (plain (expr.Literal token n))
+unfolding plain initial_target_faults
+target-Literal s token n = refl
+
+pub target-Bit : (s : Names) (token : ℕ) (name : Bor (List ℕ)) (i : Bor Expr) → initial_target_faults s (plain (expr.Bit token name i)) ≡ faults_in (answer_of (or_else (index_fault false token (meant s name.now)) (fault s (plain i.now) true)) (plain i.now))
+unfolding plain initial_target_faults
+target-Bit s token name i = same_faults (or_else (index_fault false token (meant s name.now)) (fault s (plain i.now) true)) (plain (expr.Bit token name i)) (plain i.now)
+
+pub target-Part : (s : Names) (token : ℕ) (name : Bor (List ℕ)) (l r : Bor Expr) → initial_target_faults s (plain (expr.Part token name l r)) ≡ shape_faults s (plain (expr.Part token name l r))
+unfolding plain initial_target_faults
+target-Part s token name l r = refl
+
+pub target-Indexed : (s : Names) (token : ℕ) (name : Bor (List ℕ)) (f w : Bor Expr) (up : Bool) → initial_target_faults s (plain (expr.Indexed token name f w up)) ≡ shape_faults s (plain (expr.Indexed token name f w up))
+unfolding plain initial_target_faults
+target-Indexed s token name f w up = refl
+
+pub target-Unary : (s : Names) (op : Mark) (e : Bor Expr) → initial_target_faults s (plain (expr.Unary op e)) ≡ shape_faults s (plain (expr.Unary op e))
+unfolding plain initial_target_faults
+target-Unary s op e = refl
+
+pub target-Binary : (s : Names) (op : Mark) (l r : Bor Expr) → initial_target_faults s (plain (expr.Binary op l r)) ≡ shape_faults s (plain (expr.Binary op l r))
+unfolding plain initial_target_faults
+target-Binary s op l r = refl
+
+pub target-Cond : (s : Names) (a b c : Bor Expr) → initial_target_faults s (plain (expr.Cond a b c)) ≡ shape_faults s (plain (expr.Cond a b c))
+unfolding plain initial_target_faults
+target-Cond s a b c = refl
+
+pub target-Cast : (s : Names) (signed : Bool) (e : Bor Expr) → initial_target_faults s (plain (expr.Cast signed e)) ≡ shape_faults s (plain (expr.Cast signed e))
+unfolding plain initial_target_faults
+target-Cast s signed e = refl
+
+pub target-Paren : (s : Names) (e : Bor Expr) → initial_target_faults s (plain (expr.Paren e)) ≡ shape_faults s (plain (expr.Paren e))
+unfolding plain initial_target_faults
+target-Paren s e = refl
+
+pub target-Concat : (s : Names) (parts : Bor (List Expr)) → initial_target_faults s (plain (expr.Concat parts)) ≡ shape_faults s (plain (expr.Concat parts))
+unfolding initial_target_faults
+target-Concat s parts = rw (plain_concat parts) refl
+
+pub target-Repeat : (s : Names) (count : Bor Expr) (parts : Bor (List Expr)) → initial_target_faults s (plain (expr.Repeat count parts)) ≡ shape_faults s (plain (expr.Repeat count parts))
+unfolding initial_target_faults
+target-Repeat s count parts = rw (plain_repeat count parts) refl
+
+pub ruleset initial_targets = (the_lemmas, target-Name, target-Literal, target-Bit, target-Part, target-Indexed, target-Unary, target-Binary, target-Cond, target-Concat, target-Repeat, target-Cast, target-Paren)
+
 -- what targets set
 
-pub set-Name : (s : Names) (token : ℕ) (name : Bor (List ℕ)) (t : Tree) (st : List ℕ) → set_target s (plain (expr.Name token name)) t st ≡ set_at (variable_of (meant s name.now)) (start_of s (entity_shape (meant s name.now)).width t) st
+pub set-Name : (s : Names) (token : ℕ) (name : Bor (List ℕ)) (t : Tree) (st : List ℕ) → set_target s (plain (expr.Name token name)) t st ≡ set_at (whole_signal (meant s name.now)) (start_of s (entity_shape (meant s name.now)).width t) st
 unfolding plain set_target
 set-Name s token name t st = refl
 
@@ -75,7 +147,8 @@ pub set-Literal : (s : Names) (token : ℕ) (n : Number) (t : Tree) (st : List �
 unfolding plain set_target
 set-Literal s token n t st = refl
 
-pub set-Bit : (s : Names) (token : ℕ) (name : Bor (List ℕ)) (i : Bor Expr) (t : Tree) (st : List ℕ) → set_target s (plain (expr.Bit token name i)) t st ≡ st
+pub set-Bit : (s : Names) (token : ℕ) (name : Bor (List ℕ)) (i : Bor Expr) (t : Tree) (st : List ℕ)
+    → set_target s (plain (expr.Bit token name i)) t st ≡ set_at (started_word (meant s name.now) (integer_with (form s (plain i.now)) (value s (plain i.now) nowhere))) (start_of s (index_shape (meant s name.now)).width t) st
 unfolding plain set_target
 set-Bit s token name i t st = refl
 
@@ -151,7 +224,7 @@ pub block_faults : (s : Names) (label : Option Name) (body : Bor (List Stmt)) �
 unfolding initial_faults
 block_faults s label body = ap (initial_faults s) (plain_block label body)
 
-pub assign_faults : (s : Names) (t : Bor Expr) (now : Bool) (v : Bor Expr) → initial_faults s (plain_statement (stmt.Assign t now v)) ≡ shape_faults s (plain t.now) ++ constant_faults s (plain v.now)
+pub assign_faults : (s : Names) (t : Bor Expr) (now : Bool) (v : Bor Expr) → initial_faults s (plain_statement (stmt.Assign t now v)) ≡ initial_target_faults s (plain t.now) ++ constant_faults s (plain v.now)
 unfolding plain_statement initial_faults
 assign_faults s t now v = refl
 

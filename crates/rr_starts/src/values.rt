@@ -2,10 +2,13 @@
 ghost use Rattle.std.specs.Prelude.{◌≡◌, ◌≤◌, ◌<◌, ◌^◌, IfOk, None, true, fold};
 ghost use Rattle.rr_syntax.specs.View.{plain};
 ghost use Rattle.rr_expr.specs.Faults.{fault};
+ghost use Rattle.rr_expr.specs.Indices.{integer_of};
+ghost use Rattle.rr_expr.specs.Selects.{integer_with};
+ghost use Rattle.rr_expr.specs.Values.{form, value as value_of, nowhere};
 ghost use Rattle.rr_flat.specs.Faults.{sooner};
 ghost use Rattle.rr_starts.specs.Starts.{start, start_of, constant_faults};
 
-use rr_expr::{Scope, assigned_constant, constant};
+use rr_expr::{Index, Scope, assigned_constant, constant, index_of};
 use rr_flat::{FlatFault, sooner_of};
 use rr_syntax::Expr;
 
@@ -34,6 +37,20 @@ pub(crate) fn start_number(expr: &Expr, names: &Scope, width: u32) -> u128
     ensures fits { result < 2 ^ width }
 {
     start_value(expr, names, width).unwrap_or(0)
+}
+
+/// The number that a constant index without a fault is.
+pub(crate) fn index_number(index: &Expr, names: &Scope) -> Index
+    requires { fault names.now (plain index.now) true ≡ None }
+    ensures { integer_of result ≡ integer_with (form names.now (plain index.now)) (value_of names.now (plain index.now) nowhere) }
+{
+    match constant(index, names) {
+        Ok((bits, signed)) => index_of(bits, signed),
+        Err(_) => Index {
+            negative: false,
+            size: 0,
+        },
+    }
 }
 
 /// The first of a fault that was found, if any, and that of a constant.

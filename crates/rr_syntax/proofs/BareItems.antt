@@ -6,7 +6,7 @@ use Rattle.rr_syntax.specs.declared.tree.Dir.TheVariants as dir
 use Rattle.rr_syntax.specs.Words.{Word}
 use Rattle.rr_syntax.specs.Tree.{Tree, Trees, End, More, Identifier, Range, PortDeclaration, ParamAssignment, ParameterDeclaration, DeclaredName, NetAssignment, EdgeEvent, EventControl, Star, Edges, Levels, NamedConnection, Connections, Positions, Names, ModuleInstance, ModuleItem, Ports, Nets, Variables, Integers, Parameters, Assigns, Always, Initial, Instances, ModuleDeclaration, SourceText, bare, bare_parts, bare_identifier, bare_range, bare_port, bare_assignment, bare_parameter, bare_value, bare_declarator, bare_pair, bare_edge, bare_events, bare_connection, bare_connections, bare_overrides, bare_instance, bare_item, bare_header, bare_module, bare_source}
 use Rattle.rr_syntax.specs.Items.{spell_each, spell_separated, spell_all, spell_identifier, spell_range, spell_type, spell_port, spell_assignment, spell_parameter, spell_value, spell_declarator, spell_pair, spell_edge, spell_more_edges, spell_edges, spell_more_levels, spell_levels, rest, spell_events, spell_optional, spell_connection, spell_connections, spell_overrides, spell_instance, spell_item, spell_parameters, spell_ports, spell_module, spell_source}
-use Rattle.rr_syntax.specs.Items.{WellFormedRange, MayStart, WellFormedPort, IsTypedOnce, WellFormedAssignment, WellFormedParameter, WellFormedValue, WellFormedDeclarator, WellFormedPair, count, WellFormedEvents, WellFormedConnection, WellFormedConnections, WellFormedOverrides, WellFormedInstance, WellFormedItem, WellFormedHead, IsHeader, WellFormedModule, WellFormedSource}
+use Rattle.rr_syntax.specs.Items.{WellFormedRange, HasNoWords, IsVariableName, MayStart, WellFormedPort, IsTypedOnce, WellFormedAssignment, WellFormedParameter, WellFormedValue, WellFormedDeclarator, WellFormedPair, count, WellFormedEvents, WellFormedConnection, WellFormedConnections, WellFormedOverrides, WellFormedInstance, WellFormedItem, WellFormedHead, IsHeader, WellFormedModule, WellFormedSource}
 use Rattle.rr_syntax.specs.Items.{greatest, depth_range, depth_port, depth_assignment, depth_parameter, depth_value, depth_declarator, depth_pair, depth_events, depth_connection, depth_connections, depth_overrides, depth_instance, depth_item, height_item, depth_module, height_module, depth_source}
 use Rattle.rr_syntax.proofs.BareExpressions.{spell-bare, spell_parts-bare, WellFormed-bare, WellFormedMore-bare, is_target-bare, depth-bare, height-bare, bare-bare, bare_parts-bare}
 use Rattle.rr_syntax.proofs.BareStatements.{is_initial-bare, spell_statement-bare, WellFormedStatement-bare, depth_statement-bare, bare_statement-bare}
@@ -68,7 +68,7 @@ spell_value-bare (Some t) = rw (spell-bare t) refl
 
 pub spell_declarator-bare : (n : DeclaredName) → spell_declarator (bare_declarator n) ≡ spell_declarator n
 unfolding spell_declarator bare_declarator
-spell_declarator-bare n = rw (spell_value-bare n.value) refl
+spell_declarator-bare n = rw (spell_range-bare n.words, spell_value-bare n.value) refl
 
 pub spell_declarators-bare : (names : List DeclaredName) → spell_separated spell_declarator (map bare_declarator names) ≡ spell_separated spell_declarator names
 spell_declarators-bare names = spell_separated-map spell_declarator bare_declarator spell_declarator-bare names
@@ -185,12 +185,25 @@ WellFormedValue-bare (Some t) = WellFormed-bare t
 
 WellFormedDeclarator-bare : (n : DeclaredName) → WellFormedDeclarator (bare_declarator n) ≡ WellFormedDeclarator n
 unfolding WellFormedDeclarator bare_declarator
-WellFormedDeclarator-bare n = WellFormedValue-bare n.value
+WellFormedDeclarator-bare n = rw (WellFormedRange-bare n.words, WellFormedValue-bare n.value) refl
 
 IsNone-bare : (v : Option Tree) → IsNone (bare_value v) ≡ IsNone v
 unfolding bare_value
 IsNone-bare None = refl
 IsNone-bare (Some t) = refl
+
+IsNone-bare-range : (r : Option Range) → IsNone (bare_range r) ≡ IsNone r
+unfolding bare_range
+IsNone-bare-range None = refl
+IsNone-bare-range (Some r) = refl
+
+HasNoWords-bare : (n : DeclaredName) → HasNoWords (bare_declarator n) ≡ HasNoWords n
+unfolding bare_declarator
+HasNoWords-bare n = IsNone-bare-range n.words
+
+IsVariableName-bare : (n : DeclaredName) → IsVariableName (bare_declarator n) ≡ IsVariableName n
+unfolding bare_declarator
+IsVariableName-bare n = rw (IsNone-bare-range n.words, IsNone-bare n.value) refl
 
 MayStart-bare : (d : Dir) (n : DeclaredName) → MayStart d (bare_declarator n) ≡ MayStart d n
 unfolding MayStart bare_declarator
@@ -203,7 +216,7 @@ MayStart-bare dir.OutputWire n = IsNone-bare n.value
 pub WellFormedPort-bare : (p : PortDeclaration) → WellFormedPort (bare_port p) ≡ WellFormedPort p
 unfolding WellFormedPort bare_port
 WellFormedPort-bare p =
-    rw (WellFormedRange-bare p.range, length-map' bare_declarator p.names, all-map WellFormedDeclarator bare_declarator WellFormedDeclarator-bare p.names, all-map (MayStart p.dir) bare_declarator (MayStart-bare p.dir) p.names) refl
+    rw (WellFormedRange-bare p.range, length-map' bare_declarator p.names, all-map WellFormedDeclarator bare_declarator WellFormedDeclarator-bare p.names, all-map (MayStart p.dir) bare_declarator (MayStart-bare p.dir) p.names, all-map HasNoWords bare_declarator HasNoWords-bare p.names) refl
 
 IsTypedOnce-bare : (integer signed : Bool) (r : Option Range) → IsTypedOnce integer signed (bare_range r) ≡ IsTypedOnce integer signed r
 unfolding bare_range
@@ -257,9 +270,9 @@ pub WellFormedItem-bare : (i : ModuleItem) → WellFormedItem (bare_item i) ≡ 
 unfolding WellFormedItem bare_item
 WellFormedItem-bare (Ports p) = WellFormedPort-bare p
 WellFormedItem-bare (Nets signed range names) =
-    rw (WellFormedRange-bare range, length-map' bare_declarator names, all-map WellFormedDeclarator bare_declarator WellFormedDeclarator-bare names) refl
+    rw (WellFormedRange-bare range, length-map' bare_declarator names, all-map WellFormedDeclarator bare_declarator WellFormedDeclarator-bare names, all-map HasNoWords bare_declarator HasNoWords-bare names) refl
 WellFormedItem-bare (Variables signed range names) =
-    rw (WellFormedRange-bare range, length-map' bare_declarator names, all-map WellFormedDeclarator bare_declarator WellFormedDeclarator-bare names) refl
+    rw (WellFormedRange-bare range, length-map' bare_declarator names, all-map WellFormedDeclarator bare_declarator WellFormedDeclarator-bare names, all-map IsVariableName bare_declarator IsVariableName-bare names) refl
 WellFormedItem-bare (Integers names) = rw (length-map' bare_identifier names) refl
 WellFormedItem-bare (Parameters p) = WellFormedParameter-bare p
 WellFormedItem-bare (Assigns pairs) = rw (length-map' bare_pair pairs, all-map WellFormedPair bare_pair WellFormedPair-bare pairs) refl
@@ -299,7 +312,7 @@ depth_value-bare (Some t) = rw (depth-bare t) refl
 
 depth_declarator-bare : (n : DeclaredName) → depth_declarator (bare_declarator n) ≡ depth_declarator n
 unfolding depth_declarator bare_declarator
-depth_declarator-bare n = depth_value-bare n.value
+depth_declarator-bare n = rw (depth_range-bare n.words, depth_value-bare n.value) refl
 
 depth_port-bare : (p : PortDeclaration) → depth_port (bare_port p) ≡ depth_port p
 unfolding depth_port bare_port
@@ -390,7 +403,7 @@ bare_value-bare (Some t) = rw (bare-bare t) refl
 
 bare_declarator-bare : (n : DeclaredName) → bare_declarator (bare_declarator n) ≡ bare_declarator n
 unfolding bare_declarator
-bare_declarator-bare n = rw (bare_value-bare n.value) refl
+bare_declarator-bare n = rw (bare_range-bare n.words, bare_value-bare n.value) refl
 
 bare_port-bare : (p : PortDeclaration) → bare_port (bare_port p) ≡ bare_port p
 unfolding bare_port

@@ -2,7 +2,7 @@
 use Rattle.std.proofs.Common.{◌≡◌, ◌≤◌, Bool, ◌&&◌, suc, [], ◌∷◌, ◌++◌, Option, None, Some, refl, ap}
 use Rattle.rr_syntax.specs.Words.{Marked, mark_colon}
 use Rattle.rr_syntax.specs.Tree.{Tree, Name, Literal, Bit, Part, Indexed, Unary, Binary, Cond, Concat, Repeat, Cast, Paren, Trees, End, More, Identifier, LoopHead, Statement, Statements, Arm, Arms, Null, Block, If, IfElse, Case, Assign, For, Done, Then, CaseItem, NoArms, MoreArms, bare, bare_parts, bare_identifier, bare_label, bare_loop, bare_statement, bare_statements, bare_arm, bare_arms}
-use Rattle.rr_syntax.specs.Statements.{is_open, is_name, is_initial, are_initial, spell_label, spell_labels, spell_loop, spell_statement, spell_statements, spell_arm, spell_arms, HasColon, defaults, HasArms, WellFormedLoop, WellFormedStatement, WellFormedStatements, WellFormedArm, WellFormedArms, depth_loop, depth_statement, height_statements, depth_arm, height_arms, FitLiteralsLoop, FitLiteralsStatement, FitLiteralsStatements, FitLiteralsArm, FitLiteralsArms}
+use Rattle.rr_syntax.specs.Statements.{is_open, is_cell, is_initial, are_initial, spell_label, spell_labels, spell_loop, spell_statement, spell_statements, spell_arm, spell_arms, HasColon, defaults, HasArms, WellFormedLoop, WellFormedStatement, WellFormedStatements, WellFormedArm, WellFormedArms, depth_loop, depth_statement, height_statements, depth_arm, height_arms, FitLiteralsLoop, FitLiteralsStatement, FitLiteralsStatements, FitLiteralsArm, FitLiteralsArms}
 use Rattle.rr_syntax.proofs.BareExpressions.{spell-bare, spell_parts-bare, WellFormed-bare, WellFormedMore-bare, is_target-bare, depth-bare, height-bare, FitLiterals-bare, FitLiteralsParts-bare, bare-bare, bare_parts-bare}
 
 pub is_open-bare : (s : Statement) → is_open (bare_statement s) ≡ is_open s
@@ -15,20 +15,20 @@ is_open-bare (Case kind t arms) = refl
 is_open-bare (Assign t now v) = refl
 is_open-bare (For h s) = is_open-bare s
 
-pub is_name-bare : (t : Tree) → is_name (bare t) ≡ is_name t
+pub is_cell-bare : (t : Tree) → is_cell (bare t) ≡ is_cell t
 unfolding bare
-is_name-bare (Name token text) = refl
-is_name-bare (Literal token n) = refl
-is_name-bare (Bit token text i) = refl
-is_name-bare (Part token text l r) = refl
-is_name-bare (Indexed token text f w up) = refl
-is_name-bare (Unary op t) = refl
-is_name-bare (Binary op l r) = refl
-is_name-bare (Cond a b c) = refl
-is_name-bare (Concat ts) = refl
-is_name-bare (Repeat t ts) = refl
-is_name-bare (Cast signed t) = refl
-is_name-bare (Paren t) = refl
+is_cell-bare (Name token text) = refl
+is_cell-bare (Literal token n) = refl
+is_cell-bare (Bit token text i) = refl
+is_cell-bare (Part token text l r) = refl
+is_cell-bare (Indexed token text f w up) = refl
+is_cell-bare (Unary op t) = refl
+is_cell-bare (Binary op l r) = refl
+is_cell-bare (Cond a b c) = refl
+is_cell-bare (Concat ts) = refl
+is_cell-bare (Repeat t ts) = refl
+is_cell-bare (Cast signed t) = refl
+is_cell-bare (Paren t) = refl
 
 mutual
   unfolding is_initial bare_statement
@@ -39,7 +39,7 @@ mutual
   is_initial-bare (If t s) = refl
   is_initial-bare (IfElse t s u) = refl
   is_initial-bare (Case kind t arms) = refl
-  is_initial-bare (Assign t now v) = ap (λ b. now && b) (is_name-bare t)
+  is_initial-bare (Assign t now v) = ap (λ b. now && b) (is_cell-bare t)
   is_initial-bare (For h s) = is_initial-bare s
 
   pub are_initial-bare : (ss : Statements) → are_initial (bare_statements ss) ≡ are_initial ss

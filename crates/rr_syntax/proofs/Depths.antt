@@ -183,9 +183,11 @@ deep-value-some e = omega arith
 
 pub ruleset value_depths = (deep-value-none, deep-value-some)
 
-pub deep-declarator : (n : Declarator) → depth_declarator (plain_declarator n) ≡ depth_value (plain_value n.value)
+pub deep-declarator : (n : Declarator) → depth_declarator (plain_declarator n) ≡ max (depth_range (plain_range n.words)) (depth_value (plain_value n.value))
 unfolding depth_declarator plain_declarator
 deep-declarator n = refl
+
+pub ruleset declarator_depths = deep-declarator
 
 pub deep-port : (g : Group) → depth_port (plain_port g) ≡ max (depth_range (plain_range g.range)) (greatest depth_declarator (map plain_declarator g.names.now))
 unfolding depth_port plain_port

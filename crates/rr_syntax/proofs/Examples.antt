@@ -6,7 +6,7 @@ use Rattle.rr_syntax.specs.Words.{Word, Named, System, Digits, Reserved, Marked,
 use Rattle.rr_syntax.specs.Tree.{Tree, Name, Literal, Bit, Part, Indexed, Unary, Binary, Cond, Concat, Repeat, Cast, Paren, End, More, Identifier, LoopHead, Statement, Null, Block, If, IfElse, Case, Assign, For, Done, Then, CaseItem, NoArms, MoreArms, Range, PortDeclaration, ParameterDeclaration, DeclaredName, EventControl, Star, Edges, Levels, Positions, Names, Ports, Nets, Variables, Integers, Parameters, Assigns, Always, Initial, Instances, ModuleDeclaration}
 use Rattle.rr_syntax.specs.Expressions.{infix_level, is_prefix, level, spell, WellFormed, is_target, depth, Numbered}
 use Rattle.rr_syntax.specs.Statements.{is_open, is_initial, spell_label, spell_labels, spell_loop, spell_statement, defaults, WellFormedLoop, WellFormedStatement, depth_loop, depth_statement, NumberedLoop, NumberedStatement}
-use Rattle.rr_syntax.specs.Items.{spell_each, spell_separated, spell_all, spell_where, spell_identifier, spell_range, spell_type, spell_dir, spell_port, spell_assignment, spell_parameter, spell_value, spell_declarator, spell_pair, spell_edge, separator, rest, spell_more_edges, spell_edges, spell_more_levels, spell_levels, spell_events, spell_optional, spell_connection, spell_connections, spell_overrides, spell_instance, spell_item, spell_parameters, spell_ports, spell_module, WellFormedRange, WellFormedValue, WellFormedDeclarator, MayStart, WellFormedPort, WellFormedParameter, WellFormedHead, count, WellFormedEvents, WellFormedConnections, WellFormedItem, WellFormedModule}
+use Rattle.rr_syntax.specs.Items.{spell_each, spell_separated, spell_all, spell_where, spell_identifier, spell_range, spell_type, spell_dir, spell_port, spell_assignment, spell_parameter, spell_value, spell_declarator, spell_pair, spell_edge, separator, rest, spell_more_edges, spell_edges, spell_more_levels, spell_levels, spell_events, spell_optional, spell_connection, spell_connections, spell_overrides, spell_instance, spell_item, spell_parameters, spell_ports, spell_module, WellFormedRange, WellFormedValue, WellFormedDeclarator, MayStart, WellFormedPort, WellFormedParameter, WellFormedHead, count, WellFormedEvents, WellFormedConnections, WellFormedItem, WellFormedModule, NumberedRange, NumberedType, NumberedValue, NumberedDeclarator, NumberedEach, NumberedSeparated, NumberedItem}
 
 abbrev a : Tree
 a = Name 0 (codes "a")
@@ -246,16 +246,20 @@ id_b = record { token = 0; text = codes "b" }
 
 -- `a`, `b` and `b = c`, declared
 abbrev declared_a : DeclaredName
-declared_a = record { token = 0; text = codes "a"; value = None }
+declared_a = record { token = 0; text = codes "a"; words = None; value = None }
 
 abbrev declared_b : DeclaredName
-declared_b = record { token = 0; text = codes "b"; value = None }
+declared_b = record { token = 0; text = codes "b"; words = None; value = None }
 
 abbrev started_b : DeclaredName
-started_b = record { token = 0; text = codes "b"; value = Some c }
+started_b = record { token = 0; text = codes "b"; words = None; value = Some c }
 
 abbrev a_to_b : Option Range
 a_to_b = Some record { left = a; right = b }
+
+-- `b [a:b]`, declared
+abbrev memory_b : DeclaredName
+memory_b = record { token = 0; text = codes "b"; words = a_to_b; value = None }
 
 -- `output reg signed [a:b] a, b = c;`
 spelled-ports : spell_item (Ports record { dir = dir.OutputReg; signed = true; range = a_to_b; names = declared_a ∷ started_b ∷ [] }) ≡
@@ -275,6 +279,18 @@ spelled-variables : spell_item (Variables false a_to_b (started_b ∷ [])) ≡
     Reserved keyword_reg ∷ Marked mark_open_bracket ∷ A ∷ Marked mark_colon ∷ B ∷ Marked mark_close_bracket ∷ B ∷ Marked mark_equals ∷ C ∷ Marked mark_semicolon ∷ []
 unfolding spell_item spell_type spell_where spell_range spell_separated spell_each spell_declarator spell_value spell
 spelled-variables = refl
+
+-- `reg [a:b] a, b [a:b];`
+spelled-memory : spell_item (Variables false a_to_b (declared_a ∷ memory_b ∷ [])) ≡
+    Reserved keyword_reg ∷ Marked mark_open_bracket ∷ A ∷ Marked mark_colon ∷ B ∷ Marked mark_close_bracket ∷ A ∷ Marked mark_comma ∷ B ∷
+    Marked mark_open_bracket ∷ A ∷ Marked mark_colon ∷ B ∷ Marked mark_close_bracket ∷ Marked mark_semicolon ∷ []
+unfolding spell_item spell_type spell_where spell_range spell_separated spell_each spell_declarator spell_value spell
+spelled-memory = refl
+
+-- a name after a memory's has the number of its token
+numbered-memory : NumberedItem (Variables false None (record memory_b { token = 1; words = Some record { left = Name 3 (codes "a"); right = Name 5 (codes "b") } } ∷ record declared_a { token = 8 } ∷ [])) 0
+unfolding NumberedItem NumberedType NumberedSeparated NumberedEach NumberedDeclarator NumberedRange NumberedValue Numbered spell_type spell_where spell_range spell_declarator spell_value spell
+numbered-memory = search
 
 spelled-integers : spell_item (Integers (id_a ∷ id_b ∷ [])) ≡ Reserved keyword_integer ∷ A ∷ Marked mark_comma ∷ B ∷ Marked mark_semicolon ∷ []
 unfolding spell_item spell_separated spell_each spell_identifier
@@ -345,10 +361,36 @@ not-initial-if : WellFormedItem (Initial (If a Null) 0) → ⊥
 unfolding WellFormedItem is_initial
 not-initial-if h = let e = h.0 in cc
 
+-- a word of a memory is set in an `initial` item, and a part of a variable is not
+well-initial-word : WellFormedItem (Initial (Assign (Bit 0 (codes "a") b) true c) 0)
+unfolding WellFormedItem is_initial WellFormedStatement WellFormed is_target
+well-initial-word = search
+
+not-initial-part : WellFormedItem (Initial (Assign (Part 0 (codes "a") b c) true c) 0) → ⊥
+unfolding WellFormedItem is_initial
+not-initial-part h = let e = h.0 in cc
+
+-- a variable may have words, or a starting value, and not both; a net and a port have no words
+well-memory : WellFormedItem (Variables false None (memory_b ∷ started_b ∷ []))
+unfolding WellFormedItem WellFormedRange WellFormedDeclarator WellFormedValue WellFormed
+well-memory = (tt, omega arith, (((tt, tt), tt), ((tt, tt), tt)), (inr refl, (inl refl, tt)))
+
+not-started-memory : WellFormedItem (Variables false None (record memory_b { value = Some c } ∷ [])) → ⊥
+unfolding WellFormedItem
+not-started-memory h = elim h.3.0 [ inl e ↦ cc | inr e ↦ cc ]
+
+not-net-memory : WellFormedItem (Nets false None (memory_b ∷ [])) → ⊥
+unfolding WellFormedItem
+not-net-memory h = let e = h.3.0 in cc
+
+not-port-memory : WellFormedPort record { dir = dir.OutputReg; signed = false; range = None; names = memory_b ∷ [] } → ⊥
+unfolding WellFormedPort
+not-port-memory h = let e = h.4.0 in cc
+
 -- a starting value stands behind `output reg` alone
 well-started : WellFormedPort record { dir = dir.OutputReg; signed = false; range = None; names = started_b ∷ [] }
 unfolding WellFormedPort WellFormedRange WellFormedDeclarator WellFormedValue WellFormed MayStart
-well-started = (tt, omega arith, (tt, tt), (tt, tt))
+well-started = (tt, omega arith, ((tt, tt), tt), (tt, tt), (refl, tt))
 
 not-started : WellFormedPort record { dir = dir.Output; signed = false; range = None; names = started_b ∷ [] } → ⊥
 unfolding WellFormedPort MayStart

@@ -90,18 +90,17 @@ unfolding spell_where
 where_len true k = refl
 where_len false k = refl
 
-range_len : (b : Bounds) → length (spell_range (plain_range (Some b))) ≡ 3 + length (spell (plain b.left.now)) + length (spell (plain b.right.now))
+pub size-range-none : length (spell_range (plain_range None)) ≡ 0
 unfolding spell_range plain_range
-range_len b = simp length-append (omega arith)
+size-range-none = refl
 
-pub type_none : (signed : Bool) → length (spell_type signed (plain_range None)) ≡ cond signed 1 0
-unfolding spell_type spell_range plain_range spell_where
-type_none true = refl
-type_none false = refl
+pub size-range-some : (b : Bounds) → length (spell_range (plain_range (Some b))) ≡ 3 + length (spell (plain b.left.now)) + length (spell (plain b.right.now))
+unfolding spell_range plain_range
+size-range-some b = simp length-append (omega arith)
 
-pub type_some : (signed : Bool) (b : Bounds) → length (spell_type signed (plain_range (Some b))) ≡ cond signed 1 0 + 3 + length (spell (plain b.left.now)) + length (spell (plain b.right.now))
+pub size-type : (signed : Bool) (r : Option Bounds) → length (spell_type signed (plain_range r)) ≡ cond signed 1 0 + length (spell_range (plain_range r))
 unfolding spell_type
-type_some signed b = rw length-append (omega (arith, where_len signed keyword_signed, range_len b))
+size-type signed r = rw length-append (omega (arith, where_len signed keyword_signed))
 
 pub port_input : length (spell_dir dir.Input) ≡ 1
 unfolding spell_dir
@@ -135,13 +134,17 @@ pub size-parameter : (p : Params) → length (spell_parameter (plain_parameter p
 unfolding spell_parameter plain_parameter
 size-parameter p = simp length-append (omega (arith, where_len p.integer keyword_integer))
 
-pub size-declarator-none : (n : Declarator) → n.value ≡ None → length (spell_declarator (plain_declarator n)) ≡ 1
-unfolding spell_declarator plain_declarator spell_value plain_value
-size-declarator-none n h = rw h refl
+pub size-value-none : length (spell_value (plain_value None)) ≡ 0
+unfolding spell_value plain_value
+size-value-none = refl
 
-pub size-declarator-some : (n : Declarator) (e : Bor Expr) → n.value ≡ Some e → length (spell_declarator (plain_declarator n)) ≡ 2 + length (spell (plain e.now))
-unfolding spell_declarator plain_declarator spell_value plain_value
-size-declarator-some n e h = rw h (omega arith)
+pub size-value-some : (e : Bor Expr) → length (spell_value (plain_value (Some e))) ≡ 1 + length (spell (plain e.now))
+unfolding spell_value plain_value
+size-value-some e = omega arith
+
+pub size-declarator : (n : Declarator) → length (spell_declarator (plain_declarator n)) ≡ 1 + length (spell_range (plain_range n.words)) + length (spell_value (plain_value n.value))
+unfolding spell_declarator plain_declarator
+size-declarator n = simp length-append (omega arith)
 
 pub size-pair : (p : Pair) → length (spell_pair (plain_pair p)) ≡ 1 + length (spell (plain p.target.now)) + length (spell (plain p.value.now))
 unfolding spell_pair plain_pair
@@ -278,7 +281,13 @@ pub ruleset connections_sizes = (size-positions, size-named, parts_len, separate
 
 pub ruleset events_sizes = (size-star, size-edges, size-levels, parts_len)
 
-pub ruleset declarator_sizes = (size-declarator-none, size-declarator-some)
+pub ruleset range_sizes = (size-range-none, size-range-some)
+
+pub ruleset type_sizes = size-type
+
+pub ruleset value_sizes = (size-value-none, size-value-some)
+
+pub ruleset declarator_sizes = size-declarator
 
 pub ruleset overrides_sizes = (size-overrides-none, size-overrides-some)
 

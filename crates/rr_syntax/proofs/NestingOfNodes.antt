@@ -56,7 +56,7 @@ tallest-value (Some t) = omega arith
 
 tallest-declarator : (n : DeclaredName) → tallest (nodes_declarator n) ≡ depth_declarator n
 unfolding nodes_declarator depth_declarator
-tallest-declarator n = tallest-value n.value
+tallest-declarator n = tallest-append (nodes_range n.words) (nodes_value n.value) ∙ omega (arith, tallest-range n.words, tallest-value n.value)
 
 tallest-port : (p : PortDeclaration) → tallest (nodes_port p) ≡ depth_port p
 unfolding nodes_port depth_port

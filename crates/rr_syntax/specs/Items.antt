@@ -53,8 +53,9 @@ unfoldable pub spell_value : Option Tree → List Word
 spell_value None = []
 spell_value (Some t) = Marked mark_equals ∷ spell t
 
+-- the range of the words of a memory follows its name (section 4.9.3, annex A.2.4)
 unfoldable pub spell_declarator : DeclaredName → List Word
-spell_declarator n = Named n.text ∷ spell_value n.value
+spell_declarator n = Named n.text ∷ (spell_range n.words ++ spell_value n.value)
 
 unfoldable pub spell_port : PortDeclaration → List Word
 spell_port p = spell_dir p.dir ++ (spell_type p.signed p.range ++ spell_separated spell_declarator p.names)
@@ -181,7 +182,15 @@ WellFormedValue None = Unit {0}
 WellFormedValue (Some t) = WellFormed t
 
 unfoldable pub WellFormedDeclarator : DeclaredName → Type 0
-WellFormedDeclarator n = WellFormedValue n.value
+WellFormedDeclarator n = WellFormedRange n.words × WellFormedValue n.value
+
+-- a port and a net are no memories (section 4.9.3)
+abbrev pub HasNoWords : DeclaredName → Type 0
+HasNoWords n = IsNone n.words
+
+-- a memory has no starting value where it is declared (section 6.2.1, annex A.2.3)
+abbrev pub IsVariableName : DeclaredName → Type 0
+IsVariableName n = HasNoWords n ⊎ IsNone n.value
 
 -- of the ports, those that are declared `output reg` alone have starting values (section 12.3.3, annex A.2.3)
 unfoldable pub MayStart : Dir → DeclaredName → Type 0
@@ -193,7 +202,8 @@ MayStart dir.OutputWire n = IsNone n.value
 
 unfoldable pub WellFormedPort : PortDeclaration → Type 0
 WellFormedPort p =
-    WellFormedRange p.range × (0 < length p.names) × AllByRecursion WellFormedDeclarator p.names × AllByRecursion (MayStart p.dir) p.names
+    WellFormedRange p.range × (0 < length p.names) × AllByRecursion WellFormedDeclarator p.names × AllByRecursion (MayStart p.dir) p.names ×
+    AllByRecursion HasNoWords p.names
 
 -- an `integer` parameter has neither `signed` nor a range
 abbrev pub IsTypedOnce : Bool → Bool → Option Range → Type 0
@@ -238,8 +248,10 @@ WellFormedInstance i = WellFormedConnections i.connections
 
 unfoldable pub WellFormedItem : ModuleItem → Type 0
 WellFormedItem (Ports p) = WellFormedPort p
-WellFormedItem (Nets signed range names) = WellFormedRange range × (0 < length names) × AllByRecursion WellFormedDeclarator names
-WellFormedItem (Variables signed range names) = WellFormedRange range × (0 < length names) × AllByRecursion WellFormedDeclarator names
+WellFormedItem (Nets signed range names) =
+    WellFormedRange range × (0 < length names) × AllByRecursion WellFormedDeclarator names × AllByRecursion HasNoWords names
+WellFormedItem (Variables signed range names) =
+    WellFormedRange range × (0 < length names) × AllByRecursion WellFormedDeclarator names × AllByRecursion IsVariableName names
 WellFormedItem (Integers names) = 0 < length names
 WellFormedItem (Parameters p) = WellFormedParameter p
 WellFormedItem (Assigns pairs) = (0 < length pairs) × AllByRecursion WellFormedPair pairs
@@ -278,7 +290,7 @@ depth_value None = 0
 depth_value (Some t) = suc (depth t)
 
 unfoldable pub depth_declarator : DeclaredName → ℕ
-depth_declarator n = depth_value n.value
+depth_declarator n = max (depth_range n.words) (depth_value n.value)
 
 unfoldable pub depth_port : PortDeclaration → ℕ
 depth_port p = max (depth_range p.range) (greatest depth_declarator p.names)
@@ -365,7 +377,8 @@ NumberedValue None at = Unit {0}
 NumberedValue (Some t) at = Numbered t (at + 1)
 
 unfoldable pub NumberedDeclarator : DeclaredName → ℕ → Type 0
-NumberedDeclarator n at = (n.token ≡ at) × NumberedValue n.value (at + 1)
+NumberedDeclarator n at =
+    (n.token ≡ at) × NumberedRange n.words (at + 1) × NumberedValue n.value (at + 1 + length (spell_range n.words))
 
 unfoldable pub NumberedPort : PortDeclaration → ℕ → Type 0
 NumberedPort p at =
@@ -457,7 +470,7 @@ FitLiteralsValue None = Unit {0}
 FitLiteralsValue (Some t) = FitLiterals t
 
 unfoldable pub FitLiteralsDeclarator : DeclaredName → Type 0
-FitLiteralsDeclarator n = FitLiteralsValue n.value
+FitLiteralsDeclarator n = FitLiteralsRange n.words × FitLiteralsValue n.value
 
 unfoldable pub FitLiteralsPort : PortDeclaration → Type 0
 FitLiteralsPort p = FitLiteralsRange p.range × AllByRecursion FitLiteralsDeclarator p.names

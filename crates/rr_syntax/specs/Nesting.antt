@@ -40,7 +40,7 @@ nodes_value None = []
 nodes_value (Some t) = Expression t ∷ []
 
 unfoldable pub nodes_declarator : DeclaredName → List Node
-nodes_declarator n = nodes_value n.value
+nodes_declarator n = nodes_range n.words ++ nodes_value n.value
 
 unfoldable pub nodes_port : PortDeclaration → List Node
 nodes_port p = nodes_range p.range ++ gather nodes_declarator p.names

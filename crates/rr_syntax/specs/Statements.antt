@@ -15,22 +15,22 @@ is_open (Case kind t arms) = false
 is_open (Assign t now v) = false
 is_open (For h s) = is_open s
 
--- a bare name
-abbrev pub is_name : Tree → Bool
-is_name (Name token text) = true
-is_name (Literal token n) = false
-is_name (Bit token text i) = false
-is_name (Part token text l r) = false
-is_name (Indexed token text f w up) = false
-is_name (Unary op t) = false
-is_name (Binary op l r) = false
-is_name (Cond a b c) = false
-is_name (Concat ts) = false
-is_name (Repeat t ts) = false
-is_name (Cast signed t) = false
-is_name (Paren t) = false
+-- a bare name, or a bare name with one index: a variable, or a word of a memory
+abbrev pub is_cell : Tree → Bool
+is_cell (Name token text) = true
+is_cell (Literal token n) = false
+is_cell (Bit token text i) = true
+is_cell (Part token text l r) = false
+is_cell (Indexed token text f w up) = false
+is_cell (Unary op t) = false
+is_cell (Binary op l r) = false
+is_cell (Cond a b c) = false
+is_cell (Concat ts) = false
+is_cell (Repeat t ts) = false
+is_cell (Cast signed t) = false
+is_cell (Paren t) = false
 
--- what an `initial` item may hold: `;`, blocks, loops, and whole variables that are set by `=` (section 9.9.1)
+-- what an `initial` item may hold: `;`, blocks, loops, and variables and words of memories that are set by `=` (section 9.9.1)
 unfoldable mutual
   pub is_initial : Statement → Bool
   is_initial Null = true
@@ -38,7 +38,7 @@ unfoldable mutual
   is_initial (If t s) = false
   is_initial (IfElse t s u) = false
   is_initial (Case kind t arms) = false
-  is_initial (Assign t now v) = now && is_name t
+  is_initial (Assign t now v) = now && is_cell t
   is_initial (For h s) = is_initial s
 
   pub are_initial : Statements → Bool

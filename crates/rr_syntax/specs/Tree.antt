@@ -68,10 +68,11 @@ pub record Range : Type 0 where
   pub right : Tree
 
 -- a declared net and what drives it, or a declared variable and its starting value, where it has one (sections 6.1.1 and 6.2.1,
--- annex A.2.4)
+-- annex A.2.4); of a memory `words` bounds the indices of its words (section 4.9.3)
 pub record DeclaredName : Type 0 where
   pub token : ℕ
   pub text : List ℕ
+  pub words : Option Range
   pub value : Option Tree
 
 -- a port declaration without its semicolon (section 12.3.3, annex A.2.1.2)
@@ -225,7 +226,7 @@ bare_value None = None
 bare_value (Some t) = Some (bare t)
 
 unfoldable pub bare_declarator : DeclaredName → DeclaredName
-bare_declarator n = record { token = 0; text = n.text; value = bare_value n.value }
+bare_declarator n = record { token = 0; text = n.text; words = bare_range n.words; value = bare_value n.value }
 
 unfoldable pub bare_port : PortDeclaration → PortDeclaration
 bare_port p = record p { range = bare_range p.range; names = map bare_declarator p.names }

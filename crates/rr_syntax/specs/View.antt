@@ -111,7 +111,7 @@ plain_value None = None
 plain_value (Some e) = Some (plain e.now)
 
 unfoldable pub plain_declarator : Declarator → DeclaredName
-plain_declarator n = record { token = n.token; text = n.name.now; value = plain_value n.value }
+plain_declarator n = record { token = n.token; text = n.name.now; words = plain_range n.words; value = plain_value n.value }
 
 unfoldable pub plain_port : Group → PortDeclaration
 plain_port g = record { dir = g.dir; signed = g.signed; range = plain_range g.range; names = map plain_declarator g.names.now }

@@ -147,13 +147,21 @@ fn value_height(value: &Option<&Expr>) -> u32
     }
 }
 
+#[tactic(auto, using(crate::proofs::Depths::declarator_depths))]
+fn declarator_height(declarator: &Declarator) -> u32
+    requires fits { depth_declarator (plain_declarator declarator.now) < 2 ^ 32 }
+    ensures { result ≡ depth_declarator (plain_declarator declarator.now) }
+{
+    range_height(&declarator.words).max(value_height(&declarator.value))
+}
+
 fn declarators_height(names: &[Declarator]) -> u32
     requires fits { greatest depth_declarator (map plain_declarator names.now) < 2 ^ 32 }
     ensures { result ≡ greatest depth_declarator (map plain_declarator names.now) }
 {
     let mut deepest = 0;
     for declarator in names.iter() {
-        deepest = deepest.max(value_height(&declarator.value));
+        deepest = deepest.max(declarator_height(declarator));
     }
     deepest
 }

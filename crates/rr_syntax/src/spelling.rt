@@ -2,9 +2,9 @@
 
 ghost use Rattle.std.specs.Prelude.{◌≡◌, ◌<◌, ◌^◌, length, map};
 ghost use Rattle.rr_syntax.specs.Expressions.{spell, spell_more, spell_parts};
-ghost use Rattle.rr_syntax.specs.Items.{spell_all, spell_assignment, spell_connection, spell_connections, spell_each, spell_events, spell_identifier, spell_instance, spell_item, spell_module, spell_declarator, spell_overrides, spell_pair, spell_parameter, spell_parameters, spell_port, spell_ports, spell_separated, spell_source, spell_type};
+ghost use Rattle.rr_syntax.specs.Items.{spell_all, spell_assignment, spell_connection, spell_connections, spell_each, spell_events, spell_identifier, spell_instance, spell_item, spell_module, spell_declarator, spell_overrides, spell_pair, spell_parameter, spell_parameters, spell_port, spell_ports, spell_range, spell_separated, spell_source, spell_type, spell_value};
 ghost use Rattle.rr_syntax.specs.Statements.{spell_arms, spell_label, spell_labels, spell_loop, spell_statement, spell_statements};
-ghost use Rattle.rr_syntax.specs.View.{plain, plain_arms, plain_assignment, plain_connection, plain_connections, plain_events, plain_header, plain_identifier, plain_instance, plain_item, plain_label, plain_list, plain_loop, plain_module, plain_declarator, plain_overrides, plain_pair, plain_parameter, plain_port, plain_range, plain_source, plain_statement, plain_statements};
+ghost use Rattle.rr_syntax.specs.View.{plain, plain_arms, plain_assignment, plain_connection, plain_connections, plain_events, plain_header, plain_identifier, plain_instance, plain_item, plain_label, plain_list, plain_loop, plain_module, plain_declarator, plain_overrides, plain_pair, plain_parameter, plain_port, plain_range, plain_source, plain_statement, plain_statements, plain_value};
 
 use crate::tree::{
     Arm, Bounds, Connection, Conns, Declarator, Dir, Events, Expr, Group, Head, Instance, Item,
@@ -141,17 +141,24 @@ fn labels_len(labels: &[Expr], colon: bool) -> u64
     }
 }
 
+#[tactic(auto, using(crate::proofs::ItemLengths::range_sizes))]
+fn range_len(range: &Option<Bounds>) -> u64
+    requires fits { length (spell_range (plain_range range.now)) < 2 ^ 64 }
+    ensures { result ≡ length (spell_range (plain_range range.now)) }
+{
+    match range {
+        None => 0,
+        Some(bounds) => 3 + expression_len(bounds.left) + expression_len(bounds.right),
+    }
+}
+
 // `signed` and the range, where they stand.
-#[tactic(auto, using(crate::proofs::ItemLengths::type_none, crate::proofs::ItemLengths::type_some))]
+#[tactic(auto, using(crate::proofs::ItemLengths::type_sizes))]
 fn type_len(signed: bool, range: &Option<Bounds>) -> u64
     requires fits { length (spell_type signed (plain_range range.now)) < 2 ^ 64 }
     ensures { result ≡ length (spell_type signed (plain_range range.now)) }
 {
-    let word = u64::from(signed);
-    match range {
-        None => word,
-        Some(bounds) => word + 3 + expression_len(bounds.left) + expression_len(bounds.right),
-    }
+    u64::from(signed) + range_len(range)
 }
 
 #[tactic(auto, using(crate::proofs::ItemLengths::names_len))]
@@ -161,15 +168,24 @@ fn names_len(names: &[Named]) -> u64
     (2 * names.len() as u64).saturating_sub(1)
 }
 
+// `=` and the value, where they stand.
+#[tactic(auto, using(crate::proofs::ItemLengths::value_sizes))]
+fn value_len(value: &Option<&Expr>) -> u64
+    requires fits { length (spell_value (plain_value value.now)) < 2 ^ 64 }
+    ensures { result ≡ length (spell_value (plain_value value.now)) }
+{
+    match value {
+        None => 0,
+        Some(expr) => 1 + expression_len(expr),
+    }
+}
+
 #[tactic(auto, using(crate::proofs::ItemLengths::declarator_sizes))]
 fn declarator_len(declarator: &Declarator) -> u64
     requires fits { length (spell_declarator (plain_declarator declarator.now)) < 2 ^ 64 }
     ensures { result ≡ length (spell_declarator (plain_declarator declarator.now)) }
 {
-    match declarator.value {
-        None => 1,
-        Some(value) => 2 + expression_len(value),
-    }
+    1 + range_len(&declarator.words) + value_len(&declarator.value)
 }
 
 fn declarators_len(names: &[Declarator]) -> u64

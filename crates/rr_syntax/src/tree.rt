@@ -140,11 +140,13 @@ pub enum Dir {
 }
 
 /// A declared net and its driver, or a declared variable and its starting value, where the
-/// declaration gives one (sections 6.1.1 and 6.2.1).
+/// declaration gives one (sections 6.1.1 and 6.2.1). A memory has the bounds of its words' indices
+/// (section 4.9.3) and no starting value; nets and ports have no `words`.
 #[derive(Clone, Copy)]
 pub struct Declarator<'a> {
     pub token: u32,
     pub name: &'a str,
+    pub words: Option<Bounds<'a>>,
     pub value: Option<&'a Expr<'a>>,
 }
 

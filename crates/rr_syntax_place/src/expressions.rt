@@ -232,6 +232,20 @@ pub(crate) fn range(cursor: &mut Cursor, room: u32) -> Option<()>
     Some(())
 }
 
+/// A name, and an index of it where one stands.
+pub(crate) fn cell(cursor: &mut Cursor, room: u32) -> Option<()>
+    ensures goes { Goes cursor.old cursor.new }
+{
+    cursor.name()?;
+    if !cursor.is_mark(Mark::OPEN_BRACKET) {
+        return Some(());
+    }
+    let inside = inner(room)?;
+    cursor.expect(Mark::OPEN_BRACKET)?;
+    expression(cursor, inside)?;
+    cursor.expect(Mark::CLOSE_BRACKET)
+}
+
 /// The target of an assignment.
 #[cycle(targets)]
 pub(crate) fn target(cursor: &mut Cursor, room: u32) -> Option<()>

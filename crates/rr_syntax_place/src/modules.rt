@@ -190,6 +190,38 @@ fn declarators(cursor: &mut Cursor, starts: bool) -> Option<()>
     )
 }
 
+/// A variable and its starting value, where one stands, or a memory, whose words' range stands.
+fn variable(cursor: &mut Cursor) -> Option<()>
+    ensures { Goes cursor.old cursor.new }
+{
+    cursor.name()?;
+    if !cursor.take(Mark::EQUALS) {
+        return range(cursor, ITEM);
+    }
+    expression(cursor, ITEM)?;
+    Some(())
+}
+
+/// Behind `reg`.
+fn variables(cursor: &mut Cursor) -> Option<()>
+    ensures goes { Goes cursor.old cursor.new }
+    ensures takes { IfSome result (λ t. Takes cursor.old cursor.new) }
+{
+    cursor.take_word(Keyword::SIGNED);
+    range(cursor, ITEM)?;
+    listed(cursor, |part| variable(part), Mark::SEMICOLON)
+}
+
+/// Behind `wire`.
+fn nets(cursor: &mut Cursor) -> Option<()>
+    ensures goes { Goes cursor.old cursor.new }
+    ensures takes { IfSome result (λ t. Takes cursor.old cursor.new) }
+{
+    cursor.take_word(Keyword::SIGNED);
+    range(cursor, ITEM)?;
+    declarators(cursor, true)
+}
+
 /// Names with commas between, one or more, up to a semicolon.
 fn names(cursor: &mut Cursor) -> Option<()>
     ensures goes { Goes cursor.old cursor.new }
@@ -205,10 +237,10 @@ fn item(cursor: &mut Cursor) -> Option<()>
     if is_direction(cursor) {
         let starts = direction(cursor, ITEM)?;
         declarators(cursor, starts)
-    } else if cursor.take_word(Keyword::WIRE) || cursor.take_word(Keyword::REG) {
-        cursor.take_word(Keyword::SIGNED);
-        range(cursor, ITEM)?;
-        declarators(cursor, true)
+    } else if cursor.take_word(Keyword::WIRE) {
+        nets(cursor)
+    } else if cursor.take_word(Keyword::REG) {
+        variables(cursor)
     } else if cursor.take_word(Keyword::INTEGER) {
         names(cursor)
     } else if cursor.take_word(Keyword::PARAMETER) || cursor.take_word(Keyword::LOCALPARAM) {

@@ -5,7 +5,7 @@ ghost use Rattle.std.specs.Prelude.{IfSome};
 ghost use Rattle.rr_syntax_place.specs.Going.{Goes, Takes};
 
 use crate::cursor::Cursor;
-use crate::expressions::{expression, inner, list, target};
+use crate::expressions::{cell, expression, inner, list, target};
 use rr_syntax::{Keyword, Mark};
 
 /// A statement.
@@ -175,8 +175,19 @@ fn arm(cursor: &mut Cursor, inside: u32, default: bool) -> Option<bool>
     Some(default)
 }
 
-/// What an `initial` item may hold (section 9.9.1): `;`, blocks, loops, and whole variables that are set
-/// by `=`.
+/// A variable or a word of a memory, `=` and an expression.
+fn initial_assignment(cursor: &mut Cursor, inside: u32) -> Option<()>
+    ensures goes { Goes cursor.old cursor.new }
+    ensures takes { IfSome result (λ t. Takes cursor.old cursor.new) }
+{
+    cell(cursor, inside)?;
+    cursor.expect(Mark::EQUALS)?;
+    expression(cursor, inside)?;
+    cursor.expect(Mark::SEMICOLON)
+}
+
+/// What an `initial` item may hold (section 9.9.1): `;`, blocks, loops, and variables and words of
+/// memories that are set by `=`.
 #[cycle(initials)]
 pub(crate) fn initial_statement(cursor: &mut Cursor, room: u32) -> Option<()>
     ensures goes { Goes cursor.old cursor.new }
@@ -195,7 +206,7 @@ pub(crate) fn initial_statement(cursor: &mut Cursor, room: u32) -> Option<()>
     if cursor.take_word(Keyword::FOR) {
         return initial_loop(cursor, inside);
     }
-    setting(cursor, Mark::SEMICOLON, inside)
+    initial_assignment(cursor, inside)
 }
 
 /// Behind the `for` of a loop over such a statement.

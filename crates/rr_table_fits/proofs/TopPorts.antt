@@ -1,7 +1,7 @@
 -- The ports of the top of a flat design: no two of them have one name.
-use Rattle.std.proofs.Common.{◌≡◌, ◌∙◌, ℕ, ◌+◌, ◌-◌, ◌<◌, Bool, true, false, if◌then◌else◌, List, [], ◌∷◌, ◌++◌, length, Option, None, Result, Ok, Err, refl, sym, subst, ap, arith}
+use Rattle.std.proofs.Common.{◌≡◌, ◌∙◌, ℕ, ◌+◌, ◌-◌, ◌<◌, Bool, true, false, if◌then◌else◌, List, [], ◌∷◌, ◌++◌, length, Option, None, is_some, Result, Ok, Err, refl, sym, subst, ap, arith}
 use Rattle.std.specs.Prelude.{All, nat_eq, slice_index_or}
-use Rattle.std.proofs.lemmas.Bool.{and_parts, eqb-true}
+use Rattle.std.proofs.lemmas.Bool.{and_parts, both_ways, eqb-true}
 use Rattle.std.proofs.lemmas.List.{append_assoc, get_or-append_right, length-append}
 use Rattle.std.proofs.lemmas.List.Elements.{All-nil, All-cons, All-filter, All-append}
 use Rattle.rr_syntax.specs.Tree.{ModuleDeclaration, SourceText}
@@ -11,17 +11,23 @@ use Rattle.rr_flat.specs.Inputs.{row_inputs}
 use Rattle.rr_flat.specs.Plain.{Flat}
 use Rattle.rr_flat.specs.Signals.{Signal, Text, no_signal, signal_at}
 use Rattle.rr_flat.specs.declared.fault.FlatFault.{FlatFault}
+use Rattle.rr_flat.specs.declared.signal.Port.{Port}
+use Rattle.rr_flat.specs.declared.signal.Port.TheVariants.{Inner}
 use Rattle.rr_flatten.specs.Tables.{add_module}
 use Rattle.rr_flatten.specs.Walk.{Walked, enter_top, finished, flat_by, flat_of, is_top_port, is_way, top_place, top_ports}
-use Rattle.rr_flat_laws.specs.Declared.{Declares}
-use Rattle.rr_flat_laws.specs.Names.{IsSignalOf, NamesAre, module_of}
+use Rattle.rr_flat_laws.specs.Declared.{DeclaresAs}
+use Rattle.rr_flat_laws.specs.Names.{IsPort, IsSignalOf, NamesAre, module_of}
 use Rattle.rr_flat_laws.proofs.Naming.{names_of_design}
 use Rattle.rr_trace.specs.Tops.{name_of}
 
--- a signal of the top
+-- a port of the top
 pub record IsOfTop (signals : List Signal) (id : ℕ) : Type 0 where
   pub there : id < length signals
   pub instance : (signal_at signals id).instance ≡ 0
+  pub port : IsPort (signal_at signals id)
+
+way_port : (input : Bool) (p : Port) → is_way input p ≡ true → p ≡ Inner → ⊥
+way_port input p h e = both_ways (is_way input p) (ap (is_way input) e) h
 
 next_there : (more : List Signal) (s : Signal) (ss : List Signal) (k : ℕ) → length more ≡ k → signal_at (more ++ s ∷ ss) k ≡ s
 next_there more s ss k h =
@@ -34,7 +40,11 @@ top_one input more s ss k true h q rest =
     let p = and_parts (nat_eq s.instance 0) (is_way input s.port) q in
     let l = length-append more (s ∷ ss) in
     All-cons (IsOfTop (more ++ s ∷ ss)) k (top_ports input (k + 1) ss)
-    (record { there = omega arith; instance = ap (λ (x : Signal). x.instance) (next_there more s ss k h) ∙ eqb-true s.instance 0 p.0 }) rest
+    (record {
+      there = omega arith;
+      instance = ap (λ (x : Signal). x.instance) (next_there more s ss k h) ∙ eqb-true s.instance 0 p.0;
+      port = subst IsPort (sym (next_there more s ss k h)) (way_port input s.port p.1);
+    }) rest
 top_one input more s ss k false h q rest = rest
 
 top_at : (input : Bool) (ss more : List Signal) (k : ℕ) → length more ≡ k → All (IsOfTop (more ++ ss)) (top_ports input k ss)
@@ -83,7 +93,9 @@ pub one_name : (source : SourceText) (top : Option Text) (flat : Flat) → flat_
 one_name source top flat e a b h k same =
     let names : NamesAre source flat = names_of_design source top flat e in
     let named = names.named b k.there in
-    let one = names.one 0 (name_of flat b) (subst (λ i. i < length flat.owners) k.instance named.there) (subst (λ i. Declares (module_of source flat i) (name_of flat b)) k.instance named.declared) in
+    let whole : DeclaresAs (module_of source flat (signal_at flat.signals b).instance) false (name_of flat b) =
+    subst (λ (w : Option ℕ). DeclaresAs (module_of source flat (signal_at flat.signals b).instance) (is_some w) (name_of flat b)) (named.whole k.port) named.declared in
+    let one = names.one 0 (name_of flat b) (subst (λ i. i < length flat.owners) k.instance named.there) (subst (λ i. DeclaresAs (module_of source flat i) false (name_of flat b)) k.instance whole) in
     let first : IsSignalOf flat 0 (name_of flat b) a = record { there = h.there; instance = h.instance; named = same } in
     let second : IsSignalOf flat 0 (name_of flat b) b = record { there = k.there; instance = k.instance; named = refl } in
     one.alone a first ∙ sym (one.alone b second)

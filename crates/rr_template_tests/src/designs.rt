@@ -1,5 +1,5 @@
-//! The guard sites and the overwrite sites of two modules, one of which instantiates the other, and of
-//! a module with loops.
+//! The guard sites and the overwrite sites of two modules, one of which instantiates the other, of a
+//! module with loops, and of one with a memory.
 
 ghost use Rattle.std.specs.Prelude.{◌≡◌, ◌<◌, ◌^◌, ℕ, IfOk, IfSome, List, Option, length, map};
 ghost use Rattle.std.specs.List.{AllByRecursion};
@@ -143,6 +143,58 @@ const LOOP_OVERWRITES: [Site; 2] = [
             names: &["v"],
         },
         token: 85,
+    },
+];
+
+/// A memory of scalar words beside a register: the clocked block writes a word by its index, and both read some.
+const WORDS: &str = "module m(input clk, input s, input [1:0] a, output reg [1:0] y);
+  reg r [0:3], v;
+  always @(posedge clk) begin r[a] <= s; if (r[3]) v <= s; end
+  always @* begin y = a; if (v) y = r[a]; end
+endmodule
+";
+
+/// `r[3]` in the clocked block, and `v` in the other body. The memory is no name of a guard, also where `<=` writes it.
+const WORD_GUARDS: [Site; 2] = [
+    Site {
+        kind: SiteKind::Guard {
+            module: 0,
+            extent: 4,
+            names: &["s", "v"],
+        },
+        token: 53,
+    },
+    Site {
+        kind: SiteKind::Guard {
+            module: 0,
+            extent: 1,
+            names: &["v"],
+        },
+        token: 73,
+    },
+];
+
+/// `v` at the `begin` of the clocked block, where no word is one, and `y` at that of the other.
+const WORD_OVERWRITES: [Site; 2] = [
+    Site {
+        kind: SiteKind::Overwrite {
+            module: 0,
+            target: "v",
+            width: 1,
+            now: false,
+            names: &["s", "v"],
+        },
+        token: 43,
+    },
+    Site {
+        kind: SiteKind::Overwrite {
+            module: 0,
+            target: "y",
+            width: 2,
+            now: true,
+            names: &["v"],
+        },
+        token: 66,
     },
 ];
 
@@ -359,5 +411,13 @@ fn sites_round_loops(rt: HostRuntime) -> Result<(), Fail> {
     let alloc = rt.alloc();
     assert!(rt; answers(alloc, LOOPS, 0, Asked::Guards, &LOOP_GUARDS)?);
     assert!(rt; answers(alloc, LOOPS, 0, Asked::Overwrites, &LOOP_OVERWRITES)?);
+    Ok(())
+}
+
+#[test]
+fn sites_beside_memories(rt: HostRuntime) -> Result<(), Fail> {
+    let alloc = rt.alloc();
+    assert!(rt; answers(alloc, WORDS, 0, Asked::Guards, &WORD_GUARDS)?);
+    assert!(rt; answers(alloc, WORDS, 0, Asked::Overwrites, &WORD_OVERWRITES)?);
     Ok(())
 }

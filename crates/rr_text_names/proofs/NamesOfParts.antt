@@ -11,13 +11,12 @@ use Rattle.rr_syntax.specs.Tree.{Tree}
 use Rattle.rr_syntax.specs.View.{plain, plain_identifier}
 use Rattle.rr_syntax.proofs.Rows.{plain_concat, plain_repeat}
 use Rattle.rr_expr.specs.declared.types.Entity.{Entity}
-use Rattle.rr_expr.specs.declared.types.Entity.TheVariants.{Constant, Signal as SignalEntity, Instance}
+use Rattle.rr_expr.specs.declared.types.Entity.TheVariants.{Constant, Signal as SignalEntity, Memory, Instance}
 use Rattle.rr_expr.specs.Scopes.{Names, lookup, or_instance}
 use Rattle.rr_flat.specs.Signals.{Text, Signal}
 use Rattle.rr_flat.specs.Sound.{AreNamed, IsNamed}
-use Rattle.rr_flat.specs.Targets.{is_constant, is_fixed}
-use Rattle.rr_flat.specs.Targets.{part_name}
-use Rattle.rr_text_names.specs.Names.{part_identifier, part_token, signal_of}
+use Rattle.rr_flat.specs.Targets.{variable_of, is_constant, is_fixed, is_indexed, part_name}
+use Rattle.rr_text_names.specs.Names.{part_identifier, part_token}
 use denote.Ref.{Bor}
 
 pub identifier-Name : (token : ℕ) (name : Bor (List ℕ)) → part_identifier (plain (expr.Name token name)) ≡ record { token = token; text = name.now }
@@ -116,6 +115,54 @@ fixed-Paren s t = refl
 
 pub ruleset fixed_nodes = (fixed-Name, fixed-Literal, fixed-Bit, fixed-Part, fixed-Indexed, fixed-Unary, fixed-Binary, fixed-Cond, fixed-Concat, fixed-Repeat, fixed-Cast, fixed-Paren)
 
+pub indexed-Name : (token : ℕ) (name : Bor (List ℕ)) → is_indexed (plain (expr.Name token name)) ≡ false
+unfolding plain
+indexed-Name token name = refl
+
+pub indexed-Literal : (token : ℕ) (n : Number) → is_indexed (plain (expr.Literal token n)) ≡ false
+unfolding plain
+indexed-Literal token n = refl
+
+pub indexed-Bit : (token : ℕ) (name : Bor (List ℕ)) (i : Bor Expr) → is_indexed (plain (expr.Bit token name i)) ≡ true
+unfolding plain
+indexed-Bit token name i = refl
+
+pub indexed-Part : (token : ℕ) (name : Bor (List ℕ)) (l r : Bor Expr) → is_indexed (plain (expr.Part token name l r)) ≡ false
+unfolding plain
+indexed-Part token name l r = refl
+
+pub indexed-Indexed : (token : ℕ) (name : Bor (List ℕ)) (f n : Bor Expr) (up : Bool) → is_indexed (plain (expr.Indexed token name f n up)) ≡ false
+unfolding plain
+indexed-Indexed token name f n up = refl
+
+pub indexed-Unary : (op : Mark) (t : Bor Expr) → is_indexed (plain (expr.Unary op t)) ≡ false
+unfolding plain
+indexed-Unary op t = refl
+
+pub indexed-Binary : (op : Mark) (l r : Bor Expr) → is_indexed (plain (expr.Binary op l r)) ≡ false
+unfolding plain
+indexed-Binary op l r = refl
+
+pub indexed-Cond : (a b c : Bor Expr) → is_indexed (plain (expr.Cond a b c)) ≡ false
+unfolding plain
+indexed-Cond a b c = refl
+
+pub indexed-Concat : (ts : Bor (List Expr)) → is_indexed (plain (expr.Concat ts)) ≡ false
+indexed-Concat ts = ap is_indexed (plain_concat ts)
+
+pub indexed-Repeat : (n : Bor Expr) (ts : Bor (List Expr)) → is_indexed (plain (expr.Repeat n ts)) ≡ false
+indexed-Repeat n ts = ap is_indexed (plain_repeat n ts)
+
+pub indexed-Cast : (signed : Bool) (t : Bor Expr) → is_indexed (plain (expr.Cast signed t)) ≡ false
+unfolding plain
+indexed-Cast signed t = refl
+
+pub indexed-Paren : (t : Bor Expr) → is_indexed (plain (expr.Paren t)) ≡ false
+unfolding plain
+indexed-Paren t = refl
+
+pub ruleset indexed_nodes = (indexed-Name, indexed-Literal, indexed-Bit, indexed-Part, indexed-Indexed, indexed-Unary, indexed-Binary, indexed-Cond, indexed-Concat, indexed-Repeat, indexed-Cast, indexed-Paren)
+
 -- the name of a part by its node
 
 pub named_text : (n : Named) (t : Tree) → plain_identifier n ≡ part_identifier t → n.name.now ≡ part_name t
@@ -126,21 +173,28 @@ pub named_token : (n : Named) (t : Tree) → plain_identifier n ≡ part_identif
 unfolding plain_identifier
 named_token n t h = ap (λ i. i.token) h
 
--- the signal of a name is one of the design
+-- what a name stands for is of the design
+
+pub named_sound : (signals : List Signal) (names : Names) (name : Text) (r : Entity) → AreNamed 0 signals names → r ≡ or_instance (lookup name names) → IsNamed 0 signals r
+unfolding lookup
+named_sound signals [] name r a h = rw h tt
+named_sound signals (e ∷ es) name r a h = go (bytes_eq name e.0) h (λ q. named_sound signals es name r (λ k d m. a (suc k) d (omega (arith, m))) q)
+  where
+    go : (b : Bool) → r ≡ or_instance (cond b (Some e.1) (lookup name es)) → (r ≡ or_instance (lookup name es) → IsNamed 0 signals r) → IsNamed 0 signals r
+    go true q rec = rw q (a 0 e (omega arith))
+    go false q rec = rec q
 
 abbrev Below : ℕ → Option ℕ → Type 0
 Below n r = IfSome r (λ id. id < n)
 
-entity_below : (signals : List Signal) (n : ℕ) (e : Entity) → length signals ≡ n → IsNamed 0 signals e → Below n (signal_of e)
+entity_below : (signals : List Signal) (n : ℕ) (e : Entity) → length signals ≡ n → IsNamed 0 signals e → Below n (variable_of e)
 entity_below signals n (Constant bits signed) l h = tt
 entity_below signals n (SignalEntity id range signed) l h = let k = h.1 in omega (arith, k, l)
+entity_below signals n (Memory first low words range signed) l h =
+    let k = h.1 in
+    let p = h.2 in
+    omega (arith, k, p, l)
 entity_below signals n Instance l h = tt
 
-pub named_below : (signals : List Signal) (n : ℕ) (names : Names) (name : Text) (r : Option ℕ) → length signals ≡ n → AreNamed 0 signals names → r ≡ signal_of (or_instance (lookup name names)) → Below n r
-unfolding lookup
-named_below signals n [] name r l a h = rw h tt
-named_below signals n (e ∷ es) name r l a h = go (bytes_eq name e.0) h (λ q. named_below signals n es name r l (λ k d m. a (suc k) d (omega (arith, m))) q)
-  where
-    go : (b : Bool) → r ≡ signal_of (or_instance (cond b (Some e.1) (lookup name es))) → (r ≡ signal_of (or_instance (lookup name es)) → Below n r) → Below n r
-    go true q rec = rw q (entity_below signals n e.1 l (a 0 e (omega arith)))
-    go false q rec = rec q
+pub variable_below : (signals : List Signal) (n : ℕ) (e : Entity) (r : Option ℕ) → length signals ≡ n → IsNamed 0 signals e → r ≡ variable_of e → Below n r
+variable_below signals n e r l h q = rw q (entity_below signals n e l h)

@@ -10,6 +10,6 @@ pub use lists::{
     Target, add_assigned_targets, add_names, add_parts, add_read_names, add_statement_names,
 };
 pub use names::{
-    identifier_of, instance_of, is_fixed, is_input, is_scalar, is_variable, scalar_named,
-    signal_named, signal_of,
+    entity_named, identifier_of, instance_of, is_fixed, is_indexed, is_input, is_scalar,
+    is_variable, scalar_named, signal_of, variable_named,
 };

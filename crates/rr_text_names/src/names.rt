@@ -1,10 +1,11 @@
 //! What names stand for in a flat design.
-ghost use Rattle.std.specs.Prelude.{◌≡◌, ◌<◌, length, is_none, IfSome};
+ghost use Rattle.std.specs.Prelude.{◌≡◌, ◌<◌, length, map, is_none, IfSome};
 ghost use Rattle.rr_syntax.specs.View.{plain, plain_identifier};
 ghost use Rattle.rr_expr.specs.Scopes.{meant, or_instance};
 ghost use Rattle.rr_flat.specs.Signals.{signal_at};
-ghost use Rattle.rr_flat.specs.Targets.{is_fixed as is_fixed_in};
-ghost use Rattle.rr_flat.specs.View.{plain_flat};
+ghost use Rattle.rr_flat.specs.Sound.{IsNamed};
+ghost use Rattle.rr_flat.specs.Targets.{is_fixed as is_fixed_in, is_indexed as is_indexed_part, variable_of as variable_of_entity};
+ghost use Rattle.rr_flat.specs.View.{plain_flat, plain_signal};
 ghost use Rattle.rr_flat.specs.Writers.{scope_at};
 ghost use Rattle.rr_text_names.specs.Names.{is_input as is_input_port, part_identifier, scalar_of as scalar_of_entity, signal_of as signal_of_entity};
 
@@ -12,26 +13,58 @@ use rr_expr::{Entity, Scope};
 use rr_flat::{Flat, Port, is_constant};
 use rr_syntax::{Expr, Named};
 
-/// The signal for which an entity stands.
+/// The signal for which an entity stands; a memory is no one signal.
 pub fn signal_of(entity: Option<Entity>) -> Option<u32>
     ensures { result ≡ signal_of_entity (or_instance entity) }
 {
     match entity {
         Some(Entity::Signal { id, .. }) => Some(id),
-        Some(Entity::Constant { .. }) | Some(Entity::Instance) | None => None,
+        Some(Entity::Constant { .. })
+        | Some(Entity::Memory { .. })
+        | Some(Entity::Instance)
+        | None => None,
     }
 }
 
-/// The signal for which a name stands in the instance with this number.
+fn entity_of(entity: Option<Entity>) -> Entity
+    ensures { result ≡ or_instance entity }
+{
+    match entity {
+        Some(entity) => entity,
+        None => Entity::Instance,
+    }
+}
+
+/// What a name stands for in the instance with this number.
 #[tactic(auto, unfolding(rr_expr::specs::Scopes::meant, rr_expr::specs::Scopes::lookup))]
-pub fn signal_named(flat: &Flat, scope: u32, name: &str) -> Option<u32>
-    ensures value { result ≡ signal_of_entity (meant (scope_at (plain_flat flat.now) scope) name.now) }
-    ensures inside { IfSome result (λ id. id < length flat.now.signals) }
+pub fn entity_named(flat: &Flat, scope: u32, name: &str) -> Entity
+    ensures value { result ≡ meant (scope_at (plain_flat flat.now) scope) name.now }
+    ensures sound { IsNamed 0 (map plain_signal flat.now.signals) result }
 {
     match flat.scope(scope) {
-        Some(names) => signal_of(names.find(name)),
-        None => None,
+        Some(names) => entity_of(names.find(name)),
+        None => Entity::Instance,
     }
+}
+
+fn variable_of(entity: &Entity) -> Option<u32>
+    ensures { result ≡ variable_of_entity entity.now }
+{
+    match entity {
+        Entity::Signal { id, .. } => Some(*id),
+        Entity::Memory { first, .. } => Some(*first),
+        Entity::Constant { .. } => None,
+        Entity::Instance => None,
+    }
+}
+
+/// The variable or net for which it stands there; a memory is one variable, by the signal of its first
+/// word.
+pub fn variable_named(flat: &Flat, scope: u32, name: &str) -> Option<u32>
+    ensures value { result ≡ variable_of_entity (meant (scope_at (plain_flat flat.now) scope) name.now) }
+    ensures inside { IfSome result (λ id. id < length flat.now.signals) }
+{
+    variable_of(&entity_named(flat, scope, name))
 }
 
 /// Whether a signal is a variable.
@@ -109,6 +142,27 @@ pub fn is_fixed(part: &Expr, names: &Scope) -> bool
     }
 }
 
+/// Whether it has an index, as `NAME[e]` does.
+#[tactic(auto, using(crate::proofs::NamesOfParts::indexed_nodes))]
+pub fn is_indexed(part: &Expr) -> bool
+    ensures { result ≡ is_indexed_part (plain part.now) }
+{
+    match part {
+        Expr::Bit { .. } => true,
+        Expr::Name { .. }
+        | Expr::Literal { .. }
+        | Expr::Part { .. }
+        | Expr::Indexed { .. }
+        | Expr::Unary { .. }
+        | Expr::Binary { .. }
+        | Expr::Cond { .. }
+        | Expr::Concat { .. }
+        | Expr::Repeat { .. }
+        | Expr::Cast { .. }
+        | Expr::Paren { .. } => false,
+    }
+}
+
 fn scalar_of(entity: Option<Entity>) -> Option<u32>
     ensures { result ≡ scalar_of_entity (or_instance entity) }
 {
@@ -122,6 +176,7 @@ fn scalar_of(entity: Option<Entity>) -> Option<u32>
         ) => Some(id),
         Some(Entity::Signal { range: Some(_), .. })
         | Some(Entity::Constant { .. })
+        | Some(Entity::Memory { .. })
         | Some(Entity::Instance)
         | None => None,
     }

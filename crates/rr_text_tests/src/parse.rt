@@ -5,7 +5,7 @@ use bumpalo::Bump;
 use rr_lex::lex;
 use rr_parse::parse;
 use rr_parse_expr::ParseFault;
-use rr_syntax::{Declarator, Group, Item, KEYWORDS, Source, Stmt, depth, spell_len};
+use rr_syntax::{Bounds, Declarator, Expr, Group, Item, KEYWORDS, Source, Stmt, depth, spell_len};
 use rr_syntax_place::stop;
 use std::alloc::{AllocError, Global};
 use std::test::Fail;
@@ -58,7 +58,7 @@ fn is_rule(alloc: Global, before: &str, rule: Rule, behind: &str) -> Result<bool
 }
 
 /// Source texts, modules and their heads.
-const HEADS: [Rule; 16] = [
+const HEADS: [Rule; 17] = [
     ("module m; endmodule", "", "wire w;"),
     ("module m; endmodule", "module", "; endmodule"),
     ("module m (); endmodule", "module m (", "; endmodule"),
@@ -118,11 +118,16 @@ const HEADS: [Rule; 16] = [
         "module m (output reg a = 1, input wire b",
         "= 1); endmodule",
     ),
+    (
+        "module m (output reg [1:0] q, r); endmodule",
+        "module m (output reg q",
+        "[0:1]); endmodule",
+    ),
     ("module m; wire w; endmodule", "module m; wire w;", "module"),
 ];
 
 /// Items, declarations, connections and event controls.
-const ITEMS: [Rule; 29] = [
+const ITEMS: [Rule; 36] = [
     ("input a, b; output reg [1:0] c;", "input a", "output b;"),
     (
         "output signed d; output wire e; input wire f;",
@@ -133,7 +138,25 @@ const ITEMS: [Rule; 29] = [
     ("wire signed [3:0] a;", "wire [3:0]", "signed a;"),
     ("reg a, b; reg signed [7:0] c;", "reg a =", ";"),
     ("reg q = 1'b0;", "integer i", "= 0;"),
-    ("reg [3:0] a = 1 + 2, b, c = 4'd5;", "reg a", "[0] = 1;"),
+    ("reg [3:0] a = 1 + 2, b, c = 4'd5;", "reg a [0", "] = 1;"),
+    (
+        "reg m [0:15]; reg [7:0] a, b [3:0], c = 1;",
+        "reg [7:0] m [0:1]",
+        "= 1;",
+    ),
+    (
+        "reg signed [7:0] m [P - 1:0], n [0:1];",
+        "reg m [0:1]",
+        "[0:1];",
+    ),
+    ("reg a = 1, m [0:1];", "reg a = 1", "[0:1];"),
+    ("wire w; reg m [0:1];", "wire w", "[0:1];"),
+    (
+        "output reg q; reg m [0:1];",
+        "output reg a = 1, q",
+        "[0:1];",
+    ),
+    ("integer i; reg m [0:1];", "integer i", "[0:1];"),
     ("output reg q = 1'b0, r;", "output q", "= 1'b0;"),
     ("output reg [3:0] q = 4'd5; input x;", "input q", "= 1'b0;"),
     ("initial q = 1'b1;", "initial q", "<= 1'b1;"),
@@ -142,7 +165,12 @@ const ITEMS: [Rule; 29] = [
         "initial",
         "if (a) q = 1'b1;",
     ),
-    ("initial ; initial begin end", "initial q", "[0] = 1'b1;"),
+    ("initial ; initial begin end", "initial q[1", ":0] = 1'b1;"),
+    (
+        "initial begin m[0] = 1; m[P + 1] = 2; end",
+        "initial m[0]",
+        "[1] = 1;",
+    ),
     (
         "initial begin q = a ? b : c; end",
         "initial",
@@ -160,8 +188,8 @@ const ITEMS: [Rule; 29] = [
     ),
     (
         "initial begin for (i = 0; i < 4; i = i + 1) begin a = i; end end",
-        "initial for (i = 0; i < 4; i = i + 1) a",
-        "[i] = 1;",
+        "initial for (i = 0; i < 4; i = i + 1) a[i",
+        "+: 2] = 1;",
     ),
     ("integer i, j;", "integer", "[1:0] i;"),
     (
@@ -367,6 +395,57 @@ fn starting_values(rt: HostRuntime) -> Result<(), Fail> {
     Ok(())
 }
 
+/// A memory and a variable, the bounds of the memory's words, and a word that an `initial` item sets.
+#[test]
+fn memories(rt: HostRuntime) -> Result<(), Fail> {
+    let arena = Bump::new(rt.alloc());
+    let text = "module m; reg [7:0] a [0:15], b = 1; initial a[2] = 3; endmodule";
+    let tokens = tokens_of(text, &arena)?;
+    let Ok(source) = parse(tokens, &arena) else {
+        return Err(Fail::from("tree"));
+    };
+    let Some(module) = source.modules.get(0) else {
+        return Err(Fail::from("module"));
+    };
+    let Some(Item::Variables { names, .. }) = module.items.get(0) else {
+        return Err(Fail::from("variables"));
+    };
+    assert!(rt; has_words(names, 0) == Some(true) && has_value(names, 0) == Some(false));
+    assert!(rt; has_words(names, 1) == Some(false) && has_value(names, 1) == Some(true));
+    assert!(rt;
+        matches!(
+            names.get(0),
+            Some(Declarator {
+                token: 9,
+                words: Some(Bounds {
+                    left: Expr::Literal { token: 11, .. },
+                    right: Expr::Literal { token: 13, .. },
+                }),
+                ..
+            })
+        )
+    );
+    assert!(rt;
+        matches!(
+            module.items.get(1),
+            Some(Item::Initial {
+                body: Stmt::Assign {
+                    target: Expr::Bit { token: 21, .. },
+                    now: true,
+                    ..
+                },
+                token: 20,
+            })
+        )
+    );
+    Ok(())
+}
+
+/// Whether a name of a list is that of a memory.
+fn has_words(names: &[Declarator], at: usize) -> Option<bool> {
+    names.get(at).map(|name| name.words.is_some())
+}
+
 /// Whether a name of a list has a value.
 fn has_value(names: &[Declarator], at: usize) -> Option<bool> {
     names.get(at).map(|name| name.value.is_some())
@@ -454,7 +533,8 @@ endmodule
 /// A design without blanks, where tokens stand side by side.
 const TOKEN_EDGES: &str = "module m(input clk,input s,output reg[3:0]q=4'd2,r);reg t=1'b1,u;\
     initial begin:n r=4'd0;u=1'b0;end always@(posedge clk)q<=s?4'd3:4'd0;\
-    integer i;initial for(i=0;i<4;i=i+1)u=1'b0;always@*for(i=0;i<4;i=i+1)if(s)u=t;else;endmodule";
+    integer i;initial for(i=0;i<4;i=i+1)u=1'b0;always@*for(i=0;i<4;i=i+1)if(s)u=t;else;\
+    reg[3:0]v[0:3],w;initial v[0]=4'd1;always@(posedge clk)v[q]<=v[3];endmodule";
 
 /// Whether a text has a tree that spells as many tokens.
 fn spells(alloc: Global, text: &str) -> bool {

@@ -22,7 +22,7 @@ fn leaves_behind(alloc: Global, head: &str, first: &str, rest: &str) -> Result<b
     Ok(place as usize == count)
 }
 
-const MODULES: [(&str, &str); 35] = [
+const MODULES: [(&str, &str); 43] = [
     ("", ""),
     ("", "wire w;"),
     ("module m; endmodule", ""),
@@ -58,7 +58,21 @@ const MODULES: [(&str, &str); 35] = [
         "<= 1; endmodule",
     ),
     ("module m; initial", "if (a) ; endmodule"),
-    ("module m; initial a", "[0] = 1; endmodule"),
+    (
+        "module m; initial a[0] = 1; initial a[1",
+        ":0] = 1; endmodule",
+    ),
+    ("module m; initial a[0]", "[1] = 1; endmodule"),
+    ("module m; initial a[i", "+: 2] = 1; endmodule"),
+    (
+        "module m; reg [7:0] a [0:15], b = 1, c [0:1]",
+        "= 1; endmodule",
+    ),
+    ("module m; reg a [0", "]; endmodule"),
+    ("module m; reg a = 1", "[0:1]; endmodule"),
+    ("module m; wire w", "[0:1]; endmodule"),
+    ("module m; output reg q", "[0:1]; endmodule"),
+    ("module m(output reg q", "[0:1]); endmodule"),
     ("module m; initial", "{a, b} = 1; endmodule"),
     (
         "module m; initial begin : n a = 1;",
@@ -196,10 +210,13 @@ const IN_BLOCKS: [(u32, &str, &str); 17] = [
 ];
 
 /// The same in an `initial` item.
-const IN_INITIAL_BLOCKS: [(u32, &str, &str); 8] = [
+const IN_INITIAL_BLOCKS: [(u32, &str, &str); 11] = [
     (496, "a = b;", "= c"),
     (496, "a =", "(b);"),
     (495, "a = $signed(b", "+ c);"),
+    (496, "a", "[0] = b;"),
+    (495, "a[0] = b;", "= c"),
+    (495, "a[", "(0)] = b;"),
     (497, "", "a = b;"),
     (496, "for (i = 0; i; i = i) ;", "= c"),
     (497, "", "for (i = 0; i; i = i) ;"),

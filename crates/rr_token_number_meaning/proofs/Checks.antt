@@ -1,5 +1,5 @@
 -- The laws of flat designs that name no clock, without token numbers.
-use Rattle.std.proofs.Common.{◌≡◌, ◌∙◌, sym, ap, ◌⊎◌, ℕ, zero, suc, ◌<◌, Bool, true, false, ◌&&◌, ◌||◌, List, [], ◌∷◌, ◌++◌, length, map, get_or, Option, Some, None, refl}
+use Rattle.std.proofs.Common.{◌≡◌, ◌∙◌, sym, ap, ◌⊎◌, ℕ, zero, suc, ◌+◌, ◌<◌, Bool, true, false, ◌&&◌, ◌||◌, List, [], ◌∷◌, ◌++◌, length, map, get_or, Option, Some, None, refl}
 use Rattle.std.specs.List.{All}
 use Rattle.std.proofs.lemmas.List.{length-map}
 use Rattle.rr_syntax.specs.Tree.{Tree, Trees, Name, Literal, Bit as BitSelect, Part, Indexed, Unary, Binary, Cond, Concat, Repeat, Cast, Paren, End, More, Statement, bare, bare_parts, bare_statement}
@@ -14,15 +14,15 @@ use Rattle.rr_flat.specs.Signals.{Text}
 use Rattle.rr_flat.specs.declared.design.Step.{Step}
 use Rattle.rr_flat.specs.declared.design.Step.TheVariants as step
 use Rattle.rr_flat.specs.Clocks.{IsScalarInput, IsInputNamed}
-use Rattle.rr_flat.specs.Lawful.{ClockNamed, MayDrive, MayAssign, MayAssignAll, DriverTarget, BlockTargets, InitialTargets, labels_fit, OneWriter, HasRanks}
+use Rattle.rr_flat.specs.Lawful.{ClockNamed, MayDrive, MayAssign, MayAssignAll, MayStart, DriverTarget, BlockTargets, InitialTargets, labels_fit, OneWriter, HasRanks}
 use Rattle.rr_flat.specs.Ordered.{IsStep, StepWrites, StepNames}
 use Rattle.rr_flat.specs.Plain.{Side, Written, Whole, Driver, Block, Flat}
 use Rattle.rr_flat.specs.Reads.{Assigned, StatementReads, assigned_by}
-use Rattle.rr_flat.specs.Targets.{target_parts, part_name, is_fixed}
+use Rattle.rr_flat.specs.Targets.{is_memory, target_parts, part_name, is_indexed, is_fixed}
 use Rattle.rr_flat.specs.Writers.{scope_at, driver_at, block_at, initial_at, SideReads, Writer, Driven, Combinational, is_wiring, are_wiring, taken, all_taken, side_is_wiring, side_taken, side_signed, taken_at, wires, NamesIf, DriverNames, BlockNames, BitNames}
 use Rattle.rr_token_numbers.specs.Bare.{bare_side, bare_block, bare_initial, bare_flat, IsSameFlat}
 use Rattle.rr_token_numbers.proofs.Shapes.{form-bare}
-use Rattle.rr_token_number_meaning.proofs.Targets.{target_bits-bare, constant-bare, parts-bare, part_name-bare, is_fixed-bare}
+use Rattle.rr_token_number_meaning.proofs.Targets.{target_bits-bare, constant-bare, parts-bare, part_name-bare, is_indexed-bare, is_fixed-bare}
 use Rattle.rr_token_number_meaning.proofs.Designs.{block_at-bare, initial_at-bare, driver_at-bare, drivers_many, clocked_many, combinational_many, initials_many, signal_same, bits-bare, driven-bare, block_writes, Writes-bare}
 use Rattle.rr_token_number_meaning.proofs.Naming.{labels_fit-bare, bare_assigned, assigned_by-bare, NamesBit-bare, StatementReads-bare}
 
@@ -60,12 +60,18 @@ module _ (f : Flat) where
   MayDrive-bare : (e : Entity) (fixed : Bool) → MayDrive (bare_flat f) e fixed ≡ MayDrive f e fixed
   MayDrive-bare (entity.Constant bits signed) fixed = refl
   MayDrive-bare (entity.Signal id range signed) fixed = λ k. ((signal_same f id k).variable ≡ false) × ((signal_same f id k).port ≡ Input → ⊥) × (fixed ≡ true)
+  MayDrive-bare (entity.Memory first low words range signed) fixed = refl
   MayDrive-bare entity.Instance fixed = refl
 
   MayAssign-bare : (e : Entity) → MayAssign (bare_flat f) e ≡ MayAssign f e
   MayAssign-bare (entity.Constant bits signed) = refl
   MayAssign-bare (entity.Signal id range signed) = λ k. ((signal_same f id k).variable ≡ true) × ((signal_same f id k).port ≡ Input → ⊥)
+  MayAssign-bare (entity.Memory first low words range signed) =
+      λ k. (n : ℕ) → n < words → ((signal_same f (first + n) k).variable ≡ true) × ((signal_same f (first + n) k).port ≡ Input → ⊥)
   MayAssign-bare entity.Instance = refl
+
+  MayStart-bare : (e : Entity) (indexed : Bool) → MayStart (bare_flat f) e indexed ≡ MayStart f e indexed
+  MayStart-bare e indexed = λ k. MayAssign-bare e k × (indexed ≡ is_memory e)
 
   parts_path : (s : Names) (t : Tree) → All (λ p. MayDrive (bare_flat f) (meant s (part_name p)) (is_fixed s p)) (target_parts (bare t)) ≡ All (λ p. MayDrive f (meant s (part_name p)) (is_fixed s p)) (target_parts t)
   parts_path s t =
@@ -88,6 +94,18 @@ module _ (f : Flat) where
       ∙ (all_mapped bare_assigned P (λ a k. MayAssign (bare_flat f) (meant (scope_at f i) (part_name-bare a.part k))) (assigned_by t)
       ∙ (λ j. (k : ℕ) (d : Assigned) → k < length (assigned_by t) → MayAssign-bare (meant (scope_at f i) (part_name (get_or (assigned_by t) k d).part)) j))
 
+  -- those of an `initial` item
+  abbrev Starts : Flat → ℕ → Statement → Type 0
+  Starts g i t = All (λ a. MayStart g (meant (scope_at g i) (part_name a.part)) (is_indexed a.part)) (assigned_by t)
+
+  starts-bare : (i : ℕ) (t : Statement) → Starts (bare_flat f) i (bare_statement t) ≡ Starts f i t
+  unfolding bare_flat
+  starts-bare i t =
+      let P : Assigned → Type 0 = λ a. MayStart (bare_flat f) (meant (scope_at f i) (part_name a.part)) (is_indexed a.part) in
+      ap (All P) (assigned_by-bare t)
+      ∙ (all_mapped bare_assigned P (λ a k. MayStart (bare_flat f) (meant (scope_at f i) (part_name-bare a.part k)) (is_indexed-bare a.part k)) (assigned_by t)
+      ∙ (λ j. (k : ℕ) (d : Assigned) → k < length (assigned_by t) → MayStart-bare (meant (scope_at f i) (part_name (get_or (assigned_by t) k d).part)) (is_indexed (get_or (assigned_by t) k d).part) j))
+
   pub drivers_path : ((k : ℕ) → k < length (bare_flat f).drivers → DriverTarget (bare_flat f) (driver_at (bare_flat f) k).target (driver_at (bare_flat f) k).value)
       ≡ ((k : ℕ) → k < length f.drivers → DriverTarget f (driver_at f k).target (driver_at f k).value)
   drivers_path = λ j. (k : ℕ) → k < drivers_many f j → one k j
@@ -99,7 +117,7 @@ module _ (f : Flat) where
   block_targets_at bs k = (λ j. BlockTargets (bare_flat f) (block_at-bare bs k j)) ∙ MayAssignAll-bare (block_at bs k).scope (block_at bs k).body
 
   initial_targets_at : (k : ℕ) → InitialTargets (bare_flat f) (initial_at (map bare_initial f.initials) k) ≡ InitialTargets f (initial_at f.initials k)
-  initial_targets_at k = (λ j. InitialTargets (bare_flat f) (initial_at-bare f.initials k j)) ∙ MayAssignAll-bare (initial_at f.initials k).scope (initial_at f.initials k).body
+  initial_targets_at k = (λ j. InitialTargets (bare_flat f) (initial_at-bare f.initials k j)) ∙ starts-bare (initial_at f.initials k).scope (initial_at f.initials k).body
 
   pub clocked_targets : ((k : ℕ) → k < length (bare_flat f).clocked → BlockTargets (bare_flat f) (block_at (bare_flat f).clocked k)) ≡ ((k : ℕ) → k < length f.clocked → BlockTargets f (block_at f.clocked k))
   unfolding bare_flat

@@ -11,7 +11,7 @@ use Rattle.rr_flat.specs.Lawful.{ClockNamed, DriverTarget, BlockTargets, Initial
 use Rattle.rr_flat.specs.Ordered.{IsStep, StepWrites, StepNames, step_at, Ordered}
 use Rattle.rr_flat.specs.Plain.{Block, Flat}
 use Rattle.rr_flat.specs.Reads.{Assigned, assigned_by, names_read}
-use Rattle.rr_flat.specs.Targets.{part_name}
+use Rattle.rr_flat.specs.Targets.{variable_of, part_name}
 use Rattle.rr_flat.specs.Writers.{scope_at, driver_at, block_at, initial_at}
 use Rattle.rr_token_numbers.specs.Bare.{bare_block, IsSameFlat}
 use Rattle.rr_token_number_meaning.proofs.Targets.{part_name-bare}
@@ -53,26 +53,20 @@ assigned_in f g same b c id now e h =
     let lists : map bare_assigned (assigned_by b.body) ≡ map bare_assigned (assigned_by c.body) =
     sym (assigned_by-bare b.body) ∙ (ap (λ (x : Block). assigned_by x.body) e ∙ assigned_by-bare c.body) in
     let many : length (assigned_by b.body) ≡ length (assigned_by c.body) = sym (length-map (assigned_by b.body) bare_assigned) ∙ (ap length lists ∙ length-map (assigned_by c.body) bare_assigned) in
-    let lb : i < length (assigned_by b.body) = h.1.1.1.1.0 in
+    let lb : i < length (assigned_by b.body) = h.1.1.0 in
     let lc : i < length (assigned_by c.body) = rw many at lb in
     let d : Assigned = get_or (assigned_by c.body) i a in
     let alike : bare_assigned a ≡ bare_assigned d =
-    ap bare_assigned (sym h.1.1.1.1.1) ∙ (assigned_at (assigned_by b.body) i a lb ∙ (ap (λ (l : List Assigned). get_or l i (bare_assigned a)) lists ∙ sym (assigned_at (assigned_by c.body) i a lc))) in
+    ap bare_assigned (sym h.1.1.1) ∙ (assigned_at (assigned_by b.body) i a lb ∙ (ap (λ (l : List Assigned). get_or l i (bare_assigned a)) lists ∙ sym (assigned_at (assigned_by c.body) i a lc))) in
     let place : scope_at f b.scope ≡ scope_at g c.scope = ap (λ (x : Block). scope_at f x.scope) e ∙ scope_same f g same c.scope in (
       i,
       (
         d,
         (
-          h.1.1.0,
-          (
-            h.1.1.1.0,
-            (
-              lc,
-              get_or_default (assigned_by c.body) i d a lc,
-              sym (ap (λ (x : Assigned). x.now) alike) ∙ h.1.1.1.1.2,
-              sym (λ k. meant (place k) (part_same a d alike k)) ∙ h.1.1.1.1.3,
-            ),
-          ),
+          lc,
+          get_or_default (assigned_by c.body) i d a lc,
+          sym (ap (λ (x : Assigned). x.now) alike) ∙ h.1.1.2,
+          sym (λ k. variable_of (meant (place k) (part_same a d alike k))) ∙ h.1.1.3,
         ),
       ),
     )
@@ -105,7 +99,7 @@ right_kinds f g same h = record {
 
 no_race : (f g : Flat) → IsSameFlat f g → NoRace f → NoRace g
 no_race f g same h =
-    λ j k lj lk id a i n range signed li at m.
+    λ j k lj lk id a i n li at m.
     let back : IsSameFlat g f = sym same in
     let bj : bare_block (block_at g.clocked j) ≡ bare_block (block_at f.clocked j) = block_same g f back g.clocked f.clocked j (clocked_same g f back) in
     let bk : bare_block (block_at g.clocked k) ≡ bare_block (block_at f.clocked k) = block_same g f back g.clocked f.clocked k (clocked_same g f back) in
@@ -118,8 +112,8 @@ no_race f g same h =
     let d : Identifier = get_or ys i n in
     let text : n.text ≡ d.text = ap (λ (x : Identifier). x.text) (sym at) ∙ (sym (text_at xs i n) ∙ (ap (λ (z : List Identifier). (get_or z i n).text) lists ∙ text_at ys i n)) in
     let place : scope_at g (block_at g.clocked k).scope ≡ scope_at f (block_at f.clocked k).scope = ap (λ (x : Block). scope_at g x.scope) bk ∙ scope_same g f back (block_at f.clocked k).scope in
-    h j k (rw many at lj) (rw many at lk) id (assigned_in g f back (block_at g.clocked j) (block_at f.clocked j) id true bj a) i d range signed l (get_or_default ys i d n l)
-    (sym (λ q. meant (place q) (text q)) ∙ m)
+    h j k (rw many at lj) (rw many at lk) id (assigned_in g f back (block_at g.clocked j) (block_at f.clocked j) id true bj a) i d l (get_or_default ys i d n l)
+    (sym (λ q. variable_of (meant (place q) (text q))) ∙ m)
 
 -- latches
 

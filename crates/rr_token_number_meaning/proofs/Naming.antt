@@ -3,7 +3,7 @@ use Rattle.std.proofs.Common.{◌≡◌, ◌∙◌, sym, ap, ap₂, ◌⊎◌, �
 use Rattle.std.proofs.lemmas.List.{map-append}
 use Rattle.rr_syntax.specs.Tree.{Tree, Trees, Name, Literal, Bit as BitSelect, Part, Indexed, Unary, Binary, Cond, Concat, Repeat, Cast, Paren, End, More, Identifier, Statement, Statements, Arm, Arms, Null, Block as Sequence, If, IfElse, Case, Assign, For, Done, Then, CaseItem, NoArms, MoreArms, bare, bare_parts, bare_identifier, bare_statement, bare_statements, bare_arm, bare_arms}
 use Rattle.rr_expr.specs.declared.types.Bit.{Bit}
-use Rattle.rr_expr.specs.Reading.{IsBitOf, IsWithin, NamesAt, NamesBit, NamesBits}
+use Rattle.rr_expr.specs.Reading.{IsBitOf, IsWithin, NamesAt, NamesIndex, NamesBit, NamesBits}
 use Rattle.rr_expr.specs.Scopes.{Names, meant, entity_range}
 use Rattle.rr_expr.specs.Selects.{place, lowest_place, integer_with}
 use Rattle.rr_expr.specs.Values.{nowhere}
@@ -231,7 +231,7 @@ mutual
   NamesBit-bare s (Name token x) = refl
   NamesBit-bare s (Literal token n) = refl
   NamesBit-bare s (BitSelect token x i) =
-      λ k b. NamesAt (constant-bare s i k) (meant s x) (place (entity_range (meant s x)) (integer_with (form-bare s i k) (value_path s i k nowhere))) 1 (NamesBit-bare s i k b) b
+      λ k b. NamesIndex (constant-bare s i k) (meant s x) (integer_with (form-bare s i k) (value_path s i k nowhere)) (NamesBit-bare s i k b) b
   NamesBit-bare s (Part token x l r) =
       λ k b. IsBitOf (meant s x) b × IsWithin (place (entity_range (meant s x)) (integer_with (form-bare s r k) (value_path s r k nowhere))) (span-bare s l r k) b.place
   NamesBit-bare s (Indexed token x f n up) =

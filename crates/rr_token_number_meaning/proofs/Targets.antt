@@ -8,7 +8,7 @@ use Rattle.rr_expr.specs.Faults.{fault}
 use Rattle.rr_expr.specs.Scopes.{Names, meant, entity_range}
 use Rattle.rr_expr.specs.Selects.{place, lowest_place, integer_with}
 use Rattle.rr_expr.specs.Values.{nowhere}
-use Rattle.rr_flat.specs.Targets.{is_bit_of, bit_there, bits_there, target_bits, targets_bits, has_bit, is_constant, target_parts, targets_parts, part_name, is_fixed, may_write, must_write}
+use Rattle.rr_flat.specs.Targets.{is_bit_of, bits_there, index_bits, target_bits, targets_bits, has_bit, is_constant, target_parts, targets_parts, part_name, is_indexed, is_fixed, may_write, must_write}
 use Rattle.rr_token_numbers.proofs.Results.{Both}
 use Rattle.rr_token_numbers.proofs.Shapes.{form-bare, value_path, span-bare, count-bare, fault_both}
 
@@ -18,7 +18,7 @@ mutual
   pub target_bits-bare : (s : Names) (env : Bit → Bool) (t : Tree) → target_bits s env (bare t) ≡ target_bits s env t
   target_bits-bare s env (Name token x) = refl
   target_bits-bare s env (Literal token n) = refl
-  target_bits-bare s env (BitSelect token x i) = λ k. bit_there (meant s x) (place (entity_range (meant s x)) (integer_with (form-bare s i k) (value_path s i k env))) ∷ []
+  target_bits-bare s env (BitSelect token x i) = λ k. index_bits (meant s x) (integer_with (form-bare s i k) (value_path s i k env))
   target_bits-bare s env (Part token x l r) = λ k. bits_there (meant s x) (place (entity_range (meant s x)) (integer_with (form-bare s r k) (value_path s r k nowhere))) (span-bare s l r k)
   target_bits-bare s env (Indexed token x f n up) =
       λ k. bits_there (meant s x) (lowest_place (entity_range (meant s x)) up (integer_with (form-bare s f k) (value_path s f k env)) (count-bare s n k)) (count-bare s n k)
@@ -80,6 +80,21 @@ part_name-bare (Concat ts) = refl
 part_name-bare (Repeat n ts) = refl
 part_name-bare (Cast signed t) = refl
 part_name-bare (Paren t) = refl
+
+pub is_indexed-bare : (t : Tree) → is_indexed (bare t) ≡ is_indexed t
+unfolding bare
+is_indexed-bare (Name token x) = refl
+is_indexed-bare (Literal token n) = refl
+is_indexed-bare (BitSelect token x i) = refl
+is_indexed-bare (Part token x l r) = refl
+is_indexed-bare (Indexed token x f n up) = refl
+is_indexed-bare (Unary op t) = refl
+is_indexed-bare (Binary op l r) = refl
+is_indexed-bare (Cond a b c) = refl
+is_indexed-bare (Concat ts) = refl
+is_indexed-bare (Repeat n ts) = refl
+is_indexed-bare (Cast signed t) = refl
+is_indexed-bare (Paren t) = refl
 
 pub is_fixed-bare : (s : Names) (t : Tree) → is_fixed s (bare t) ≡ is_fixed s t
 unfolding bare

@@ -1,7 +1,7 @@
 -- Heads of modules without token numbers.
-use Rattle.std.proofs.Common.{◌≡◌, ◌∙◌, sym, ap, ap₂, ℕ, zero, suc, ◌+◌, ◌-◌, Bool, true, false, not, ◌&&◌, if◌then◌else◌, nat_lt, List, [], ◌∷◌, ◌++◌, length, map, set, Option, Some, None, Result, Ok, Err, refl, fold, is_some, is_none}
-use Rattle.std.specs.List.{slice_get}
-use Rattle.std.specs.Option.{option_map, option_to_list}
+use Rattle.std.proofs.Common.{◌≡◌, ◌∙◌, sym, subst, ap, ap₂, ℕ, zero, suc, ◌+◌, ◌-◌, Bool, true, false, not, ◌&&◌, if◌then◌else◌, nat_lt, List, [], ◌∷◌, ◌++◌, length, map, set, Option, Some, None, Result, Ok, Err, refl, fold, is_some, is_none}
+use Rattle.std.specs.List.{slice_get, range_with_len}
+use Rattle.std.specs.Option.{option_to_list}
 use Rattle.std.proofs.lemmas.List.{map-append, length-map, map-set}
 use Rattle.rr_syntax.specs.Tree.{Tree, Identifier, Range, PortDeclaration, ParamAssignment, ParameterDeclaration, DeclaredName, ModuleItem, Ports, Nets, Variables, Integers, Parameters, Assigns, Always, Initial, Instances, ModuleDeclaration, bare, bare_value, bare_identifier, bare_range, bare_port, bare_assignment, bare_parameter, bare_declarator, bare_item, bare_header, bare_module}
 use Rattle.rr_expr.specs.Faults.{fault, first}
@@ -11,14 +11,15 @@ use Rattle.rr_expr.specs.declared.types.Entity.{Entity}
 use Rattle.rr_expr.specs.declared.types.Entity.TheVariants as entity
 use Rattle.rr_flat.specs.declared.fault.FlatFault.{FlatFault}
 use Rattle.rr_flat.specs.declared.fault.FlatFault.TheVariants.{NameTwice, UnknownName, BadRange, TooMany}
-use Rattle.rr_flat.specs.declared.fault.Limit.TheVariants.{FlatBits}
+use Rattle.rr_flat.specs.declared.fault.Limit.TheVariants.{FlatBits, Words}
 use Rattle.rr_flat.specs.Faults.{fault_if, faults_in, first_fault_or, among, and_then, each}
 use Rattle.rr_declarations.specs.Values.{constant, is_beyond, bound_or_zero, bound_faults, range_in}
 use Rattle.rr_flat.specs.Signals.{with_name}
 use Rattle.rr_declarations.specs.Parameters.{given_or, override_of, parameter, width_faults, add_parameter, add_parameters, add_item_parameters, parameters}
 use Rattle.rr_flat.specs.Signals.{Text, Signal}
-use Rattle.rr_declarations.specs.Declarations.{Declared, Declarations, know_identifier, know_declarator, know_ports, know_item, known, know_port_item, plain_names, add_plain_name, brackets, starting, start_faults, start_or, is_port, with_signal, counted, declare_new, declared_at, is_same_range, redeclared, start_again, declare_again, again_place, repeated_place, declare_at, declare, port_declaration, inner_declaration, integer_declaration, integer_name, declare_integer, declare_ports, declare_nets, declare_variables, declare_item, declarations}
-use Rattle.rr_declarations.specs.Heads.{Head, named_signal, with_port, with_identifier, with_declarator, with_ports, with_inner, signals_in_order, with_signals, numbered, declared, head}
+use Rattle.rr_declarations.specs.Declarations.{Declared, Declarations, know_identifier, know_declarator, know_ports, know_item, known, know_port_item, plain_names, add_plain_name, brackets, starting, start_faults, start_or, is_port, declared_bits, with_signal, counted, indices, words_in, declared_words, words_faults, declare_new, declared_at, is_same_range, redeclared, start_again, declare_again, again_place, repeated_place, declare_at, declare, port_declaration, inner_declaration, integer_declaration, integer_name, declare_integer, declare_ports, declare_nets, declare_variables, declare_item, declarations}
+use Rattle.rr_memory_words.specs.Words.{indexed_word, word_count, words_entity, words_signals}
+use Rattle.rr_declarations.specs.Heads.{Head, named_declared, with_port, with_identifier, with_declarator, with_ports, with_inner, declared_in_order, signals_of, entity_of, joined, with_signals, numbered, declared, head}
 use Rattle.rr_token_numbers.specs.Bare.{bare_signal}
 use Rattle.rr_token_numbers.proofs.Folds.{fold_mapped}
 use Rattle.rr_token_numbers.proofs.Results.{Barely, BothNil, nil_append, nil_if, nil_in, settle_bare, answer_bare, among_bare, then_bare, each_bare}
@@ -195,30 +196,72 @@ starting_nil all k n = rw (starting-bare k n) (start_nil all (starting k n))
 started_as : (all : Names) (k : _) (n : DeclaredName) (w start : ℕ) → start_or all w start (starting k (bare_declarator n)) ≡ start_or all w start (starting k n)
 started_as all k n w start = ap (λ v. start_or all w start v) (starting-bare k n) ∙ start_or-bare all w start (starting k n)
 
-with_signal-bare : (k : _) (n : DeclaredName) (start : ℕ) (d : Declarations) → with_signal k (bare_declarator n) start (bare_declarations d) ≡ bare_declarations (with_signal k n start d)
+-- words
+
+indices-bare : (k : _) (n : DeclaredName) → indices k (bare_declarator n) ≡ bare_range (indices k n)
+unfolding bare_declarator bare_range
+indices-bare k n = by_kind (k.variable && not (is_port k.port))
+  where
+    by_kind : (b : Bool) → (if b then bare_range n.words else None) ≡ bare_range (if b then n.words else None)
+    by_kind true = refl
+    by_kind false = refl
+
+words_in_bare : (r q : Result (Option (ℕ × ℕ)) FlatFault) → Barely (λ (v : Option (ℕ × ℕ)). v) r q → words_in q ≡ words_in r
+words_in_bare (Ok v) q h = rw h refl
+words_in_bare (Err f) q h = rw h.1 refl
+
+indices_bare : (all : Names) (k : _) (n : DeclaredName) → Barely (λ (r : Option (ℕ × ℕ)). r) (range_in all (indices k n)) (range_in all (indices k (bare_declarator n)))
+indices_bare all k n = subst (λ (o : Option Range). Barely (λ (r : Option (ℕ × ℕ)). r) (range_in all (indices k n)) (range_in all o)) (sym (indices-bare k n)) (range_bare all (indices k n))
+
+words-bare : (all : Names) (k : _) (n : DeclaredName) → declared_words all k (bare_declarator n) ≡ declared_words all k n
+words-bare all k n = words_in_bare (range_in all (indices k n)) (range_in all (indices k (bare_declarator n))) (indices_bare all k n)
+
+words_nil : (words other : Option (ℕ × ℕ)) → other ≡ words → BothNil (words_faults words) (words_faults other)
+words_nil words other e =
+    subst (λ (w : Option (ℕ × ℕ)). BothNil (words_faults words) (words_faults w)) (sym e) (nil_if (nat_lt 256 (word_count words)) (TooMany Words (word_count words)) (TooMany Words (word_count words)))
+
+none-bare : (o : Option Range) → is_none (bare_range o) ≡ is_none o
+unfolding bare_range
+none-bare None = refl
+none-bare (Some r) = refl
+
+with_signal-bare : (k : _) (n : DeclaredName) (words : Option (ℕ × ℕ)) (start : ℕ) (d : Declarations) → with_signal k (bare_declarator n) words start (bare_declarations d) ≡ bare_declarations (with_signal k n words start d)
 unfolding bare_declarator
-with_signal-bare k n start d =
-    ap₂ (λ (m : ℕ) (list : List Declared). record d { names = with_name d.names n.text (entity.Signal m None false); list = list; bits = (with_signal k n start d).bits })
+with_signal-bare k n words start d =
+    ap₂ (λ (m : ℕ) (list : List Declared). record d { names = with_name d.names n.text (entity.Signal m None false); list = list; bits = (with_signal k n words start d).bits })
     (length-map d.list bare_declared) (sym (map-append bare_declared d.list _))
+
+counted_bare : (k : _) (n : DeclaredName) (words other : Option (ℕ × ℕ)) (start begin : ℕ) (d : Declarations) → other ≡ words → begin ≡ start →
+    Barely bare_declarations (counted k n words start d) (counted k (bare_declarator n) other begin (bare_declarations d))
+counted_bare k n words other start begin d e s =
+    let bits : ℕ = d.bits + declared_bits k words in
+    let full : List FlatFault = fault_if (nat_lt 65536 bits) (TooMany FlatBits bits) in
+    subst (λ (w : Option (ℕ × ℕ)). Barely bare_declarations (counted k n words start d) (counted k (bare_declarator n) w begin (bare_declarations d))) (sym e)
+    (subst (λ (m : ℕ). Barely bare_declarations (counted k n words start d) (counted k (bare_declarator n) words m (bare_declarations d))) (sym s)
+    (settle_bare bare_declarations full full (with_signal k n words start d) (with_signal k (bare_declarator n) words start (bare_declarations d)) (nil_if (nat_lt 65536 bits) _ _) (with_signal-bare k n words start d)))
 
 declare_new_bare : (bracketed all : Names) (k : _) (n : DeclaredName) (d : Declarations) → Barely bare_declarations (declare_new bracketed all k n d) (declare_new bracketed all k (bare_declarator n) (bare_declarations d))
 unfolding declare_new bare_declarator
 declare_new_bare bracketed all k n d =
     let twice : Bool = is_some (lookup n.text d.names) in
     let stray : Bool = is_port k.port && is_none (lookup n.text bracketed) in
-    let faults : List FlatFault = fault_if twice (NameTwice n.token) ++ (fault_if stray (UnknownName n.token) ++ (width_faults n.token k.range ++ start_faults all (starting k n))) in
-    let others : List FlatFault = fault_if twice (NameTwice 0) ++ (fault_if stray (UnknownName 0) ++ (width_faults 0 k.range ++ start_faults all (starting k (bare_declarator n)))) in
+    let faults : List FlatFault = fault_if twice (NameTwice n.token) ++ (fault_if stray (UnknownName n.token) ++ (faults_in (range_in all (indices k n)) ++ (width_faults n.token k.range ++ start_faults all (starting k n)))) in
+    let others : List FlatFault =
+    fault_if twice (NameTwice 0) ++ (fault_if stray (UnknownName 0) ++ (faults_in (range_in all (indices k (bare_declarator n))) ++ (width_faults 0 k.range ++ start_faults all (starting k (bare_declarator n))))) in
+    let words : Option (ℕ × ℕ) = declared_words all k n in
+    let same : Option (ℕ × ℕ) = declared_words all k (bare_declarator n) in
     let start : ℕ = start_or all (range_width k.range) 0 (starting k n) in
     let other : ℕ = start_or all (range_width k.range) 0 (starting k (bare_declarator n)) in
-    then_bare bare_declarations bare_declarations (first_fault_or faults d) (first_fault_or others (bare_declarations d)) (counted k n start) (counted k (bare_declarator n) other)
+    then_bare bare_declarations bare_declarations (first_fault_or faults d) (first_fault_or others (bare_declarations d))
+    (λ (e : Declarations). and_then (first_fault_or (words_faults words) e) (counted k n words start)) (λ (e : Declarations). and_then (first_fault_or (words_faults same) e) (counted k (bare_declarator n) same other))
     (settle_bare bare_declarations faults others d (bare_declarations d)
     (nil_append (fault_if twice (NameTwice n.token)) _ (fault_if twice (NameTwice 0)) _ (nil_if twice (NameTwice n.token) (NameTwice 0))
     (nil_append (fault_if stray (UnknownName n.token)) _ (fault_if stray (UnknownName 0)) _ (nil_if stray (UnknownName n.token) (UnknownName 0))
-    (nil_append (width_faults n.token k.range) _ (width_faults 0 k.range) _ (nil_if _ _ _) (starting_nil all k n)))) refl)
-    (λ e.
-    let full : List FlatFault = fault_if (nat_lt 65536 (e.bits + range_width k.range)) (TooMany FlatBits (e.bits + range_width k.range)) in
-    settle_bare bare_declarations full full (with_signal k n start e) (with_signal k (bare_declarator n) other (bare_declarations e)) (nil_if (nat_lt 65536 (e.bits + range_width k.range)) _ _)
-    (ap (λ (m : ℕ). with_signal k (bare_declarator n) m (bare_declarations e)) (started_as all k n (range_width k.range) 0) ∙ with_signal-bare k n start e))
+    (nil_append (faults_in (range_in all (indices k n))) _ (faults_in (range_in all (indices k (bare_declarator n)))) _ (nil_in (λ (r : Option (ℕ × ℕ)). r) (range_in all (indices k n)) (range_in all (indices k (bare_declarator n))) (indices_bare all k n))
+    (nil_append (width_faults n.token k.range) _ (width_faults 0 k.range) _ (nil_if _ _ _) (starting_nil all k n))))) refl)
+    (λ e. then_bare bare_declarations bare_declarations (first_fault_or (words_faults words) e) (first_fault_or (words_faults same) (bare_declarations e)) (counted k n words start) (counted k (bare_declarator n) same other)
+    (settle_bare bare_declarations (words_faults words) (words_faults same) e (bare_declarations e) (words_nil words same (words-bare all k n)) refl)
+    (λ g. counted_bare k n words same start other g (words-bare all k n) (started_as all k n (range_width k.range) 0)))
 
 declared_at-bare : (list : List Declared) (place : ℕ) → declared_at (map bare_declared list) place ≡ bare_declared (declared_at list place)
 declared_at-bare [] place = refl
@@ -244,6 +287,7 @@ again_place-bare : (o : Option Entity) (list : List Declared) → again_place o 
 again_place-bare None list = refl
 again_place-bare (Some (entity.Constant bits signed)) list = refl
 again_place-bare (Some (entity.Signal id range signed)) list = rw (declared_at-bare list id) refl
+again_place-bare (Some (entity.Memory first low words range signed)) list = refl
 again_place-bare (Some entity.Instance) list = refl
 
 declare_at_bare : (bracketed all : Names) (k : _) (n : DeclaredName) (d : Declarations) (o : Option ℕ) → Barely bare_declarations (declare_at bracketed all k n d o) (declare_at bracketed all k (bare_declarator n) (bare_declarations d) o)
@@ -252,10 +296,11 @@ declare_at_bare bracketed all k n d (Some place) = declare_again_bare all k n pl
 
 declare_bare : (bracketed all : Names) (k : _) (n : DeclaredName) (d : Declarations) → Barely bare_declarations (declare bracketed all k n d) (declare bracketed all k (bare_declarator n) (bare_declarations d))
 unfolding declare bare_declarator
-declare_bare bracketed all k n d = rw (again_place-bare (lookup n.text d.names) d.list) (declare_at_bare bracketed all k n d (repeated_place k.repeats (again_place (lookup n.text d.names) d.list)))
+declare_bare bracketed all k n d =
+    rw (again_place-bare (lookup n.text d.names) d.list, none-bare n.words) (declare_at_bare bracketed all k n d (repeated_place (k.repeats && is_none n.words) (again_place (lookup n.text d.names) d.list)))
 
 integer_bare : (bracketed all : Names) (i : Identifier) (d : Declarations) → Barely bare_declarations (declare_integer bracketed all i d) (declare_integer bracketed all (bare_identifier i) (bare_declarations d))
-unfolding bare_identifier bare_declarator bare_value
+unfolding bare_identifier bare_declarator bare_range bare_value
 integer_bare bracketed all i d = declare_bare bracketed all integer_declaration (integer_name i) d
 
 names_bare : (bracketed all : Names) (k : Option (ℕ × ℕ) → _) (range : Option Range) (list : List DeclaredName) (d : Declarations)
@@ -289,77 +334,102 @@ declarations_bare bracketed all m d =
     (each_bare bare_port bare_declarations (declare_ports bracketed all) (declare_ports bracketed all) (ports_bare bracketed all) m.groups d)
     (each_bare bare_item bare_declarations (declare_item bracketed all) (declare_item bracketed all) (item_bare bracketed all) m.items)
 
--- signals in order
+-- declarations in order
 
-slice_get-bare : (list : List Declared) (id : ℕ) → option_to_list (option_map (λ (x : Declared). x.signal) (slice_get (map bare_declared list) id)) ≡ map bare_signal (option_to_list (option_map (λ (x : Declared). x.signal) (slice_get list id)))
+slice_get-bare : (list : List Declared) (id : ℕ) → option_to_list (slice_get (map bare_declared list) id) ≡ map bare_declared (option_to_list (slice_get list id))
 slice_get-bare [] id = refl
 slice_get-bare (x ∷ xs) zero = refl
 slice_get-bare (x ∷ xs) (suc n) = slice_get-bare xs n
 
-named-bare : (list : List Declared) (o : Option Entity) → option_to_list (named_signal (map bare_declared list) o) ≡ map bare_signal (option_to_list (named_signal list o))
+named-bare : (list : List Declared) (o : Option Entity) → option_to_list (named_declared (map bare_declared list) o) ≡ map bare_declared (option_to_list (named_declared list o))
 named-bare list None = refl
 named-bare list (Some (entity.Constant bits signed)) = refl
 named-bare list (Some (entity.Signal id range signed)) = slice_get-bare list id
+named-bare list (Some (entity.Memory first low words range signed)) = refl
 named-bare list (Some entity.Instance) = refl
 
 -- what a fold gathers, without token numbers
-gathered : {X : Type 0} (h : X → X) (step other : List Signal → X → List Signal) → ((s : List Signal) (x : X) → other (map bare_signal s) (h x) ≡ map bare_signal (step s x))
-    → (s : List Signal) (xs : List X) → fold other (map bare_signal s) (map h xs) ≡ map bare_signal (fold step s xs)
+gathered : {X : Type 0} (h : X → X) (step other : List Declared → X → List Declared) → ((s : List Declared) (x : X) → other (map bare_declared s) (h x) ≡ map bare_declared (step s x))
+    → (s : List Declared) (xs : List X) → fold other (map bare_declared s) (map h xs) ≡ map bare_declared (fold step s xs)
 gathered h step other one s [] = refl
-gathered h step other one s (x ∷ xs) = ap (λ (z : List Signal). fold other z (map h xs)) (one s x) ∙ gathered h step other one (step s x) xs
+gathered h step other one s (x ∷ xs) = ap (λ (z : List Declared). fold other z (map h xs)) (one s x) ∙ gathered h step other one (step s x) xs
 
-with_port-bare : (d : Declarations) (s : List Signal) (name : Text) → with_port (bare_declarations d) (map bare_signal s) name ≡ map bare_signal (with_port d s name)
+with_port-bare : (d : Declarations) (s : List Declared) (name : Text) → with_port (bare_declarations d) (map bare_declared s) name ≡ map bare_declared (with_port d s name)
 unfolding with_port
-with_port-bare d s name = ap (λ (z : List Signal). map bare_signal s ++ z) (named-bare d.list (lookup name d.names)) ∙ sym (map-append bare_signal s (option_to_list (named_signal d.list (lookup name d.names))))
+with_port-bare d s name = ap (λ (z : List Declared). map bare_declared s ++ z) (named-bare d.list (lookup name d.names)) ∙ sym (map-append bare_declared s (option_to_list (named_declared d.list (lookup name d.names))))
 
-with_identifier-bare : (d : Declarations) (s : List Signal) (i : Identifier) → with_identifier (bare_declarations d) (map bare_signal s) (bare_identifier i) ≡ map bare_signal (with_identifier d s i)
+with_identifier-bare : (d : Declarations) (s : List Declared) (i : Identifier) → with_identifier (bare_declarations d) (map bare_declared s) (bare_identifier i) ≡ map bare_declared (with_identifier d s i)
 unfolding bare_identifier
 with_identifier-bare d s i = with_port-bare d s i.text
 
-with_declarator-bare : (d : Declarations) (s : List Signal) (n : DeclaredName) → with_declarator (bare_declarations d) (map bare_signal s) (bare_declarator n) ≡ map bare_signal (with_declarator d s n)
+with_declarator-bare : (d : Declarations) (s : List Declared) (n : DeclaredName) → with_declarator (bare_declarations d) (map bare_declared s) (bare_declarator n) ≡ map bare_declared (with_declarator d s n)
 unfolding bare_declarator
 with_declarator-bare d s n = with_port-bare d s n.text
 
-with_ports-bare : (d : Declarations) (s : List Signal) (p : PortDeclaration) → with_ports (bare_declarations d) (map bare_signal s) (bare_port p) ≡ map bare_signal (with_ports d s p)
+with_ports-bare : (d : Declarations) (s : List Declared) (p : PortDeclaration) → with_ports (bare_declarations d) (map bare_declared s) (bare_port p) ≡ map bare_declared (with_ports d s p)
 unfolding with_ports bare_port
 with_ports-bare d s p = gathered bare_declarator (with_declarator d) (with_declarator (bare_declarations d)) (with_declarator-bare d) s p.names
 
-with_inner-bare : (s : List Signal) (x : Declared) → with_inner (map bare_signal s) (bare_declared x) ≡ map bare_signal (with_inner s x)
+with_inner-bare : (s : List Declared) (x : Declared) → with_inner (map bare_declared s) (bare_declared x) ≡ map bare_declared (with_inner s x)
 unfolding with_inner
 with_inner-bare s x = by_port (is_port x.signal.port)
   where
-    by_port : (b : Bool) → (if b then map bare_signal s else map bare_signal s ++ bare_signal x.signal ∷ []) ≡ map bare_signal (if b then s else s ++ x.signal ∷ [])
+    by_port : (b : Bool) → (if b then map bare_declared s else map bare_declared s ++ bare_declared x ∷ []) ≡ map bare_declared (if b then s else s ++ x ∷ [])
     by_port true = refl
-    by_port false = sym (map-append bare_signal s (x.signal ∷ []))
+    by_port false = sym (map-append bare_declared s (x ∷ []))
 
-signals-bare : (m : ModuleDeclaration) (d : Declarations) → signals_in_order (bare_module m) (bare_declarations d) ≡ map bare_signal (signals_in_order m d)
-unfolding signals_in_order bare_module
-signals-bare m d =
-    ap (λ (z : List Signal). fold with_inner (fold (with_ports (bare_declarations d)) z (map bare_port m.groups)) (map bare_declared d.list))
+order-bare : (m : ModuleDeclaration) (d : Declarations) → declared_in_order (bare_module m) (bare_declarations d) ≡ map bare_declared (declared_in_order m d)
+unfolding declared_in_order bare_module
+order-bare m d =
+    ap (λ (z : List Declared). fold with_inner (fold (with_ports (bare_declarations d)) z (map bare_port m.groups)) (map bare_declared d.list))
     (ap (λ (names : List Identifier). fold (with_identifier (bare_declarations d)) [] names) (plain_names-bare m.header)
     ∙ gathered bare_identifier (with_identifier d) (with_identifier (bare_declarations d)) (with_identifier-bare d) [] (plain_names m.header))
-    ∙ (ap (λ (z : List Signal). fold with_inner z (map bare_declared d.list))
+    ∙ (ap (λ (z : List Declared). fold with_inner z (map bare_declared d.list))
     (gathered bare_port (with_ports d) (with_ports (bare_declarations d)) (with_ports-bare d) (fold (with_identifier d) [] (plain_names m.header)) m.groups)
     ∙ gathered bare_declared with_inner with_inner with_inner-bare (fold (with_ports d) (fold (with_identifier d) [] (plain_names m.header)) m.groups) d.list)
 
-with_signals-bare : (k : ℕ) (ss : List Signal) (names : Names) → with_signals k (map bare_signal ss) names ≡ with_signals k ss names
+-- their signals
+
+all_words-bare : (s : Signal) (low : ℕ) (ks : List ℕ) → map (indexed_word (bare_signal s) low) ks ≡ map bare_signal (map (indexed_word s low) ks)
+all_words-bare s low [] = refl
+all_words-bare s low (k ∷ ks) = ap (λ (z : List Signal). indexed_word (bare_signal s) low k ∷ z) (all_words-bare s low ks)
+
+signals-bare : (s : Signal) (words : Option (ℕ × ℕ)) → words_signals (bare_signal s) words ≡ map bare_signal (words_signals s words)
+signals-bare s None = refl
+signals-bare s (Some w) = all_words-bare s w.0 (range_with_len 0 w.1)
+
+joined-bare : (list : List Declared) → joined (map bare_declared list) ≡ map bare_signal (joined list)
+unfolding joined
+joined-bare [] = refl
+joined-bare (x ∷ xs) =
+    ap₂ (λ (a b : List Signal). a ++ b) (signals-bare x.signal x.words) (joined-bare xs) ∙ sym (map-append bare_signal (signals_of x) (joined xs))
+
+entity-bare : (k : ℕ) (s : Signal) (words : Option (ℕ × ℕ)) → words_entity k (bare_signal s) words ≡ words_entity k s words
+entity-bare k s None = refl
+entity-bare k s (Some w) = refl
+
+with_signals-bare : (k : ℕ) (list : List Declared) (names : Names) → with_signals k (map bare_declared list) names ≡ with_signals k list names
 unfolding with_signals
 with_signals-bare k [] names = refl
-with_signals-bare k (s ∷ ss) names = with_signals-bare (k + 1) ss (with_name names s.name (entity.Signal k s.range s.signed))
+with_signals-bare k (x ∷ xs) names =
+    ap (λ (e : Entity). with_signals (k + word_count x.words) (map bare_declared xs) (with_name names x.signal.name e)) (entity-bare k x.signal x.words)
+    ∙ with_signals-bare (k + word_count x.words) xs (with_name names x.signal.name (entity_of k x))
 
 -- heads
 
 abbrev pub bare_head : Head → Head
 bare_head h = record h { signals = map bare_signal h.signals }
 
-numbered_bare : (i base bits : ℕ) (ss zs : List Signal) (names : Names) → zs ≡ map bare_signal ss → Barely bare_head (numbered i base bits ss names) (numbered i base bits zs names)
+numbered_bare : (i base bits : ℕ) (list zs : List Declared) (names : Names) → zs ≡ map bare_declared list → Barely bare_head (numbered i base bits list names) (numbered i base bits zs names)
 unfolding numbered
-numbered_bare i base bits ss zs names e =
-    let l : length zs ≡ length ss = ap length e ∙ length-map ss bare_signal in
-    settle_bare bare_head (fault_if (nat_lt 65536 (base + length ss)) (TooMany FlatBits (base + length ss))) (fault_if (nat_lt 65536 (base + length zs)) (TooMany FlatBits (base + length zs)))
-    (record { instance = i; base = base; bits = bits; signals = ss; scope = with_signals base ss names }) (record { instance = i; base = base; bits = bits; signals = zs; scope = with_signals base zs names })
+numbered_bare i base bits list zs names e =
+    let j : joined zs ≡ map bare_signal (joined list) = ap joined e ∙ joined-bare list in
+    let l : length (joined zs) ≡ length (joined list) = ap length j ∙ length-map (joined list) bare_signal in
+    let s : with_signals base zs names ≡ with_signals base list names = ap (λ (z : List Declared). with_signals base z names) e ∙ with_signals-bare base list names in
+    settle_bare bare_head (fault_if (nat_lt 65536 (base + length (joined list))) (TooMany FlatBits (base + length (joined list)))) (fault_if (nat_lt 65536 (base + length (joined zs))) (TooMany FlatBits (base + length (joined zs))))
+    (record { instance = i; base = base; bits = bits; signals = joined list; scope = with_signals base list names }) (record { instance = i; base = base; bits = bits; signals = joined zs; scope = with_signals base zs names })
     (rw l (nil_if _ _ _))
-    (rw e (ap (λ (n : Names). record { instance = i; base = base; bits = bits; signals = map bare_signal ss; scope = n }) (with_signals-bare base ss names)))
+    (ap₂ (λ (ss : List Signal) (n : Names). record { instance = i; base = base; bits = bits; signals = ss; scope = n }) j s)
 
 declared_bare : (i bits : ℕ) (m : ModuleDeclaration) (names : Names) → Barely bare_declarations (declared i bits m names) (declared i bits (bare_module m) names)
 unfolding declared
@@ -373,10 +443,10 @@ pub head_bare : (i base bits : ℕ) (given : Names) (m : ModuleDeclaration) → 
 unfolding head
 head_bare i base bits given m =
     then_bare (λ (n : Names). n) bare_head (parameters given m) (parameters given (bare_module m))
-    (λ names. and_then (declared i bits m names) (λ d. numbered i base d.bits (signals_in_order m d) names))
-    (λ names. and_then (declared i bits (bare_module m) names) (λ d. numbered i base d.bits (signals_in_order (bare_module m) d) names))
+    (λ names. and_then (declared i bits m names) (λ d. numbered i base d.bits (declared_in_order m d) names))
+    (λ names. and_then (declared i bits (bare_module m) names) (λ d. numbered i base d.bits (declared_in_order (bare_module m) d) names))
     (parameters_bare given m)
     (λ names. then_bare bare_declarations bare_head (declared i bits m names) (declared i bits (bare_module m) names)
-    (λ d. numbered i base d.bits (signals_in_order m d) names) (λ d. numbered i base d.bits (signals_in_order (bare_module m) d) names)
+    (λ d. numbered i base d.bits (declared_in_order m d) names) (λ d. numbered i base d.bits (declared_in_order (bare_module m) d) names)
     (declared_bare i bits m names)
-    (λ d. numbered_bare i base d.bits (signals_in_order m d) (signals_in_order (bare_module m) (bare_declarations d)) names (signals-bare m d)))
+    (λ d. numbered_bare i base d.bits (declared_in_order m d) (declared_in_order (bare_module m) (bare_declarations d)) names (order-bare m d)))

@@ -10,10 +10,11 @@ use Rattle.rr_expr.specs.declared.types.ExprFault.TheVariants.{BadRange, NotCons
 use Rattle.rr_expr.specs.declared.operators.Infix.TheVariants.{Either}
 use Rattle.rr_expr.specs.declared.operators.Prefix.TheVariants.{Plus}
 use Rattle.rr_expr.specs.Operators.{infixes, prefixes, joined, prefix_shape, infix_shape, own_with, prefix_value, infix_value}
-use Rattle.rr_expr.specs.Scopes.{Names, meant, entity_shape, entity_range, entity_value, is_scalar}
+use Rattle.rr_expr.specs.Memories.{index_value}
+use Rattle.rr_expr.specs.Scopes.{Names, meant, entity_shape, entity_range, entity_value, is_scalar, range_width}
 use Rattle.rr_expr.specs.Selects.{place, span, count, is_against, lowest_place, integer_with, repeated}
 use Rattle.rr_expr.specs.Values.{form, widths, value, values, nowhere, unsigned_of}
-use Rattle.rr_expr.specs.Faults.{fault, faults, first, first_part, is_width, or_else, fault_if, width_fault, name_fault, base_fault, count_fault, takes_constants, is_bad, constant_count, constant_span}
+use Rattle.rr_expr.specs.Faults.{fault, faults, first, first_part, is_width, or_else, fault_if, width_fault, name_fault, base_fault, index_fault, count_fault, takes_constants, is_bad, constant_count, constant_span}
 use Rattle.rr_token_numbers.proofs.Results.{Both}
 
 -- the first token of a tree without numbers
@@ -49,7 +50,7 @@ mutual
   same s (Literal token n) = (refl, refl)
   same s (BitSelect token x i) =
       let p = same s i in
-      (refl, λ k env w signed. extend w signed (select (entity_value env (meant s x)) (place (entity_range (meant s x)) (integer_with (p.0 k) (p.1 k env))) 1))
+      (refl, λ k env w signed. extend w signed (index_value env (meant s x) (integer_with (p.0 k) (p.1 k env))))
   same s (Part token x l r) =
       let p = same s l in
       let q = same s r in (
@@ -110,7 +111,7 @@ count-bare s n = let p = same s n in λ k. count (integer_with (p.0 k) (p.1 k no
 
 -- faults in both or in neither
 
-both_or : (a b c d : Option ExprFault) → Both a b → Both c d → Both (or_else a c) (or_else b d)
+pub both_or : (a b c d : Option ExprFault) → Both a b → Both c d → Both (or_else a c) (or_else b d)
 both_or None None c d h k = k
 both_or None (Some y) c d h k = absurd h
 both_or (Some x) None c d h k = absurd h
@@ -131,10 +132,19 @@ both_name : (c : Bool) (t u : ℕ) (e : Entity) → Both (name_fault c t e) (nam
 both_name c t u (entity.Constant bits signed) = both_width t u (entity_shape (entity.Constant bits signed)).width _ refl
 both_name true t u (entity.Signal id range signed) = tt
 both_name false t u (entity.Signal id range signed) = both_width t u (entity_shape (entity.Signal id range signed)).width _ refl
+both_name true t u (entity.Memory first low words range signed) = tt
+both_name false t u (entity.Memory first low words range signed) = tt
 both_name c t u entity.Instance = tt
 
 both_base : (c : Bool) (t u : ℕ) (e : Entity) → Both (base_fault c t e) (base_fault c u e)
 both_base c t u e = both_or (name_fault c t e) (name_fault c u e) _ _ (both_name c t u e) (both_if (is_scalar e) (is_scalar e) (BadRange t) (BadRange u) refl)
+
+pub both_index : (c : Bool) (t u : ℕ) (e : Entity) → Both (index_fault c t e) (index_fault c u e)
+both_index c t u (entity.Constant bits signed) = both_base c t u (entity.Constant bits signed)
+both_index c t u (entity.Signal id range signed) = both_base c t u (entity.Signal id range signed)
+both_index true t u (entity.Memory first low words range signed) = tt
+both_index false t u (entity.Memory first low words range signed) = both_width t u (range_width range) (range_width range) refl
+both_index c t u entity.Instance = both_base c t u entity.Instance
 
 both_count : (o p : Option ExprFault) (t u n m : ℕ) → Both o p → m ≡ n → Both (count_fault o t n) (count_fault p u m)
 both_count None None t u n m h e = rw e (by_none (n == 0))
@@ -152,7 +162,7 @@ mutual
   pub fault_both : (s : Names) (t : Tree) (c : Bool) → Both (fault s t c) (fault s (bare t) c)
   fault_both s (Name token x) c = both_name c token 0 (meant s x)
   fault_both s (Literal token n) c = both_width token 0 n.width n.width refl
-  fault_both s (BitSelect token x i) c = both_or (base_fault c token (meant s x)) (base_fault c 0 (meant s x)) _ _ (both_base c token 0 (meant s x)) (fault_both s i c)
+  fault_both s (BitSelect token x i) c = both_or (index_fault c token (meant s x)) (index_fault c 0 (meant s x)) _ _ (both_index c token 0 (meant s x)) (fault_both s i c)
   fault_both s (Part token x l r) c =
       let p = same s l in
       let q = same s r in

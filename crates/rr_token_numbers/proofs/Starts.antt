@@ -3,9 +3,11 @@ use Rattle.std.proofs.Common.{◌≡◌, ◌∙◌, ap, ℕ, max, List, true, Op
 use Rattle.rr_bits.specs.Words.{number, select}
 use Rattle.rr_syntax.specs.Tree.{Tree, Name, Literal, Bit as BitSelect, Part, Indexed, Unary, Binary, Cond, Concat, Repeat, Cast, Paren, Statement, Statements, Null, Block, If, IfElse, Case, Assign, For, Done, Then, bare, bare_value, bare_statement, bare_statements}
 use Rattle.rr_expr.specs.Faults.{fault}
+use Rattle.rr_expr.specs.Memories.{index_shape}
 use Rattle.rr_expr.specs.Scopes.{Names, meant, entity_shape}
+use Rattle.rr_expr.specs.Selects.{integer_with}
 use Rattle.rr_expr.specs.Values.{nowhere}
-use Rattle.rr_starts.specs.Starts.{start_of, constant_faults, variable_of, set_at, set_target, started, all_started}
+use Rattle.rr_starts.specs.Starts.{start_of, constant_faults, whole_signal, started_word, set_at, set_target, started, all_started}
 use Rattle.rr_declarations.specs.Declarations.{start_faults, start_or}
 use Rattle.rr_token_numbers.proofs.Results.{BothNil, nil_answer}
 use Rattle.rr_token_numbers.proofs.Shapes.{form-bare, value_path, fault_both}
@@ -32,9 +34,9 @@ start_or-bare s w start (Some t) = start_of-bare s w t
 
 set_target-bare : (s : Names) (x t : Tree) (starts : List ℕ) → set_target s (bare x) (bare t) starts ≡ set_target s x t starts
 unfolding set_target bare
-set_target-bare s (Name token name) t starts = ap (λ n. set_at (variable_of (meant s name)) n starts) (start_of-bare s (entity_shape (meant s name)).width t)
+set_target-bare s (Name token name) t starts = ap (λ n. set_at (whole_signal (meant s name)) n starts) (start_of-bare s (entity_shape (meant s name)).width t)
 set_target-bare s (Literal token n) t starts = refl
-set_target-bare s (BitSelect token name i) t starts = refl
+set_target-bare s (BitSelect token name i) t starts = λ k. set_at (started_word (meant s name) (integer_with (form-bare s i k) (value_path s i k nowhere))) (start_of-bare s (index_shape (meant s name)).width t k) starts
 set_target-bare s (Part token name l r) t starts = refl
 set_target-bare s (Indexed token name f n up) t starts = refl
 set_target-bare s (Unary op a) t starts = refl

@@ -3,8 +3,8 @@ use Rattle.std.proofs.Common.{◌≡◌, ◌∙◌, sym, ap, ap₂, subst, ℕ, 
 use Rattle.std.specs.List.{list_any}
 use Rattle.std.specs.Option.{option_to_list}
 use Rattle.std.proofs.lemmas.List.{map-append, length-map}
-use Rattle.rr_syntax.specs.Tree.{Tree, Trees, End, More, Statement, Statements, Arm, Arms, Null, Block, If, IfElse, Case, Assign, For, Done, Then, CaseItem, NoArms, MoreArms, DeclaredName, NetAssignment, EdgeEvent, EventControl, Star, Edges, Levels, NamedConnection, Connections, Positions, Names as Named, ModuleInstance, ModuleItem, Ports, Nets, Variables, Integers, Parameters, Assigns, Always, Initial, Instances, ModuleDeclaration, SourceText, bare, bare_parts, bare_statement, bare_statements, bare_arm, bare_arms, bare_value, bare_declarator, bare_pair, bare_edge, bare_events, bare_connection, bare_connections, bare_overrides, bare_instance, bare_item, bare_module, bare_source}
-use Rattle.rr_expr.specs.Faults.{fault, first}
+use Rattle.rr_syntax.specs.Tree.{Tree, Trees, Name, Literal, Bit as BitSelect, Part, Indexed, Unary, Binary, Cond, Concat, Repeat, Cast, Paren, End, More, Statement, Statements, Arm, Arms, Null, Block, If, IfElse, Case, Assign, For, Done, Then, CaseItem, NoArms, MoreArms, DeclaredName, NetAssignment, EdgeEvent, EventControl, Star, Edges, Levels, NamedConnection, Connections, Positions, Names as Named, ModuleInstance, ModuleItem, Ports, Nets, Variables, Integers, Parameters, Assigns, Always, Initial, Instances, ModuleDeclaration, SourceText, bare, bare_parts, bare_statement, bare_statements, bare_arm, bare_arms, bare_value, bare_declarator, bare_pair, bare_edge, bare_events, bare_connection, bare_connections, bare_overrides, bare_instance, bare_item, bare_module, bare_source}
+use Rattle.rr_expr.specs.Faults.{fault, first, index_fault, or_else}
 use Rattle.rr_expr.specs.Scopes.{Names, lookup, meant}
 use Rattle.rr_expr.specs.Values.{form}
 use Rattle.rr_expr.specs.declared.types.Entity.{Entity}
@@ -17,7 +17,7 @@ use Rattle.rr_flat.specs.declared.signal.Port.TheVariants.{Inner, Input, Output}
 use Rattle.rr_flat.specs.Faults.{earliest_of, fault_if, faults_in, first_fault_or, and_then, each}
 use Rattle.rr_loop_rules.specs.Rules.{LoopNames, contains, loop_names, stray, strays, part_strays, loop_faults}
 use Rattle.rr_unfold.specs.Unfold.{Count, counted, unfold_statement}
-use Rattle.rr_starts.specs.Starts.{constant_faults, initial_faults, all_initial_faults, started}
+use Rattle.rr_starts.specs.Starts.{constant_faults, initial_target_faults, initial_faults, all_initial_faults, started}
 use Rattle.rr_declarations.specs.Heads.{Head, head}
 use Rattle.rr_flat.specs.Signals.{Text, Signal, signal_at}
 use Rattle.rr_declarations.specs.Values.{constant}
@@ -29,7 +29,7 @@ use Rattle.rr_flatten.specs.Walk.{Walked, Enter, scope_at, loops_at, module_at, 
 use Rattle.rr_flat.specs.Shapes.{shape, shape_faults, list_faults, statement_faults, statements_faults, arms_faults, arm_faults}
 use Rattle.rr_token_numbers.specs.Bare.{bare_signal, bare_side, bare_driver, bare_block, bare_initial, bare_flat}
 use Rattle.rr_token_numbers.proofs.Results.{Barely, Both, BothNil, nil_append, nil_if, nil_in, nil_answer, nil_earliest, both_noted, or_bare, settle_bare, then_bare, each_bare, fold_both, fold_trees_both}
-use Rattle.rr_token_numbers.proofs.Shapes.{first-bare, fault_both}
+use Rattle.rr_token_numbers.proofs.Shapes.{first-bare, both_or, both_index, fault_both}
 use Rattle.rr_token_numbers.proofs.Starts.{constant_nil, started-bare}
 use Rattle.rr_token_numbers.proofs.Heads.{constant_bare, bare_head, head_bare}
 use Rattle.rr_token_numbers.proofs.Strays.{strays_nil, part_strays_nil, loop_nil, loop_names-bare}
@@ -77,6 +77,23 @@ mutual
   arms_nil names NoArms = tt
   arms_nil names (MoreArms a rest) = nil_append (arm_faults names a) (arms_faults names rest) (arm_faults names (bare_arm a)) (arms_faults names (bare_arms rest)) (arm_nil names a) (arms_nil names rest)
 
+target_nil : (names : Names) (t : Tree) → BothNil (initial_target_faults names t) (initial_target_faults names (bare t))
+unfolding initial_target_faults bare
+target_nil names (Name token x) = shape_nil names (Name token x)
+target_nil names (Literal token n) = shape_nil names (Literal token n)
+target_nil names (BitSelect token x i) =
+    nil_answer (or_else (index_fault false token (meant names x)) (fault names i true)) (or_else (index_fault false 0 (meant names x)) (fault names (bare i) true)) (BitSelect token x i) (BitSelect 0 x (bare i))
+    (both_or (index_fault false token (meant names x)) (index_fault false 0 (meant names x)) (fault names i true) (fault names (bare i) true) (both_index false token 0 (meant names x)) (fault_both names i true))
+target_nil names (Part token x l r) = shape_nil names (Part token x l r)
+target_nil names (Indexed token x f n up) = shape_nil names (Indexed token x f n up)
+target_nil names (Unary op a) = shape_nil names (Unary op a)
+target_nil names (Binary op a b) = shape_nil names (Binary op a b)
+target_nil names (Cond a b c) = shape_nil names (Cond a b c)
+target_nil names (Concat ts) = shape_nil names (Concat ts)
+target_nil names (Repeat n ts) = shape_nil names (Repeat n ts)
+target_nil names (Cast signed a) = shape_nil names (Cast signed a)
+target_nil names (Paren a) = shape_nil names (Paren a)
+
 mutual
   unfolding initial_faults bare_statement
 
@@ -86,7 +103,8 @@ mutual
   initial_nil names (If c t) = tt
   initial_nil names (IfElse c t u) = tt
   initial_nil names (Case kind on arms) = tt
-  initial_nil names (Assign t now e) = nil_append (shape_faults names t) (constant_faults names e) (shape_faults names (bare t)) (constant_faults names (bare e)) (shape_nil names t) (constant_nil names e)
+  initial_nil names (Assign t now e) =
+      nil_append (initial_target_faults names t) (constant_faults names e) (initial_target_faults names (bare t)) (constant_faults names (bare e)) (target_nil names t) (constant_nil names e)
   initial_nil names (For h t) = tt
 
   initials_nil : (names : Names) (ts : Statements) → BothNil (all_initial_faults names ts) (all_initial_faults names (bare_statements ts))
@@ -266,6 +284,7 @@ parameter_nil : (at to : ℕ) (o : Option Entity) → BothNil (parameter_faults 
 parameter_nil at to None = tt
 parameter_nil at to (Some (entity.Constant bits signed)) = tt
 parameter_nil at to (Some (entity.Signal id range signed)) = nil_if signed (PortMismatch at) (PortMismatch to)
+parameter_nil at to (Some (entity.Memory first low words range signed)) = tt
 parameter_nil at to (Some entity.Instance) = tt
 
 check_override_same : (table names : Names) (c d : Checked) (n : NamedConnection) → SameChecked c d → SameChecked (check_override table names c n) (check_override table names d (bare_connection n))

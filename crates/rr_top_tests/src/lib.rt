@@ -29,6 +29,8 @@ mod loops;
 #[cfg(test)]
 mod makes;
 #[cfg(test)]
+mod memories;
+#[cfg(test)]
 mod repairs;
 #[cfg(test)]
 mod reports;

@@ -62,6 +62,14 @@ fn designs_that_are_not_mended(rt: HostRuntime) {
     check(
         &rt,
         &Case {
+            design: "module m(input i, input a, output y); reg r [0:1]; always @* r[i] = a; assign y = r[0]; endmodule",
+            notes: "refused 20 Latch at 51\n",
+            ..REFUSED
+        },
+    );
+    check(
+        &rt,
+        &Case {
             status: 4,
             out: "module m",
             room: 8,

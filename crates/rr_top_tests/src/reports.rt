@@ -32,6 +32,7 @@ fn refusals_are_told(rt: HostRuntime) {
         (Limit::Work, "refused 16 TooMany work 9\n"),
         (Limit::Turns, "refused 16 TooMany turns 9\n"),
         (Limit::Unfolded, "refused 16 TooMany unfolded 9\n"),
+        (Limit::Words, "refused 16 TooMany words 9\n"),
     ] {
         let refusal = Refusal::Input(rr_run::Refusal::TooMany(limit, 9));
         let report = stopped(alloc, Stop::Refused(refusal));

@@ -14,7 +14,7 @@ const STATE: &str =
     "module m(input clk, input go, output reg [1:0] s);\n  initial begin : first s = 2'd1; s = 2'd2; end\n  always @(posedge clk)\n    s <= s ^ 2'd3;\nendmodule\n";
 
 /// Designs that `run` refuses, and their places.
-const REFUSED: [(&str, &str); 6] = [
+const REFUSED: [(&str, &str); 7] = [
     (
         "module m(input a, output reg y);initial y = a;endmodule",
         "refused 13 NotConstant at 44\n",
@@ -37,7 +37,11 @@ const REFUSED: [(&str, &str); 6] = [
     ),
     (
         "module m(output reg [1:0] q);initial q[0] = 1'b1;endmodule",
-        "refused 6 Syntax at 38\n",
+        "refused 24 BadTarget at 37\n",
+    ),
+    (
+        "module m(output reg [1:0] q);initial q[1:0] = 2'd1;endmodule",
+        "refused 6 Syntax at 40\n",
     ),
 ];
 

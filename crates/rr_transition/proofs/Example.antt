@@ -4,7 +4,7 @@ use Rattle.rr_syntax.specs.Tree.{ModuleDeclaration, SourceText}
 use Rattle.rr_expr.specs.Scopes.{lookup}
 use Rattle.rr_declarations.specs.Declarations.{brackets, declarations}
 use Rattle.rr_flat.specs.Faults.{each}
-use Rattle.rr_declarations.specs.Heads.{declared, head, numbered, signals_in_order, with_signals}
+use Rattle.rr_declarations.specs.Heads.{declared, declared_in_order, head, joined, numbered, with_signals}
 use Rattle.rr_declarations.specs.Parameters.{parameters}
 use Rattle.rr_flatten.specs.Tables.{add_module, instantiated_by, last_free}
 use Rattle.rr_flatten.specs.Walk.{begin, enter, enter_by, flat_by, flat_of, reached_from, top_ports}
@@ -25,7 +25,7 @@ abbrev empty_source : SourceText
 empty_source = record { modules = empty_module ∷ [] }
 
 elaborated : flat_of empty_source None ≡ Ok empty
-unfolding flat_by each add_module lookup last_free instantiated_by enter enter_by begin head parameters declared brackets declarations numbered signals_in_order with_signals top_ports reached_from
+unfolding flat_by each add_module lookup last_free instantiated_by enter enter_by begin head parameters declared brackets declarations numbered joined declared_in_order with_signals top_ports reached_from
 elaborated = refl
 
 abbrev nothing : Design

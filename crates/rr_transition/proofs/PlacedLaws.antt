@@ -113,7 +113,7 @@ cycles_from_steps j clock rising steps t registers choice h = record {
           env = env;
           next = next_after h.flat env;
           settled = settles h.flat clock rising steps (sound j.source j.top h.flat h.design) (j.word, (h.lawful, h.ordered)) (placed registers state zeros) (row_of h.flat.signals (row_inputs clock h.flat.inputs) row);
-          edge = next_is h.flat (j.word, h.lawful) env;
+          edge = next_is h.flat (sound j.source j.top h.flat h.design) (j.word, h.lawful) env;
           bits = h.bits state row l m;
         };
   });

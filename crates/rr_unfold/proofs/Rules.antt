@@ -2,7 +2,7 @@
 use Rattle.std.proofs.Common.{◌≡◌, ◌∙◌, sym, ap, subst, ℕ, zero, suc, ◌<◌, ◌≤◌, Bool, true, false, ◌&&◌, IsTrue, List, [], ◌∷◌, Option, None, Some, Result, Ok, Err, refl, arith}
 use Rattle.rr_syntax.specs.Tree.{Tree, Trees, Name, Literal, Bit, Part, Indexed, Unary, Binary, Cond, Concat, Repeat, Cast, Paren, End, More, LoopHead, Statement, Statements, Arm, Arms, Null, Block, If, IfElse, Case, Assign, For, Done, Then, CaseItem, NoArms, MoreArms}
 use Rattle.rr_syntax.specs.Expressions.{WellFormed, WellFormedMore}
-use Rattle.rr_syntax.specs.Statements.{is_open, is_name, is_initial, are_initial, HasColon, defaults, HasArms, WellFormedStatement, WellFormedStatements, WellFormedArm, WellFormedArms, FitLiteralsStatement, FitLiteralsStatements, FitLiteralsArm, FitLiteralsArms}
+use Rattle.rr_syntax.specs.Statements.{is_open, is_cell, is_initial, are_initial, HasColon, defaults, HasArms, WellFormedStatement, WellFormedStatements, WellFormedArm, WellFormedArms, FitLiteralsStatement, FitLiteralsStatements, FitLiteralsArm, FitLiteralsArms}
 use Rattle.rr_expr.specs.Scopes.{Names}
 use Rattle.rr_flat.specs.Loops.{is_loop_free, all_loop_free, arm_loop_free, arms_loop_free}
 use Rattle.rr_loop_names.specs.Turns.{Turn, IsTurn, put_tree, put_parts, put_target}
@@ -66,20 +66,20 @@ both : (a b : Bool) → (a && b) ≡ true → (a ≡ true) × (b ≡ true)
 both true b e = (refl, e)
 both false b e = absurd (cc)
 
-named : (turn : Turn) (t : Tree) → is_name (put_target turn t) ≡ is_name t
+cell : (turn : Turn) (t : Tree) → is_cell (put_target turn t) ≡ is_cell t
 unfolding put_target
-named turn (Name token x) = refl
-named turn (Literal token n) = refl
-named turn (Bit token x i) = refl
-named turn (Part token x l r) = refl
-named turn (Indexed token x f n up) = refl
-named turn (Unary op t) = refl
-named turn (Binary op l r) = refl
-named turn (Cond a b c) = refl
-named turn (Concat ts) = refl
-named turn (Repeat n ts) = refl
-named turn (Cast signed t) = refl
-named turn (Paren t) = refl
+cell turn (Name token x) = refl
+cell turn (Literal token n) = refl
+cell turn (Bit token x i) = refl
+cell turn (Part token x l r) = refl
+cell turn (Indexed token x f n up) = refl
+cell turn (Unary op t) = refl
+cell turn (Binary op l r) = refl
+cell turn (Cond a b c) = refl
+cell turn (Concat ts) = refl
+cell turn (Repeat n ts) = refl
+cell turn (Cast signed t) = refl
+cell turn (Paren t) = refl
 
 each_initial : (f : ℕ → Statement) (vs : List ℕ) → ((v : ℕ) → is_initial (f v) ≡ true) → are_initial (each_turn f vs) ≡ true
 unfolding is_initial each_turn
@@ -95,7 +95,7 @@ mutual
   initial s turn (If test t) e = e
   initial s turn (IfElse test t u) e = e
   initial s turn (Case kind on arms) e = e
-  initial s turn (Assign t now v) e = ap (λ b. now && b) (named turn t) ∙ e
+  initial s turn (Assign t now v) e = ap (λ b. now && b) (cell turn t) ∙ e
   initial s turn (For h t) e = each_initial (λ v. unfold_statement s (inside h turn v) t) (values_of s turn h) (λ v. initial s (inside h turn v) t e)
 
   all_initial : (s : Names) (turn : Turn) (ts : Statements) → are_initial ts ≡ true → are_initial (unfold_statements s turn ts) ≡ true

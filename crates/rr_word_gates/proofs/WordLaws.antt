@@ -66,7 +66,7 @@ inverted_all n xs out i h e =
     Carries-same n out (λ input. tabulate (length xs) (inverted_bit n xs input)) (λ input. inverted (wire_values n input xs)) (Filled-carries n n (inverted_bit n xs) out i (length xs) h e)
     (λ input. ap (λ k. tabulate k (inverted_bit n xs input)) (sym (width-values n input xs)))
 
-number_zeros : (k : ℕ) (xs : List Bool) → xs ≡ tabulate k (λ i. false) → number xs ≡ 0
+pub number_zeros : (k : ℕ) (xs : List Bool) → xs ≡ tabulate k (λ i. false) → number xs ≡ 0
 number_zeros k xs e = ap number e ∙ ap number (sym (word_tabulated k 0 (λ i. false) (λ i l. has_zero i))) ∙ number_small k 0 (pow_pos k)
 
 pub negated_all : (n m : Netlist) (zs xs out us : List Wire) (i : ℕ) → us ≡ zs → Filled n n (λ input k. false) zs i → i ≡ length xs → AreWires m out → ((input : ℕ → Bool) → wire_values m input out ≡ sub (wire_values n input us) (wire_values n input xs)) → Carries m out (λ input. negated (wire_values n input xs))

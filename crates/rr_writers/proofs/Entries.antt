@@ -1,7 +1,7 @@
 -- Tables after one number is put.
-use Rattle.std.proofs.Common.{◌≡◌, ◌∙◌, sym, ap, ℕ, zero, suc, ◌<◌, inl, inr, Bool, true, false, cond, ◌||◌, List, [], ◌∷◌, ◌++◌, length, get_or, set, nat_eq, refl}
-use Rattle.std.proofs.lemmas.Bool.{and_from, and_parts, eqb-true, eq-eqb, ne_eqb, cases_eq}
-use Rattle.std.proofs.lemmas.List.{get_or-set_other, get_or-set_same, length-map, get_or-map, map-set}
+use Rattle.std.proofs.Common.{◌≡◌, ◌∙◌, sym, ap, ℕ, zero, suc, ◌-◌, ◌<◌, ◌≤◌, inl, inr, Bool, true, false, cond, ◌||◌, List, [], ◌∷◌, ◌++◌, length, get_or, set, take, nat_eq, refl, arith}
+use Rattle.std.proofs.lemmas.Bool.{and_from, and_parts, eqb-true, eq-eqb, ne_eqb, cases_eq, cases_lt}
+use Rattle.std.proofs.lemmas.List.{get_or-set_other, get_or-set_same, length-map, get_or-map, get_or_default, map-set}
 use Rattle.std.specs.Prelude.{Vec}
 use Rattle.std.specs.declared.alloc.Global.{Global}
 use Rattle.rr_expr.specs.declared.types.Bit.{Bit}
@@ -58,3 +58,57 @@ row_put rows old new bit b number l e h =
     let n : bit.signal < length (rows_of rows) = rw (length-map rows items) l in
     ap (λ z. entry z b) (map-set items rows bit.signal new)
     ∙ entry_put (rows_of rows) new.items bit b number n (λ i. h i ∙ ap (λ z. cond (nat_eq bit.place i) number (get_or z i 0)) q)
+
+-- rows that end with their last number
+
+pub past_zero : (xs : List ℕ) (i : ℕ) → length xs ≤ i → get_or xs i 0 ≡ 0
+past_zero [] i l = refl
+past_zero (x ∷ xs) zero l = absurd (omega arith)
+past_zero (x ∷ xs) (suc i) l = past_zero xs i (omega arith)
+
+pub zero_before : (xs : List ℕ) (n d : ℕ) → 0 < n → n ≤ length xs → get_or xs (n - 1) d ≡ 0 → ((i : ℕ) → n ≤ i → get_or xs i 0 ≡ 0) → (i : ℕ) → n - 1 ≤ i → get_or xs i 0 ≡ 0
+zero_before xs n d p l z f i m = elim (cases_eq i (n - 1)) [
+  | inl q ↦ ap (λ k. get_or xs k 0) q ∙ (get_or_default xs (n - 1) 0 d (omega arith) ∙ z)
+  | inr q ↦ f i (omega (arith, q, m))
+]
+
+pub trimmed : (xs ys : List ℕ) (n i : ℕ) → ys ≡ take n xs → ((j : ℕ) → n ≤ j → get_or xs j 0 ≡ 0) → get_or ys i 0 ≡ get_or xs i 0
+trimmed xs ys n i e f = ap (λ z. get_or z i 0) e ∙ elim (cases_lt i n) [
+  | inl l ↦ taken xs n i l
+  | inr l ↦ not_taken xs n i l ∙ sym (f i l)
+]
+  where
+    taken : (zs : List ℕ) (m j : ℕ) → j < m → get_or (take m zs) j 0 ≡ get_or zs j 0
+    taken zs zero j l = absurd (omega arith)
+    taken [] (suc m) j l = refl
+    taken (z ∷ zs) (suc m) zero l = refl
+    taken (z ∷ zs) (suc m) (suc j) l = taken zs m j (omega arith)
+
+    not_taken : (zs : List ℕ) (m j : ℕ) → m ≤ j → get_or (take m zs) j 0 ≡ 0
+    not_taken zs zero j l = refl
+    not_taken [] (suc m) j l = refl
+    not_taken (z ∷ zs) (suc m) zero l = absurd (omega arith)
+    not_taken (z ∷ zs) (suc m) (suc j) l = not_taken zs m j (omega arith)
+
+pub no_items : (xs : List ℕ) → length xs ≡ 0 → xs ≡ []
+no_items [] e = refl
+no_items (x ∷ xs) e = absurd (omega (arith, e))
+
+-- a signal whose row is empty has no number
+
+pub blank_past : (rows : List (Vec ℕ Global)) (s : ℕ) (b : Bit) → length rows ≤ s → b.signal ≡ s → entry (rows_of rows) b ≡ 0
+blank_past rows s b l q = ap (λ x. get_or x b.place 0) (past (rows_of rows) b.signal (rw (length-map rows (λ (r : Vec ℕ Global). r.items)) (omega (arith, q, l))))
+  where
+    past : (xs : List (List ℕ)) (i : ℕ) → length xs ≤ i → get_or xs i [] ≡ []
+    past [] i m = refl
+    past (x ∷ xs) zero m = absurd (omega arith)
+    past (x ∷ xs) (suc i) m = past xs i (omega arith)
+
+pub blank_row : (rows : List (Vec ℕ Global)) (s : ℕ) (row d : Vec ℕ Global) (b : Bit) → row ≡ get_or rows s d → row.items ≡ [] → b.signal ≡ s → entry (rows_of rows) b ≡ 0
+blank_row rows s row d b e z q = elim (cases_lt b.signal (length rows)) [
+  | inl l ↦
+      let items : Vec ℕ Global → List ℕ = λ r. r.items in
+      let r : get_or (rows_of rows) b.signal [] ≡ items (get_or rows b.signal d) = get_or-map items rows b.signal d [] l in
+      ap (λ x. get_or x b.place 0) (r ∙ (ap (λ n. items (get_or rows n d)) q ∙ (ap items (sym e) ∙ z)))
+  | inr l ↦ blank_past rows b.signal b l refl
+]

@@ -1,6 +1,8 @@
 pub mod Entries
 pub mod Options
 pub mod Counts
+pub mod Elements
+pub mod Reaching
 pub mod Marking
 pub mod Ordering
 pub mod Filling

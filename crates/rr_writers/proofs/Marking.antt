@@ -1,33 +1,21 @@
 -- Numbers put piece by piece.
-use Rattle.std.proofs.Common.{◌≡◌, ◌∙◌, sym, ap, subst, ℕ, zero, suc, ◌+◌, ◌<◌, ◌≤◌, ◌⊎◌, inl, inr, Bool, true, false, cond, not, ◌&&◌, ◌||◌, List, [], ◌∷◌, ◌++◌, length, get_or, take, drop, Option, None, Some, nat_eq, nat_lt, refl, arith, ℤ, pos, ◌+ℤ◌, append_assoc, append-nil}
+use Rattle.std.proofs.Common.{◌≡◌, ◌∙◌, sym, ap, subst, ℕ, zero, suc, ◌+◌, ◌<◌, ◌≤◌, ◌⊎◌, inl, inr, Bool, true, false, cond, not, ◌&&◌, ◌||◌, List, [], ◌∷◌, ◌++◌, length, get_or, take, drop, Option, None, Some, nat_eq, nat_lt, refl, arith, ℤ, pos, ◌+ℤ◌, append-nil}
 use Rattle.std.proofs.lemmas.Bool.{or_cases, eqb-true, eq-eqb, ne_eqb, cases_eq, cases_lt, lt-ltb, le-ltb}
 use Rattle.std.proofs.lemmas.Int.{ints}
-use Rattle.std.proofs.lemmas.List.{take_more, drop_all, take-append-drop, get_or_default}
 use Rattle.rr_expr.specs.declared.types.Bit.{Bit}
 use Rattle.rr_flat.specs.Targets.{same_bit, has_bit}
 use Rattle.rr_named_bits.specs.declared.piece.Piece.{Piece}
+use Rattle.rr_named_bits.specs.declared.piece.Reach.{Reach}
 use Rattle.rr_named_bits.specs.declared.writes.Write.{Write}
-use Rattle.rr_named_bits.specs.Lists.{may}
+use Rattle.rr_named_bits.specs.Lists.{covered, may, reaches}
 use Rattle.rr_named_bits.specs.Pieces.{bit_in, bits_in, bits_of, all_bits, covers}
-use Rattle.rr_named_bits.proofs.Growing.{all_bits-push, may-push, rest_is}
+use Rattle.rr_named_bits.proofs.Growing.{all_bits-push, covered-push}
 use Rattle.rr_named_bits.proofs.Runs.{bit_is, has_in, covers_in}
 use Rattle.rr_writers.specs.Marks.{is_free, times, SetMarked, IsTaken, ListMarked, IsTwice}
 use Rattle.rr_writers.proofs.Entries.{same_is}
 use Rattle.rr_writers.proofs.Counts.{times-append, has_times, no_times}
-
--- the elements of a list in turn
-
-pub taken_next : {X : Type 0} (xs : List X) (i : ℕ) (x : X) → i < length xs → x ≡ get_or xs i x → take (i + 1) xs ≡ take i xs ++ x ∷ []
-taken_next xs i x l e = take_more xs i x l ∙ ap (λ y. take i xs ++ y ∷ []) (sym e)
-
-pub split_at : {X : Type 0} (xs : List X) (i : ℕ) (x : X) → i < length xs → x ≡ get_or xs i x → (take i xs ++ x ∷ []) ++ drop (i + 1) xs ≡ xs
-split_at xs i x l e = append_assoc (take i xs) (x ∷ []) (drop (i + 1) xs) ∙ (ap (λ z. take i xs ++ z) (sym (rest_is xs i x l e)) ∙ take-append-drop i xs)
-
-pub take_all : {X : Type 0} (i : ℕ) (xs : List X) → length xs ≤ i → take i xs ≡ xs
-take_all i xs l = sym (append-nil (take i xs)) ∙ (ap (λ z. take i xs ++ z) (sym (drop_all i xs l)) ∙ take-append-drop i xs)
-
-pub element : {X : Type 0} (xs : List X) (i : ℕ) (d : X) → i < length xs → get_or xs i d ≡ get_or xs i (get_or xs i d)
-element xs i d l = get_or_default xs i d (get_or xs i d) l
+use Rattle.rr_writers.proofs.Elements.{taken_next, split_at, take_all, element}
+use Rattle.rr_writers.proofs.Reaching.{or_true, word_piece, first_words, no_words, next_word, within_words, covered_more}
 
 -- a bit stands once in a run
 
@@ -277,20 +265,16 @@ list_taken number ps p qs old mid new b above m t =
       ];
     }
 
-pub set_none : (number : ℕ) (old : Bit → ℕ) → SetMarked true number (may []) old old
-unfolding may
-set_none number old = record { free = λ b h. cc; put = λ b. refl }
-
-pub set_next : (number : ℕ) (ws : List Write) (w : Write) (old mid new : Bit → ℕ) → SetMarked true number (may ws) old mid → SetMarked true number (covers w.piece) mid new
-    → SetMarked true number (may (ws ++ w ∷ [])) old new
-set_next number ws w old mid new m s = record {
-  free = λ b h. elim (or_cases (may ws b) (covers w.piece b) (sym (may-push ws w b) ∙ h)) [ inl k ↦ m.free b k | inr k ↦ late b k (may ws b) refl ];
-  put = λ b. s.put b ∙ (ap (λ z. cond (covers w.piece b) number z) (m.put b) ∙ (merged (covers w.piece b) (may ws b) (old b) ∙ ap (λ z. cond z number (old b)) (sym (may-push ws w b))));
+-- one set after the other, where the number may stand already
+pub set_both : (number : ℕ) (P Q R : Bit → Bool) (old mid new : Bit → ℕ) → ((b : Bit) → R b ≡ (P b || Q b)) → SetMarked true number P old mid → SetMarked true number Q mid new → SetMarked true number R old new
+set_both number P Q R old mid new e m s = record {
+  free = λ b h. elim (or_cases (P b) (Q b) (sym (e b) ∙ h)) [ inl k ↦ m.free b k | inr k ↦ late b k (P b) refl ];
+  put = λ b. s.put b ∙ (ap (λ z. cond (Q b) number z) (m.put b) ∙ (merged (Q b) (P b) (old b) ∙ ap (λ z. cond z number (old b)) (sym (e b))));
 }
   where
-    late : (b : Bit) → covers w.piece b ≡ true → (t : Bool) → may ws b ≡ t → is_free true number (old b) ≡ true
-    late b k true e = m.free b e
-    late b k false e = ap (is_free true number) (sym (m.put b ∙ ap (λ z. cond z number (old b)) e)) ∙ s.free b k
+    late : (b : Bit) → Q b ≡ true → (t : Bool) → P b ≡ t → is_free true number (old b) ≡ true
+    late b k true h = m.free b h
+    late b k false h = ap (is_free true number) (sym (m.put b ∙ ap (λ z. cond z number (old b)) h)) ∙ s.free b k
 
     merged : (s t : Bool) (x : ℕ) → cond s number (cond t number x) ≡ cond (t || s) number x
     merged true true x = refl
@@ -298,41 +282,60 @@ set_next number ws w old mid new m s = record {
     merged false true x = refl
     merged false false x = refl
 
-pub may_more : (ws vs : List Write) (b : Bit) → may ws b ≡ true → may (ws ++ vs) b ≡ true
-unfolding may
-may_more [] vs b h = cc
-may_more (w ∷ ws) vs b h = elim (or_cases (covers w.piece b) (may ws b) h) [
-  | inl k ↦ rw k refl
-  | inr k ↦ ap (λ z. covers w.piece b || z) (may_more ws vs b k) ∙ or_true (covers w.piece b)
-]
+pub set_hit : (number : ℕ) (P Q R : Bit → Bool) (old mid new : Bit → ℕ) (b : Bit) → (Q b ≡ true → R b ≡ true) → SetMarked true number P old mid → IsTaken true number Q mid new b → IsTaken true number R old new b
+set_hit number P Q R old mid new b f m t =
+    let q = unchanged (P b) refl in
+    record { has = f t.has; taken = sym (ap (is_free true number) q) ∙ t.taken; left = t.left ∙ q }
   where
-    or_true : (x : Bool) → (x || true) ≡ true
-    or_true true = refl
-    or_true false = refl
-
-pub set_taken : (number : ℕ) (ws : List Write) (w : Write) (vs : List Write) (old mid new : Bit → ℕ) (b : Bit) → SetMarked true number (may ws) old mid
-    → IsTaken true number (covers w.piece) mid new b → IsTaken true number (may ((ws ++ w ∷ []) ++ vs)) old new b
-set_taken number ws w vs old mid new b m t =
-    let q = unchanged (may ws b) refl in
-    record {
-      has = may_more (ws ++ w ∷ []) vs b (may-push ws w b ∙ (ap (λ z. may ws b || z) t.has ∙ or_true (may ws b)));
-      taken = sym (ap (is_free true number) q) ∙ t.taken;
-      left = t.left ∙ q;
-    }
-  where
-    or_true : (x : Bool) → (x || true) ≡ true
-    or_true true = refl
-    or_true false = refl
-
     itself : is_free true number number ≡ true
     itself = rw (eq-eqb number number refl) (or_true (nat_eq number 0))
 
-    unchanged : (u : Bool) → may ws b ≡ u → mid b ≡ old b
+    unchanged : (u : Bool) → P b ≡ u → mid b ≡ old b
     unchanged true e =
         let n : mid b ≡ number = m.put b ∙ ap (λ z. cond z number (old b)) e in
         let bad : true ≡ false = sym itself ∙ (sym (ap (is_free true number) n) ∙ t.taken) in
         cc
     unchanged false e = m.put b ∙ ap (λ z. cond z number (old b)) e
+
+-- the words of a reach in turn
+
+pub words_none : (number : ℕ) (r : Reach) (old : Bit → ℕ) → SetMarked true number (reaches (first_words r 0)) old old
+words_none number r old = record {
+  free = λ b h. let bad : false ≡ true = sym (no_words r b) ∙ h in cc;
+  put = λ b. sym (ap (λ z. cond z number (old b)) (no_words r b));
+}
+
+pub words_next : (number : ℕ) (r : Reach) (k : ℕ) (p : Piece) (old mid new : Bit → ℕ) → p ≡ word_piece r k → SetMarked true number (reaches (first_words r k)) old mid → SetMarked true number (covers p) mid new
+    → SetMarked true number (reaches (first_words r (k + 1))) old new
+words_next number r k p old mid new e m s =
+    let F : Piece → Type 0 = λ z. SetMarked true number (covers z) mid new in
+    set_both number (reaches (first_words r k)) (covers (word_piece r k)) (reaches (first_words r (k + 1))) old mid new (next_word r k) m (subst F e s)
+
+pub words_hit : (number : ℕ) (r : Reach) (k : ℕ) (p : Piece) (old mid new : Bit → ℕ) (b : Bit) → p ≡ word_piece r k → k < r.words → SetMarked true number (reaches (first_words r k)) old mid
+    → IsTaken true number (covers p) mid new b → IsTaken true number (reaches r) old new b
+words_hit number r k p old mid new b e l m t =
+    set_hit number (reaches (first_words r k)) (covers p) (reaches r) old mid new b (λ h. within_words r k b l (sym (ap (λ z. covers z b) e) ∙ h)) m t
+
+pub words_all : (number : ℕ) (r : Reach) (k : ℕ) (old new : Bit → ℕ) → k ≡ r.words → SetMarked true number (reaches (first_words r k)) old new → SetMarked true number (reaches r) old new
+words_all number r k old new e m =
+    let F : ℕ → Type 0 = λ z. SetMarked true number (reaches (first_words r z)) old new in
+    subst F e m
+
+-- some reaches in turn
+
+pub set_none : (number : ℕ) (old : Bit → ℕ) → SetMarked true number (covered []) old old
+unfolding covered
+set_none number old = record { free = λ b h. cc; put = λ b. refl }
+
+pub set_next : (number : ℕ) (rs : List Reach) (r : Reach) (old mid new : Bit → ℕ) → SetMarked true number (covered rs) old mid → SetMarked true number (reaches r) mid new
+    → SetMarked true number (covered (rs ++ r ∷ [])) old new
+set_next number rs r old mid new m s = set_both number (covered rs) (reaches r) (covered (rs ++ r ∷ [])) old mid new (covered-push rs r) m s
+
+pub set_taken : (number : ℕ) (rs : List Reach) (r : Reach) (qs : List Reach) (old mid new : Bit → ℕ) (b : Bit) → SetMarked true number (covered rs) old mid
+    → IsTaken true number (reaches r) mid new b → IsTaken true number (covered ((rs ++ r ∷ []) ++ qs)) old new b
+set_taken number rs r qs old mid new b m t =
+    set_hit number (covered rs) (reaches r) (covered ((rs ++ r ∷ []) ++ qs)) old mid new b
+    (λ h. covered_more (rs ++ r ∷ []) qs b (covered-push rs r b ∙ (ap (λ z. covered rs b || z) h ∙ or_true (covered rs b)))) m t
 
 -- the same where a loop has come to an element of its list
 
@@ -356,22 +359,22 @@ list_all number ps i old new l m =
     let P : List Piece → Type 0 = λ z. ListAt number z old new in
     subst P (take_all i ps l) m
 
-pub set_step : (number : ℕ) (ws : List Write) (i : ℕ) (d : Write) (old mid new : Bit → ℕ) → i < length ws → SetMarked true number (may (take i ws)) old mid
-    → SetMarked true number (covers (get_or ws i d).piece) mid new → SetMarked true number (may (take (i + 1) ws)) old new
-set_step number ws i d old mid new l m s =
-    let P : List Write → Type 0 = λ z. SetMarked true number (may z) old new in
-    subst P (sym (taken_next ws i (get_or ws i d) l (element ws i d l))) (set_next number (take i ws) (get_or ws i d) old mid new m s)
+pub set_step : (number : ℕ) (rs : List Reach) (i : ℕ) (d : Reach) (old mid new : Bit → ℕ) → i < length rs → SetMarked true number (covered (take i rs)) old mid
+    → SetMarked true number (reaches (get_or rs i d)) mid new → SetMarked true number (covered (take (i + 1) rs)) old new
+set_step number rs i d old mid new l m s =
+    let P : List Reach → Type 0 = λ z. SetMarked true number (covered z) old new in
+    subst P (sym (taken_next rs i (get_or rs i d) l (element rs i d l))) (set_next number (take i rs) (get_or rs i d) old mid new m s)
 
-pub set_clash : (number : ℕ) (ws : List Write) (i : ℕ) (d : Write) (old mid new : Bit → ℕ) (b : Bit) → i < length ws → SetMarked true number (may (take i ws)) old mid
-    → IsTaken true number (covers (get_or ws i d).piece) mid new b → IsTaken true number (may ws) old new b
-set_clash number ws i d old mid new b l m t =
-    let P : List Write → Type 0 = λ z. IsTaken true number (may z) old new b in
-    subst P (split_at ws i (get_or ws i d) l (element ws i d l)) (set_taken number (take i ws) (get_or ws i d) (drop (i + 1) ws) old mid new b m t)
+pub set_clash : (number : ℕ) (rs : List Reach) (i : ℕ) (d : Reach) (old mid new : Bit → ℕ) (b : Bit) → i < length rs → SetMarked true number (covered (take i rs)) old mid
+    → IsTaken true number (reaches (get_or rs i d)) mid new b → IsTaken true number (covered rs) old new b
+set_clash number rs i d old mid new b l m t =
+    let P : List Reach → Type 0 = λ z. IsTaken true number (covered z) old new b in
+    subst P (split_at rs i (get_or rs i d) l (element rs i d l)) (set_taken number (take i rs) (get_or rs i d) (drop (i + 1) rs) old mid new b m t)
 
-pub set_all : (number : ℕ) (ws : List Write) (i : ℕ) (old new : Bit → ℕ) → length ws ≤ i → SetMarked true number (may (take i ws)) old new → SetMarked true number (may ws) old new
-set_all number ws i old new l m =
-    let P : List Write → Type 0 = λ z. SetMarked true number (may z) old new in
-    subst P (take_all i ws l) m
+pub set_all : (number : ℕ) (rs : List Reach) (i : ℕ) (old new : Bit → ℕ) → length rs ≤ i → SetMarked true number (covered (take i rs)) old new → SetMarked true number (covered rs) old new
+set_all number rs i old new l m =
+    let P : List Reach → Type 0 = λ z. SetMarked true number (covered z) old new in
+    subst P (take_all i rs l) m
 
 -- the same of other words for the set or the list
 

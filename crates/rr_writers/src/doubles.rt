@@ -10,7 +10,8 @@ ghost use Rattle.rr_writers.specs.Marks.{IsTaken, IsTwice, ListMarked, PartMarke
 ghost use Rattle.rr_writers.specs.Tables.{entry};
 
 use crate::assigned::add_assigned_bits;
-use crate::marks::{mark_pieces, mark_writes};
+use crate::marks::{mark_pieces, mark_reaches};
+use crate::reaches::distinct_writes;
 use crate::table::BitTable;
 use rr_flat::{Bit, Block, Driver, Flat, Part};
 use rr_named_bits::{add_driven, no_values};
@@ -48,6 +49,7 @@ fn mark_block(
     block: &Block,
     number: usize,
     table: &mut BitTable,
+    seen: &mut BitTable,
 ) -> Result<Option<Bit>, AllocError>
     requires { IsBlock flat.now.scopes block.now }
     ensures none { IfOk result (λ r. IfNone r (SetMarked true number (writes_at_all (plain_flat flat.now) (plain_block block.now)) (entry table.old) (entry table.new))) }
@@ -56,7 +58,8 @@ fn mark_block(
     let mut writes = Vec::new(alloc);
     let names = flat.scope_at(block.scope);
     add_assigned_bits(alloc, &mut writes, block.body, names, true)?;
-    mark_writes(table, writes.as_slice(), number)
+    let reaches = distinct_writes(alloc, writes.as_slice(), seen)?;
+    mark_reaches(table, reaches.as_slice(), number)
 }
 
 /// Puts a number at each bit that a driver or block writes, up to the first that has a writer.
@@ -66,6 +69,7 @@ fn mark_part(
     part: Part,
     number: usize,
     table: &mut BitTable,
+    seen: &mut BitTable,
 ) -> Result<Option<Bit>, AllocError>
     requires number { 0 < number }
     requires fresh { (b : BitOfSignal) → entry table.old b < number }
@@ -78,11 +82,11 @@ fn mark_part(
             None => Ok(None),
         },
         Part::Clocked(at) => match flat.clocked_block(at) {
-            Some(block) => mark_block(alloc, flat, &block, number, table),
+            Some(block) => mark_block(alloc, flat, &block, number, table, seen),
             None => Ok(None),
         },
         Part::Combinational(at) => match flat.combinational_block(at) {
-            Some(block) => mark_block(alloc, flat, &block, number, table),
+            Some(block) => mark_block(alloc, flat, &block, number, table, seen),
             None => Ok(None),
         },
         // it sets what variables begin with, and writes no bit
@@ -116,7 +120,8 @@ fn token_of(flat: &Flat, part: Part) -> u32
 
 /// The first bit with two writers, in the order of the walk of the second: two drivers, a driver and
 /// an `always`, or two of these (IEEE 1364-2005 sections 6.1 and 9.2). An assignment by an index that
-/// is not constant writes each bit of its name. `None` comes exactly where no bit has two.
+/// is not constant writes each bit of its name, of a memory those of all words. `None` comes exactly
+/// where no bit has two.
 pub fn first_two_drivers(alloc: Global, flat: &Flat) -> Result<Option<TwoDrivers>, AllocError>
     ensures none { IfOk result (λ r. IfNone r (OneWriter (plain_flat flat.now))) }
     ensures some { IfOk result (λ r. IfSome r (λ d. OneWriter (plain_flat flat.now) → ⊥)) }
@@ -124,8 +129,9 @@ pub fn first_two_drivers(alloc: Global, flat: &Flat) -> Result<Option<TwoDrivers
 {
     let walk = flat.parts();
     let mut table = BitTable::new(alloc);
+    let mut seen = BitTable::new(alloc);
     for (at, part) in walk.iter().enumerate() {
-        if let Some(bit) = mark_part(alloc, flat, *part, at + 1, &mut table)? {
+        if let Some(bit) = mark_part(alloc, flat, *part, at + 1, &mut table, &mut seen)? {
             let first = table.get(bit) - 1;
             return Ok(Some(TwoDrivers {
                 bit,

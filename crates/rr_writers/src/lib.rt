@@ -6,8 +6,10 @@
 mod assigned;
 mod doubles;
 mod marks;
+mod reaches;
 mod table;
 
 pub use assigned::add_assigned_bits;
 pub use doubles::{TwoDrivers, first_two_drivers};
+pub use reaches::{distinct, distinct_writes, word_of};
 pub use table::BitTable;

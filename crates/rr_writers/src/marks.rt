@@ -1,13 +1,14 @@
 //! Numbers put at the bits of pieces, unless one is taken.
 ghost use Rattle.std.specs.Prelude.{◌≡◌, ◌<◌, IfOk, IfNone, IfSome, true, false};
-ghost use Rattle.rr_named_bits.specs.Lists.{may};
+ghost use Rattle.rr_named_bits.specs.Lists.{covered, reaches as is_reached};
 ghost use Rattle.rr_named_bits.specs.Pieces.{all_bits, covers};
 ghost use Rattle.rr_writers.specs.Marks.{is_free as is_free_number, IsTaken, IsTwice, ListMarked, SetMarked};
 ghost use Rattle.rr_writers.specs.Tables.{entry};
 
+use crate::reaches::word_of;
 use crate::table::BitTable;
 use rr_flat::Bit;
-use rr_named_bits::{Piece, Write};
+use rr_named_bits::{Piece, Reach};
 use std::alloc::AllocError;
 
 /// Puts a number at each bit of a piece, up to the first that has one already; with `again` the same
@@ -61,17 +62,32 @@ pub(crate) fn mark_pieces(
     Ok(None)
 }
 
-/// Puts a number at each bit that some assignments may write, up to the first that has another one.
-pub(crate) fn mark_writes(
+/// Puts a number at each bit of a reach, up to the first that has another one.
+fn mark_reach(table: &mut BitTable, reach: &Reach, number: usize) -> Result<Option<Bit>, AllocError>
+    ensures none { IfOk result (λ r. IfNone r (SetMarked true number (is_reached reach.now) (entry table.old) (entry table.new))) }
+    ensures some { IfOk result (λ r. IfSome r (IsTaken true number (is_reached reach.now) (entry table.old) (entry table.new))) }
+{
+    for word in 0..reach.words {
+        let piece = word_of(reach, word)?;
+        let taken = mark_piece(table, &piece, number, true)?;
+        if taken.is_some() {
+            return Ok(taken);
+        }
+    }
+    Ok(None)
+}
+
+/// The same of some reaches.
+pub(crate) fn mark_reaches(
     table: &mut BitTable,
-    writes: &[Write],
+    reaches: &[Reach],
     number: usize,
 ) -> Result<Option<Bit>, AllocError>
-    ensures none { IfOk result (λ r. IfNone r (SetMarked true number (may writes.now) (entry table.old) (entry table.new))) }
-    ensures some { IfOk result (λ r. IfSome r (IsTaken true number (may writes.now) (entry table.old) (entry table.new))) }
+    ensures none { IfOk result (λ r. IfNone r (SetMarked true number (covered reaches.now) (entry table.old) (entry table.new))) }
+    ensures some { IfOk result (λ r. IfSome r (IsTaken true number (covered reaches.now) (entry table.old) (entry table.new))) }
 {
-    for write in writes.iter() {
-        let taken = mark_piece(table, &write.piece, number, true)?;
+    for reach in reaches.iter() {
+        let taken = mark_reach(table, reach, number)?;
         if taken.is_some() {
             return Ok(taken);
         }

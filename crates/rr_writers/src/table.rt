@@ -1,5 +1,5 @@
 //! Numbers by bit.
-ghost use Rattle.std.specs.Prelude.{◌≡◌, ◌<◌, ◌++◌, ◌∷◌, [], length, cond, nat_eq, get_or, OnOk, ℕ};
+ghost use Rattle.std.specs.Prelude.{◌≡◌, ◌<◌, ◌≤◌, ◌++◌, ◌∷◌, [], length, cond, nat_eq, get_or, OnOk, true, ℕ};
 ghost use Rattle.rr_expr.specs.declared.types.Bit.{Bit};
 ghost use Rattle.rr_flat.specs.Targets.{same_bit};
 ghost use Rattle.rr_writers.specs.Tables.{entry, rows_of};
@@ -8,7 +8,8 @@ use rr_flat::Bit;
 use std::alloc::{AllocError, Global};
 use std::marker::Model;
 
-/// A number for each bit, 0 where none was put. It grows with the bits that have one.
+/// A number for each bit, 0 where none was put. It grows with the bits that have one; of each signal it
+/// keeps the numbers up to the last that is not 0.
 #[derive(Drop)]
 pub struct BitTable {
     alloc: Global,
@@ -44,6 +45,16 @@ impl BitTable {
         }
     }
 
+    /// Whether a signal has no number at all, without a look at its bits; `false` says nothing.
+    pub fn is_blank(&self, signal: u32) -> bool
+        ensures { result ≡ true → (b : Bit) → b.signal ≡ signal → entry self.now b ≡ 0 }
+    {
+        match self.rows.get(signal as usize) {
+            Some(row) => has_none(row),
+            None => true,
+        }
+    }
+
     /// Puts the number of a bit.
     pub fn put(&mut self, bit: Bit, number: usize) -> Result<(), AllocError>
         ensures { OnOk result ((b : Bit) → entry self.new b ≡ cond (same_bit bit b) number (entry self.old b)) }
@@ -61,6 +72,12 @@ fn number_at(row: &Vec<usize>, place: usize) -> usize
         Some(number) => *number,
         None => 0,
     }
+}
+
+fn has_none(row: &Vec<usize>) -> bool
+    ensures { result ≡ true → row.now.items ≡ [] }
+{
+    row.len() == 0
 }
 
 /// Empty rows up to that of a signal.
@@ -96,5 +113,29 @@ fn put_number(row: &mut Vec<usize>, place: usize, number: usize) -> Result<(), A
         push_zero(row)?;
     }
     row[place] = number;
+    trim(row);
     Ok(())
+}
+
+/// Leaves out the zeros at the end.
+fn trim(row: &mut Vec<usize>)
+    ensures { (i : ℕ) → get_or row.new.items i 0 ≡ get_or row.old.items i 0 }
+{
+    let kept = used(row.as_slice());
+    row.truncate(kept);
+}
+
+/// The number of entries up to the last that is not 0.
+fn used(row: &[usize]) -> usize
+    ensures low { result ≤ length row.now }
+    ensures rest { (i : ℕ) → result ≤ i → get_or row.now i 0 ≡ 0 }
+{
+    let mut end = row.len();
+    while end > 0 {
+        if row[end - 1] != 0 {
+            return end;
+        }
+        end -= 1;
+    }
+    0
 }

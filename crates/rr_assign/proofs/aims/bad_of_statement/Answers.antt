@@ -11,5 +11,5 @@ use Rattle.rr_assign.proofs.aims.bad_of_statement.Goals as goal
 pub returns : goal.returns
 returns c =
     let ts = assigned_by (plain_statement c.args.body.now) in
-    c.first_bad_assigned.ensures ∙ ap earliest (targets_collected (bad_assigned (plain_flat c.args.flat.now) c.args.scope) c.as_slice.result.now ts
+    c.first_bad_assigned.ensures ∙ ap earliest (targets_collected (bad_assigned c.args.starting (plain_flat c.args.flat.now) c.args.scope) c.as_slice.result.now ts
     (ap (map plain_target) c.as_slice.ensures.value ∙ (c.in_ok-add_assigned_targets.ensures ∙ ap (λ z. map plain_target z ++ ts) c.new-targets.ensures.items)))

@@ -1,10 +1,10 @@
 use Rattle.std.proofs.Common.{◌∙◌, sym, ap, cond, None}
 use Rattle.rr_syntax.specs.View.{plain}
 use Rattle.rr_expr.specs.Scopes.{meant}
-use Rattle.rr_flat.specs.Targets.{part_name}
+use Rattle.rr_flat.specs.Targets.{variable_of, part_name}
 use Rattle.rr_flat.specs.View.{plain_flat}
 use Rattle.rr_flat.specs.Writers.{scope_at}
-use Rattle.rr_text_names.specs.Names.{signal_of, signal_named}
+use Rattle.rr_text_names.specs.Names.{variable_named}
 use Rattle.rr_text_names.proofs.NamesOfParts.{named_text}
 use Rattle.rr_assign.proofs.races.written.Goals as goal
 
@@ -14,5 +14,5 @@ returns-then-target-clause-value c =
     let S = scope_at F c.args.scope in
     let t = plain c.args.target.now.part.now in
     let text = named_text c.identifier_of-named.result t c.identifier_of-named.ensures in
-    c.signal_named.ensures.value
-    ∙ (ap (λ n. signal_of (meant S n)) text ∙ sym (ap (λ b. cond b (signal_named F c.args.scope (part_name t)) None) c.if-target.true))
+    c.variable_named.ensures.value
+    ∙ (ap (λ n. variable_of (meant S n)) text ∙ sym (ap (λ b. cond b (variable_named F c.args.scope (part_name t)) None) c.if-target.true))

@@ -20,17 +20,17 @@ use Rattle.rr_signal_wires.proofs.WordLaws.{count_of, width_at}
 use Rattle.rr_blast_stmt.specs.Running.{Values, held, stored}
 use Rattle.rr_blast_stmt.proofs.ArmLaws.{held-extends}
 use Rattle.rr_blast_body.specs.Lasts.{last_pick}
-use Rattle.rr_blast_body.proofs.LastLaws.{last_made, last_of_constant, last_of_instance}
+use Rattle.rr_blast_body.proofs.LastLaws.{last_made, last_of_constant, last_of_instance, last_of_memory}
 use Rattle.rr_blast_body.proofs.lasts.run_last.Goals as goal
 
 pub whole_guarded_pieces-requires-clause-there : goal.whole_guarded_pieces-requires-clause-there
 whole_guarded_pieces-requires-clause-there c =
-    let h = c.requires.holds c.args.last.now.target.now c.in-Signal.id c.in-Signal.range c.in-Signal.signed (sym c.meaning.ensures ∙ c.in-Signal.is) in
+    let h = c.requires.holds.signals c.args.last.now.target.now c.in-Signal.id c.in-Signal.range c.in-Signal.signed (sym c.meaning.ensures ∙ c.in-Signal.is) in
     omega (arith, h.0, count_of c.args.machine.now.now.items, ap length c.as_slice-words.ensures.value)
 
 pub bounds-words-id : goal.bounds-words-id
 bounds-words-id c =
-    let h = c.requires.holds c.args.last.now.target.now c.in-Signal.id c.in-Signal.range c.in-Signal.signed (sym c.meaning.ensures ∙ c.in-Signal.is) in
+    let h = c.requires.holds.signals c.args.last.now.target.now c.in-Signal.id c.in-Signal.range c.in-Signal.signed (sym c.meaning.ensures ∙ c.in-Signal.is) in
     omega (arith, h.0, count_of c.args.machine.now.now.items, ap length c.as_slice-words.ensures.value)
 
 pub overflow_cast-own : goal.overflow_cast-own
@@ -38,7 +38,7 @@ overflow_cast-own c =
     let words = c.as_slice-words.result.now in
     let id : ℕ = c.in-Signal.id in
     let v : Vec Wire Global = c.index-words-id.result in
-    let h = c.requires.holds c.args.last.now.target.now id c.in-Signal.range c.in-Signal.signed (sym c.meaning.ensures ∙ c.in-Signal.is) in
+    let h = c.requires.holds.signals c.args.last.now.target.now id c.in-Signal.range c.in-Signal.signed (sym c.meaning.ensures ∙ c.in-Signal.is) in
     let w : get_or (widths_of words) id 0 ≡ length v.items =
     width_at words id v (omega (arith, h.0, count_of c.args.machine.now.now.items, ap length c.as_slice-words.ensures.value)) ∙ sym (ap (λ (u : Vec Wire Global). length u.items) c.index-words-id.is) in
     omega (arith, w, ap (λ (ws : List (Vec Wire Global)). get_or (widths_of ws) id 0) c.as_slice-words.ensures.value, c.len-own.ensures, c.requires.narrow id, v.ok.0)
@@ -55,7 +55,7 @@ returns-in_ok-store-in-Signal-clause-ran c = λ env.
     let range : Option (ℕ × ℕ) = c.in-Signal.range in
     let signed : Bool = c.in-Signal.signed in
     let q : meant s last.target.now ≡ Signal id range signed = sym c.meaning.ensures ∙ c.in-Signal.is in
-    let h = c.requires.holds last.target.now id range signed q in
+    let h = c.requires.holds.signals last.target.now id range signed q in
     let width : get_or (widths_of words) id 0 ≡ range_width range = ap (λ (ws : List (Vec Wire Global)). get_or (widths_of ws) id 0) same ∙ h.1 in
     let u : Vec Wire Global = c.index-words-id.result in
     let w : get_or (widths_of words) id 0 ≡ length u.items =
@@ -83,6 +83,11 @@ returns-in_ok-store-in-Signal-clause-ran c = λ env.
 pub returns-in-Constant-clause-ran : goal.returns-in-Constant-clause-ran
 returns-in-Constant-clause-ran c = λ env.
     last_of_constant c.args.scope.now c.args.last.now (wire_values c.args.b.now env c.args.bits.now) (held c.args.b.now env c.args.machine.now) c.in-Constant.bits c.in-Constant.signed (sym c.meaning.ensures ∙ c.in-Constant.is)
+
+pub returns-in-Memory-clause-ran : goal.returns-in-Memory-clause-ran
+returns-in-Memory-clause-ran c = λ env.
+    last_of_memory c.args.scope.now c.args.last.now (wire_values c.args.b.now env c.args.bits.now) (held c.args.b.now env c.args.machine.now) c.in-Memory.first c.in-Memory.low c.in-Memory.words c.in-Memory.range c.in-Memory.signed
+    (sym c.meaning.ensures ∙ c.in-Memory.is)
 
 pub returns-in-Instance-clause-ran : goal.returns-in-Instance-clause-ran
 returns-in-Instance-clause-ran c = λ env.

@@ -14,8 +14,9 @@ use Rattle.rr_blast_sites.specs.Instances.{place_of, worth, parts_worth}
 use Rattle.rr_blast_expr.specs.Forms.{in_context}
 use Rattle.rr_word_gates.proofs.Carrying.{Carries-same, Carries-extends, CarriesBit-same, CarriesBit-extends, carried1, carried2, carried_bit1, carried_bit2, carried_bits, carried_word, carried_choice}
 use Rattle.rr_blast_expr.proofs.Faultless.{none-Name, none-Literal, none-Bit, none-Part, none-Indexed, none-Unary, none-Cond, none-Concat, none-Repeat, none-Cast, none-Paren, none_at}
+use Rattle.rr_blast_sites.proofs.SignalLaws.{AreSignals-extends}
 use Rattle.rr_blast_sites.proofs.GrowthLaws.{listed_still, HasWires-extends, Reads-extends}
-use Rattle.rr_blast_expr.proofs.Worths.{weaker_to, weaker_constant, Name-arm, Literal-arm, Bit-arm, Part-arm, Indexed-arm, Unary-arm, Cond-arm, Concat-arm, Repeat-arm, Cast-arm, Paren-arm, copied-carried, copied_there, part_width, indexed_width, unary_width, cond_width, paren_width, concat_width, cast_width, own-Concat, own-Cast, own-Paren, plain_binary, Listed-more, HasWires-still, index-arm, name-carried, wired-bits, constant-bits, bit-carried, indexed-carried, operands, binary_form, Infix-arm, Constant-arm, Listed-none, Listed-all}
+use Rattle.rr_blast_expr.proofs.Worths.{weaker_to, weaker_constant, Name-arm, Literal-arm, Bit-arm, Part-arm, Indexed-arm, Unary-arm, Cond-arm, Concat-arm, Repeat-arm, Cast-arm, Paren-arm, copied-carried, copied_there, part_width, indexed_width, unary_width, cond_width, paren_width, concat_width, cast_width, own-Concat, own-Cast, own-Paren, plain_binary, Listed-more, HasWires-still, index-arm, name-carried, wired-bits, constant-bits, wired-word, fixed-word, bit-carried, memory-carried, indexed-carried, operands, binary_form, Infix-arm, Constant-arm, Listed-none, Listed-all}
 use Rattle.rr_blast_expr.proofs.expressions.+wires.Goals as goal
 
 pub own_word-parts_word-requires : goal.own_word-parts_word-requires
@@ -128,8 +129,23 @@ bits_at-returns-in_ok-out-in-None-clause-value t c = λ W h. wired-bits (place_o
 pub bits_at-returns-in_ok-out-in-Some-clause-value : goal.bits_at-returns-in_ok-out-in-Some-clause-value
 bits_at-returns-in_ok-out-in-Some-clause-value t c = λ W h. constant-bits (place_of c.args.inputs.now W) _ _ c.args.range c.args.below c.args.count (plain c.args.index.now) _ _ c.in-Some.ensures.constant c.in-Some.ensures.value c.in_ok-out-in-Some.ensures.value
 
+pub memory_word-word_in-requires : goal.memory_word-word_in-requires
+memory_word-word_in-requires t c = (search (rules, the_lemmas), (HasWires-still _ c.args.inputs.now c.unsited-still.result c.unsited-still.ensures.signals (listed_still c.unsited-still.result c.unsited-still.ensures.still) c.unsited-still.ensures.choice c.requires.wires.signals, (ap (λ s. fault s (plain c.args.index.now) false) c.unsited-still.ensures.scope ∙ c.requires.none, (let w : (form c.unsited-still.result.scope.now (plain c.args.index.now)).width ≡ c.own_shape-shape.result.width = ap (λ s. (form s (plain c.args.index.now)).width) c.unsited-still.ensures.scope ∙ sym (ap (λ (a : Shape). a.width) c.own_shape-shape.ensures.value) in omega (arith, w), (c.own_shape-shape.ensures.low, c.own_shape-shape.ensures.high)))))
+
+pub memory_word-moving_word-requires-clause-signals : goal.memory_word-moving_word-requires-clause-signals
+memory_word-moving_word-requires-clause-signals t c = AreSignals-extends _ _ _ c.in_ok-at-in-None.ensures.extends c.requires.wires.signals
+
+pub memory_word-returns-in_ok-out-in-None-clause-value : goal.memory_word-returns-in_ok-out-in-None-clause-value
+memory_word-returns-in_ok-out-in-None-clause-value t c = λ W h. wired-word _ _ _ c.args.inputs.now W c.args.memory c.own_shape-shape.result (plain c.args.index.now) _ _ _ h c.own_shape-shape.ensures.value c.as_slice-by.ensures.value c.in_ok-at-in-None.ensures.extends (index-arm _ _ c.args.inputs.now c.unsited-still.result W _ (plain c.args.index.now) c.unsited-still.ensures.scope c.unsited-still.ensures.signals (listed_still c.unsited-still.result c.unsited-still.ensures.still) c.unsited-still.ensures.choice h (λ V r. Carries-same _ _ _ _ (c.in_ok-at-in-None.ensures.value V r) (λ input. ap (λ a. worth (place_of c.unsited-still.result V) (plain c.args.index.now) a input) (c.own_shape-shape.ensures.value ∙ ap (λ s. form s (plain c.args.index.now)) (sym c.unsited-still.ensures.scope))))) c.in_ok-out-in-None.ensures.value
+
+pub memory_word-returns-in_ok-out-in-Some-clause-value : goal.memory_word-returns-in_ok-out-in-Some-clause-value
+memory_word-returns-in_ok-out-in-Some-clause-value t c = λ W h. fixed-word _ c.args.inputs.now W c.args.memory _ (plain c.args.index.now) _ h c.in-Some.ensures.constant c.in-Some.ensures.value c.in_ok-out-in-Some.ensures.value
+
+pub bit_select-returns-in-Memory-clause-value : goal.bit_select-returns-in-Memory-clause-value
+bit_select-returns-in-Memory-clause-value t c = λ W h. carried1 (extend c.args.context.width c.args.context.signed) _ _ _ _ _ _ c.as_slice.ensures.value (memory-carried (place_of c.args.inputs.now W) _ _ c.index_shape-width.result c.in-Memory.first c.in-Memory.low c.in-Memory.words c.in-Memory.range c.in-Memory.signed c.args.name.now (plain c.args.index.now) _ c.meaning-entity.ensures c.in-Memory.is c.index_shape-width.ensures.value (c.in_ok-stored.ensures.value W h)) c.in_ok-whole.ensures.value
+
 pub bit_select-returns-clause-value : goal.bit_select-returns-clause-value
-bit_select-returns-clause-value t c = λ W h. carried1 (extend c.args.context.width c.args.context.signed) _ _ _ _ _ _ c.as_slice-2.ensures.value (bit-carried (place_of c.args.inputs.now W) _ _ _ _ c.args.name.now (plain c.args.index.now) _ _ _ c.meaning-entity.ensures c.entity_range-range.ensures c.as_slice.ensures.value (name-carried _ c.args.inputs.now W _ _ c.args.name.now c.meaning-entity.ensures h c.in_ok-word.ensures.value) (c.in_ok-bit.ensures.value W h)) c.in_ok-out.ensures.value
+bit_select-returns-clause-value t c = λ W h. carried1 (extend c.args.context.width c.args.context.signed) _ _ _ _ _ _ c.as_slice-3.ensures.value (bit-carried (place_of c.args.inputs.now W) _ _ _ _ c.args.name.now (plain c.args.index.now) _ _ _ c.in_default.not-Memory c.meaning-entity.ensures c.entity_range-range.ensures c.as_slice-2.ensures.value (name-carried _ c.args.inputs.now W _ _ c.args.name.now c.meaning-entity.ensures h c.in_ok-word.ensures.value) (c.in_ok-bit.ensures.value W h)) c.in_ok-out.ensures.value
 
 pub indexed_select-returns-clause-value : goal.indexed_select-returns-clause-value
 indexed_select-returns-clause-value t c = λ W h. carried1 (extend c.args.context.width c.args.context.signed) _ _ _ _ _ _ c.as_slice-2.ensures.value (indexed-carried (place_of c.args.inputs.now W) _ _ _ _ c.below_index-below.result c.args.count c.args.up c.args.name.now (plain c.args.from.now) _ _ _ c.meaning-entity.ensures c.entity_range-range.ensures c.as_slice.ensures.value c.below_index-below.ensures.place (name-carried _ c.args.inputs.now W _ _ c.args.name.now c.meaning-entity.ensures h c.in_ok-word.ensures.value) (c.in_ok-part.ensures.value W h)) c.in_ok-out.ensures.value

@@ -17,6 +17,9 @@ decreases-is_true l = 8 * (goal.size-is_true l) + 2
 abbrev pub decreases-bits_at : goal.decreases-bits_at
 decreases-bits_at l = 8 * (goal.size-bits_at l) + 2
 
+abbrev pub decreases-memory_word : goal.decreases-memory_word
+decreases-memory_word l = 8 * (goal.size-memory_word l) + 2
+
 abbrev pub decreases-bit_select : goal.decreases-bit_select
 decreases-bit_select l = 8 * (goal.size-bit_select l) + 3
 

@@ -50,24 +50,24 @@ add_guarded_pieces-returns-then-is_constant-2-clause-value t c = λ env vs e.
     ∙ ap (λ (bs : List (Option Bit)). write bs (drop c.args.from vs) (put_guarded_pieces c.args.b.now env c.args.list.now.items vs e))
     (sym (rw c.in-Indexed.is (fixed-Indexed c.args.scope.now _ _ _ _ _ (carried c.args.b.now env c.args.words.now) (sym c.is_constant-in-Indexed.ensures ∙ c.if-is_constant-2.true))))
 
+pub add_guarded_pieces-add_index-requires-clause-width : goal.add_guarded_pieces-add_index-requires-clause-width
+add_guarded_pieces-add_index-requires-clause-width t c = (shaped-Bit _ _ _ _ (rw c.in-Bit.is at c.requires.shaped)).0
+
+pub add_guarded_pieces-add_index-requires-clause-shaped : goal.add_guarded_pieces-add_index-requires-clause-shaped
+add_guarded_pieces-add_index-requires-clause-shaped t c = (shaped-Bit _ _ _ _ (rw c.in-Bit.is at c.requires.shaped)).1
+
+pub add_guarded_pieces-add_index-requires-clause-few : goal.add_guarded_pieces-add_index-requires-clause-few
+add_guarded_pieces-add_index-requires-clause-few t c =
+    omega (arith, ap (λ (x : Expr). length (target_bits c.args.scope.now nowhere (plain x))) c.in-Bit.is, size-Bit c.args.scope.now c.in-Bit.token c.in-Bit.name c.in-Bit.index nowhere, c.requires.few)
+
 pub add_guarded_pieces-add_select-requires-clause-width : goal.add_guarded_pieces-add_select-requires-clause-width
-add_guarded_pieces-add_select-requires-clause-width t c = (shaped-Bit _ _ _ _ (rw c.in-Bit.is at c.requires.shaped)).0
+add_guarded_pieces-add_select-requires-clause-width t c = (shaped-Indexed _ _ _ _ _ _ (rw c.in-Indexed.is at c.requires.shaped)).0
 
 pub add_guarded_pieces-add_select-requires-clause-shaped : goal.add_guarded_pieces-add_select-requires-clause-shaped
-add_guarded_pieces-add_select-requires-clause-shaped t c = (shaped-Bit _ _ _ _ (rw c.in-Bit.is at c.requires.shaped)).1
+add_guarded_pieces-add_select-requires-clause-shaped t c = (shaped-Indexed _ _ _ _ _ _ (rw c.in-Indexed.is at c.requires.shaped)).1
 
 pub add_guarded_pieces-add_select-requires-clause-few : goal.add_guarded_pieces-add_select-requires-clause-few
 add_guarded_pieces-add_select-requires-clause-few t c =
-    omega (arith, ap (λ (x : Expr). length (target_bits c.args.scope.now nowhere (plain x))) c.in-Bit.is, size-Bit c.args.scope.now c.in-Bit.token c.in-Bit.name c.in-Bit.index nowhere, c.requires.few)
-
-pub add_guarded_pieces-add_select-requires-in-Indexed-clause-width : goal.add_guarded_pieces-add_select-requires-in-Indexed-clause-width
-add_guarded_pieces-add_select-requires-in-Indexed-clause-width t c = (shaped-Indexed _ _ _ _ _ _ (rw c.in-Indexed.is at c.requires.shaped)).0
-
-pub add_guarded_pieces-add_select-requires-in-Indexed-clause-shaped : goal.add_guarded_pieces-add_select-requires-in-Indexed-clause-shaped
-add_guarded_pieces-add_select-requires-in-Indexed-clause-shaped t c = (shaped-Indexed _ _ _ _ _ _ (rw c.in-Indexed.is at c.requires.shaped)).1
-
-pub add_guarded_pieces-add_select-requires-in-Indexed-clause-few : goal.add_guarded_pieces-add_select-requires-in-Indexed-clause-few
-add_guarded_pieces-add_select-requires-in-Indexed-clause-few t c =
     omega (
       arith,
       ap (λ (x : Expr). length (target_bits c.args.scope.now nowhere (plain x))) c.in-Indexed.is,

@@ -12,13 +12,13 @@ use Rattle.rr_flat.specs.Targets.{bits_there}
 use Rattle.rr_cycle.specs.Exec.{Environment, write}
 use Rattle.rr_signal_wires.specs.GuardedPieces.{put_guarded_pieces}
 use Rattle.rr_signal_wires.specs.Words.{carried, widths_of}
-use Rattle.rr_signal_wires.proofs.GuardedPieceLaws.{AreGuardedPieces-extends, none_of_constant, none_of_instance, put_guarded_pieces-extends}
+use Rattle.rr_signal_wires.proofs.GuardedPieceLaws.{AreGuardedPieces-extends, none_of_constant, none_of_instance, none_of_memory, put_guarded_pieces-extends}
 use Rattle.rr_blast_terms.proofs.targets.add_select.Goals as goal
 
 pub returns-in_ok-add_moving-in-Signal-clause-guarded_pieces : goal.returns-in_ok-add_moving-in-Signal-clause-guarded_pieces
 returns-in_ok-add_moving-in-Signal-clause-guarded_pieces c =
     let x = c.in-Signal in
-    let h = c.requires.holds c.args.name.now x.id x.range x.signed (sym c.meaning.ensures ∙ x.is) in
+    let h = c.requires.holds.signals c.args.name.now x.id x.range x.signed (sym c.meaning.ensures ∙ x.is) in
     c.in_ok-add_moving-in-Signal.ensures.guarded_pieces (widths_of c.args.words.now) h.0 h.1 (AreGuardedPieces-extends c.args.b.now _ (widths_of c.args.words.now) c.args.list.now.items c.in_ok-bits-in-Signal.ensures.extends c.requires.guarded_pieces)
 
 pub returns-in_ok-add_moving-in-Signal-clause-value : goal.returns-in_ok-add_moving-in-Signal-clause-value
@@ -28,7 +28,7 @@ returns-in_ok-add_moving-in-Signal-clause-value c = λ env vs e.
     let i = plain c.args.index.now in
     let m : Environment = carried c.args.b.now env c.args.words.now in
     let q : meant s c.args.name.now ≡ Signal x.id x.range x.signed = sym c.meaning.ensures ∙ x.is in
-    let h = c.requires.holds c.args.name.now x.id x.range x.signed q in
+    let h = c.requires.holds.signals c.args.name.now x.id x.range x.signed q in
     let a = AreGuardedPieces-extends c.args.b.now _ (widths_of c.args.words.now) c.args.list.now.items c.in_ok-bits-in-Signal.ensures.extends c.requires.guarded_pieces in
     let z : reading c.shape_of-own.result.signed (wire_values c.own_wires.new.b env c.as_slice.result.now) ≡ integer_with (form s i) (value s i m) =
     ap (reading c.shape_of-own.result.signed) (ap (wire_values c.own_wires.new.b env) c.as_slice.ensures.value ∙ c.in_ok-bits-in-Signal.ensures.value env)
@@ -40,6 +40,11 @@ returns-in_ok-add_moving-in-Signal-clause-value c = λ env vs e.
 
 pub returns-in-Constant-clause-value : goal.returns-in-Constant-clause-value
 returns-in-Constant-clause-value c = λ env vs e. rw (sym c.meaning.ensures ∙ c.in-Constant.is) (sym (none_of_constant c.in-Constant.bits c.in-Constant.signed _ c.args.count (drop c.args.from vs) (put_guarded_pieces c.args.b.now env c.args.list.now.items vs e)))
+
+pub returns-in-Memory-clause-value : goal.returns-in-Memory-clause-value
+returns-in-Memory-clause-value c = λ env vs e.
+    rw (sym c.meaning.ensures ∙ c.in-Memory.is)
+    (sym (none_of_memory c.in-Memory.first c.in-Memory.low c.in-Memory.words c.in-Memory.range c.in-Memory.signed _ c.args.count (drop c.args.from vs) (put_guarded_pieces c.args.b.now env c.args.list.now.items vs e)))
 
 pub returns-in-Instance-clause-value : goal.returns-in-Instance-clause-value
 returns-in-Instance-clause-value c = λ env vs e. rw (sym c.meaning.ensures ∙ c.in-Instance.is) (sym (none_of_instance _ c.args.count (drop c.args.from vs) (put_guarded_pieces c.args.b.now env c.args.list.now.items vs e)))

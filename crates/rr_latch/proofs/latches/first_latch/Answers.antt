@@ -14,8 +14,8 @@ kept_bit-requires-clause-shaped c = rw c.scope_at-names.ensures.value (c.combina
 pub kept_bit-requires-clause-assigned : goal.kept_bit-requires-clause-assigned
 kept_bit-requires-clause-assigned c = c.loop-block.invariant.0.assigned
 
-pub kept_bit-requires-clause-unnoted : goal.kept_bit-requires-clause-unnoted
-kept_bit-requires-clause-unnoted c = c.loop-block.invariant.1
+pub kept_bit-requires-clause-shut : goal.kept_bit-requires-clause-shut
+kept_bit-requires-clause-shut c = c.loop-block.invariant.1
 
 pub kept_bit-requires-clause-empty : goal.kept_bit-requires-clause-empty
 kept_bit-requires-clause-empty c = c.loop-block.invariant.2
@@ -25,7 +25,7 @@ loop-block-preserved c = (
   block_passed (plain_flat c.args.flat.now) c.loop-block.block-index (plain_block (get_or c.combinational_blocks-block-items.result.now c.loop-block.block-index _)) c.scope_at-names.result.now _ _
       (block_here c.args.flat.now c.combinational_blocks-block-items.result.now c.loop-block.block-index _ c.combinational_blocks-block-items.ensures.value c.loop-block-test.true) c.scope_at-names.ensures.value c.loop-block.invariant.0
       (rw c.in_default.is at c.in_ok-bit.ensures.none) (rw c.in_default.is at c.in_ok-bit.ensures.left),
-  (rw c.in_default.is at c.in_ok-bit.ensures.unnoted),
+  (rw c.in_default.is at c.in_ok-bit.ensures.shut),
   (rw c.in_default.is at c.in_ok-bit.ensures.empty),
 )
 

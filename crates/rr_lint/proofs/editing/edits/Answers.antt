@@ -30,7 +30,8 @@ returns-clause-made c =
     let e = ap plain_changes c.deref.ensures.value ∙ of_source (marks c.in_ok-noted.noted) numbers c.args.source.now _ c.new-changes.result.items c.declarations.new.out.items c.requires.tree c.requires.numbered c.new-changes.ensures.items (c.in_ok-declarations.ensures numbers h) in
     record {
       marks = marks c.in_ok-noted.noted;
-      latched = c.in_ok-noted.ensures;
+      latched = c.in_ok-noted.ensures.0;
+      words = c.in_ok-noted.ensures.1;
       are = made_are (marks c.in_ok-noted.noted) numbers c.args.bytes.now (lexemes c.args.tokens.now) (plain_source c.args.source.now) c.requires.tokens c.requires.tree c.deref.result.now e (plain_edits c.in_ok-out.out.items) c.in_ok-out.ensures;
     }
 

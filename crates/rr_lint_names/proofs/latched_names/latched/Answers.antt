@@ -1,9 +1,9 @@
-use Rattle.std.proofs.Common.{ap, arith, get_or, length}
+use Rattle.std.proofs.Common.{◌≡◌, ap, arith, get_or, length, rules, Err}
 use Rattle.std.proofs.lemmas.List.{length-map}
 use Rattle.rr_flat.specs.View.{plain_block, plain_flat}
 use Rattle.rr_latch.proofs.BlocksInTurn.{block_here}
 use Rattle.rr_lint_names.specs.Latched.{marks}
-use Rattle.rr_lint_names.proofs.Latching.{noted_start, noted_passed, noted_done}
+use Rattle.rr_lint_names.proofs.Latching.{block_fault, noted_start, noted_passed, noted_done}
 use Rattle.rr_lint_names.proofs.latched_names.latched.Goals as goal
 
 pub loop-block-init : goal.loop-block-init
@@ -20,9 +20,17 @@ loop-block-preserved c = (
   noted_passed (plain_flat c.args.flat.now) c.loop-block.block-index (plain_block (get_or c.combinational_blocks-block-items.result.now c.loop-block.block-index _)) c.scope_at-names.result.now (marks c.loop-block.noted) (marks c.note_block.new.noted)
       (omega (arith, c.loop-block-test.true, ap length c.combinational_blocks-block-items.ensures.value, length-map c.args.flat.now.combinational plain_block))
       (block_here c.args.flat.now c.combinational_blocks-block-items.result.now c.loop-block.block-index _ c.combinational_blocks-block-items.ensures.value c.loop-block-test.true) c.scope_at-names.ensures.value c.loop-block.invariant.0
-      c.in_ok-note_block.ensures.noted,
+      c.in_ok-note_block.ensures.noted c.in_ok-note_block.ensures.words,
   c.in_ok-note_block.ensures.blank,
 )
+
+pub returns-in_err-note_block : goal.returns-in_err-note_block
+returns-in_err-note_block c =
+    let q : c.from_residual.result ≡ Err c.in_err-note_block.field-0.0 = search rules in
+    rw q (block_fault (plain_flat c.args.flat.now) c.loop-block.block-index (plain_block (get_or c.combinational_blocks-block-items.result.now c.loop-block.block-index _)) c.scope_at-names.result.now (marks c.loop-block.noted) _
+    (omega (arith, c.loop-block-test.true, ap length c.combinational_blocks-block-items.ensures.value, length-map c.args.flat.now.combinational plain_block))
+    (block_here c.args.flat.now c.combinational_blocks-block-items.result.now c.loop-block.block-index _ c.combinational_blocks-block-items.ensures.value c.loop-block-test.true) c.scope_at-names.ensures.value c.loop-block.invariant.0
+    c.in_err-note_block.ensures.fault)
 
 pub returns : goal.returns
 returns c =

@@ -21,4 +21,4 @@ returns-clause-next c =
     ∙ c.in_ok-run_all.ensures.later m
     ∙ ap (λ (ls : List Later). applied us (applied (updates_in ls) m)) c.clear.ensures.items
     ∙ ap (applied us) (none_applied m) ∙ ap (applied us) c.in_ok-run_all.ensures.env in
-    subst (IsNext F e) (sym q) (next_is F c.requires.lawful e)
+    subst (IsNext F e) (sym q) (next_is F c.requires.sound c.requires.lawful e)

@@ -1,8 +1,7 @@
 use Rattle.std.proofs.Common.{◌∙◌, sym, rules}
 use Rattle.std.proofs.lemmas.Result.{on_ok_weaker}
 use Rattle.rr_syntax.specs.declared.tree.Expr.{the_lemmas}
-use Rattle.rr_named_bits.proofs.Growing.{grown_at}
-use Rattle.rr_named_bits.proofs.Naming.{pushed-Name, pushed-Part, pushed-Bit, pushed-Indexed, whole-Bit, whole-Indexed, grown-Literal, grown-Unary, grown-Cast, grown-Paren, grown-Binary, grown-Cond, grown-Concat, grown-Repeat, names_start, names_here, names_more, names_done}
+use Rattle.rr_named_bits.proofs.Naming.{named-Name, named-Part, named-Bit, named-Indexed, whole-Bit, whole-Indexed, grown-Literal, grown-Unary, grown-Cast, grown-Paren, grown-Binary, grown-Cond, grown-Concat, grown-Repeat, names_start, names_here, names_more, names_done}
 use Rattle.rr_named_bits.proofs.Nodes.{shaped-Bit, shaped-Indexed, shaped-Unary, shaped-Cast, shaped-Paren, shaped-Binary, shaped-Cond, shaped-Concat, shaped-Repeat}
 use Rattle.rr_named_bits.proofs.reads.+named.Goals as goal
 
@@ -18,11 +17,11 @@ add_named_by_all-loop-part-preserved t c = names_more c.args.scope.now c.args.pa
 pub add_named_by_all-returns : goal.add_named_by_all-returns
 add_named_by_all-returns t c = names_done c.args.scope.now c.args.parts.now c.loop-part.part-index c.args.list.now.items c.loop-part.list.items c.loop-part-test.false c.loop-part.invariant
 
-pub add_named_in-whole-requires : goal.add_named_in-whole-requires
-add_named_in-whole-requires t c = rw c.meaning.ensures (shaped-Bit _ _ _ _ (rw c.in-Bit.is at c.requires.shaped)).0
+pub add_named_in-push_whole-requires : goal.add_named_in-push_whole-requires
+add_named_in-push_whole-requires t c = rw c.meaning.ensures (shaped-Bit _ _ _ _ (rw c.in-Bit.is at c.requires.shaped)).0
 
-pub add_named_in-whole-requires-else-is_constant-2 : goal.add_named_in-whole-requires-else-is_constant-2
-add_named_in-whole-requires-else-is_constant-2 t c = rw c.meaning-else-is_constant-2.ensures (shaped-Indexed _ _ _ _ _ _ (rw c.in-Indexed.is at c.requires.shaped)).0
+pub add_named_in-push_whole-requires-else-is_constant-2 : goal.add_named_in-push_whole-requires-else-is_constant-2
+add_named_in-push_whole-requires-else-is_constant-2 t c = rw c.meaning-else-is_constant-2.ensures (shaped-Indexed _ _ _ _ _ _ (rw c.in-Indexed.is at c.requires.shaped)).0
 
 pub add_named_in-add_named_in-requires : goal.add_named_in-add_named_in-requires
 add_named_in-add_named_in-requires t c = (search (rules, the_lemmas), ((shaped-Bit _ _ _ _ (rw c.in-Bit.is at c.requires.shaped)).1, c.requires.none))
@@ -62,27 +61,27 @@ add_named_in-add_named_by_all-requires-in-Repeat t c = (search (rules, the_lemma
 
 pub add_named_in-returns-then-is_constant : goal.add_named_in-returns-then-is_constant
 add_named_in-returns-then-is_constant t c =
-    on_ok_weaker c.push_piece-then-is_constant.result (λ e. rw c.in-Bit.is (grown_at _ _ _ _ e (pushed-Bit _ _ _ _ c.args.list.now.items c.piece_of-then-is_constant.result (sym c.is_constant.ensures ∙ c.if-is_constant.true) (rw (c.requires.none, c.in-Bit.is) at c.piece_of-then-is_constant.ensures)))) c.push_piece-then-is_constant.ensures.items
+    on_ok_weaker c.push_fixed-then-is_constant.result (λ g. rw c.in-Bit.is (named-Bit _ _ _ _ c.args.list.now.items _ (sym c.is_constant.ensures ∙ c.if-is_constant.true) (rw c.in-Bit.is at g))) c.push_fixed-then-is_constant.ensures
 
-pub add_named_in-returns-in_ok-push_piece-in-Bit : goal.add_named_in-returns-in_ok-push_piece-in-Bit
-add_named_in-returns-in_ok-push_piece-in-Bit t c =
-    on_ok_weaker c.add_named_in.result (λ g. rw c.in-Bit.is (whole-Bit _ _ _ _ c.args.list.now.items _ c.whole.result (sym c.is_constant.ensures ∙ c.if-is_constant.false) (rw c.meaning.ensures at c.whole.ensures) (rw c.in_ok-push_piece-in-Bit.ensures.items at g))) c.add_named_in.ensures
+pub add_named_in-returns-in_ok-push_whole-in-Bit : goal.add_named_in-returns-in_ok-push_whole-in-Bit
+add_named_in-returns-in_ok-push_whole-in-Bit t c =
+    on_ok_weaker c.add_named_in.result (λ g. rw c.in-Bit.is (whole-Bit _ _ _ _ c.args.list.now.items _ _ (sym c.is_constant.ensures ∙ c.if-is_constant.false) (rw c.meaning.ensures at c.in_ok-push_whole-in-Bit.ensures) g)) c.add_named_in.ensures
 
 pub add_named_in-returns-then-is_constant-2 : goal.add_named_in-returns-then-is_constant-2
 add_named_in-returns-then-is_constant-2 t c =
-    on_ok_weaker c.push_piece-then-is_constant-2.result (λ e. rw c.in-Indexed.is (grown_at _ _ _ _ e (pushed-Indexed _ _ _ _ _ _ c.args.list.now.items c.piece_of-then-is_constant-2.result (sym c.is_constant-in-Indexed.ensures ∙ c.if-is_constant-2.true) (rw (c.requires.none, c.in-Indexed.is) at c.piece_of-then-is_constant-2.ensures)))) c.push_piece-then-is_constant-2.ensures.items
+    on_ok_weaker c.push_fixed-then-is_constant-2.result (λ g. rw c.in-Indexed.is (named-Indexed _ _ _ _ _ _ c.args.list.now.items _ (rw c.in-Indexed.is at c.requires.shaped) (sym c.is_constant-in-Indexed.ensures ∙ c.if-is_constant-2.true) (rw c.in-Indexed.is at g))) c.push_fixed-then-is_constant-2.ensures
 
-pub add_named_in-returns-in_ok-push_piece-in-Indexed : goal.add_named_in-returns-in_ok-push_piece-in-Indexed
-add_named_in-returns-in_ok-push_piece-in-Indexed t c =
-    on_ok_weaker c.add_named_in-else-is_constant-2.result (λ g. rw c.in-Indexed.is (whole-Indexed _ _ _ _ _ _ c.args.list.now.items _ c.whole-else-is_constant-2.result (sym c.is_constant-in-Indexed.ensures ∙ c.if-is_constant-2.false) (rw c.meaning-else-is_constant-2.ensures at c.whole-else-is_constant-2.ensures) (rw c.in_ok-push_piece-in-Indexed.ensures.items at g))) c.add_named_in-else-is_constant-2.ensures
+pub add_named_in-returns-in_ok-push_whole-in-Indexed : goal.add_named_in-returns-in_ok-push_whole-in-Indexed
+add_named_in-returns-in_ok-push_whole-in-Indexed t c =
+    on_ok_weaker c.add_named_in-else-is_constant-2.result (λ g. rw c.in-Indexed.is (whole-Indexed _ _ _ _ _ _ c.args.list.now.items _ _ (sym c.is_constant-in-Indexed.ensures ∙ c.if-is_constant-2.false) (rw c.meaning-else-is_constant-2.ensures at c.in_ok-push_whole-in-Indexed.ensures) g)) c.add_named_in-else-is_constant-2.ensures
 
 pub add_named_in-returns-in-Name : goal.add_named_in-returns-in-Name
 add_named_in-returns-in-Name t c =
-    on_ok_weaker c.push_piece.result (λ e. rw c.in-Name.is (grown_at _ _ _ _ e (pushed-Name _ _ _ c.args.list.now.items c.piece_of.result (rw (c.requires.none, c.in-Name.is) at c.piece_of.ensures)))) c.push_piece.ensures.items
+    on_ok_weaker c.push_fixed.result (λ g. rw c.in-Name.is (named-Name _ _ _ c.args.list.now.items _ (rw c.in-Name.is at c.requires.shaped) (rw c.in-Name.is at g))) c.push_fixed.ensures
 
 pub add_named_in-returns-in-Part : goal.add_named_in-returns-in-Part
 add_named_in-returns-in-Part t c =
-    on_ok_weaker c.push_piece-in-Part.result (λ e. rw c.in-Part.is (grown_at _ _ _ _ e (pushed-Part _ _ _ _ _ c.args.list.now.items c.piece_of-in-Part.result (rw (c.requires.none, c.in-Part.is) at c.piece_of-in-Part.ensures)))) c.push_piece-in-Part.ensures.items
+    on_ok_weaker c.push_fixed-in-Part.result (λ g. rw c.in-Part.is (named-Part _ _ _ _ _ c.args.list.now.items _ (rw c.in-Part.is at c.requires.shaped) (rw c.in-Part.is at g))) c.push_fixed-in-Part.ensures
 
 pub add_named_in-returns-in-Unary : goal.add_named_in-returns-in-Unary
 add_named_in-returns-in-Unary t c = on_ok_weaker c.add_named_in-in-Unary.result (λ g. rw c.in-Unary.is (grown-Unary _ _ _ _ _ g)) c.add_named_in-in-Unary.ensures

@@ -2,7 +2,7 @@ use Rattle.std.proofs.Common.{◌∙◌, sym}
 use Rattle.rr_expr.specs.Indices.{integer_of}
 use Rattle.rr_expr.proofs.Indices.{unmoved}
 use Rattle.rr_named_bits.proofs.Nodes.{shaped-Name, shaped-Bit, shaped-Part, shaped-Indexed, bits-Name, bits-Bit, bits-Part, bits-Indexed, bits-Literal, bits-Unary, bits-Binary, bits-Cond, bits-Concat, bits-Repeat, bits-Cast, bits-Paren}
-use Rattle.rr_named_bits.proofs.Runs.{no_run}
+use Rattle.rr_named_bits.proofs.Runs.{no_run, same_bits}
 use Rattle.rr_named_bits.proofs.select.piece_of.Goals as goal
 
 pub whole-requires : goal.whole-requires
@@ -11,14 +11,14 @@ whole-requires c = rw c.meaning.ensures (shaped-Name _ _ _ (rw c.in-Name.is at c
 pub index_in-requires : goal.index_in-requires
 index_in-requires c = (shaped-Bit _ _ _ _ (rw c.in-Bit.is at c.requires)).1
 
-pub run-requires-clause-width : goal.run-requires-clause-width
-run-requires-clause-width c = rw c.meaning-in-Bit.ensures (shaped-Bit _ _ _ _ (rw c.in-Bit.is at c.requires)).0
+pub at_index-requires : goal.at_index-requires
+at_index-requires c = rw c.meaning-in-Bit.ensures (shaped-Bit _ _ _ _ (rw c.in-Bit.is at c.requires)).0
 
 pub constant_index-requires : goal.constant_index-requires
 constant_index-requires c = (shaped-Part _ _ _ _ _ (rw c.in-Part.is at c.requires)).1
 
-pub run-requires-in-Part-clause-width : goal.run-requires-in-Part-clause-width
-run-requires-in-Part-clause-width c = rw c.meaning-in-Part.ensures (shaped-Part _ _ _ _ _ (rw c.in-Part.is at c.requires)).0
+pub run-requires-clause-width : goal.run-requires-clause-width
+run-requires-clause-width c = rw c.meaning-in-Part.ensures (shaped-Part _ _ _ _ _ (rw c.in-Part.is at c.requires)).0
 
 pub index_in-requires-in-Indexed : goal.index_in-requires-in-Indexed
 index_in-requires-in-Indexed c = (shaped-Indexed _ _ _ _ _ _ (rw c.in-Indexed.is at c.requires)).1
@@ -30,12 +30,12 @@ pub returns-in-Name : goal.returns-in-Name
 returns-in-Name c = rw c.in-Name.is ((rw c.meaning.ensures at c.whole.ensures) ∙ sym (bits-Name _ _ _ _))
 
 pub returns-in-Bit : goal.returns-in-Bit
-returns-in-Bit c = rw c.in-Bit.is ((rw (c.meaning-in-Bit.ensures, c.index_in.ensures, unmoved) at c.run.ensures) ∙ sym (bits-Bit _ _ _ _ _))
+returns-in-Bit c = rw c.in-Bit.is (same_bits c.at_index.result _ _ (sym (bits-Bit _ _ _ _ _)) (rw (c.meaning-in-Bit.ensures, c.index_in.ensures) at c.at_index.ensures))
 
 pub returns-in-Part : goal.returns-in-Part
 returns-in-Part c =
     let n = rw c.in-Part.is at c.width_of-count.ensures.value in
-    rw c.in-Part.is ((rw (c.meaning-in-Part.ensures, c.constant_index.ensures, unmoved, n) at c.run-in-Part.ensures) ∙ sym (bits-Part _ _ _ _ _ _))
+    rw c.in-Part.is ((rw (c.meaning-in-Part.ensures, c.constant_index.ensures, unmoved, n) at c.run.ensures) ∙ sym (bits-Part _ _ _ _ _ _))
 
 pub returns-in-Indexed : goal.returns-in-Indexed
 returns-in-Indexed c =

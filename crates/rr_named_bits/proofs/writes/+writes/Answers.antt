@@ -3,9 +3,7 @@ use Rattle.std.proofs.lemmas.Result.{on_ok_weaker}
 use Rattle.rr_syntax.specs.declared.tree.Expr.{the_lemmas}
 use Rattle.rr_named_bits.proofs.Nodes.{shaped-Bit, shaped-Indexed, shaped-Concat}
 use Rattle.rr_named_bits.proofs.Writing.{writes-Name, writes-Part, writes-Bit, writes-Indexed, writes-Concat, assigns-Name, assigns-Part, assigns-Bit, assigns-Indexed, assigns-Concat, parts-Literal, parts-Unary, parts-Binary, parts-Cond, parts-Repeat, parts-Cast, parts-Paren, may_nothing, must_nothing, writes_start, writes_here, writes_more, writes_done, assigns_done}
-use Rattle.std.proofs.Common.{◌&&◌}
 use Rattle.rr_named_bits.specs.Lists.{may, must}
-use Rattle.rr_named_bits.specs.Pieces.{covers}
 use Rattle.rr_named_bits.proofs.writes.+writes.Goals as goal
 
 pub add_writes_of_all-loop-target-init : goal.add_writes_of_all-loop-target-init
@@ -26,43 +24,35 @@ add_writes_of_all-returns-clause-must t c = assigns_done c.args.scope.now c.args
 pub add_writes_in-add_writes_of_all-requires : goal.add_writes_in-add_writes_of_all-requires
 add_writes_in-add_writes_of_all-requires t c = (search (rules, the_lemmas), (shaped-Concat _ _ (rw c.in-Concat.is at c.requires.shaped), c.requires.none))
 
-pub add_writes_in-write_at-requires-clause-width : goal.add_writes_in-write_at-requires-clause-width
-add_writes_in-write_at-requires-clause-width t c = (shaped-Bit _ _ _ _ (rw c.in-Bit.is at c.requires.shaped)).0
+pub add_writes_in-push_at-requires-clause-width : goal.add_writes_in-push_at-requires-clause-width
+add_writes_in-push_at-requires-clause-width t c = (shaped-Bit _ _ _ _ (rw c.in-Bit.is at c.requires.shaped)).0
 
-pub add_writes_in-write_at-requires-in-Indexed-clause-width : goal.add_writes_in-write_at-requires-in-Indexed-clause-width
-add_writes_in-write_at-requires-in-Indexed-clause-width t c = (shaped-Indexed _ _ _ _ _ _ (rw c.in-Indexed.is at c.requires.shaped)).0
+pub add_writes_in-push_at-requires-in-Indexed-clause-width : goal.add_writes_in-push_at-requires-in-Indexed-clause-width
+add_writes_in-push_at-requires-in-Indexed-clause-width t c = (shaped-Indexed _ _ _ _ _ _ (rw c.in-Indexed.is at c.requires.shaped)).0
 
 pub add_writes_in-returns-in-Name-clause-may : goal.add_writes_in-returns-in-Name-clause-may
-add_writes_in-returns-in-Name-clause-may t c =
-    on_ok_weaker c.push_write.result (λ e b. e b ∙ ap (λ z. may c.args.list.now.items b || z) (rw c.in-Name.is ((rw c.in-Name.is at (c.certain.ensures.bits b)) ∙ sym (writes-Name _ _ _ b)))) c.push_write.ensures.may
+add_writes_in-returns-in-Name-clause-may t c = on_ok_weaker c.push_certain.result (λ e b. e b ∙ ap (λ z. may c.args.list.now.items b || z) (rw c.in-Name.is (sym (writes-Name _ _ _ b)))) c.push_certain.ensures.may
 
 pub add_writes_in-returns-in-Name-clause-must : goal.add_writes_in-returns-in-Name-clause-must
-add_writes_in-returns-in-Name-clause-must t c =
-    on_ok_weaker c.push_write.result (λ e b. e b ∙ ap (λ z. must c.args.list.now.items b || z) (rw c.in-Name.is ((rw c.in-Name.is at (ap (λ z. z && covers c.certain.result.piece b) c.certain.ensures.certain ∙ c.certain.ensures.bits b)) ∙ sym (assigns-Name _ _ _ b)))) c.push_write.ensures.must
+add_writes_in-returns-in-Name-clause-must t c = on_ok_weaker c.push_certain.result (λ e b. e b ∙ ap (λ z. must c.args.list.now.items b || z) (rw c.in-Name.is (sym (assigns-Name _ _ _ b)))) c.push_certain.ensures.must
 
 pub add_writes_in-returns-in-Part-clause-may : goal.add_writes_in-returns-in-Part-clause-may
-add_writes_in-returns-in-Part-clause-may t c =
-    on_ok_weaker c.push_write-in-Part.result (λ e b. e b ∙ ap (λ z. may c.args.list.now.items b || z) (rw c.in-Part.is ((rw c.in-Part.is at (c.certain-in-Part.ensures.bits b)) ∙ sym (writes-Part _ _ _ _ _ b)))) c.push_write-in-Part.ensures.may
+add_writes_in-returns-in-Part-clause-may t c = on_ok_weaker c.push_certain-in-Part.result (λ e b. e b ∙ ap (λ z. may c.args.list.now.items b || z) (rw c.in-Part.is (sym (writes-Part _ _ _ _ _ b)))) c.push_certain-in-Part.ensures.may
 
 pub add_writes_in-returns-in-Part-clause-must : goal.add_writes_in-returns-in-Part-clause-must
-add_writes_in-returns-in-Part-clause-must t c =
-    on_ok_weaker c.push_write-in-Part.result (λ e b. e b ∙ ap (λ z. must c.args.list.now.items b || z) (rw c.in-Part.is ((rw c.in-Part.is at (ap (λ z. z && covers c.certain-in-Part.result.piece b) c.certain-in-Part.ensures.certain ∙ c.certain-in-Part.ensures.bits b)) ∙ sym (assigns-Part _ _ _ _ _ b)))) c.push_write-in-Part.ensures.must
+add_writes_in-returns-in-Part-clause-must t c = on_ok_weaker c.push_certain-in-Part.result (λ e b. e b ∙ ap (λ z. must c.args.list.now.items b || z) (rw c.in-Part.is (sym (assigns-Part _ _ _ _ _ b)))) c.push_certain-in-Part.ensures.must
 
 pub add_writes_in-returns-in-Bit-clause-may : goal.add_writes_in-returns-in-Bit-clause-may
-add_writes_in-returns-in-Bit-clause-may t c =
-    on_ok_weaker c.push_write-in-Bit.result (λ e b. e b ∙ ap (λ z. may c.args.list.now.items b || z) (rw c.in-Bit.is ((rw c.in-Bit.is at (c.write_at.ensures.may b)) ∙ sym (writes-Bit _ _ _ _ b)))) c.push_write-in-Bit.ensures.may
+add_writes_in-returns-in-Bit-clause-may t c = on_ok_weaker c.push_at.result (λ e b. e b ∙ ap (λ z. may c.args.list.now.items b || z) (rw c.in-Bit.is (sym (writes-Bit _ _ _ _ b)))) c.push_at.ensures.may
 
 pub add_writes_in-returns-in-Bit-clause-must : goal.add_writes_in-returns-in-Bit-clause-must
-add_writes_in-returns-in-Bit-clause-must t c =
-    on_ok_weaker c.push_write-in-Bit.result (λ e b. e b ∙ ap (λ z. must c.args.list.now.items b || z) (rw c.in-Bit.is ((rw c.in-Bit.is at (c.write_at.ensures.must b)) ∙ sym (assigns-Bit _ _ _ _ b)))) c.push_write-in-Bit.ensures.must
+add_writes_in-returns-in-Bit-clause-must t c = on_ok_weaker c.push_at.result (λ e b. e b ∙ ap (λ z. must c.args.list.now.items b || z) (rw c.in-Bit.is (sym (assigns-Bit _ _ _ _ b)))) c.push_at.ensures.must
 
 pub add_writes_in-returns-in-Indexed-clause-may : goal.add_writes_in-returns-in-Indexed-clause-may
-add_writes_in-returns-in-Indexed-clause-may t c =
-    on_ok_weaker c.push_write-in-Indexed.result (λ e b. e b ∙ ap (λ z. may c.args.list.now.items b || z) (rw c.in-Indexed.is ((rw c.in-Indexed.is at (c.write_at-in-Indexed.ensures.may b)) ∙ sym (writes-Indexed _ _ _ _ _ _ b)))) c.push_write-in-Indexed.ensures.may
+add_writes_in-returns-in-Indexed-clause-may t c = on_ok_weaker c.push_at-in-Indexed.result (λ e b. e b ∙ ap (λ z. may c.args.list.now.items b || z) (rw c.in-Indexed.is (sym (writes-Indexed _ _ _ _ _ _ b)))) c.push_at-in-Indexed.ensures.may
 
 pub add_writes_in-returns-in-Indexed-clause-must : goal.add_writes_in-returns-in-Indexed-clause-must
-add_writes_in-returns-in-Indexed-clause-must t c =
-    on_ok_weaker c.push_write-in-Indexed.result (λ e b. e b ∙ ap (λ z. must c.args.list.now.items b || z) (rw c.in-Indexed.is ((rw c.in-Indexed.is at (c.write_at-in-Indexed.ensures.must b)) ∙ sym (assigns-Indexed _ _ _ _ _ _ b)))) c.push_write-in-Indexed.ensures.must
+add_writes_in-returns-in-Indexed-clause-must t c = on_ok_weaker c.push_at-in-Indexed.result (λ e b. e b ∙ ap (λ z. must c.args.list.now.items b || z) (rw c.in-Indexed.is (sym (assigns-Indexed _ _ _ _ _ _ b)))) c.push_at-in-Indexed.ensures.must
 
 pub add_writes_in-returns-in-Concat-clause-may : goal.add_writes_in-returns-in-Concat-clause-may
 add_writes_in-returns-in-Concat-clause-may t c = on_ok_weaker c.add_writes_of_all.result (λ e b. e b ∙ ap (λ z. may c.args.list.now.items b || z) (rw c.in-Concat.is (sym (writes-Concat _ _ b)))) c.add_writes_of_all.ensures.may

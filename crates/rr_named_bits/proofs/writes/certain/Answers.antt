@@ -4,4 +4,7 @@ use Rattle.rr_named_bits.proofs.Runs.{covers_in}
 use Rattle.rr_named_bits.proofs.writes.certain.Goals as goal
 
 pub returns-clause-bits : goal.returns-clause-bits
-returns-clause-bits c = λ b. covers_in c.piece_of.result b ∙ ap (λ z. has_bit z b) (rw c.requires.none at c.piece_of.ensures)
+returns-clause-bits c = λ b. c.one.ensures.bits b ∙ (covers_in _ b ∙ ap (λ z. has_bit z b) (rw c.requires.none at c.in_ok-piece.ensures))
+
+pub returns-clause-must : goal.returns-clause-must
+returns-clause-must c = λ b. c.one.ensures.bits b ∙ (covers_in _ b ∙ ap (λ z. has_bit z b) (rw c.requires.none at c.in_ok-piece.ensures))

@@ -10,9 +10,9 @@ loop-one-init c = map_none plain_declarator (instance_net c.args.sites.now c.arg
 
 pub new_net-requires : goal.new_net-requires
 new_net-requires c =
-    let f = c.requires.fits in let w = each_at spell_declarator plain_declarator c.args.old.now c.loop-one.one-index (record { token = 0; name = (record { ref_ptr = (0, 0); now = [] }); value = None }) c.loop-one-test.true in record { fits = omega (arith, f, w) }
+    let f = c.requires.fits in let w = each_at spell_declarator plain_declarator c.args.old.now c.loop-one.one-index (record { token = 0; name = (record { ref_ptr = (0, 0); now = [] }); words = None; value = None }) c.loop-one-test.true in record { fits = omega (arith, f, w) }
 
 pub loop-one-preserved : goal.loop-one-preserved
 loop-one-preserved c =
-    map_next_at plain_declarator (instance_net c.args.sites.now c.args.choice.now.picks.items) c.loop-one.list.items c.push.new.self.items c.args.old.now c.loop-one.one-index (record { token = 0; name = (record { ref_ptr = (0, 0); now = [] }); value = None }) c.in_ok-new.new
+    map_next_at plain_declarator (instance_net c.args.sites.now c.args.choice.now.picks.items) c.loop-one.list.items c.push.new.self.items c.args.old.now c.loop-one.one-index (record { token = 0; name = (record { ref_ptr = (0, 0); now = [] }); words = None; value = None }) c.in_ok-new.new
     c.loop-one-test.true c.loop-one.invariant c.in_ok-new.ensures c.in_ok-push.ensures.items

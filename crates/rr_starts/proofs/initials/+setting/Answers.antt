@@ -1,11 +1,21 @@
 use Rattle.std.proofs.Common.{◌≡◌, ◌∙◌, sym, ap, ◌<◌, [], ◌++◌, drop, length, ◌+◌, rules}
 use Rattle.rr_syntax.specs.declared.tree.Stmt.{the_lemmas}
-use Rattle.rr_syntax.specs.View.{plain_statement, plain_statements}
+use Rattle.rr_syntax.specs.View.{plain, plain_statement, plain_statements}
 use Rattle.rr_flat.specs.Sound.{names_at}
 use Rattle.rr_starts.specs.Starts.{initial_faults, all_initial_faults, started, all_started}
-use Rattle.rr_starts.proofs.Nodes.{set_more, set_done, faults_left, keeps_rest}
-use Rattle.rr_starts.proofs.Shaped.{none_of_two}
+use Rattle.rr_starts.proofs.Nodes.{assign_faults, set_more, set_done, faults_left, keeps_rest}
+use Rattle.rr_starts.proofs.Shaped.{none_of_two, constant_none}
 use Rattle.rr_starts.proofs.initials.+setting.Goals as goal
+
+pub set_starts-set_one-requires-clause-target : goal.set_starts-set_one-requires-clause-target
+set_starts-set_one-requires-clause-target t c =
+    let names = names_at c.args.flat.now.scopes c.args.scope in
+    (none_of_two _ _ (sym (assign_faults names c.in-Assign.target c.in-Assign.now c.in-Assign.value) ∙ (rw c.in-Assign.is at c.requires.none))).0
+
+pub set_starts-set_one-requires-clause-constant : goal.set_starts-set_one-requires-clause-constant
+set_starts-set_one-requires-clause-constant t c =
+    let names = names_at c.args.flat.now.scopes c.args.scope in
+    constant_none names (plain c.in-Assign.value.now) (none_of_two _ _ (sym (assign_faults names c.in-Assign.target c.in-Assign.now c.in-Assign.value) ∙ (rw c.in-Assign.is at c.requires.none))).1
 
 pub set_all-set_starts-requires : goal.set_all-set_starts-requires
 set_all-set_starts-requires t c =
